@@ -41,7 +41,6 @@ pub fn text(
     push_report(job, sorted, stops, serial, out).unwrap();
 }
 
-/// Appends the report, or reports out of memory.
 fn push_report(
     job: &Job,
     sorted: &[Outcome],

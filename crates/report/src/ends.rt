@@ -31,7 +31,6 @@ pub fn push_ends_lines(job: &Job, sorted: &[Outcome], out: &mut Bytes) -> Result
     push_ends(job, ends_of(job, sorted), out)
 }
 
-/// Appends a line for each ask.
 fn push_ends(job: &Job, ends: &[Outcome], out: &mut Bytes) -> Result<(), Memory>
     requires { AreEndsOf job.now ends.now }
     ensures { AppendsText out.old out.new (flat_map (ends_line job.now ends.now) (placed_asks job.now)) result }

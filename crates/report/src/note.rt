@@ -112,7 +112,6 @@ fn add<N: Sink>(note: &mut N, going: bool, piece: &[u8]) -> bool
     }
 }
 
-// Returns the hexadecimal digits of a digest.
 fn digits_of(digest: &[u8; 32]) -> [u8; 64]
     ensures { result ≡ encode_lower digest.now }
 {
@@ -167,7 +166,6 @@ pub fn line_of<'a>(pieces: &[Piece<'a>]) -> Line<'a>
     line
 }
 
-// Makes a diagnostic of this text.
 fn text_line(text: &str) -> Line<'_>
     ensures { terms.as_line (map piece_text result) ≡ terms.as_line (text.now ∷ []) }
 {
@@ -181,7 +179,6 @@ fn spelled<'a>(name: &Name) -> &'a str
     name.text()
 }
 
-// Returns the diagnostic of a fault of the arguments.
 fn word_line(fault: &WordFault) -> Line<'_>
     ensures { terms.as_line (map piece_text result) ≡ terms.as_line (terms.word_note fault.now) }
 {
@@ -200,7 +197,6 @@ fn word_line(fault: &WordFault) -> Line<'_>
     }
 }
 
-// Returns the diagnostic of a fault of the graph.
 fn graph_line<'a>(fault: &GraphFault, columns: &'a Columns) -> Line<'a>
     ensures { terms.as_line (map piece_text result) ≡ terms.as_line (terms.graph_note columns.now fault.now) }
 {
@@ -264,7 +260,6 @@ fn graph_line<'a>(fault: &GraphFault, columns: &'a Columns) -> Line<'a>
     }
 }
 
-// Returns the diagnostic of a fault of the regions.
 fn region_line<'a>(fault: &RegionFault, column: &'a text::Text) -> Line<'a>
     ensures { terms.as_line (map piece_text result) ≡ terms.as_line (terms.region_note column.now fault.now) }
 {
@@ -286,7 +281,6 @@ fn region_line<'a>(fault: &RegionFault, column: &'a text::Text) -> Line<'a>
     }
 }
 
-// Returns the diagnostic of a fault of a plan.
 fn plan_line(fault: &PlanFault) -> Line<'static>
     ensures { terms.as_line (map piece_text result) ≡ terms.as_line (terms.plan_note fault.now) }
 {
@@ -356,7 +350,6 @@ fn plan_line(fault: &PlanFault) -> Line<'static>
     }
 }
 
-// Returns the diagnostic of a fault of the table.
 fn table_line(fault: &TableFault) -> Line<'static>
     ensures { terms.as_line (map piece_text result) ≡ terms.as_line (terms.table_note fault.now) }
 {

@@ -55,7 +55,6 @@ pub fn push_key(out: &mut Bytes, key: &[u8; 32]) -> Result<(), Memory>
     out.append(&digits)
 }
 
-/// Appends a slash and the denominator.
 fn push_denominator(out: &mut Bytes, bottom: u64) -> Result<(), Memory>
     ensures { AppendsText out.old out.new (47 ∷ decimal bottom) result }
 {
@@ -63,7 +62,6 @@ fn push_denominator(out: &mut Bytes, bottom: u64) -> Result<(), Memory>
     push_number(out, bottom)
 }
 
-/// Appends a point and nine digits.
 fn push_decimals(out: &mut Bytes, number: u64) -> Result<(), Memory>
     requires { number < 10 ^ 9 }
     ensures { AppendsText out.old out.new (46 ∷ nine_digits number) result }
@@ -83,7 +81,6 @@ fn push_nine_digits(out: &mut Bytes, number: u64) -> Result<(), Memory>
     out.append(digits.as_bytes())
 }
 
-/// Returns `count` zeros, at most nine.
 fn zeros(count: usize) -> &'static [u8]
     requires { count ≤ 9 }
     ensures { result.now ≡ replicate count 48 }

@@ -23,7 +23,6 @@ pub fn push_origin_lines(job: &Job, out: &mut Bytes) -> Result<(), Memory>
     }
 }
 
-/// Appends both lines.
 fn push_origin(setting: &Setting, origin: &Origin, out: &mut Bytes) -> Result<(), Memory>
     ensures { AppendsText out.old out.new (source_line origin.now ++ definition.columns_line setting.now.columns setting.now.region) result }
 {
@@ -47,7 +46,6 @@ fn push_source_line(origin: &Origin, out: &mut Bytes) -> Result<(), Memory>
     )
 }
 
-/// Appends the line with the names of the columns.
 fn push_columns_line(columns: &Columns, region: &Text, out: &mut Bytes) -> Result<(), Memory>
     ensures { AppendsText out.old out.new (definition.columns_line columns.now region.now) result }
 {

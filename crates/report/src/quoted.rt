@@ -56,7 +56,6 @@ fn escape_letter(byte: u8) -> u8
     }
 }
 
-/// Returns a hexadecimal digit.
 fn digit(value: u8) -> u8
     requires { value < 16 }
     ensures { result ≡ digit_char value }

@@ -104,7 +104,6 @@ fn push_group_line(job: &Job, out: &mut Bytes) -> Result<(), Memory>
     )
 }
 
-/// Returns the region of each unit.
 fn regions_of(job: &Job) -> &[u32]
     ensures value { result.now ≡ job.now.regions }
     ensures few { All (λ r. r < most_regions) result.now }
@@ -114,7 +113,6 @@ fn regions_of(job: &Job) -> &[u32]
     job.rules().regions.as_slice()
 }
 
-/// Returns the number of different regions.
 fn count_regions(regions: &[u32]) -> u32
     requires { All (λ r. r < most_regions) regions.now }
     ensures { result ≡ region_count regions.now }
@@ -134,7 +132,6 @@ fn marked(regions: &[u32]) -> [bool; REGIONS]
     seen
 }
 
-/// Returns the number of marks.
 fn count_marked(seen: &[bool; REGIONS]) -> u32
     ensures { result ≡ count_below most_regions (λ r. slice_index_or seen.now r false) }
 {

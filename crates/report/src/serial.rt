@@ -35,7 +35,6 @@ pub fn push_serial_lines(
     }
 }
 
-/// Appends the line of each ask.
 fn push_ranks(job: &Job, place: u32, ranks: &[u64; 4], out: &mut Bytes) -> Result<(), Memory>
     requires { AreRanks job.now ranks.now }
     ensures { AppendsText out.old out.new (flat_map (definition.serial_line job.now place ranks.now) (placed_asks job.now)) result }

@@ -25,7 +25,6 @@ pub fn push_shift_line(job: &Job, sorted: &[Outcome], out: &mut Bytes) -> Result
     push_tally(sorted, out)
 }
 
-/// Appends the line of the sums.
 fn push_tally(sorted: &[Outcome], out: &mut Bytes) -> Result<(), Memory>
     requires { length sorted.now ≤ most_trajectories }
     ensures { AppendsText out.old out.new (definition.shift_line true sorted.now) result }
@@ -47,7 +46,6 @@ fn push_tally(sorted: &[Outcome], out: &mut Bytes) -> Result<(), Memory>
     )
 }
 
-/// Returns the sum of one histogram count.
 fn bin_sum(sorted: &[Outcome], bin: usize) -> u64
     requires few { length sorted.now ≤ most_trajectories }
     requires bin { bin < 9 }

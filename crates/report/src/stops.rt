@@ -34,7 +34,6 @@ pub fn push_test_lines(
     push_stops(job, stops, out)
 }
 
-/// Appends the line of each ask's stop.
 fn push_stops(job: &Job, stops: &[[u32; 3]], out: &mut Bytes) -> Result<(), Memory>
     requires { AreStops job.now stops.now }
     ensures { AppendsText out.old out.new (flat_map (definition.stopped_line job.now) (zip job.now.setting.asks stops.now)) result }

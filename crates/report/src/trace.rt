@@ -71,7 +71,6 @@ pub fn plan_line(
     push_plan_line(step, moved, values, before, plan, out).unwrap();
 }
 
-/// Appends the line of a plan, or reports out of memory.
 fn push_plan_line(
     step: u32,
     moved: u32,
@@ -90,7 +89,6 @@ fn push_plan_line(
     out.push(b'\n')
 }
 
-/// Appends numbers with a space before each.
 fn push_values(values: &[i64], out: &mut Bytes) -> Result<(), Memory>
     ensures { AppendsText out.old out.new (spaced (map signed_decimal values.now)) result }
 {
@@ -100,7 +98,6 @@ fn push_values(values: &[i64], out: &mut Bytes) -> Result<(), Memory>
     Ok(())
 }
 
-/// Appends a space and the number at a place.
 fn push_value(values: &[i64], place: usize, out: &mut Bytes) -> Result<(), Memory>
     requires { place < length values.now }
     ensures { AppendsText out.old out.new (32 ∷ signed_decimal (slice_index_or values.now place (pos 0))) result }
@@ -130,7 +127,6 @@ fn push_change(unit: u64, district: u32, out: &mut Bytes) -> Result<(), Memory>
     push_number(out, u64::from(district))
 }
 
-/// Appends a line for each ask.
 fn push_ask_lines(job: &Job, out: &mut Bytes) -> Result<(), Memory>
     ensures { AppendsText out.old out.new (flat_map (definition.ask_line job.now) (placed_asks job.now)) result }
 {
@@ -167,7 +163,6 @@ pub fn trajectory_line(job: &Job, id: u32, thin: u32, out: &mut Bytes)
     push_trace_id_line(job, id, thin, out).unwrap();
 }
 
-/// Appends the line that starts a trajectory, or reports out of memory.
 fn push_trace_id_line(job: &Job, id: u32, thin: u32, out: &mut Bytes) -> Result<(), Memory>
     ensures { AppendsText out.old out.new (definition.trace_id_line job.now id thin) result }
 {

@@ -38,7 +38,6 @@ fn push_walks(job: &Job, walks: &[Outcome], out: &mut Bytes) -> Result<(), Memor
     Ok(())
 }
 
-/// Appends a line for each ask of one outcome.
 fn push_walk(job: &Job, found: &Outcome, out: &mut Bytes) -> Result<(), Memory>
     requires { HasCounts job.now found.now }
     ensures { AppendsText out.old out.new (lines_of job.now found.now) result }
