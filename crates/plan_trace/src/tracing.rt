@@ -67,7 +67,6 @@ fn make_head(alloc: Global, job: &Job) -> Result<Bytes, Memory>
     Ok(head)
 }
 
-/// Allocates a walker with this constraint, and a pen.
 fn make_tracer<J: Judge>(alloc: Global, job: &Job, judge: J) -> Result<Tracer<J>, Memory>
     requires judge { IsJudgeFor job.now (J.judging judge) }
     ensures { IfOk result (λ t. IsTracer job.now t) }
@@ -77,14 +76,12 @@ fn make_tracer<J: Judge>(alloc: Global, job: &Job, judge: J) -> Result<Tracer<J>
     Ok(Tracer { walker, pen })
 }
 
-/// Allocates the hub.
 fn make_hub(job: &Job) -> Result<UnitList, Memory>
     ensures { IfOk result (λ h. length h ≡ job.now.graph.units) }
 {
     job.start().copy()
 }
 
-/// Allocates everything that a trace needs.
 fn make_ready<J: Judge>(alloc: Global, job: &Job, judge: J) -> Result<Ready<J>, Memory>
     requires judge { IsJudgeFor job.now (J.judging judge) }
     ensures { IfOk result (λ r. IsReady job.now r) }
@@ -192,7 +189,6 @@ fn write_lines<J: Judge, K: Sink>(
     }
 }
 
-/// Walks a trajectory and writes its lines.
 fn write_trajectory<J: Judge, K: Sink>(
     job: &Job,
     traced: Traced,
