@@ -119,7 +119,6 @@ fn add_folders<O: Sink>(names: &[String], findings: &[Finding], going: bool, out
     going
 }
 
-// Writes the reasons why nothing was saved.
 fn write_refusals<N: Sink>(names: &[String], told: &Told, note: &mut N)
     ensures { AddsLine (N.state note.old) (N.state note.new) (refusals (map string_bytes names.now) told.now) }
 {

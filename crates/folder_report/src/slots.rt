@@ -63,7 +63,6 @@ pub fn tell_slots<C: Keeper, O: Sink, N: Sink>(
     }
 }
 
-// Loads both slots.
 fn load_both<C: Keeper>(alloc: Global, keeper: &mut C) -> Result<Both, LookFault>
     ensures loaded { IfOk result (λ b. HasLoadedBoth (C.state keeper.old).slots b.zero b.one) }
     ensures slots { (C.state keeper.new).slots ≡ (C.state keeper.old).slots }
