@@ -67,7 +67,6 @@ fn make_walks<J: Judge>(
     Ok(walks)
 }
 
-// Writes the line that names a plan.
 fn write_title<K: Sink>(out: &mut K, name: &str) -> Result<(), Failed>
     ensures { WritesAllOf (K.state out.old) (K.state out.new) (plan_title name.now) result }
 {
@@ -100,7 +99,6 @@ fn walk_plan<R: Threads + Sync, J: Judge + Send, G: Gate + Sync>(
     text_of(job, found, tester)
 }
 
-// Writes the name of a plan and its report.
 fn write_plan<K: Sink>(out: &mut K, name: &str, text: &[u8]) -> Result<(), Failed>
     ensures { WritesAllOf (K.state out.old) (K.state out.new) (plan_title name.now ++ text.now) result }
 {
