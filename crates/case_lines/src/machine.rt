@@ -7,7 +7,6 @@ use audit_model::outcome::{Did, Event};
 use run_core::machine::Core;
 use std::io;
 
-// Prints the result of an event.
 fn show_answer(rt: &HostRuntime, did: Did) -> io::Result<()> {
     match did {
         Did::Claimed(id) => print!(rt; " claimed {id}"),

@@ -31,7 +31,6 @@ fn show_sure(rt: &HostRuntime) -> io::Result<()> {
     println!(rt; "source {read} sink {written}")
 }
 
-// Prints the contents of a slot.
 fn show_slot<C: Keeper>(
     rt: &HostRuntime,
     keeper: &mut C,

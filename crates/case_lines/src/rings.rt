@@ -101,8 +101,8 @@ fn faces_of_house(alloc: Global) -> Result<usize, Memory> {
     found(alloc, &graph)
 }
 
-// Returns the number of pentagons kept of a list. A pentagon is kept once, whichever unit comes first. A list with a
-// unit twice or a side that is no edge is not kept.
+// Returns the number of pentagons kept of a list. A pentagon is kept once, whichever unit comes first. A ring with a
+// unit twice or with a side that is no edge is not kept.
 fn pentagons_kept(alloc: Global) -> Result<usize, Memory> {
     let pairs = [(0, 1), (0, 2), (0, 4), (1, 2), (2, 3), (3, 4)];
     let graph = Graph::from_pairs(alloc, 5, &pairs)?;

@@ -130,7 +130,6 @@ fn records_of(bytes: &[u8]) -> Option<&[u8]> {
     }
 }
 
-// Returns the number of four bytes at this place.
 fn number_at(bytes: &[u8], place: usize) -> Option<u32> {
     let four = bytes.get(place..)?.first_chunk::<4>()?;
     Some(u32::from_be_bytes(*four))

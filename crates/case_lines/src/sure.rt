@@ -50,7 +50,6 @@ fn keeper_of(rt: &HostRuntime, zero: &str, one: &str) -> Result<SureKeeper, Fail
     Ok(keeper)
 }
 
-// Prints the status, the announced ids, and the diagnostic.
 fn show(rt: &HostRuntime, status: u8, case: &SureCase) -> Result<(), Fail> {
     show_end(rt, status, true, &case.gate)?;
     rt.write_all(case.note.bytes())?;

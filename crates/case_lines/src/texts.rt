@@ -56,7 +56,6 @@ fn show_numbers(rt: &HostRuntime, numbers: &[u32]) -> io::Result<()> {
     rt.println("")
 }
 
-// Prints the regions of a column.
 fn show_regions(rt: &HostRuntime, text: &[u8], column: &Text) -> io::Result<()>
     requires graph { IsGraphText text.now }
 {
