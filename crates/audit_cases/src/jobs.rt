@@ -75,7 +75,6 @@ fn named_job(alloc: Global, text: &[u8], setting: Accepted, name: &str) -> Resul
     }
 }
 
-// Makes two labels.
 fn two_labels(alloc: Global) -> Result<LabelList, Memory>
     ensures { IfOk result (λ labels. length labels ≡ 2) }
 {
