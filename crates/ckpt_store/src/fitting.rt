@@ -64,7 +64,6 @@ fn ends_in_zeros(job: &Job, outcome: &Outcome) -> bool
     are_zeros(&outcome.values[asks..])
 }
 
-/// Returns the number of asks.
 fn asks_of(job: &Job) -> usize
     ensures asks { result ≡ length job.now.setting.asks }
     ensures few { result ≤ 4 }
@@ -118,7 +117,6 @@ fn is_bare(outcome: &Outcome) -> bool
     outcome.bins.iter().all(|bin| *bin == 0)
 }
 
-/// Returns the sum of a histogram.
 fn sum_of(bins: &[u32; 9]) -> u64
     ensures { result ≡ sum bins.now }
 {
