@@ -2,7 +2,7 @@
 
 ghost use Rattle.std.specs.Prelude.{◌≡◌, ◌+◌, ◌-◌, ◌<◌, ◌≤◌, [], min, ◌++◌, length, take, drop};
 
-// Copies up to `most` bytes from `at` on to the front of `into`.
+// Copies up to `most` bytes, starting at `at`, to the front of `into`.
 pub(crate) fn give(bytes: &[u8], at: usize, most: usize, into: &mut [u8]) -> usize
     requires at { at ≤ length bytes.now }
     requires most { 0 < most }

@@ -38,7 +38,6 @@ impl<T: Write + Drop, C: Clock + Drop> Patient<T, C> {
     }
 }
 
-// Sleeps for one pause.
 fn pause<C: Clock>(clock: &C) {
     thread::sleep(clock, Duration::from_millis(PAUSE));
 }

@@ -29,7 +29,6 @@ impl Known {
     }
 }
 
-// Returns the file name of a slot.
 pub(crate) fn name_of(slot: u8) -> &'static str
     requires { slot < 2 }
     ensures { result.now ≡ file_name slot }
@@ -73,7 +72,6 @@ fn are_one<R: Files>(files: &R) -> bool {
     }
 }
 
-/// Opens the file of a slot for reading.
 pub(crate) fn open_slot<R: Files>(files: &R, slot: u8) -> io::Result<R::File>
     requires { slot < 2 }
 {
