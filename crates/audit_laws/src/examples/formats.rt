@@ -126,7 +126,8 @@ pub fn read_checkpoints()
     ensures old { outcomes_in (checkpoint_body 1 (replicate 32 0) 1 (found_once ∷ [])) ≡ found_once ∷ [] }
 {}
 
-/// The outcomes a run resumes from: all of them without a histogram, or for walks with `--shift` only those with one.
+/// The outcomes a run resumes from: all of them without histograms, or with `--shift` those of walks only if they have
+/// one.
 pub fn small_openings()
     ensures bare { opening true (run_of 5000 1 8 1 8 []) (ours 0 (record found_once { bins = 9 ∷ [] } ∷ [])) absent ≡ Some (found_once ∷ []) }
     ensures binned { opening true (record (run_of 5000 1 8 1 8 []) { shift = true }) (ours 0 (found_once ∷ record found_once { id = 1 } ∷ [])) absent ≡
