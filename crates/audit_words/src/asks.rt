@@ -13,7 +13,6 @@ use std::alloc::Global;
 /// The largest number of asks in a text.
 const MOST: usize = 4;
 
-/// Returns the ask that the word spells.
 fn ask_of(word: &str) -> Option<Ask>
     ensures { result ≡ definition.ask_of word.now }
 {

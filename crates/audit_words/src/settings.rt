@@ -41,7 +41,6 @@ fn whole_column(words: &[String]) -> &str
     }
 }
 
-/// Returns the columns that the arguments name.
 fn columns_of(alloc: Global, words: &[String]) -> Result<Columns, Memory>
     ensures { IfOk result (λ columns. columns ≡ definition.columns_named command.Check (pairs_in words.now)) }
 {
@@ -55,7 +54,6 @@ fn columns_of(alloc: Global, words: &[String]) -> Result<Columns, Memory>
     })
 }
 
-/// Returns the columns of a generated grid.
 fn columns_of_grid(alloc: Global) -> Result<Columns, Memory>
     ensures { IfOk result (λ columns. columns ≡ record { population = codes "pop"; first = codes "a"; second = codes "b"; district = codes "district"; group = []; whole = [] }) }
 {
@@ -78,7 +76,6 @@ struct Limits {
     group_districts: u32,
 }
 
-/// Returns the limits that the arguments set.
 fn limits_of(words: &[String]) -> Limits
     requires { AreGoodLimits (pairs_in words.now) }
     ensures max_split { result.max_split ≡ definition.number_named command.Check (pairs_in words.now) name.MaxSplit }
@@ -94,7 +91,6 @@ fn limits_of(words: &[String]) -> Limits
     }
 }
 
-/// Returns the setting of a check.
 fn check_setting(alloc: Global, words: &[String]) -> Result<Setting, Memory>
     requires slack { definition.is_good command.Check (pairs_in words.now) name.Slack ≡ true }
     requires max_cut { definition.is_good command.Check (pairs_in words.now) name.MaxCut ≡ true }
@@ -146,7 +142,6 @@ struct Ground {
     source: bool,
 }
 
-/// Returns the setting of a run on this graph.
 fn run_setting(
     alloc: Global,
     command: Command,
@@ -189,7 +184,6 @@ fn run_setting(
     })
 }
 
-/// Returns the setting of a run on a graph that is read.
 fn read_setting(alloc: Global, command: Command, words: &[String]) -> Result<Setting, Memory>
     requires run { AreGood (pairs_in words.now) }
     requires limits { AreGoodLimits (pairs_in words.now) }
@@ -205,7 +199,6 @@ fn read_setting(alloc: Global, command: Command, words: &[String]) -> Result<Set
     run_setting(alloc, command, words, ground)
 }
 
-/// Returns the setting of a trace.
 fn trace_setting(alloc: Global, words: &[String]) -> Result<Setting, Memory>
     requires run { AreGood (pairs_in words.now) }
     requires limits { AreGoodLimits (pairs_in words.now) }
