@@ -124,7 +124,6 @@ fn take_up(alloc: Global, job: &Job, outcomes: &[Outcome]) -> Result<OutcomeList
     }
 }
 
-// Returns the reason why the run does not resume.
 fn refusal(fault: StoreFault) -> Ended
     ensures { result ≡ refused_by fault }
 {
