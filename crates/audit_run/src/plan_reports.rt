@@ -17,7 +17,6 @@ use plan_csv::named::Named;
 use report::ended::Ended;
 use std::thread::Threads;
 
-// Returns the job of the first plan.
 fn first_of(plans: &[Named]) -> &Job
     requires { 0 < length plans.now }
     ensures { (n : NamedOf) × (n ≡ slice_index_or plans.now 0 n) × (result.now ≡ n.job) }

@@ -32,7 +32,6 @@ use std::alloc::Global;
 use std::sync::Wait;
 use std::thread::Threads;
 
-// Writes the text of a check.
 fn finish_check<K: Sink>(alloc: Global, job: &Job, out: &mut K) -> Ended
     requires { job.now.setting.command ≡ Check }
     ensures { (keeper : Kept) → Finishes job.now (K.state out.old) (K.state out.new) keeper keeper result }

@@ -16,7 +16,6 @@ use region_guard::judges::region_guards;
 use report::ended::Ended;
 use std::alloc::Global;
 
-// Returns the range that the arguments name.
 fn range_of(job: &Job) -> TraceRange
     ensures { result ≡ record { first = job.now.setting.first_id; last = job.now.setting.last_id; thin = job.now.setting.thin } }
 {
