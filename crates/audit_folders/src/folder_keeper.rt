@@ -85,7 +85,6 @@ fn is_working_folder(rt: &HostRuntime, folder: &str) -> bool {
     }
 }
 
-// Reads the file of a slot.
 fn read_slot(
     rt: &HostRuntime,
     alloc: Global,

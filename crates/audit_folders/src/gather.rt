@@ -24,7 +24,6 @@ use report::ended::Ended;
 use std::alloc::AllocError;
 use std::process::ExitCode;
 
-// Makes a keeper for each folder.
 fn keepers_of<'a>(
     rt: &'a HostRuntime,
     folders: &'a [String],
@@ -78,7 +77,6 @@ fn gather_here(
     )
 }
 
-// Looks at the folders, or gathers them.
 fn look_or_gather(
     rt: &HostRuntime,
     job: &Job,
@@ -161,7 +159,6 @@ fn count_folders(words: &[String]) -> usize
     count
 }
 
-// Returns true if the first argument is `--look`.
 fn begins_with_look(words: &[String]) -> bool
     ensures { result ≡ true → 1 ≤ length words.now }
 {
