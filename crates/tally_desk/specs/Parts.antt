@@ -15,8 +15,8 @@ use Rattle.audit_statement.specs.Due.{Lets, LetsRun}
 use Rattle.tally_desk.specs.declared.handing.DeskPlan.{DeskPlan}
 use Rattle.outcome_book.specs.Booked.{Booked, IsBook}
 
--- the job, the book's outcomes and the ids to do, then the posts between saves, the number of seats, the place of the
--- first save, and the initial state of the keeper
+-- The job, the outcomes of the book and the ids to do. Then the number of posts between saves, the number of seats, the
+-- place of the first save, and the initial state of the keeper.
 pub record Parts : Type 0 where
   pub job : Job
   pub opening : List Outcome
