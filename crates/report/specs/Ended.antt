@@ -15,7 +15,7 @@ use Rattle.audit_model.specs.declared.setting.Columns.{Columns}
 use Rattle.ckpt_store.specs.View.{slot_view}
 use Rattle.audit_statement.specs.Accepted.{no_columns}
 
--- a refusal of a lower layer, with out of memory as one reason
+-- the ending of refused arguments. Out of memory has the same ending in every layer.
 abbrev pub word_ended : WordFault → Ended
 word_ended word.Memory = ended.NoMemory
 word_ended f = ended.BadWords f
