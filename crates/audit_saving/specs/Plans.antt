@@ -49,7 +49,7 @@ module _ {J : Type 0} where
     pub pairs : map walk_pair walks ≡ jobs
     pub each : All IsWalkOf walks
 
--- the end of writing the reports of these jobs, by the draws of this key
+-- the result of writing the reports of these jobs, by the draws of this key
 abbrev pub ReportsPlans : List ℕ → Jobs → Stream → Stream → Ended → Type 0
 ReportsPlans key jobs before after ended.Done = Appends before.bytes after.bytes (plans_text (draw key) jobs) × (after.faults ≡ before.faults)
 ReportsPlans key jobs before after ended.WriteFault = AppendsPart before.bytes after.bytes (plans_text (draw key) jobs) × Rose before.faults after.faults

@@ -39,8 +39,8 @@ use tally_desk::ran::{Ran, run_over};
 use tally_desk::run_laws::{run_tries_are_right, saves_hold_parts};
 use walker::walker::Walker;
 
-/// The resources of a run that saves: the initial state, the place of the first save, the workers, a checkpoint buffer,
-/// and the walker of the serial test if there is one.
+/// The resources of a run that saves: the initial state, the place of the first save, the workers and a checkpoint
+/// buffer. The walker of the serial test is there if the test was requested.
 #[derive(Drop)]
 pub struct SavedMeans<J: Judge> {
     pub ready: Ready,
