@@ -19,8 +19,8 @@ listed_in f = take f.listed f.sorted.items
 abbrev pub told_in : Found → List (List ℕ)
 told_in f = take f.told f.stops
 
--- the report can be made: the stops are complete, the outcomes are too once their number is the one that the report
--- covers, and the buffer is large enough
+-- The report can be made. The covered outcomes and stops exist, and the buffer is empty and large enough. The outcomes
+-- are those of the job as soon as none is missing.
 pub record IsTellable (job : Job) (f : Found) : Type 0 where
   pub run : IsRunJob job
   pub enough : f.listed ≤ length f.sorted.items
