@@ -1,9 +1,9 @@
 //! Runs in which each call fails in turn, for each line of a file.
 //!
-//! A line has the kind of failing calls (`reads`, `writes`, `saves`, `loads` or `none`), the most bytes of a read and
-//! of a write, and the contents of slots 0 and 1 before each run, as in `keeping`. Then come the file of the graph and
-//! the arguments of the audit. The first such call fails in the first run, the second in the second, and so on, until a
-//! run ends with status 0 or 7.
+//! A line has the kind of failing calls: `reads`, `writes`, `saves`, `loads` or `none`. Then come the most bytes of a
+//! read and of a write, and the contents of slots 0 and 1 before each run, as in `keeping`. The file of the graph and
+//! the arguments of the audit follow. The first such call fails in the first run, the second in the second, and so on,
+//! until a run ends with status 0 or 7.
 
 use crate::given::{Given, Origin, Watched};
 use crate::held::{Held, saves_failing};

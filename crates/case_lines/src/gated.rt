@@ -1,6 +1,6 @@
-//! Runs at other kinds of gates, one for each line of a file: one holds every caller until three have begun, one shares
-//! a count with the keeper, and one has a clock. A line has the file of the graph and the arguments of the audit. The
-//! status and the notes of the gate are printed.
+//! Runs at other kinds of gates, one for each line of a file. One gate holds every caller until three have begun, one
+//! shares a count with the keeper, and one has a clock. A line has the file of the graph and the arguments of the
+//! audit. The status and the notes of the gate are printed.
 
 use crate::counted::Saves;
 use crate::crowd::CrowdGate;

@@ -1,10 +1,15 @@
 //! Runs that start from the slots of the run before, one for each line of a file.
 //!
-//! A line has the contents of slots 0 and 1 before the run: `absent`, the `same` as after the run before, that with its
-//! last byte changed (`spoilt`), one byte more than a slot may have (`long`), or a file of hexadecimal digits. Then
-//! come the number of the load that fails and that of the save, 0 for none, the capacity of the sink in bytes, the file
-//! of the graph, and the arguments of the audit. In place of the number of a save, `2/40` is a stop within the second
-//! save that leaves 40 of its bytes. No later save changes anything.
+//! A line has these parts in order:
+//!
+//! - the contents of slots 0 and 1 before the run: `absent`, the `same` as after the run before, that with its last
+//!   byte changed (`spoilt`), one byte too many (`long`), or a file of hexadecimal digits
+//! - the number of the load that fails, and that of the save, or 0 for none
+//! - the capacity of the sink in bytes
+//! - the file of the graph, and the arguments of the audit
+//!
+//! In place of the number of a save, `2/40` is a stop within the second save that leaves 40 of its bytes. No later save
+//! changes anything.
 
 use crate::given::{Given, Origin, READ, WRITE, Watched};
 use crate::held::{Held, Saves, saves_failing};

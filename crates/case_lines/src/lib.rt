@@ -5,9 +5,9 @@
 //! `faults` describes `faults`, `gated` describes `crowds`, `counted` and `timed`, and `sure` describes `sure`. `lines`
 //! runs all but the last.
 //!
-//! The calls need no job. `books` posts outcomes, `checkpoints` writes one of the first version, `machine` gives events
-//! to the run machine, `outside` saves in real files, `rings` looks for faces, `leaving` tests units that leave, and
-//! `texts` reads graphs. Calls on jobs are in `audit_cases`.
+//! The calls need no job. `books` posts outcomes, `checkpoints` writes one of the first version, and `machine` gives
+//! events to the run machine. `outside` saves in real files, `rings` looks for faces, `leaving` tests units that leave,
+//! and `texts` reads graphs. Calls on jobs are in `audit_cases`.
 //!
 //! Proofs take longer with more values to drop at an early return, and with more generic types and traits. Fallible
 //! work is therefore done in small functions that take a `HostRuntime`.

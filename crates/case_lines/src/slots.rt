@@ -15,8 +15,8 @@ use std::test::Fail;
 /// One byte more than a checkpoint can have.
 const TOO_LONG: usize = 8_000_085;
 
-/// Returns the contents of a slot that a line names: nothing, the bytes of the run before, those with another last
-/// byte, too many zeros, or the bytes of a file of hexadecimal digits.
+/// Returns the contents of a slot that a line names. They are nothing, the bytes of the run before, those with another
+/// last byte, too many zeros, or the bytes of a file of hexadecimal digits.
 pub fn slot_of(rt: &HostRuntime, said: &str, before: Option<&[u8]>) -> Result<Option<Bytes>, Fail> {
     let alloc = rt.alloc();
     match said {
