@@ -8,8 +8,8 @@ use Rattle.audit_statement.specs.Slots.{Slot, absent, broken, other, ours, newes
 use Rattle.ckpt_store.specs.declared.given.Given.{Given}
 use Rattle.ckpt_store.specs.declared.given.Given.TheVariants as given
 
--- the outcomes of the newest slot, which belongs to the job, or nothing if both slots are empty, or a refusal: the
--- newest is another job's, or no slot is valid and one is not empty
+-- The offer of a folder: the outcomes of the newest slot, which belongs to the job, or nothing if both slots are empty.
+-- Otherwise a refusal: the newest slot is another job's, or no slot is valid and one is not empty.
 pub data Gives : Type 0 where
   outcomes : List Outcome → Gives
   nothing : Gives

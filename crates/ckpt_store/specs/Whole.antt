@@ -81,8 +81,8 @@ pub record HasFailed (job : Job) (digest : List ℕ) (saves : Bool) (before afte
   pub may : MayBeSaved job digest before.slots folders folders_now place all
   pub unsaved : IsUnsavedUnion digest place all before after
 
--- A keeper with these slots and attempts accepts the one save of a gathering that is to save: the union of all
--- findings, if it may be saved, at its place, as long as no save was attempted.
+-- A keeper with these slots and attempts accepts the one save of a gathering that is to save. The save is that of the
+-- union of all findings, if it may be saved, at its place. No save may have been attempted before.
 abbrev pub LetsGathering : Lets → Job → List ℕ → Bool → Option Pair → Option (List Try) → List Kept → Type 0
 LetsGathering lets job digest saves told tried folders =
     (k : Kept) (folders_now : List Kept) (place : ℕ × ℕ) (all : List Outcome) → k.tried ≡ tried → saves ≡ true → MayBeSaved job digest told folders folders_now place all
