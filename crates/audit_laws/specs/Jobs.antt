@@ -95,8 +95,8 @@ job_of_four graph setting = record {
   origin = None;
 }
 
--- the job of four units in a row with two regions, each in both districts, and a group with one majority, under these
--- limits on splits in all, split regions and majorities
+-- The job of four units in a row with two regions, each in both districts, and a group with one majority. It has these
+-- limits on splits in all, split regions and majorities.
 abbrev pub limited_job : ℕ → ℕ → ℕ → Job
 limited_job max_splits max_split_regions group_districts = record (job_of_four path_of_four (record (run_of 5000 1 8 0 1000 []) {
   max_splits = max_splits;

@@ -39,14 +39,14 @@ pub record HoldsAll (job : Job) (q : Pair) (outcomes : List Outcome) : Type 0 wh
 abbrev pub KeepsOpening : Job → Pair → Pair → List Outcome → Type 0
 KeepsOpening job p q opening = (newest_bytes job (job_digest job) q ≡ newest_bytes job (job_digest job) p) ⊎ HoldsAll job q opening
 
--- the state after `carried` was made over these slots: the newest slot contains each save that succeeded, and the
--- initial outcomes
+-- the state after the save attempts of `carried` over these slots: the newest slot contains each save that succeeded,
+-- and the initial outcomes
 pub record LosesNothing (job : Job) (before : World) (p q : Pair) (carried : List Try) : Type 0 where
   pub saved : All (λ save. save.succeeded ≡ true → IsKeptIn job q save) carried
   pub opened : (outcomes : List Outcome) → TellsOpening job before.keeper.slots (Some outcomes) → KeepsOpening job p q outcomes
 
--- Wherever a run is stopped, between two saves or within one at any byte, and whichever saves failed before, the newest
--- slot contains each earlier successful save and the initial outcomes. The contents after a failed or cut-off save are
+-- A run may be stopped between two saves or within one at any byte, and earlier saves may have failed. The newest slot
+-- then contains each earlier successful save and the initial outcomes. The contents after a failed or cut-off save are
 -- the former contents, the first bytes of the save or all of them, or no valid checkpoint.
 abbrev pub StopsLoseNothing : Type 0
 StopsLoseNothing = (job : Job) (before after : World) (p : Pair) (status : ℕ) (told now : List Try) (t : TriesOver job before after p status told now) (n : ℕ) (q : Pair)

@@ -45,10 +45,9 @@ pub fn stops_lose_nothing()
     saves_keep_the_newest();
 }
 
-/// Each run of any chain of halted, stopped and resumed runs that ends with status 0 has written the report of one
-/// thread, if the chain starts from consistent slots, such as empty ones. The report is that of the job with this run's
-/// choice of histogram and origin. Neither the choices of earlier runs nor the format version of the first slots
-/// matter.
+/// Assumes a chain of halted, stopped and resumed runs from consistent slots, such as empty ones. Each of its runs that
+/// ends with status 0 has written the report of one thread. The report is that of the job with this run's choice of
+/// histogram and origin. Neither the choices of earlier runs nor the format version of the first slots matter.
 pub fn chains_write_one_report()
     ensures { ChainsWriteOneReport }
 {

@@ -3,8 +3,8 @@
 ghost use Rattle.audit_laws.specs.One.{ReportsAreOne};
 ghost use Rattle.audit_laws.specs.Promised.{PromisedCallsAuditPlainly, PromisedCallsEndPlainly};
 
-/// A call on the arguments of a plain run that meets the top call's contract and ends with status 0 has read JSON that
-/// gives its job, visited only valid plans, and written the plain report.
+/// Assumes a call on the arguments of a plain run that meets the top call's contract and ends with status 0. The call
+/// has read JSON that gives its job, visited only valid plans, and written the plain report.
 pub fn promised_calls_audit_plainly()
     ensures { PromisedCallsAuditPlainly }
 {}
