@@ -1,8 +1,8 @@
 //! Looks at folders with checkpoints of runs: one program under two names.
 //!
-//! As `audit_slots`, or with the first argument `slots`, it reports the contents of a folder's two files, the newest of
-//! them, and the number of finished trajectories of a run (`slots`). As `audit_gather`, or with the first argument
-//! `gather`, it merges the outcomes that runs of one job have saved in several folders (`gather`).
+//! As `audit_slots`, or with the first argument `slots`, it reports the contents of a folder's two files and the newest
+//! of them. It also reports the number of finished trajectories of a run (`slots`). As `audit_gather`, or with the
+//! first argument `gather`, it merges the outcomes that runs of one job have saved in several folders (`gather`).
 #![tactic(auto)]
 
 mod folder_keeper;
