@@ -9,13 +9,13 @@ ghost use Rattle.audit_model.specs.declared.outcome.Outcome.{Outcome};
 ghost use Rattle.audit_model.specs.declared.outcome.Stop.{Stop};
 ghost use Rattle.audit_model.specs.declared.setting.Ask.{Ask};
 
-/// If the outcomes are correct, a stop settled by some of them is the stop of all endpoint trajectories of one thread.
+/// Shows that a stop settled by some correct outcomes is the stop of all endpoint trajectories of one thread.
 pub fn settled_stops_are_final()
     ensures { (job : Job) (draws : Draws) (place : ℕ) (ask : Ask) (enough : ℕ) (outcomes : List Outcome) (s : Stop) → IsRight job draws outcomes →
         settled job (place, ask) enough outcomes ≡ Some s → s ≡ stop_of job (place, ask) (end_values job place (sequence job draws)) enough }
 {}
 
-/// If no endpoint is missing, the test has stopped.
+/// Shows that the test has stopped if no endpoint is missing.
 pub fn all_ends_settle()
     ensures { (job : Job) (place : ℕ) (ask : Ask) (enough : ℕ) (outcomes : List Outcome) →
         ((j : ℕ) → j < job.setting.ends → IsTrue (has_id outcomes (job.setting.walks + j))) →
