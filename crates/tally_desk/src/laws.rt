@@ -15,26 +15,26 @@ use ckpt_store::laws::{
     checkpoints_are_ours, saved_slots_are_newest, saves_keep_the_newest, saves_leave_honest_slots,
 };
 
-/// Each step of a pass keeps the rule of the desk. It also takes the matching state of the run machine to the state
-/// after the step's events: a claim, a post, or a post and a save.
+/// Shows that each step of a pass keeps the rule of the desk. It also takes the matching state of the run machine to
+/// the state after the step's events: a claim, a post, or a post and a save.
 pub fn steps_are_events<C: Keeper>()
     ensures { (parts : Parts) → StepsAreEvents (HomeAs C.state C.lets) parts }
 {
     counter_laws();
 }
 
-/// A pass that posts what it claims has posted all its claims, also after such passes are joined.
+/// Shows that a pass that posts what it claims has posted all its claims, also after such passes are joined.
 pub fn posts_stay_whole()
     ensures { PostsStayWhole }
 {}
 
-/// If no save failed, one save was made for each `save_every` posts, with the last post of each group.
+/// Shows that one save was made with the last post of each group of `save_every` posts, if no save failed.
 pub fn unfailed_posts_are_regular()
     ensures { UnfailedPostsAreRegular }
 {}
 
-/// If no save failed and a last save follows unless the last post had one, the last save is complete, at its place and
-/// the newest. The other slot is unchanged or holds the save before.
+/// Shows the slots after a run without failed saves, with a last save unless the last post had one. The last save is
+/// complete, at its place and the newest. The other slot is unchanged or holds the save before.
 pub fn unfailed_runs_save_in_turn()
     ensures { UnfailedRunsSaveInTurn }
 {
@@ -42,20 +42,22 @@ pub fn unfailed_runs_save_in_turn()
     checkpoints_are_ours();
 }
 
-/// If the initial outcomes were found by the job's trajectories, so were the outcomes of each checkpoint of a desk.
+/// Shows that the outcomes of each checkpoint of a desk were found by the job's trajectories, if the initial outcomes
+/// were.
 pub fn saved_outcomes_are_right()
     ensures { SavedOutcomesAreRight }
 {}
 
-/// If the initial outcomes are correct, a stop anywhere in a run leaves consistent slots, wherever its saves failed.
+/// Shows that a stop anywhere in a run leaves consistent slots, wherever its saves failed, if the initial outcomes are
+/// correct.
 pub fn stops_leave_honest_slots()
     ensures { RunStopsLeaveHonestSlots }
 {
     saves_leave_honest_slots();
 }
 
-/// A stop anywhere in a run keeps the newest slot from before or leaves a newer one: the last save that succeeded, or a
-/// later one.
+/// Shows that a stop anywhere in a run keeps the newest slot from before or leaves a newer one: the last save that
+/// succeeded, or a later one.
 pub fn stops_keep_the_newest()
     ensures { RunStopsKeepTheNewest }
 {

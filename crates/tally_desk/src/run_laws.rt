@@ -2,12 +2,12 @@
 
 ghost use Rattle.tally_desk.specs.Holding.{RunTriesAreRight, SavesHoldParts};
 
-/// A save holds all initial outcomes and those of some ids to do.
+/// Shows that a save holds all initial outcomes and those of some ids to do.
 pub fn saves_hold_parts()
     ensures { SavesHoldParts }
 {}
 
-/// If the initial outcomes were found by the job's trajectories, so were those of each save attempt.
+/// Shows that the outcomes of each save attempt were found by the job's trajectories, if the initial outcomes were.
 pub fn run_tries_are_right()
     ensures { RunTriesAreRight }
 {}
