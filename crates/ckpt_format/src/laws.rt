@@ -2,28 +2,28 @@
 
 ghost use Rattle.ckpt_format.specs.Laws.{FaultlessAreCheckpoints, CheckpointsAreRead, CheckpointsAreDetermined, CheckpointsHaveLength, RisingPairsRise};
 
-/// Bytes have no fault exactly if they are the checkpoint of some version, digest, generation and outcomes.
+/// Shows that bytes have no fault exactly if they are the checkpoint of some version, digest, generation and outcomes.
 pub fn faultless_bytes_are_checkpoints()
     ensures { FaultlessAreCheckpoints }
 {}
 
-/// Each part of a checkpoint stands at its place: `decode` reads what `encode` or `encode_old` wrote.
+/// Shows that `decode` reads what `encode` or `encode_old` wrote: each part of a checkpoint stands at its place.
 pub fn checkpoints_are_read()
     ensures { CheckpointsAreRead }
 {}
 
-/// Bytes are the checkpoint of one version, one digest, one generation and one list of outcomes.
+/// Shows that bytes are the checkpoint of one version, one digest, one generation and one list of outcomes.
 pub fn checkpoints_are_determined()
     ensures { CheckpointsAreDetermined }
 {}
 
-/// A checkpoint has 84 bytes, and 44 more for each outcome in the first version or 80 in the second. The most is
-/// 8,000,084.
+/// Shows that a checkpoint has 84 bytes, and 44 more for each outcome in the first version or 80 in the second. The
+/// most is 8,000,084.
 pub fn checkpoints_have_a_length()
     ensures { CheckpointsHaveLength }
 {}
 
-/// Outcomes each with a smaller id than all later ones have rising ids, as `encode` requires.
+/// Shows that outcomes each with a smaller id than all later ones have rising ids, as `encode` requires.
 pub fn rising_pairs_rise()
     ensures { RisingPairsRise }
 {}
