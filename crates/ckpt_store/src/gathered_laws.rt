@@ -5,13 +5,13 @@ ghost use Rattle.ckpt_store.specs.GatheredLaws.{GatheredSlotsAreHonest, HonestSl
 use crate::laws::{a_stop_in_a_save_leaves_honest_slots, checkpoints_are_ours};
 use outcome_book::union_laws::unions_are_right;
 
-/// The outcomes of the newest of consistent slots were found by the job's trajectories.
+/// Shows that the outcomes of the newest of consistent slots were found by the job's trajectories.
 pub fn honest_slots_give_honest_outcomes()
     ensures { HonestSlotsGiveHonestOutcomes }
 {}
 
-/// If the outcomes of another folder and those of consistent slots are merged and saved over these slots, the slots
-/// stay consistent. A run that resumes from them and ends with status 0 thus writes the report of one thread.
+/// Shows that consistent slots stay consistent when their outcomes are merged with those of another folder and saved
+/// over them. A run that resumes from them and ends with status 0 thus writes the report of one thread.
 pub fn gathered_slots_are_honest()
     ensures { GatheredSlotsAreHonest }
 {

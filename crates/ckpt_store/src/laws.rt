@@ -5,14 +5,15 @@ ghost use Rattle.ckpt_store.specs.Laws.{SavesKeepTheNewest, SavesLeaveHonestSlot
 use audit_model::laws::{bare_outcomes_have_no_bins, honest_runs_go_on_rightly};
 use ckpt_format::laws::{checkpoints_are_read, faultless_bytes_are_checkpoints};
 
-/// A checkpoint belongs to the job if it has the job's digest and its outcomes are all plausible for the job.
+/// Shows that a checkpoint belongs to the job if it has the job's digest and its outcomes are all plausible for the
+/// job.
 pub fn checkpoints_are_ours()
     ensures { CheckpointsAreOurs }
 {}
 
-/// A slot matches its bytes. A slot of the job is a checkpoint of the job's digest with these outcomes. A slot of
-/// another job is a checkpoint of another digest. A broken slot is no checkpoint of the job's digest with plausible
-/// outcomes.
+/// Shows that a slot matches its bytes. A slot of the job is a checkpoint of the job's digest with these outcomes. A
+/// slot of another job is a checkpoint of another digest. A broken slot is no checkpoint of the job's digest with
+/// plausible outcomes.
 pub fn slots_are_what_they_are()
     ensures { SlotsAreWhatTheyAre }
 {
@@ -20,43 +21,46 @@ pub fn slots_are_what_they_are()
     checkpoints_are_read();
 }
 
-/// A valid slot with the place's generation in the place's slot is the newest, whatever both slots were before.
+/// Shows that a valid slot with the place's generation in the place's slot is the newest, whatever both slots were
+/// before.
 pub fn written_slots_are_newest()
     ensures { WrittenSlotsAreNewest }
 {}
 
-/// A checkpoint of a job that is written to the place of its slots is in the newest slot.
+/// Shows that a checkpoint of a job that is written to the place of its slots is in the newest slot.
 pub fn saved_slots_are_newest()
     ensures { SavedSlotsAreNewest }
 {}
 
-/// The outcomes of a job's trajectories are consistent, with or without a histogram.
+/// Shows that the outcomes of a job's trajectories are consistent, with or without a histogram.
 pub fn right_outcomes_are_honest()
     ensures { RightIsHonest }
 {
     bare_outcomes_have_no_bins();
 }
 
-/// Outcomes from consistent slots with which a run may start are those of the job's trajectories.
+/// Shows that outcomes from consistent slots with which a run may start are those of the job's trajectories.
 pub fn honest_slots_open_right()
     ensures { HonestSlotsOpenRight }
 {
     honest_runs_go_on_rightly();
 }
 
-/// A stop within a save leaves consistent slots if its slot is unchanged, does not belong to the job, or is consistent.
+/// Shows that a stop within a save leaves consistent slots if its slot is unchanged, does not belong to the job, or is
+/// consistent.
 pub fn a_stop_in_a_save_leaves_honest_slots()
     ensures { StopsLeaveHonestSlots }
 {}
 
-/// Correct saves leave consistent slots consistent, however many were made and wherever each failed or was stopped.
+/// Shows that correct saves leave consistent slots consistent, however many were made and wherever each failed or was
+/// stopped.
 pub fn saves_leave_honest_slots()
     ensures { SavesLeaveHonestSlots }
 {
     right_outcomes_are_honest();
 }
 
-/// Saves in turn keep the newest slot from before or make a newer one, wherever each failed or was stopped.
+/// Shows that saves in turn keep the newest slot from before or make a newer one, wherever each failed or was stopped.
 pub fn saves_keep_the_newest()
     ensures { SavesKeepTheNewest }
 {}
