@@ -2,11 +2,11 @@
 //!
 //! A line has these parts in order:
 //!
-//! - the contents of slots 0 and 1 before the run: `absent`, the `same` as after the run before, that with its last
-//!   byte changed (`spoilt`), one byte too many (`long`), or a file of hexadecimal digits
-//! - the number of the load that fails, and that of the save, or 0 for none
-//! - the capacity of the sink in bytes
-//! - the file of the graph, and the arguments of the audit
+//! - The contents of slots 0 and 1 before the run: `absent`, the `same` as after the run before, that with its last
+//!   byte changed (`spoilt`), one byte too many (`long`), or a file of hexadecimal digits.
+//! - The number of the load that fails, and that of the save, or 0 for none.
+//! - The capacity of the sink in bytes.
+//! - The file of the graph, and the arguments of the audit.
 //!
 //! In place of the number of a save, `2/40` is a stop within the second save that leaves 40 of its bytes. No later save
 //! changes anything.
