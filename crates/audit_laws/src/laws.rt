@@ -13,7 +13,7 @@ use ckpt_store::laws::{
 };
 use outcome_book::union_laws::unions_are_right;
 
-/// A call that ended for a reason, with the effects of that reason, meets the contract of the top call.
+/// Shows that a call that ended for a reason, with the effects of that reason, meets the contract of the top call.
 pub fn ended_calls_keep_their_promise()
     ensures { EndedCallsKeepTheirPromise }
 {
@@ -21,33 +21,35 @@ pub fn ended_calls_keep_their_promise()
     right_outcomes_are_honest();
 }
 
-/// The manner of a run does not change the job's digest, the outcomes of its trajectories or its report. The manner is
-/// the command, the number of workers, the budget, saving, resuming and the part. The report of one of several plans is
-/// thus the one that `run` gives for this plan alone. A histogram does not change the digest, the full outcomes or the
-/// consistency of slots. Neither does the origin, which only adds lines to the report.
+/// Shows that the manner of a run does not change the job's digest, the outcomes of its trajectories or its report. The
+/// manner is the command, the number of workers, the budget, saving, resuming and the part. The report of one of
+/// several plans is thus the one that `run` gives for this plan alone. A histogram does not change the digest, the full
+/// outcomes or the consistency of slots. Neither does the origin, which only adds lines to the report.
 pub fn reruns_are_alike()
     ensures { RerunsAreAlike }
 {}
 
-/// A stop anywhere in a run, within a save or between two, keeps the newest slot from before or leaves a newer one.
+/// Shows that a stop anywhere in a run, within a save or between two, keeps the newest slot from before or leaves a
+/// newer one.
 pub fn stops_keep_the_newest()
     ensures { StopsKeepTheNewest }
 {
     saves_keep_the_newest();
 }
 
-/// Nothing that was saved is lost, wherever a run is stopped, within a save at any byte, and whichever saves failed
-/// before. The newest slot is each earlier successful save or contains it. It also is the slot from which the run
-/// started, or contains its outcomes.
+/// Shows that nothing that was saved is lost, wherever a run is stopped, within a save at any byte, and whichever saves
+/// failed before. The newest slot is each earlier successful save or contains it. It also is the slot from which the
+/// run started, or contains its outcomes.
 pub fn stops_lose_nothing()
     ensures { StopsLoseNothing }
 {
     saves_keep_the_newest();
 }
 
-/// Assumes a chain of halted, stopped and resumed runs from consistent slots, such as empty ones. Each of its runs that
-/// ends with status 0 has written the report of one thread. The report is that of the job with this run's choice of
-/// histogram and origin. Neither the choices of earlier runs nor the format version of the first slots matter.
+/// Shows that chains of runs write one report. A chain of halted, stopped and resumed runs starts from consistent
+/// slots, such as empty ones. Each of its runs that ends with status 0 has written the report of one thread. The report
+/// is that of the job with this run's choice of histogram and origin. Neither the choices of earlier runs nor the
+/// format version of the first slots matter.
 pub fn chains_write_one_report()
     ensures { ChainsWriteOneReport }
 {
@@ -57,9 +59,9 @@ pub fn chains_write_one_report()
     saves_leave_honest_slots();
 }
 
-/// Over any number of machines and folders, the slots are consistent, and each run from them that ends with status 0
-/// has written the report of one thread. A folder may hold the slots left by runs of any part of the job, ended or
-/// stopped, and by gatherings of other folders, complete or not.
+/// Shows that, over any number of machines and folders, the slots are consistent. Each run from them that ends with
+/// status 0 has written the report of one thread. A folder may hold the slots left by runs of any part of the job,
+/// ended or stopped, and by gatherings of other folders, complete or not.
 pub fn gathered_runs_write_one_report()
     ensures { GatheredRunsWriteOneReport }
 {
@@ -71,17 +73,19 @@ pub fn gathered_runs_write_one_report()
     a_stop_in_a_save_leaves_honest_slots();
 }
 
-/// The slots after one call of `ckpt_store::whole::gather` are reached, if its slots and those of its folders were.
+/// Shows that the slots after one call of `ckpt_store::whole::gather` are reached, if its slots and those of its
+/// folders were.
 pub fn gatherings_reach()
     ensures { GatheringsReach }
 {}
 
-/// The slots after a gathering whose save failed or was cut off are reached.
+/// Shows that the slots after a gathering whose save failed or was cut off are reached.
 pub fn cut_gatherings_reach()
     ensures { CutGatheringsReach }
 {}
 
-/// The plans of a trajectory determine its outcome: its moves, the counts of a walk, and the scores of an endpoint.
+/// Shows that the plans of a trajectory determine its outcome: its moves, the counts of a walk, and the scores of an
+/// endpoint.
 pub fn traces_end_as_found()
     ensures { TracesEndAsFound }
 {}

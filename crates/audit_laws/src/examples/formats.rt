@@ -27,7 +27,7 @@ ghost use Rattle.audit_laws.specs.Lines.{run_words, small_budget};
 ghost use Rattle.audit_model.specs.declared.fault.WordFault.TheVariants as word;
 ghost use Rattle.audit_model.specs.declared.fault.Name.TheVariants as name;
 
-/// The first draws of stream 0 under the all-zero key.
+/// Shows the first draws of stream 0 under the all-zero key.
 pub fn first_draws()
     ensures zeroth { draw (replicate 32 0) 0 0 ≡ 0x903df1a0ade0b876 }
     ensures first { draw (replicate 32 0) 0 1 ≡ 0x28bd8653e56a5d40 }
@@ -39,13 +39,13 @@ pub fn first_draws()
     ensures seventh { draw (replicate 32 0) 0 7 ≡ 0x8665eeb269b687c3 }
 {}
 
-/// The text of a check of the path of four units.
+/// Shows the text of a check of the path of four units.
 pub fn check_text_of_a_path()
     ensures { check_text (job_of_four path_of_four (run_of 5000 1 8 0 1000 [])) ≡
         codes "plan-check 1" ++ 10 ∷ codes "units 4 edges 3 districts 2" ++ 10 ∷ codes "population 4 slack 5000 low 1 high 3" ++ 10 ∷ codes "end" ++ 10 ∷ [] }
 {}
 
-/// The report on the cycle of four units.
+/// Shows the report on the cycle of four units.
 pub fn report_on_a_cycle()
     ensures { report (job_of_four cycle_of_four (run_of 5000 1 8 0 1000 (record { score = Gap; tail = Low } ∷ record { score = Gap; tail = High } ∷ [])))
         (record { id = 0; moved = 3; values = pos 4 ∷ pos 8 ∷ pos 0 ∷ pos 0 ∷ []; bins = no_bins } ∷ []) [] None ≡
@@ -57,25 +57,25 @@ pub fn report_on_a_cycle()
         codes "end" ++ 10 ∷ [] }
 {}
 
-/// Refused texts of graphs.
+/// Shows refused texts of graphs.
 pub fn refused_graphs()
     ensures empty { reading [] columns ≡ Err fault.NotJson }
     ensures no_nodes { reading (codes "{\"nodes\":[],\"adjacency\":[]}") columns ≡ Err (fault.DistrictCount 0) }
     ensures directed { reading (codes "{\"directed\":true,\"nodes\":[],\"adjacency\":[]}") columns ≡ Err fault.Directed }
 {}
 
-/// Two texts of a path: however its edges are written, the graph is the same.
+/// Shows that two texts of a path give one graph, however its edges are written.
 pub fn read_paths()
     ensures path { reading path_text columns ≡ Ok (parsed_four path_of_four (Whole (pos 1) ∷ Whole (pos 2) ∷ [])) }
     ensures other { reading other_path_text columns ≡ Ok (parsed_four path_of_four (Whole (pos 1) ∷ Whole (pos 2) ∷ [])) }
 {}
 
-/// The text of a cycle, with texts as ids and labels.
+/// Shows the text of a cycle, with texts as ids and labels.
 pub fn read_cycle()
     ensures { reading cycle_text columns ≡ Ok (parsed_four cycle_of_four (Word (codes "01") ∷ Word (codes "02") ∷ [])) }
 {}
 
-/// Refused arguments.
+/// Shows refused arguments.
 pub fn refused_words()
     ensures none { setting_of [] ≡ Err word.NoCommand }
     ensures no_value { setting_of (codes "check" ∷ codes "--pop" ∷ []) ≡ Err (word.NoValue name.Pop) }
@@ -90,14 +90,14 @@ pub fn refused_words()
     ensures short_key { is_good Run (pairs (codes "--key" ∷ replicate 63 48 ∷ [])) name.Key ≡ false }
 {}
 
-/// Accepted arguments of a run.
+/// Shows accepted arguments of a run.
 pub fn accepted_words()
     ensures { setting_of (run_words (codes "--slack" ∷ codes "5000" ∷ codes "--steps" ∷ codes "8" ∷ codes "--ask" ∷ codes "gap:low,gap:high" ∷ [])) ≡
         Ok (record (run_of 5000 1 8 0 1000 (record { score = Gap; tail = Low } ∷ record { score = Gap; tail = High } ∷ [])) { columns = columns }) }
 {}
 
-/// A budget that is too small is refused if nothing is saved. If the value of `--save` is no number, that is refused,
-/// and not the budget.
+/// Shows that a budget that is too small is refused if nothing is saved. If the value of `--save` is no number, that is
+/// refused, and not the budget.
 pub fn small_budgets()
     ensures by_default { setting_of (small_budget []) ≡ Err (word.BadValue name.Budget) }
     ensures unsaved { setting_of (small_budget (codes "--save" ∷ codes "0" ∷ [])) ≡ Err (word.BadValue name.Budget) }
@@ -106,7 +106,7 @@ pub fn small_budgets()
     ensures unread_save { setting_of (small_budget (codes "--save" ∷ codes "x" ∷ [])) ≡ Err (word.BadValue name.Save) }
 {}
 
-/// A checkpoint with one outcome, in both versions, and bytes that are no checkpoint.
+/// Shows a checkpoint with one outcome, in both versions, and bytes that are no checkpoint.
 pub fn small_checkpoints()
     ensures length { length (checkpoint 2 (replicate 32 0) 1 (found_once ∷ [])) ≡ 164 }
     ensures old_length { length (checkpoint 1 (replicate 32 0) 1 (found_once ∷ [])) ≡ 128 }
@@ -119,15 +119,15 @@ pub fn small_checkpoints()
     ensures longer { checkpoint_fault (checkpoint 2 (replicate 32 0) 1 (found_once ∷ []) ++ 0 ∷ []) ≡ Some (ckpt.BadCount 1 165) }
 {}
 
-/// The outcomes decoded from a checkpoint, in both versions.
+/// Shows the outcomes decoded from a checkpoint, in both versions.
 pub fn read_checkpoints()
     ensures bins { outcomes_in (checkpoint_body 2 (replicate 32 0) 1 (record found_once { bins = 0 ∷ 1 ∷ 2 ∷ 3 ∷ 4 ∷ 5 ∷ 6 ∷ 7 ∷ 8 ∷ [] } ∷ [])) ≡
         record found_once { bins = 0 ∷ 1 ∷ 2 ∷ 3 ∷ 4 ∷ 5 ∷ 6 ∷ 7 ∷ 8 ∷ [] } ∷ [] }
     ensures old { outcomes_in (checkpoint_body 1 (replicate 32 0) 1 (found_once ∷ [])) ≡ found_once ∷ [] }
 {}
 
-/// The outcomes a run resumes from: all of them without histograms, or with `--shift` those of walks only if they have
-/// one.
+/// Shows the outcomes a run resumes from: all of them without histograms, or with `--shift` those of walks only if they
+/// have one.
 pub fn small_openings()
     ensures bare { opening true (run_of 5000 1 8 1 8 []) (ours 0 (record found_once { bins = 9 ∷ [] } ∷ [])) absent ≡ Some (found_once ∷ []) }
     ensures binned { opening true (record (run_of 5000 1 8 1 8 []) { shift = true }) (ours 0 (found_once ∷ record found_once { id = 1 } ∷ [])) absent ≡
@@ -136,7 +136,7 @@ pub fn small_openings()
     ensures torn { opening true (run_of 5000 1 8 1 8 []) (broken (ckpt.TooShort 40)) absent ≡ None }
 {}
 
-/// Diagnostics of several endings.
+/// Shows diagnostics of several endings.
 pub fn small_notes()
     ensures words { note columns (bad_words (word.BadValue name.Workers)) ≡ codes "words: bad value for --workers" ++ 10 ∷ [] }
     ensures graph { note columns (bad_graph (fault.Missing 3 column.Second)) ≡ codes "graph: node 3 has no column b" ++ 10 ∷ [] }
@@ -151,7 +151,7 @@ pub fn small_notes()
     ensures slots { note columns (damaged (broken (ckpt.TooShort 40)) absent) ≡ codes "checkpoint: slot 0 too short, slot 1 absent" ++ 10 ∷ [] }
 {}
 
-/// The newest slot, and the place of the next checkpoint.
+/// Shows the newest slot, and the place of the next checkpoint.
 pub fn small_slots()
     ensures none { save_place absent absent ≡ (0, 0) }
     ensures one { save_place (ours 2 []) (broken (ckpt.TooShort 40)) ≡ (1, 0) }
@@ -159,18 +159,18 @@ pub fn small_slots()
     ensures before { save_place (ours 2 []) (ours 1 []) ≡ (1, 0) }
 {}
 
-/// The neighbors of the first unit of a grid.
+/// Shows the neighbors of the first unit of a grid.
 pub fn first_neighbours_of_a_grid()
     ensures { neighbours_json 1 0 ≡ codes "[{\"id\":1},{\"id\":10}]" }
 {}
 
-/// The outcome of the trajectory on the cycle, with the draws of its own stream.
+/// Shows the outcome of the trajectory on the cycle, with the draws of its own stream.
 pub fn drawn_outcome()
     ensures { outcome (job_of_four cycle_of_four (run_of 5000 1 8 0 1000 (record { score = Gap; tail = Low } ∷ record { score = Gap; tail = High } ∷ []))) (draw (replicate 32 0)) 0
         ≡ record { id = 0; moved = 3; values = pos 4 ∷ pos 8 ∷ pos 0 ∷ pos 0 ∷ []; bins = no_bins } }
 {}
 
-/// The outcomes of one thread on two units, with only the start plan legal, and the whole report on them.
+/// Shows the outcomes of one thread on two units, with only the start plan legal, and the whole report on them.
 pub fn report_on_two_units()
     ensures { report (job_of_two (run_of 500 1 3 2 8 (record { score = Gap; tail = Low } ∷ [])))
         (sequence (job_of_two (run_of 500 1 3 2 8 (record { score = Gap; tail = Low } ∷ []))) (draw (replicate 32 0))) [] None ≡
@@ -182,7 +182,7 @@ pub fn report_on_two_units()
         codes "end" ++ 10 ∷ [] }
 {}
 
-/// More refused texts of graphs.
+/// Shows more refused texts of graphs.
 pub fn more_refused_graphs()
     ensures fraction { reading (codes "{\"nodes\":[{\"pop\":1,\"a\":1,\"b\":1,\"d\":1,\"id\":0},{\"pop\":12.0,\"a\":1,\"b\":1,\"d\":2,\"id\":1}],\"adjacency\":[[],[]]}") columns ≡ Err (fault.BadNumber 1 column.Population) }
     ensures not_a_number { reading (codes "{\"nodes\":[NaN],\"adjacency\":[[]]}") columns ≡ Err fault.NotJson }

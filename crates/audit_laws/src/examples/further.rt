@@ -16,7 +16,7 @@ ghost use Rattle.audit_laws.specs.Jobs.{run_of, cycle_of_four, job_of_four, job_
 ghost use Rattle.audit_laws.specs.Lines.{run_words};
 ghost use Rattle.audit_laws.specs.Texts.{columns};
 
-/// The histogram place of a plan, by its seats and those of the start plan.
+/// Shows the histogram place of a plan, by its seats and those of the start plan.
 pub fn small_bins()
     ensures same { bin_of 3 3 ≡ 4 }
     ensures fewer { bin_of 2 3 ≡ 3 }
@@ -26,7 +26,7 @@ pub fn small_bins()
         0 ∷ 0 ∷ 0 ∷ 7 ∷ 6 ∷ 5 ∷ 0 ∷ 0 ∷ 0 ∷ [] }
 {}
 
-/// The histograms of trajectories.
+/// Shows the histograms of trajectories.
 pub fn seats_in_bins()
     ensures three { outcome (job_of_three (record (run_of 5000 1 8 0 1000 (record { score = Seats; tail = High } ∷ [])) { shift = true })) first_draws_alone 0
         ≡ record { id = 0; moved = 1; values = pos 2 ∷ pos 0 ∷ pos 0 ∷ pos 0 ∷ []; bins = 0 ∷ 0 ∷ 0 ∷ 7 ∷ 2 ∷ 0 ∷ 0 ∷ 0 ∷ 0 ∷ [] } }
@@ -36,14 +36,14 @@ pub fn seats_in_bins()
         ≡ record { id = 0; moved = 3; values = pos 4 ∷ pos 0 ∷ pos 0 ∷ pos 0 ∷ []; bins = 0 ∷ 0 ∷ 0 ∷ 0 ∷ 9 ∷ 0 ∷ 0 ∷ 0 ∷ 0 ∷ [] } }
 {}
 
-/// Plausible histograms: all zeros, or counts that add up to the number of visits.
+/// Shows plausible histograms: all zeros, or counts that add up to the number of visits.
 pub fn fitting_bins()
     ensures none { fits (job_of_four cycle_of_four (run_of 5000 1 8 0 1000 (record { score = Gap; tail = Low } ∷ record { score = Gap; tail = High } ∷ []))) found_once ≡ true }
     ensures all { fits (job_of_four cycle_of_four (run_of 5000 1 8 0 1000 (record { score = Gap; tail = Low } ∷ record { score = Gap; tail = High } ∷ []))) (record found_once { bins = 0 ∷ 0 ∷ 0 ∷ 4 ∷ 5 ∷ 0 ∷ 0 ∷ 0 ∷ 0 ∷ [] }) ≡ true }
 {}
 
-/// The stopping place of tests on five endpoints that need one, two or four of them in the tail, and a test with a
-/// missing endpoint.
+/// Shows the stopping place of tests on five endpoints that need one, two or four of them in the tail, and a test with
+/// a missing endpoint.
 pub fn small_stops()
     ensures one { stop Low (negsuc 0) (negsuc 6 ∷ pos 5 ∷ negsuc 0 ∷ pos 5 ∷ negsuc 6 ∷ []) 1 ≡ record { place = 1; top = 1; of = 1 } }
     ensures two { stop Low (negsuc 0) (negsuc 6 ∷ pos 5 ∷ negsuc 0 ∷ pos 5 ∷ negsuc 6 ∷ []) 2 ≡ record { place = 3; top = 2; of = 3 } }
@@ -54,15 +54,15 @@ pub fn small_stops()
         (record found_once { id = 2; values = negsuc 6 ∷ [] } ∷ record found_once { id = 0; values = negsuc 0 ∷ [] } ∷ []) ≡ None }
 {}
 
-/// The place of the start plan in the run of the serial test.
+/// Shows the place of the start plan in the run of the serial test.
 pub fn small_places()
     ensures four { serial_place 0x903df1a0ade0b876 4 ≡ 2 }
     ensures many { serial_place 0x903df1a0ade0b876 1024 ≡ 118 }
     ensures first { draw (replicate 32 0) 8589934592 0 % 4 ≡ 0 }
 {}
 
-/// Arguments that request the serial test. Its run has a power of two of plans, and a number of steps that is no number
-/// is refused first.
+/// Shows arguments that request the serial test. Its run has a power of two of plans, and a number of steps that is no
+/// number is refused first.
 pub fn words_of_the_serial_test()
     ensures default { setting_of (run_words (codes "--slack" ∷ codes "5000" ∷ codes "--steps" ∷ codes "8" ∷ codes "--ask" ∷ codes "gap:low" ∷ codes "--serial" ∷ codes "no" ∷ [])) ≡
         Ok (record (run_of 5000 1 8 0 1000 (record { score = Gap; tail = Low } ∷ [])) { columns = columns }) }
@@ -75,13 +75,13 @@ pub fn words_of_the_serial_test()
     ensures unread_steps { setting_of (run_words (codes "--steps" ∷ codes "08" ∷ codes "--ask" ∷ codes "gap:low" ∷ codes "--serial" ∷ codes "yes" ∷ [])) ≡ Err (word.BadValue name.Steps) }
 {}
 
-/// The result of the serial test on two units, with only the start plan legal.
+/// Shows the result of the serial test on two units, with only the start plan legal.
 pub fn serial_test_on_two_units()
     ensures { serial_of (job_of_two (run_of 500 1 3 0 8 (record { score = Gap; tail = Low } ∷ []))) (draw (replicate 32 0)) ≡
         record { place = 0; moved = 0; ranks = 4 ∷ 0 ∷ 0 ∷ 0 ∷ [] } }
 {}
 
-/// The whole report of one thread on two units, with an early stop and the serial test.
+/// Shows the whole report of one thread on two units, with an early stop and the serial test.
 pub fn report_with_all_tests()
     ensures { thread_report (job_of_two (record (run_of 500 1 3 5 8 (record { score = Gap; tail = Low } ∷ [])) { shift = true; stop = 2; serial = true })) (draw (replicate 32 0)) ≡
         codes "district-audit 2" ++ 10 ∷ codes "key 0000000000000000000000000000000000000000000000000000000000000000" ++ 10 ∷

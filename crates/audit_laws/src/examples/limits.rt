@@ -11,8 +11,8 @@ ghost use Rattle.audit_statement.specs.Checkpoint.{job_bytes};
 ghost use Rattle.audit_statement.specs.Report.{check_text};
 ghost use Rattle.audit_laws.specs.Jobs.{run_of, no_group, no_rules, group_of_four, path_of_four, job_of_four, limited_job, first_draws_alone};
 
-/// Splits in all and split regions. A region in three districts has two splits, and is one split region whatever its
-/// number of units.
+/// Shows splits in all and split regions. A region in three districts has two splits, and is one split region whatever
+/// its number of units.
 pub fn small_split_counts()
     ensures two { splits_in_all (0 ∷ 1 ∷ 1 ∷ 0 ∷ []) (0 ∷ 0 ∷ 1 ∷ 1 ∷ []) ≡ 2 }
     ensures two_regions { split_regions (0 ∷ 1 ∷ 1 ∷ 0 ∷ []) (0 ∷ 0 ∷ 1 ∷ 1 ∷ []) ≡ 2 }
@@ -25,7 +25,8 @@ pub fn small_split_counts()
     ensures no_regions { split_regions [] (0 ∷ 0 ∷ 1 ∷ 1 ∷ []) ≡ 0 }
 {}
 
-/// The number of majority districts of a group. One half is no majority, and the group may exceed its base population.
+/// Shows the number of majority districts of a group. One half is no majority, and the group may exceed its base
+/// population.
 pub fn small_majorities()
     ensures half { has_majority group_of_four (0 ∷ 0 ∷ 1 ∷ 1 ∷ []) 0 ≡ false }
     ensures more { has_majority group_of_four (0 ∷ 0 ∷ 1 ∷ 1 ∷ []) 1 ≡ true }
@@ -35,7 +36,7 @@ pub fn small_majorities()
     ensures of_none { majorities no_group (0 ∷ 0 ∷ 1 ∷ 1 ∷ []) ≡ 0 }
 {}
 
-/// Plans within limits and beyond them.
+/// Shows plans within limits and beyond them.
 pub fn kept_limits()
     ensures none { meets_rules no_rules 3 (0 ∷ 0 ∷ 1 ∷ 1 ∷ []) ≡ true }
     ensures splits { meets_rules (record no_rules { regions = 0 ∷ 1 ∷ 1 ∷ 0 ∷ []; max_splits = 2 }) 3 (0 ∷ 0 ∷ 1 ∷ 1 ∷ []) ≡ true }
@@ -47,8 +48,8 @@ pub fn kept_limits()
     ensures too_few { meets_rules (record no_rules { group = group_of_four; group_districts = 2 }) 3 (0 ∷ 0 ∷ 1 ∷ 1 ∷ []) ≡ false }
 {}
 
-/// Start plans beyond limits are refused for the first in their order: the splits of a region, splits in all, split
-/// regions, majorities.
+/// Shows that start plans beyond limits are refused for the first in their order: the splits of a region, splits in
+/// all, split regions, majorities.
 pub fn refused_by_limits()
     ensures split { plan_fault (record (limited_job 1 1 2) { setting = record (limited_job 1 1 2).setting { max_split = 1 } }) ≡ Some (TooManySplit 0 2 1) }
     ensures splits { plan_fault (limited_job 1 1 2) ≡ Some (TooManySplits 2 1) }
@@ -57,7 +58,8 @@ pub fn refused_by_limits()
     ensures none { plan_fault (limited_job 2 2 1) ≡ None }
 {}
 
-/// The outcome of the trajectory on the path if no region may be split, and if each district has to keep its majority.
+/// Shows the outcome of the trajectory on the path if no region may be split, and if each district has to keep its
+/// majority.
 pub fn walks_within_limits()
     ensures splits { outcome (record (job_of_four path_of_four (record (run_of 5000 1 8 0 1000 (record { score = Seats; tail = Low } ∷ [])) { max_splits = 0 })) { regions = 0 ∷ 0 ∷ 1 ∷ 1 ∷ [] }) first_draws_alone 0
         ≡ record { id = 0; moved = 0; values = pos 9 ∷ pos 0 ∷ pos 0 ∷ pos 0 ∷ []; bins = no_bins } }
@@ -69,7 +71,7 @@ pub fn walks_within_limits()
         ≡ record { id = 0; moved = 1; values = pos 9 ∷ pos 0 ∷ pos 0 ∷ pos 0 ∷ []; bins = no_bins } }
 {}
 
-/// The lines of these limits in the text of a check, below that of the splits of a region.
+/// Shows the lines of these limits in the text of a check, below that of the splits of a region.
 pub fn check_text_with_limits()
     ensures { check_text (limited_job 12 9 1) ≡
         codes "plan-check 1" ++ 10 ∷ codes "units 4 edges 3 districts 2" ++ 10 ∷ codes "population 4 slack 5000 low 1 high 3" ++ 10 ∷
@@ -77,8 +79,8 @@ pub fn check_text_with_limits()
         codes "group-districts 1 of 1" ++ 10 ∷ codes "end" ++ 10 ∷ [] }
 {}
 
-/// The bytes that a job's digest is computed from. They have the third form exactly if there is a group, or if there
-/// are regions and splits in all or split regions are limited.
+/// Shows the bytes that a job's digest is computed from. They have the third form exactly if there is a group, or if
+/// there are regions and splits in all or split regions are limited.
 pub fn bytes_of_limits()
     ensures splits { take 14 (job_bytes (record (job_of_four path_of_four (record (run_of 5000 1 8 0 1000 []) { max_splits = 2 })) { regions = 0 ∷ 1 ∷ 1 ∷ 0 ∷ [] })) ≡ codes "district-job 3" }
     ensures split_regions { take 14 (job_bytes (record (job_of_four path_of_four (record (run_of 5000 1 8 0 1000 []) { max_split_regions = 2 })) { regions = 0 ∷ 1 ∷ 1 ∷ 0 ∷ [] })) ≡ codes "district-job 3" }

@@ -19,14 +19,14 @@ ghost use Rattle.audit_model.specs.Score.{value, sums_of};
 ghost use Rattle.audit_model.specs.Test.{bound, p_value};
 ghost use Rattle.audit_model.specs.Trajectory.{visit, outcome, no_bins, plan_value, rank_among};
 
-/// The last draws propose nothing, so that each pair of unit and district has equally many draws.
+/// Shows that the last draws propose nothing, so that each pair of unit and district has equally many draws.
 pub fn last_draws_propose_nothing()
     ensures last { proposal 3 3 (2 ^ 64 - 1) ≡ None }
     ensures seventh { proposal 3 3 (2 ^ 64 - 7) ≡ None }
     ensures eighth { proposal 3 3 (2 ^ 64 - 8) ≡ Some (2, 2) }
 {}
 
-/// The legal plans of a path have contiguous districts.
+/// Shows that the legal plans of a path have contiguous districts.
 pub fn legal_plans_of_a_path()
     ensures start { is_legal (job_of_four path_of_four (run_of 5000 1 8 0 1000 [])) (0 ∷ 0 ∷ 1 ∷ 1 ∷ []) ≡ true }
     ensures moved { is_legal (job_of_four path_of_four (run_of 5000 1 8 0 1000 [])) (0 ∷ 1 ∷ 1 ∷ 1 ∷ []) ≡ true }
@@ -34,13 +34,13 @@ pub fn legal_plans_of_a_path()
     ensures narrow { is_legal (job_of_four path_of_four (run_of 0 1 8 0 1000 [])) (0 ∷ 1 ∷ 1 ∷ 1 ∷ []) ≡ false }
 {}
 
-/// The plans that the first eight draws visit on a path. Only the last of them moves.
+/// Shows the plans that the first eight draws visit on a path. Only the last of them moves.
 pub fn visits_on_a_path()
     ensures third { visit (job_of_four path_of_four (run_of 5000 1 8 0 1000 [])) (first_draws_alone 0) (0 ∷ 0 ∷ 1 ∷ 1 ∷ []) 7 ≡ 0 ∷ 0 ∷ 1 ∷ 1 ∷ [] }
     ensures eighth { visit (job_of_four path_of_four (run_of 5000 1 8 0 1000 [])) (first_draws_alone 0) (0 ∷ 0 ∷ 1 ∷ 1 ∷ []) 8 ≡ 0 ∷ 1 ∷ 1 ∷ 1 ∷ [] }
 {}
 
-/// The outcomes of the trajectories on the path and on the cycle.
+/// Shows the outcomes of the trajectories on the path and on the cycle.
 pub fn small_outcomes()
     ensures path { outcome (job_of_four path_of_four (run_of 5000 1 8 0 1000 (record { score = Seats; tail = Low } ∷ []))) first_draws_alone 0
         ≡ record { id = 0; moved = 1; values = pos 9 ∷ pos 0 ∷ pos 0 ∷ pos 0 ∷ []; bins = no_bins } }
@@ -50,7 +50,7 @@ pub fn small_outcomes()
         ≡ record { id = 0; moved = 3; values = pos 9 ∷ pos 0 ∷ pos 0 ∷ pos 0 ∷ []; bins = no_bins } }
 {}
 
-/// The scores of three districts.
+/// Shows the scores of three districts.
 pub fn small_scores()
     ensures seats { value Seats (record { population = []; first = 0 ∷ 3 ∷ 5 ∷ []; second = 0 ∷ 3 ∷ 2 ∷ []; cut = 0 }) ≡ pos 1 }
     ensures gap { value Gap (record { population = []; first = 0 ∷ 3 ∷ 5 ∷ []; second = 0 ∷ 3 ∷ 2 ∷ []; cut = 0 }) ≡ negsuc 4 }
@@ -58,14 +58,14 @@ pub fn small_scores()
     ensures odd { value MeanMedian (record { population = []; first = 6 ∷ 5 ∷ 1 ∷ []; second = 4 ∷ 5 ∷ 3 ∷ []; cut = 0 }) ≡ pos 300000000 }
 {}
 
-/// The gap of the plans of a cycle of four units.
+/// Shows the gap of the plans of a cycle of four units.
 pub fn gaps_on_a_cycle()
     ensures start { plan_value (job_of_four cycle_of_four (run_of 5000 1 8 0 1000 [])) (0 ∷ 0 ∷ 1 ∷ 1 ∷ []) Gap ≡ negsuc 0 }
     ensures second { plan_value (job_of_four cycle_of_four (run_of 5000 1 8 0 1000 [])) (0 ∷ 0 ∷ 1 ∷ 0 ∷ []) Gap ≡ pos 5 }
     ensures third { plan_value (job_of_four cycle_of_four (run_of 5000 1 8 0 1000 [])) (0 ∷ 1 ∷ 1 ∷ 1 ∷ []) Gap ≡ negsuc 6 }
 {}
 
-/// Numbers of billionths, rounded up.
+/// Shows numbers of billionths, rounded up.
 pub fn small_numbers_of_billionths()
     ensures rare { bound 1 1000000 ≡ 1414214 }
     ensures exact { bound 2 4 ≡ 1000000000 }
@@ -75,7 +75,7 @@ pub fn small_numbers_of_billionths()
     ensures whole { p_value 3 3 ≡ 1000000000 }
 {}
 
-/// The answers of a run machine for two ids.
+/// Shows the answers of a run machine for two ids.
 pub fn answers_of_a_small_run()
     ensures two { answers_to (new_machine 2 32)
         (event.Claim 0 ∷ event.Claim 1 ∷ event.Claim 2 ∷ event.Post 1 ∷ event.Save ∷ event.Post 1 ∷ event.Halt ∷ event.Claim 0 ∷ [])
@@ -85,7 +85,7 @@ pub fn answers_of_a_small_run()
         ≡ did.Idle ∷ did.Claimed 0 ∷ did.Idle ∷ did.Halted ∷ did.Idle ∷ did.Claimed 0 ∷ did.Posted 0 ∷ did.Saved 1 ∷ did.Halted ∷ did.Empty ∷ [] }
 {}
 
-/// Refused start plans.
+/// Shows refused start plans.
 pub fn refused_plans()
     ensures bounds { plan_fault (record {
       graph = path_of_three;
@@ -109,7 +109,7 @@ pub fn refused_plans()
     }) ≡ Some (Disconnected 0 0 2) }
 {}
 
-/// The outcomes of the trajectories on three units and with three districts.
+/// Shows the outcomes of the trajectories on three units and with three districts.
 pub fn more_outcomes()
     ensures three { outcome (job_of_three (run_of 5000 1 8 0 1000 (record { score = Seats; tail = High } ∷ record { score = Gap; tail = High } ∷ []))) first_draws_alone 0
         ≡ record { id = 0; moved = 1; values = pos 2 ∷ pos 2 ∷ pos 0 ∷ pos 0 ∷ []; bins = no_bins } }
@@ -117,7 +117,7 @@ pub fn more_outcomes()
         ≡ record { id = 0; moved = 1; values = pos 4 ∷ pos 0 ∷ pos 0 ∷ pos 0 ∷ []; bins = no_bins } }
 {}
 
-/// The scores of the plans of these jobs.
+/// Shows the scores of the plans of these jobs.
 pub fn more_scores()
     ensures seats { plan_value (job_of_three (run_of 5000 1 8 0 1000 [])) (0 ∷ 1 ∷ 1 ∷ []) Seats ≡ pos 2 }
     ensures gap { plan_value (job_of_three (run_of 5000 1 8 0 1000 [])) (0 ∷ 1 ∷ 1 ∷ []) Gap ≡ pos 4 }
@@ -127,7 +127,7 @@ pub fn more_scores()
     ensures even { plan_value (job_of_four cycle_of_four (run_of 5000 1 8 0 1000 [])) (0 ∷ 1 ∷ 1 ∷ 1 ∷ []) MeanMedian ≡ pos 0 }
 {}
 
-/// The local certificate, and units that may leave their district.
+/// Shows the local certificate, and units that may leave their district.
 pub fn small_certificates()
     ensures ring_local { is_connected ring_of_six (is_mate ring_of_six (0 ∷ 0 ∷ 0 ∷ 0 ∷ 0 ∷ 0 ∷ 1 ∷ []) 0) ≡ false }
     ensures ring_leaves { is_connected ring_of_six (stays_behind (0 ∷ 0 ∷ 0 ∷ 0 ∷ 0 ∷ 0 ∷ 1 ∷ []) 0) ≡ true }
@@ -140,27 +140,27 @@ pub fn small_certificates()
     ensures triangle_local { is_connected triangle (is_mate triangle (0 ∷ 0 ∷ 0 ∷ 1 ∷ []) 0) ≡ true }
 {}
 
-/// The draw that leads back, and a rejected proposal.
+/// Shows the draw that leads back, and a rejected proposal.
 pub fn small_mirrors()
     ensures back { mirrored (job_of_four path_of_four (run_of 5000 1 8 0 1000 [])) (0 ∷ 0 ∷ 1 ∷ 1 ∷ []) 0x8665eeb269b687c3 ≡ 0x8665eeb269b687c2 }
     ensures leads { next (job_of_four path_of_four (run_of 5000 1 8 0 1000 [])) (0 ∷ 1 ∷ 1 ∷ 1 ∷ []) 0x8665eeb269b687c2 ≡ 0 ∷ 0 ∷ 1 ∷ 1 ∷ [] }
     ensures held { mirrored (job_of_four path_of_four (run_of 5000 1 8 0 1000 [])) (0 ∷ 0 ∷ 1 ∷ 1 ∷ []) 0x903df1a0ade0b876 ≡ 0x903df1a0ade0b876 }
 {}
 
-/// The sums after the last unit of the cycle moves.
+/// Shows the sums after the last unit of the cycle moves.
 pub fn small_sums()
     ensures { sums_of cycle_of_four (record { population = 1 ∷ 1 ∷ 1 ∷ 1 ∷ []; first = 3 ∷ 1 ∷ 1 ∷ 2 ∷ []; second = 1 ∷ 2 ∷ 2 ∷ 1 ∷ [] }) 2 (0 ∷ 0 ∷ 1 ∷ 0 ∷ [])
         ≡ record { population = 3 ∷ 1 ∷ []; first = 6 ∷ 1 ∷ []; second = 4 ∷ 2 ∷ []; cut = 2 } }
 {}
 
-/// The rank of a start plan among three outcomes.
+/// Shows the rank of a start plan among three outcomes.
 pub fn small_ranks()
     ensures low { rank_among Low (negsuc 0) 0 (record { id = 1; moved = 0; values = negsuc 6 ∷ []; bins = no_bins } ∷ record { id = 2; moved = 0; values = pos 5 ∷ []; bins = no_bins } ∷ record { id = 3; moved = 0; values = negsuc 0 ∷ []; bins = no_bins } ∷ []) ≡ 3 }
     ensures high { rank_among High (negsuc 0) 0 (record { id = 1; moved = 0; values = negsuc 6 ∷ []; bins = no_bins } ∷ record { id = 2; moved = 0; values = pos 5 ∷ []; bins = no_bins } ∷ record { id = 3; moved = 0; values = negsuc 0 ∷ []; bins = no_bins } ∷ []) ≡ 3 }
 {}
 
-/// Ten trajectories in three parts, with id 4 already done. Each part takes the pending ids with its remainder, up to
-/// the budget. A single part takes all pending ids.
+/// Shows ten trajectories in three parts, with id 4 already done. Each part takes the pending ids with its remainder,
+/// up to the budget. A single part takes all pending ids.
 pub fn parts_of_ten()
     ensures first { part_ids 3 0 (job_of_four path_of_four (run_of 5000 6 8 4 1000 [])) ((record found_once { id = 4 }) ∷ []) 100 ≡ 0 ∷ 3 ∷ 6 ∷ 9 ∷ [] }
     ensures second { part_ids 3 1 (job_of_four path_of_four (run_of 5000 6 8 4 1000 [])) ((record found_once { id = 4 }) ∷ []) 100 ≡ 1 ∷ 7 ∷ [] }

@@ -21,8 +21,8 @@ ghost use Rattle.audit_laws.specs.Jobs.{run_of, path_of_four, job_of_four, told_
 ghost use Rattle.audit_laws.specs.Lines.{run_words};
 ghost use Rattle.audit_laws.specs.Texts.{columns, path_text, path_and_plans, parsed_four, region_text};
 
-/// Arguments that set limits, name a group or request the origin. A limit is refused if the thing it limits is not
-/// named.
+/// Shows arguments that set limits, name a group or request the origin. A limit is refused if the thing it limits is
+/// not named.
 pub fn words_of_limits()
     ensures all { setting_of (run_words (codes "--slack" ∷ codes "5000" ∷ codes "--steps" ∷ codes "8" ∷ codes "--ask" ∷ codes "gap:low"
         ∷ codes "--region" ∷ codes "r" ∷ codes "--max-splits" ∷ codes "12" ∷ codes "--max-split-regions" ∷ codes "9"
@@ -46,8 +46,8 @@ pub fn words_of_limits()
     ensures made { setting_of (codes "make" ∷ codes "--size" ∷ codes "3" ∷ codes "--source" ∷ codes "yes" ∷ []) ≡ Err (word.UnknownName (codes "--source")) }
 {}
 
-/// A group read from a graph, which exceeds its base population in some units, and the first refusals for units without
-/// a number.
+/// Shows a group read from a graph, which exceeds its base population in some units, and the first refusals for units
+/// without a number.
 pub fn read_groups()
     ensures group { reading path_text (record columns { group = codes "a"; whole = codes "pop" }) ≡
         Ok (record (parsed_four path_of_four (Whole (pos 1) ∷ Whole (pos 2) ∷ [])) { group = record { members = 3 ∷ 1 ∷ 1 ∷ 2 ∷ []; whole = 1 ∷ 1 ∷ 1 ∷ 1 ∷ [] } }) }
@@ -56,7 +56,7 @@ pub fn read_groups()
         Err (BadNumber 0 column.Group) }
 {}
 
-/// The diagnostics about groups and limits.
+/// Shows the diagnostics about groups and limits.
 pub fn notes_of_limits()
     ensures missing { note (record columns { group = codes "g"; whole = codes "v" }) (bad_graph (Missing 3 column.Group)) ≡ codes "graph: node 3 has no column g" ++ 10 ∷ [] }
     ensures no_whole { note (record columns { group = codes "g"; whole = codes "v" }) (bad_graph (Missing 3 column.Whole)) ≡ codes "graph: node 3 has no column v" ++ 10 ∷ [] }
@@ -65,14 +65,14 @@ pub fn notes_of_limits()
     ensures group { note columns (bad_plan (plan.TooFewMajorities 1 2)) ≡ codes "plan: the group has a majority in 1 districts, fewer than 2" ++ 10 ∷ [] }
 {}
 
-/// Bytes have an origin if the setting requests it.
+/// Shows that bytes have an origin if the setting requests it.
 pub fn small_origins()
     ensures untold { origin_of (run_of 5000 1 8 0 1000 []) (codes "{}") ≡ None }
     ensures told { origin_of (record (run_of 5000 1 8 0 1000 []) { source = true }) (codes "{}") ≡ Some (record { sha256 = sha256 (codes "{}"); bytes = 2 }) }
 {}
 
-/// The job of bytes, with its origin if the setting requests it. Each of several plans has the origin of the whole
-/// input.
+/// Shows the job of bytes, with its origin if the setting requests it. Each of several plans has the origin of the
+/// whole input.
 pub fn jobs_with_origins()
     ensures untold { judged (record (run_of 5000 1 8 0 1000 []) { columns = columns }) path_text ≡ Ok (job_of_four path_of_four (record (run_of 5000 1 8 0 1000 []) { columns = columns })) }
     ensures told { judged (record (run_of 5000 1 8 0 1000 []) { columns = columns; source = true }) path_text ≡
@@ -82,7 +82,7 @@ pub fn jobs_with_origins()
         ∷ (codes "p", record (job_of_four path_of_four (record (run_of 5000 1 8 0 1000 []) { columns = columns; source = true })) { start = 0 ∷ 0 ∷ 0 ∷ 1 ∷ []; origin = Some (record { sha256 = sha256 path_and_plans; bytes = 295 }) }) ∷ []) }
 {}
 
-/// The lines of the origin below the first line. The names of the columns are JSON strings.
+/// Shows the lines of the origin below the first line. The names of the columns are JSON strings.
 pub fn check_text_with_origin()
     ensures plain { check_text (told_job columns []) ≡
         codes "plan-check 1" ++ 10 ∷ codes "source sha256 abababababababababababababababababababababababababababababababab bytes 7" ++ 10 ∷
@@ -94,7 +94,7 @@ pub fn check_text_with_origin()
         codes "units 2 edges 1 districts 2" ++ 10 ∷ codes "population 2 slack 5000 low 1 high 1" ++ 10 ∷ codes "end" ++ 10 ∷ [] }
 {}
 
-/// The lines of the origin in a report.
+/// Shows the lines of the origin in a report.
 pub fn report_with_origin()
     ensures { report (told_job columns []) [] [] None ≡
         codes "district-audit 1" ++ 10 ∷ codes "source sha256 abababababababababababababababababababababababababababababababab bytes 7" ++ 10 ∷

@@ -19,7 +19,7 @@ ghost use Rattle.audit_laws.specs.Jobs.{run_of, path_of_four, job_of_four, first
 ghost use Rattle.audit_laws.specs.Lines.{run_words};
 ghost use Rattle.audit_laws.specs.Texts.{columns, path_text, region_text, short_region_text, four_ids};
 
-/// The regions of a path, the first refusal for a unit without one, and the ids of the units.
+/// Shows the regions of a path, the first refusal for a unit without one, and the ids of the units.
 pub fn small_regions()
     ensures read { region_reading region_text (codes "r") ≡ Ok (0 ∷ 1 ∷ 1 ∷ 0 ∷ []) }
     ensures missing { region_reading short_region_text (codes "r") ≡ Err (region.Missing 3) }
@@ -27,7 +27,7 @@ pub fn small_regions()
     ensures ids { id_reading path_text ≡ four_ids }
 {}
 
-/// The two parts of an input.
+/// Shows the two parts of an input.
 pub fn small_parts()
     ensures graph { graph_part (codes "ab" ++ 10 ∷ codes "c" ++ 10 ∷ []) ≡ codes "ab" }
     ensures table { table_part (codes "ab" ++ 10 ∷ codes "c" ++ 10 ∷ []) ≡ codes "c" ++ 10 ∷ [] }
@@ -35,7 +35,7 @@ pub fn small_parts()
     ensures no_graph { graph_part (10 ∷ codes "ab") ≡ [] }
 {}
 
-/// A table of one plan with its records in any order, and refused tables.
+/// Shows a table of one plan with its records in any order, and refused tables.
 pub fn small_tables()
     ensures plan { table_reading (codes "id,p" ++ 10 ∷ codes "0,A" ++ 10 ∷ codes "1,A" ++ 10 ∷ codes "2,A" ++ 10 ∷ codes "3,B" ++ 10 ∷ []) four_ids ≡
         Ok (record { name = codes "p"; start = 0 ∷ 0 ∷ 0 ∷ 1 ∷ []; labels = Word (codes "A") ∷ Word (codes "B") ∷ [] } ∷ []) }
@@ -53,7 +53,7 @@ pub fn small_tables()
     ensures one_label { table_reading (codes "id,p" ++ 10 ∷ codes "0,A" ++ 10 ∷ codes "1,A" ++ 10 ∷ codes "2,A" ++ 10 ∷ codes "3,A" ++ 10 ∷ []) four_ids ≡ Err (table.DistrictCount 0 1) }
 {}
 
-/// A plan of a table as a job, and a refused plan.
+/// Shows a plan of a table as a job, and a refused plan.
 pub fn jobs_of_plans()
     ensures walked { outcome (record (job_of_four path_of_four (run_of 5000 1 8 0 1000 (record { score = Seats; tail = Low } ∷ []))) { start = 0 ∷ 0 ∷ 0 ∷ 1 ∷ [] }) first_draws_alone 0
         ≡ record { id = 0; moved = 2; values = pos 9 ∷ pos 0 ∷ pos 0 ∷ pos 0 ∷ []; bins = no_bins } }
@@ -62,21 +62,21 @@ pub fn jobs_of_plans()
         Err (codes "p", Disconnected 0 0 2) }
 {}
 
-/// More refused arguments, beyond those of plain runs.
+/// Shows more refused arguments, beyond those of plain runs.
 pub fn more_refused_words()
     ensures many_cut { setting_of (run_words (codes "--ask" ∷ codes "gap:low" ∷ codes "--max-cut" ∷ codes "400001" ∷ [])) ≡ Err (word.BadValue name.MaxCut) }
     ensures zero_in_front { setting_of (run_words (codes "--ask" ∷ codes "gap:low" ∷ codes "--max-cut" ∷ codes "02" ∷ [])) ≡ Err (word.BadValue name.MaxCut) }
     ensures no_answer { setting_of (run_words (codes "--ask" ∷ codes "gap:low" ∷ codes "--shift" ∷ codes "1" ∷ [])) ≡ Err (word.BadValue name.Shift) }
 {}
 
-/// More accepted arguments, beyond those of plain runs.
+/// Shows more accepted arguments, beyond those of plain runs.
 pub fn more_accepted_words()
     ensures { setting_of (run_words (codes "--slack" ∷ codes "5000" ∷ codes "--steps" ∷ codes "7" ∷ codes "--ask" ∷ codes "gap:low" ∷ codes "--ends" ∷ codes "3"
         ∷ codes "--max-cut" ∷ codes "2" ∷ codes "--shift" ∷ codes "yes" ∷ [])) ≡
         Ok (record (run_of 5000 1 7 3 1000 (record { score = Gap; tail = Low } ∷ [])) { columns = columns; max_cut = 2; shift = true }) }
 {}
 
-/// Arguments that name regions. A limit without regions is refused, and the empty text names none.
+/// Shows arguments that name regions. A limit without regions is refused, and the empty text names none.
 pub fn words_of_regions()
     ensures whole { setting_of (run_words (codes "--slack" ∷ codes "5000" ∷ codes "--steps" ∷ codes "8" ∷ codes "--ask" ∷ codes "gap:low"
         ∷ codes "--max-split" ∷ codes "1" ∷ codes "--region" ∷ codes "r" ∷ [])) ≡
