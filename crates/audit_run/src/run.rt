@@ -139,8 +139,8 @@ fn finish_ruled<R: Threads + Wait + Sync, K: Sink, C: Keeper + Send, G: Gate + S
     }
 }
 
-/// Finds the start of the run, allocates all its memory, and walks its part within the budget. Saves at intervals and
-/// at the end if the setting asks for it, and writes the report if nothing is pending.
+/// Runs the part of a job that its budget allows. It finds the initial outcomes, allocates all memory and walks. It
+/// saves at intervals and at the end if the setting asks for it, and writes the report if nothing is pending.
 pub fn finish_run<R: Threads + Wait + Sync, K: Sink, C: Keeper + Send, G: Gate + Sync>(
     rt: &Runtime<'_, R, G>,
     job: &Job,
