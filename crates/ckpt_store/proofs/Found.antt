@@ -1,4 +1,4 @@
--- The claim of a slot about its bytes.
+-- The state of a slot matches its bytes.
 use Rattle.std.proofs.Common.{◌≡◌, ℕ, ◌<◌, Bool, true, false, not, List, length, Option, Some, None, refl, sym, ap, subst, ◌∙◌, arith}
 use Rattle.std.specs.Prelude.{IsTrue, bytes_eq, nat_lt, slice_range}
 use Rattle.std.specs.Int.{w32}
@@ -68,6 +68,6 @@ module _ (faultless : FaultlessAreCheckpoints) (read : CheckpointsAreRead) (job 
   from_length true e = is_broken (TooLong checkpoint_limit) e
   from_length false e = from_fault (checkpoint_fault bytes) refl e
 
--- each kind of slot makes a true claim about its bytes
+-- each kind of slot state matches the bytes
 pub slots_are_what_they_are : FaultlessAreCheckpoints → CheckpointsAreRead → SlotsAreWhatTheyAre
 slots_are_what_they_are faultless read job digest bytes each = from_length faultless read job digest bytes each (nat_lt checkpoint_limit (length bytes)) refl

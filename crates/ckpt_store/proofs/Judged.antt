@@ -1,4 +1,4 @@
--- The slot of a checkpoint is the slot of its bytes.
+-- The state computed from a checkpoint is the state of its bytes.
 use Rattle.std.proofs.Common.{◌≡◌, ℕ, ◌≤◌, Bool, true, false, not, List, length, Option, Some, None, refl, sym, ap, ◌∙◌, subst, inl, inr, arith}
 use Rattle.std.specs.Prelude.{◌⊎◌, Result, Ok, Err, IfOk, OnOk, bytes_eq}
 use Rattle.std.specs.Int.{w32}
@@ -47,13 +47,13 @@ by_digest job bytes c stands true =
     ap (slot_of_ours bytes) (first_same job bytes ∙ ap (λ (os : List Outcome). first_below (length os) (is_unfit job os)) stands.outcomes_at)
     ∙ by_first bytes c stands (first_below (length c.outcomes.items) (is_unfit job c.outcomes.items))
 
--- the slot of bytes with this fault, or with none
+-- the state of bytes with this fault, or with none
 pub slot_of_fault : (job : Job) (digest bytes : List ℕ) (o : Option CkptFault) → length bytes ≤ checkpoint_limit → checkpoint_fault bytes ≡ o
     → slot_of job digest (Some bytes) ≡ slot_of_checkpoint job digest bytes o
 slot_of_fault job digest bytes o l e =
     ap (slot_of_bytes job digest bytes) (le-ltb checkpoint_limit (length bytes) l) ∙ ap (slot_of_checkpoint job digest bytes) e
 
--- the slot of a checkpoint
+-- the state of a slot with a checkpoint
 pub slot_of_read : (job : Job) (digest bytes : List ℕ) (c : Checkpoint) → length bytes ≤ checkpoint_limit → checkpoint_fault bytes ≡ None
     → StandsIn bytes c.version c.digest c.generation c.outcomes.items → slot_judged job digest c ≡ slot_of job digest (Some bytes)
 slot_of_read job digest bytes c l e stands =
@@ -61,7 +61,7 @@ slot_of_read job digest bytes c l e stands =
     ∙ ap (λ (d : List ℕ). slot_of_digest job bytes (bytes_eq d digest)) stands.digest_at
     ∙ by_digest job bytes c stands (bytes_eq c.digest digest))
 
--- the slot of a fault other than out of memory
+-- the state of a slot with a fault other than out of memory
 pub slot_of_broken : (job : Job) (digest bytes : List ℕ) (fault : CkptFault) (r : Result program.Slot Memory) → length bytes ≤ checkpoint_limit
     → (fault ≡ variant.Memory) ⊎ (checkpoint_fault bytes ≡ Some fault) → IfOk r (λ s. s ≡ slot.Broken fault) → OnOk r (fault ≡ variant.Memory → ⊥)
     → IfOk r (λ s. slot_view s ≡ slot_of job digest (Some bytes))

@@ -29,7 +29,7 @@ pub record IsLeftOut (before : Collected) (found : List Outcome) (id other : ℕ
   pub named : IsFirstOther before.lists first.other other
   pub same : after ≡ passed_over before
 
--- the finding for a folder's offer, with the state of its other slot, and the collection before and after
+-- the finding for the outcomes of a folder, with the state of its other slot, and the collection before and after
 abbrev pub Finds : Collected → Gives → Bool → Finding → Collected → Type 0
 Finds before (outcomes found) bad (finding.Added count new beside) after = IsAdded before found count new after × (beside ≡ bad)
 Finds before (outcomes found) bad (finding.Differs id other) after = IsLeftOut before found id other after

@@ -1,11 +1,11 @@
--- The plausibility of a folder's offer.
+-- The plausibility of the outcomes in a folder.
 use Rattle.std.specs.Prelude.{⊤}
 use Rattle.audit_model.specs.Job.{Job}
 use Rattle.ckpt_store.specs.Fitting.{AreFit}
 use Rattle.ckpt_store.specs.declared.given.Given.{Given}
 use Rattle.ckpt_store.specs.declared.given.Given.TheVariants as given
 
--- offered outcomes are plausible for the job and have rising ids
+-- the outcomes in a folder are plausible for the job and have rising ids
 abbrev pub IsFitGiven : Job → Given → Type 0
 IsFitGiven job (given.Outcomes l) = AreFit job l.items
 IsFitGiven job given.Nothing = ⊤

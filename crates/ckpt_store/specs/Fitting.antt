@@ -1,4 +1,4 @@
--- Outcomes that are not plausible for a job, and the slot of a checkpoint.
+-- Outcomes that are not plausible for a job, and the state of a slot with a checkpoint.
 use Rattle.std.specs.Prelude.{ℕ, ◌≤◌, Bool, true, false, IsTrue, not, List, length, map, bytes_eq, Option, Some, None}
 use Rattle.std.specs.List.{All, slice_get}
 use Rattle.audit_model.specs.declared.fault.CkptFault.TheVariants.{Unfit}
@@ -22,7 +22,7 @@ is_unfit_one job (Some o) = not (fits job o)
 abbrev pub is_unfit : Job → List Outcome → ℕ → Bool
 is_unfit job outcomes place = is_unfit_one job (slice_get outcomes place)
 
--- the slot of a checkpoint with the job's digest, by the least place of an outcome that is not plausible
+-- the state of a slot with a checkpoint of the job's digest, by the least place of an outcome that is not plausible
 abbrev pub slot_judged_ours : Checkpoint → Option ℕ → definition.Slot
 slot_judged_ours checkpoint None = definition.ours checkpoint.generation checkpoint.outcomes.items
 slot_judged_ours checkpoint (Some place) = definition.broken (Unfit place)
@@ -32,7 +32,7 @@ slot_judged_digest job checkpoint false = definition.other checkpoint.digest che
 slot_judged_digest job checkpoint true =
     slot_judged_ours checkpoint (first_below (length checkpoint.outcomes.items) (is_unfit job checkpoint.outcomes.items))
 
--- the slot of a checkpoint, for a job
+-- the state of a slot with this checkpoint, for a job
 abbrev pub slot_judged : Job → List ℕ → Checkpoint → definition.Slot
 slot_judged job digest checkpoint = slot_judged_digest job checkpoint (bytes_eq checkpoint.digest digest)
 

@@ -1,5 +1,5 @@
--- The offer of a folder's two slots for a job.
--- Source: this project. The offer depends on the slots alone, as the start of a run does.
+-- The outcomes of a job that a folder's two slots hold.
+-- Source: this project. They depend on the slots alone, as the start of a run does.
 use Rattle.std.specs.Prelude.{ℕ, Bool, true, false, ◌||◌, List, Option, Some, None}
 use Rattle.audit_model.specs.Pair.{Pair}
 use Rattle.audit_model.specs.declared.outcome.Outcome.{Outcome}
@@ -8,29 +8,29 @@ use Rattle.audit_statement.specs.Slots.{Slot, absent, broken, other, ours, newes
 use Rattle.ckpt_store.specs.declared.given.Given.{Given}
 use Rattle.ckpt_store.specs.declared.given.Given.TheVariants as given
 
--- The offer of a folder: the outcomes of the newest slot, which belongs to the job, or nothing if both slots are empty.
--- Otherwise a refusal: the newest slot is another job's, or no slot is valid and one is not empty.
+-- The outcomes of the newest slot, which belongs to the job, or the reason why there are none. Either both slots are
+-- empty, or the newest is another job's, or no slot is valid and one is not empty.
 pub data Gives : Type 0 where
   outcomes : List Outcome → Gives
   nothing : Gives
   other_job : Gives
   damaged : Gives
 
--- the offer of the newest slot, which is neither empty nor broken
+-- the outcomes of the newest slot, which is neither empty nor broken
 abbrev pub slot_gives : Slot → Gives
 slot_gives absent = nothing
 slot_gives (broken fault) = nothing
 slot_gives (other digest generation) = other_job
 slot_gives (ours generation found) = outcomes found
 
--- the offer of two slots, by the number of the newest
+-- the outcomes of two slots, by the number of the newest
 abbrev pub slots_give : Slot → Slot → Option ℕ → Gives
 slots_give first second (Some n) = slot_gives (slot_at first second n)
 slots_give absent absent None = nothing
 slots_give absent second None = damaged
 slots_give first second None = damaged
 
--- the offer of stored slots for the job with this digest
+-- the outcomes of stored slots for the job with this digest
 abbrev pub gives : Job → List ℕ → Pair → Gives
 gives job digest p = slots_give (slot_of job digest p.zero_slot) (slot_of job digest p.one_slot) (newest (slot_of job digest p.zero_slot) (slot_of job digest p.one_slot))
 

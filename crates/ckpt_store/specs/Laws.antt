@@ -28,9 +28,9 @@ CheckpointsAreOurs = (job : Job) (bytes : List ℕ) (version : ℕ) (digest : Li
     → IsCheckpoint bytes version digest generation outcomes → IsTrue (list_all (fits job) outcomes)
     → slot_of job digest (Some bytes) ≡ ours generation outcomes
 
--- the claim of a slot about its bytes. A slot of the job is a checkpoint of the job's digest, with this generation and
--- these plausible outcomes. A slot of another job is a checkpoint of another digest. A broken one is no checkpoint of
--- the job's digest with plausible outcomes.
+-- The facts that a slot's state implies about its bytes. A slot of the job is a checkpoint of the job's digest, with
+-- this generation and these plausible outcomes. A slot of another job is a checkpoint of another digest. A broken one
+-- is no checkpoint of the job's digest with plausible outcomes.
 abbrev pub IsReadFrom : Job → List ℕ → List ℕ → Slot → Type 0
 IsReadFrom job digest bytes absent = ⊥
 IsReadFrom job digest bytes (broken fault) = (version generation : ℕ) (outcomes : List Outcome)
@@ -38,7 +38,7 @@ IsReadFrom job digest bytes (broken fault) = (version generation : ℕ) (outcome
 IsReadFrom job digest bytes (other found generation) = (found ≢ digest) × ((version : ℕ) × ((outcomes : List Outcome) × IsCheckpoint bytes version found generation outcomes))
 IsReadFrom job digest bytes (ours generation outcomes) = ((version : ℕ) × IsCheckpoint bytes version digest generation outcomes) × IsTrue (list_all (fits job) outcomes)
 
--- each slot makes a true claim about its bytes
+-- the law that the state of a slot matches its bytes
 abbrev pub SlotsAreWhatTheyAre : Type 0
 SlotsAreWhatTheyAre = (job : Job) (digest bytes : List ℕ) → All (λ b. b < 256) bytes → IsReadFrom job digest bytes (slot_of job digest (Some bytes))
 

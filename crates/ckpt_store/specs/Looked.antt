@@ -16,19 +16,19 @@ use Rattle.ckpt_store.specs.declared.slots.Slot.TheVariants as slot
 use Rattle.ckpt_store.specs.declared.slots.Slots.{Slots}
 use Rattle.ckpt_store.specs.View.{slot_view}
 
--- each slot is that of the stored bytes for the job
+-- each slot state is that of the stored bytes for the job
 pub record AreSlots (job : Job) (digest : List ℕ) (p : Pair) (slots : Slots) : Type 0 where
   pub zero : slot_view slots.zero ≡ slot_of job digest p.zero_slot
   pub one : slot_view slots.one ≡ slot_of job digest p.one_slot
 
--- a slot as it was seen: its stored bytes, which are the known ones if the keeper is observable, and their slot for the
--- job
+-- a slot as it was seen: its stored bytes, which are the known ones if the keeper is observable, and their state for
+-- the job
 pub record SawSlot (job : Job) (digest : List ℕ) (told : Option Pair) (number : ℕ) (slot : Slot) : Type 0 where
   pub bytes : Stored
   pub same : IfTold told (λ p. bytes ≡ stored p number)
   pub is : slot_view slot ≡ slot_of job digest bytes
 
--- both slots as they were seen: the stored pair, which is the known one if the keeper is observable, and its slots for
+-- both slots as they were seen: the stored pair, which is the known one if the keeper is observable, and its states for
 -- the job
 pub record SawSlots (job : Job) (digest : List ℕ) (told : Option Pair) (slots : Slots) : Type 0 where
   pub pair : Pair
@@ -59,7 +59,7 @@ pub record HasLookCause {T : Type 0} (before now : LoadFaults) (result : Result 
   pub takings : Counts before.taken now.taken
   pub cause : LookCause before now result
 
--- the slot of a failed load
+-- the state of a slot after a failed load, or the error
 abbrev pub unloaded : LoadError → Result Slot LookFault
 unloaded load.Failed = Err look.Failed
 unloaded load.Taken = Err look.Taken

@@ -1,4 +1,4 @@
-//! The outcomes that a folder's slots offer for a job.
+//! The outcomes of a job that a folder's slots hold.
 
 ghost use Rattle.std.specs.Prelude.{◌≡◌, ◌||◌};
 ghost use Rattle.ckpt_store.specs.Fitting.{HasFitOutcomes};
@@ -10,7 +10,7 @@ use crate::slots::{Slot, Slots, StoreFault};
 use audit_model::buffers::OutcomeList;
 use plan_core::job::Job;
 
-/// The offer of a folder.
+/// The outcomes of a job in the newest slot of a folder, or the reason why there are none.
 #[derive(Drop)]
 pub enum Given {
     /// The outcomes of the newest checkpoint, which belongs to this job.
@@ -23,7 +23,7 @@ pub enum Given {
     Damaged,
 }
 
-/// Returns the offer of slots that were looked at.
+/// Returns the outcomes of the newest of these slots, or the reason why there are none.
 pub fn given_by(job: &Job, digest: &[u8; 32], slots: Slots) -> Given
     requires zero { HasFitOutcomes job.now slots.zero }
     requires one { HasFitOutcomes job.now slots.one }

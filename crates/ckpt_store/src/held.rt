@@ -93,7 +93,7 @@ fn held_in(alloc: Global, bytes: &[u8]) -> Result<Held, Memory>
     }
 }
 
-/// Returns the slot of a fault, which may be out of memory.
+/// Returns a broken slot with this fault, or an error if the fault is out of memory.
 fn broken(fault: CkptFault) -> Result<Held, Memory>
     ensures slot { IfOk result (λ h. h ≡ Held.Broken fault) }
     ensures known { OnOk result (fault ≡ variant.Memory → ⊥) }

@@ -1,4 +1,4 @@
-//! The meaning of a slot's bytes for a job.
+//! The state of a slot for a job, decoded from its bytes.
 
 ghost use Rattle.std.specs.Prelude.{◌≡◌, ◌≤◌, Some, IfOk, OnOk, length, map};
 ghost use Rattle.audit_model.specs.declared.fault.CkptFault.TheVariants as variant;
@@ -18,7 +18,7 @@ use ckpt_format::laws::checkpoints_are_read;
 use plan_core::job::Job;
 use std::alloc::Global;
 
-/// Decodes the bytes of a slot for the job with this digest.
+/// Decodes the bytes of a slot and returns its state for the job with this digest.
 ///
 /// # Errors
 ///
@@ -44,7 +44,7 @@ pub fn judge_bytes(
     }
 }
 
-/// Returns the slot of a fault, which may be out of memory.
+/// Returns a broken slot with this fault, or an error if the fault is out of memory.
 fn broken(fault: CkptFault) -> Result<Slot, Memory>
     ensures slot { IfOk result (λ s. s ≡ Slot.Broken fault) }
     ensures known { OnOk result (fault ≡ variant.Memory → ⊥) }
@@ -56,7 +56,7 @@ fn broken(fault: CkptFault) -> Result<Slot, Memory>
     }
 }
 
-/// Returns the slot of a checkpoint, for the job with this digest.
+/// Returns the state of a slot with this checkpoint, for the job with this digest.
 fn judge(job: &Job, digest: &[u8; 32], checkpoint: Checkpoint) -> Slot
     requires few { length checkpoint.outcomes.items ≤ most_trajectories }
     requires rising { AreRising (map (λ o. o.id) checkpoint.outcomes.items) }

@@ -39,8 +39,8 @@ impl From<Memory> for LookFault {
     }
 }
 
-/// Loads both slots for the job with this digest, slot 0 first. No slot is changed. Even if the keeper's slots are not
-/// observable, the answer is that of two slots that were seen.
+/// Loads both slots, slot 0 first, and returns their states for the job with this digest. No slot is changed. Even if
+/// the slots are not observable in proofs, the result is that of two slots that were seen.
 ///
 /// # Errors
 ///
@@ -67,7 +67,7 @@ pub fn look<C: Keeper>(
     Ok(Slots { zero, one })
 }
 
-/// Loads one slot for the job with this digest.
+/// Loads one slot and returns its state for the job with this digest.
 fn look_at<C: Keeper>(
     alloc: Global,
     keeper: &mut C,
@@ -91,7 +91,7 @@ fn look_at<C: Keeper>(
     }
 }
 
-/// Returns the slot of a load: that of the loaded bytes, or an empty one.
+/// Returns the state of a slot after a load, from the loaded bytes or as an empty slot.
 fn judge_loaded(
     alloc: Global,
     job: &Job,
@@ -111,7 +111,7 @@ fn judge_loaded(
     Ok(judge_bytes(alloc, job, digest, bytes)?)
 }
 
-/// Returns the slot of a failed load.
+/// Returns the state of a slot after a failed load: broken if it has too many bytes, else the error.
 fn unloaded(error: LoadError) -> Result<Slot, LookFault>
     ensures { result ≡ unloaded error }
 {

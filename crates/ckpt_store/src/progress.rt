@@ -27,7 +27,7 @@ pub enum Progress {
     Damaged,
 }
 
-// Returns the slot of a load for the job with this digest. The only error is out of memory.
+// Returns the state of a loaded slot for the job with this digest. The only error is out of memory.
 fn slot_for(alloc: Global, job: &Job, digest: &[u8; 32], loaded: &Loaded) -> Result<Slot, Memory>
     ensures { IfOk result (λ s. (slot : Option (List ℕ)) → IsLoadedFrom loaded.now slot → slot_view s ≡ slot_of job.now digest.now slot) }
 {

@@ -1,4 +1,4 @@
-//! The two slots of a job.
+//! The states of the two slots for a job.
 
 ghost use Rattle.std.specs.Prelude.{◌≡◌, ◌<◌, Some, None, MatchResult};
 ghost use Rattle.audit_statement.specs.Slots as definition;
@@ -8,7 +8,7 @@ use audit_model::fault::CkptFault;
 use audit_model::place::Place;
 use ckpt_format::decode::Checkpoint;
 
-/// A slot, as seen by a job.
+/// The state of a slot for a job.
 #[derive(Drop)]
 pub enum Slot {
     /// The slot is empty.
@@ -21,7 +21,7 @@ pub enum Slot {
     Ours(Checkpoint),
 }
 
-/// Both slots, as seen by a job.
+/// The states of both slots for a job.
 #[derive(Drop)]
 pub struct Slots {
     pub zero: Slot,

@@ -134,7 +134,7 @@ fn begin<C: Keeper>(
     }
 }
 
-// Takes the outcomes that the slots of the working folder offer.
+// Adds the outcomes in the slots of the working folder to an empty collection.
 fn begin_with(
     alloc: Global,
     job: &Job,
