@@ -3,7 +3,7 @@ use Rattle.std.specs.Prelude.{◌≡◌, ℕ, zero, suc, ◌<◌, ◌≤◌, Boo
 use Rattle.audit_io.specs.declared.keeper.LoadError.{LoadError}
 use Rattle.audit_io.specs.declared.keeper.LoadError.TheVariants as load
 
--- the answer's claim about the reader's bytes, if they are observable, and about the buffer
+-- the facts that the answer implies about the reader's bytes, if they are observable, and about the buffer
 abbrev pub ReadsWithin : {U : Type 0} → Option (List ℕ) → ℕ → List ℕ → Result U LoadError → Type 0
 ReadsWithin bytes limit room (Ok done) = (length room ≤ limit) × IfSome bytes (λ xs. room ≡ xs)
 ReadsWithin bytes limit room (Err load.Failed) = ⊤

@@ -1,4 +1,4 @@
--- The claims of a load's answer.
+-- The facts that a load's answer implies.
 use Rattle.std.specs.Prelude.{◌≡◌, ℕ, ◌<◌, ◌≤◌, Bool, true, false, List, [], length, ⊤, Some, None, Result, Ok, Err}
 use Rattle.audit_io.specs.declared.keeper.LoadError.{LoadError}
 use Rattle.audit_io.specs.declared.keeper.LoadError.TheVariants as load
@@ -6,7 +6,7 @@ use Rattle.audit_model.specs.Faults.{Counts, Rose}
 use Rattle.audit_model.specs.Pair.{Stored}
 use Rattle.audit_model.specs.State.{LoadFaults}
 
--- the claim of a load's answer about the slot and the buffer
+-- the facts that a load's answer implies about the slot and the buffer
 abbrev pub Loads : Stored → ℕ → List ℕ → Result Bool LoadError → Type 0
 Loads slot limit room (Ok true) = slot ≡ Some room
 Loads slot limit room (Ok false) = slot ≡ None
@@ -15,8 +15,8 @@ Loads slot limit room (Err load.Taken) = ⊤
 Loads slot limit room (Err (load.Long n)) = (bytes : List ℕ) × (slot ≡ Some bytes) × (limit < length bytes)
 Loads slot limit room (Err load.Memory) = ⊤
 
--- the claim of a load's answer if the slots are not observable: the buffer was cleared, and only a slot's bytes were
--- put there
+-- the facts that a load's answer implies if the slots are not observable: the buffer was cleared, and only a slot's
+-- bytes were put there
 abbrev pub LoadsWithin : ℕ → List ℕ → Result Bool LoadError → Type 0
 LoadsWithin limit room (Ok true) = length room ≤ limit
 LoadsWithin limit room (Ok false) = room ≡ []
