@@ -17,16 +17,16 @@ use Rattle.ckpt_store.specs.Gives.{Gives, damaged, gives, has_broken, nothing, o
 use Rattle.ckpt_store.specs.Whole.{HasBegun, IsSavedIf, IsSavedUnion}
 use Rattle.audit_laws.specs.Gathered.{AreAllReached, AreGathered, AreReached, CutGatheringsReach, GatheringsReach, Hold, IsSavedOver, after_gathering, begun, held, united}
 
--- ---- the offer and the contents of slots
+-- ---- the outcomes taken from slots, and their contents
 
--- a slot that offers outcomes holds them
+-- a slot whose outcomes can be taken holds them
 slot_holds : (slot : Slot) (os : List Outcome) → slot_gives slot ≡ outcomes os → outcomes_of_slot slot ≡ Some os
 slot_holds absent os e = cc
 slot_holds (broken f) os e = cc
 slot_holds (other d g) os e = cc
 slot_holds (ours g kept) os e = cc
 
--- slots that offer outcomes start a run with them
+-- slots whose outcomes can be taken start a run with them
 slots_hold : (first second : Slot) (n : Option ℕ) (os : List Outcome) → slots_give first second n ≡ outcomes os → opening_of first second n ≡ Some os
 slots_hold first second (Some zero) os e = slot_holds first os e
 slots_hold first second (Some (suc n)) os e = slot_holds second os e

@@ -16,7 +16,7 @@ no_greater n k s t onto order (suc m) u l e =
     let so_far = no_greater n k s t onto order m below.0 below.1 below.2 in
     omega (arith, less, so_far)
 
--- of two equal numberings without gaps, the bounds are equal
+-- of two equal numberings without gaps, the first bound is at most the second
 as_many : (n k m : ℕ) (s t : ℕ → ℕ) → IsOnto n k s → IsOnto n m t → ((u : ℕ) → u < n → s u ≡ t u) → (j : ℕ) → k ≡ j → j ≤ m
 as_many n k m s t a b same zero e = omega arith
 as_many n k m s t a b same (suc j) e =
