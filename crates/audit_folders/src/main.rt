@@ -9,11 +9,15 @@ mod folder_keeper;
 mod gather;
 mod job;
 mod slots;
+mod this_build;
 mod told;
 
 use crate::gather::gather_by;
 use crate::slots::show_by;
+use crate::this_build::THIS_BUILD;
 use crate::told::end_with;
+use audit_io::std_adapters::WriteSink;
+use folder_report::{FolderProgram, answer_words};
 use std::process::ExitCode;
 use std::{env, io};
 
@@ -26,12 +30,40 @@ fn words_of(rt: &HostRuntime) -> io::Result<Vec<String>> {
     Ok(words)
 }
 
+// Answers arguments that ask for help or the version, and returns the exit status. Returns `None`
+// for all other arguments.
+fn answer(rt: &HostRuntime, program: FolderProgram, words: &[String]) -> Option<u8> {
+    answer_words(
+        program,
+        &THIS_BUILD,
+        words,
+        &mut WriteSink::new(rt.stdout()),
+        &mut WriteSink::new(rt.stderr()),
+    )
+}
+
+// Answers arguments that ask for help or the version, and otherwise reports the slots.
+fn run_slots(rt: &HostRuntime, words: &[String]) -> ExitCode {
+    match answer(rt, FolderProgram::Slots, words) {
+        Some(status) => ExitCode::from(status),
+        None => show_by(rt, words),
+    }
+}
+
+// Answers arguments that ask for help or the version, and otherwise gathers.
+fn run_gather(rt: &HostRuntime, words: &[String]) -> ExitCode {
+    match answer(rt, FolderProgram::Gather, words) {
+        Some(status) => ExitCode::from(status),
+        None => gather_by(rt, words),
+    }
+}
+
 // Runs the program that the first argument names, with the arguments after it.
 fn run_named(rt: &HostRuntime, words: &[String]) -> ExitCode {
     match words.split_first() {
         Some((first, rest)) => match first.as_str() {
-            "slots" => show_by(rt, rest),
-            "gather" => gather_by(rt, rest),
+            "slots" => run_slots(rt, rest),
+            "gather" => run_gather(rt, rest),
             _ => end_with(rt, "words: neither slots nor gather", 1),
         },
         None => end_with(rt, "words: neither slots nor gather", 1),
@@ -41,10 +73,10 @@ fn run_named(rt: &HostRuntime, words: &[String]) -> ExitCode {
 // Runs the program that the called name stands for, or else the one that the first argument names.
 fn run_called(rt: &HostRuntime, name: &str, words: &[String]) -> ExitCode {
     if name.ends_with("audit_slots") {
-        return show_by(rt, words);
+        return run_slots(rt, words);
     }
     if name.ends_with("audit_gather") {
-        return gather_by(rt, words);
+        return run_gather(rt, words);
     }
     run_named(rt, words)
 }

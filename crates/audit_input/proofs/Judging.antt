@@ -12,7 +12,7 @@ use Rattle.audit_model.specs.declared.fault.RegionFault.{RegionFault}
 use Rattle.audit_model.specs.declared.setting.Setting.{Setting}
 use Rattle.audit_model.specs.Job.{Job}
 use Rattle.audit_model.specs.JobOf.{IsJob, job_from, job_of, job_or, plan_fault}
-use Rattle.audit_model.specs.Limits.{AreRegions, AreWithin, IsGroup, IsSetting, IsWithinLimits}
+use Rattle.audit_model.specs.Limits.{AreFrozen, AreRegions, AreWithin, IsGroup, IsSetting, IsWithinLimits}
 use Rattle.audit_model.specs.Parsed.{Parsed}
 use Rattle.audit_model.proofs.Jobs.{setting_of_job}
 use Rattle.audit_statement.specs.Note.{too_many_bytes, bad_graph, bad_regions, bad_plan}
@@ -87,8 +87,8 @@ no_regions units = record { width = inl refl; few = λ k d inside. absurd (omega
 
 -- the parsed graph, the setting and the regions are within the limits
 pub within_limits : (p : Parsed) (setting : Setting) (regions : List ℕ) → AreWithin p.graph p.counts p.start (length p.labels) → IsSetting setting → AreRegions p.graph.units regions
-    → IsGroup p.graph.units p.group → IsWithinLimits (job_from p setting regions)
-within_limits p setting regions input within are group = record { input = input; setting = within; regions = are; group = group }
+    → IsGroup p.graph.units p.group → AreFrozen p.graph.units p.frozen → IsWithinLimits (job_from p setting regions)
+within_limits p setting regions input within are group frozen = record { input = input; setting = within; regions = are; group = group; frozen = frozen }
 
 -- the job with the requested origin is the one that the bytes give
 pub is_judged : (setting : Setting) (bytes : List ℕ) (p : Parsed) (regions : List ℕ) (job sourced : Job) → length bytes ≤ most_bytes

@@ -3,7 +3,7 @@
 ghost use Rattle.std.specs.Prelude.{◌≡◌, ◌≤◌, ◌⊎◌, IfOk, IsTrue, MatchResult, Ok, Err, length};
 ghost use Rattle.audit_model.specs.declared.fault.RegionFault.TheVariants as region;
 ghost use Rattle.audit_model.specs.declared.setting.Columns.{Columns as ColumnsValue};
-ghost use Rattle.audit_model.specs.Limits.{AreRegions, AreWithin, IsGroup, IsSetting};
+ghost use Rattle.audit_model.specs.Limits.{AreFrozen, AreRegions, AreWithin, IsGroup, IsSetting};
 ghost use Rattle.audit_model.specs.JobOf.{IsJob};
 ghost use Rattle.audit_model.specs.Parsed.{Parsed};
 ghost use Rattle.dual_graph.specs.Read.{parsed_of};
@@ -107,6 +107,7 @@ fn judge_read(
     requires read { reading bytes.now setting.columns ≡ Ok (parsed_of parsed) }
     requires within { AreWithin parsed.graph parsed.counts parsed.start (length parsed.labels) }
     requires group { IsGroup parsed.graph.units parsed.group }
+    requires frozen { AreFrozen parsed.graph.units parsed.frozen }
     ensures { Judges setting bytes.now result }
 {
     match regions_of(alloc, bytes, &setting.region) {
@@ -137,6 +138,7 @@ fn judge_made(alloc: Global, setting: Setting, parsed: ReadParsed) -> Result<Job
     requires read { reading (grid setting.size setting.key) setting.columns ≡ Ok (parsed_of parsed) }
     requires within { AreWithin parsed.graph parsed.counts parsed.start (length parsed.labels) }
     requires group { IsGroup parsed.graph.units parsed.group }
+    requires frozen { AreFrozen parsed.graph.units parsed.frozen }
     ensures { Judges setting (grid setting.size setting.key) result }
 {
     // Called for its contract: the text of each grid is within the limit on a graph's bytes.

@@ -1,5 +1,7 @@
 //! The lock of a folder, held by one run at a time.
 
+ghost use Rattle.std.specs.Prelude.{◌≡◌, ◌≢◌, ◌↔◌, None, Some, Ok, Err, IsOk, IsErr, IsErrAnd};
+
 use std::fs::{File, TryLockError};
 use std::rt::Files;
 
@@ -7,19 +9,32 @@ use std::rt::Files;
 #[derive(Clone, Copy, Debug, PartialEq, Eq)]
 pub struct Taken;
 
-/// Takes the exclusive lock of a folder, which is held as long as the opened folder lives and leaves no file behind.
-/// Returns `None` if the system has no such lock for the folder, or if the folder cannot be opened.
+/// Returns who holds an opened folder, by the answer of the attempt to lock it. Only the answer that the lock is held
+/// elsewhere makes it taken: any other error says that the system has no such lock for the folder.
+pub fn owner_of(opened: File, tried: Result<(), TryLockError>) -> Result<Option<File>, Taken>
+    ensures taken { IsErr result ↔ (tried ≡ Err TryLockError.WouldBlock) }
+    ensures own { IsOk tried → result ≡ Ok (Some opened) }
+    ensures unlocked { IsErrAnd tried (λ e. e ≢ TryLockError.WouldBlock) → result ≡ Ok None }
+{
+    match tried {
+        Ok(()) => Ok(Some(opened)),
+        Err(TryLockError::WouldBlock) => Err(Taken),
+        Err(TryLockError::Error(_)) => Ok(None),
+    }
+}
+
+/// Takes the exclusive lock of a folder, which is held as long as the opened folder lives. It leaves no file behind.
+/// None where the system has no such lock for the folder, or where the folder cannot be opened.
 ///
 /// # Errors
 ///
 /// - `Taken`: another run holds the lock.
 pub fn lock_folder<R: Files<File = File>>(files: &R, folder: &str) -> Result<Option<File>, Taken> {
     match File::open(files, folder) {
-        Ok(opened) => match opened.try_lock() {
-            Ok(()) => Ok(Some(opened)),
-            Err(TryLockError::WouldBlock) => Err(Taken),
-            Err(TryLockError::Error(_)) => Ok(None),
-        },
+        Ok(opened) => {
+            let tried = opened.try_lock();
+            owner_of(opened, tried)
+        }
         Err(_) => Ok(None),
     }
 }

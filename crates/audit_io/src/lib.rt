@@ -3,6 +3,7 @@
 
 mod again;
 mod copying;
+pub mod file_calls;
 pub mod file_keeper;
 pub mod folder_lock;
 pub mod gate;
@@ -22,6 +23,7 @@ pub mod sure;
 pub mod sure_keeper;
 mod tries;
 
+pub use file_calls::{FileCalls, SystemCalls};
 pub use file_keeper::FileKeeper;
 pub use folder_lock::{Taken, lock_folder};
 pub use gate::{FreeGate, Gate};
@@ -31,7 +33,7 @@ pub use mem_keeper::MemKeeper;
 pub use mem_sink::MemSink;
 pub use mem_source::MemSource;
 pub use sink::Sink;
-pub use slot_files::{Known, open_plain, save_slot};
+pub use slot_files::{Known, open_plain, save_by, save_file, save_slot};
 pub use source::{Failed, Source};
 pub use std_adapters::{ReadSource, WriteSink};
 pub use stop_keeper::StopKeeper;

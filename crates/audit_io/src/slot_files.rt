@@ -1,26 +1,27 @@
 //! The files of the slots in the working folder.
 
-ghost use Rattle.std.specs.Prelude.{◌≡◌, ◌<◌, true, OnOk};
-ghost use Rattle.std.specs.Io.KnownBytes.{Appends};
+ghost use Rattle.std.specs.Prelude.{◌≡◌, ◌<◌, ◌++◌, ◌&&◌, not, true, OnOk, is_ok};
+ghost use Rattle.audit_io.specs.FileCalls.{HasDone, HasFolderAfter, HasMade, HasSavedFile, HasSavedSlot, HasStoredOther, error_of, folder_steps, names_steps, no_folder_error, writing_steps};
 ghost use Rattle.audit_io.specs.Files.{file_name};
 
-use std::fs::{File, Metadata, OpenFile};
-use std::io::{ErrorKind, Write};
+use crate::file_calls::{FileCalls, SystemCalls};
+use std::fs::Metadata;
+use std::io::ErrorKind;
 use std::os::unix::fs::MetadataExt;
 use std::rt::Files;
 use std::{fs, io};
 
-/// The knowledge of what the system has stored from earlier processes.
+/// The parts of what was there before this process that are known to be stored.
 #[derive(Drop)]
 pub struct Known {
-    // The file found at the first save of this process is stored.
+    // The other slot's file that was there when this process saved for the first time.
     newest: bool,
     // The folder is stored, with the names of all files that this process has made.
     names: bool,
 }
 
 impl Known {
-    /// Makes the state of a process that knows nothing to be stored.
+    /// Knows nothing to be stored.
     pub fn new() -> Known {
         Known {
             newest: false,
@@ -29,6 +30,7 @@ impl Known {
     }
 }
 
+// Returns the name of a slot's file.
 pub(crate) fn name_of(slot: u8) -> &'static str
     requires { slot < 2 }
     ensures { result.now ≡ file_name slot }
@@ -39,8 +41,8 @@ pub(crate) fn name_of(slot: u8) -> &'static str
     }
 }
 
-// Returns the metadata of a name that is a plain file or a link to one. A dangling link exists, but is not a plain
-// file.
+// Returns what stands in the place of a name, if it is a plain file or a link to one. A link to nothing is there, and
+// is no plain file.
 fn plain_file<R: Files>(files: &R, name: &str) -> io::Result<Metadata> {
     match fs::metadata(files, name) {
         Ok(found) => {
@@ -57,14 +59,14 @@ fn plain_file<R: Files>(files: &R, name: &str) -> io::Result<Metadata> {
     Err(io::Error::from(ErrorKind::InvalidInput))
 }
 
-/// Opens a plain file for reading. Other kinds are not opened: opening a pipe may block forever, and a folder, a device
-/// or a dangling link is no slot.
+/// Opens the plain file of this name to read it. Anything else is not opened: to open a pipe may take forever, and a
+/// folder, a device or a link to nothing is no slot.
 pub fn open_plain<R: Files>(files: &R, name: &str) -> io::Result<R::File> {
     plain_file(files, name)?;
     fs::open(files, name)
 }
 
-// Returns true if both slots are the same file.
+// Returns whether both slots are one file.
 fn are_one<R: Files>(files: &R) -> bool {
     match (plain_file(files, name_of(0)), plain_file(files, name_of(1))) {
         (Ok(first), Ok(second)) => first.dev() == second.dev() && first.ino() == second.ino(),
@@ -72,6 +74,7 @@ fn are_one<R: Files>(files: &R) -> bool {
     }
 }
 
+/// Opens the file of a slot to read it.
 pub(crate) fn open_slot<R: Files>(files: &R, slot: u8) -> io::Result<R::File>
     requires { slot < 2 }
 {
@@ -81,7 +84,7 @@ pub(crate) fn open_slot<R: Files>(files: &R, slot: u8) -> io::Result<R::File>
     open_plain(files, name_of(slot))
 }
 
-// Checks that a slot's file may be written: there is none yet, or a plain file that is not the other slot's.
+// Checks that a slot's file may be written: nothing is in its place, or a plain file that is not the other slot's.
 fn check_place<R: Files>(files: &R, slot: u8) -> io::Result<()>
     requires { slot < 2 }
 {
@@ -99,10 +102,12 @@ fn check_place<R: Files>(files: &R, slot: u8) -> io::Result<()>
     Ok(())
 }
 
-// Waits until the system has stored the folder, with the names in it. A system that cannot store folders says so, and
-// there is nothing to wait for.
-fn store_folder<R: Files>(files: &R) -> io::Result<()> {
-    match fs::open(files, ".")?.sync_all() {
+// Takes the answer of a wait for a folder. A system that stores no folders says so, and then there is nothing to wait
+// for.
+fn settle_folder(stored: io::Result<()>) -> io::Result<()>
+    ensures { is_ok result ≡ no_folder_error (error_of stored) }
+{
+    match stored {
         Ok(()) => Ok(()),
         Err(error) => match error.kind() {
             ErrorKind::Unsupported => Ok(()),
@@ -112,73 +117,195 @@ fn store_folder<R: Files>(files: &R) -> io::Result<()> {
     }
 }
 
-// Waits until the system has stored the file of a slot and its name, if the file exists.
-fn store_found<R: Files>(files: &R, slot: u8) -> io::Result<()>
-    requires { slot < 2 }
+/// Waits until the system has stored the working folder, with the names in it.
+fn store_folder<D: FileCalls>(disk: &mut D) -> io::Result<()>
+    ensures { HasDone (D.calls disk.old) (D.calls disk.new) folder_steps (is_ok result) }
 {
-    match open_plain(files, name_of(slot)) {
-        Ok(file) => {
-            file.sync_all()?;
-            store_folder(files)
-        }
-        Err(error) => {
-            if error.kind() == ErrorKind::NotFound {
-                return Ok(());
-            }
-            Err(error)
-        }
+    match disk.store(".") {
+        Ok(stored) => settle_folder(stored),
+        Err(error) => Err(error),
     }
 }
 
-// Writes all bytes, and waits until the system has stored them.
-fn store<F: Write + OpenFile>(file: &mut F, bytes: &[u8]) -> io::Result<()>
-    ensures { OnOk result (Appends (F.contents file.old) (F.contents file.new) bytes.now) }
+// Goes on after the wait for a file with the wait for the folder.
+fn folder_after<D: FileCalls>(disk: &mut D, stored: io::Result<()>) -> io::Result<()>
+    ensures { HasFolderAfter stored (D.calls disk.old) (D.calls disk.new) (is_ok result) }
 {
-    file.write_all(bytes)?;
-    file.sync_all()
-}
-
-// Opens the file for writing from its start. The flag is true if the file is new.
-fn make_file<R: Files>(files: &R, name: &str) -> io::Result<(R::File, bool)> {
-    match File::create_new(files, name) {
-        Ok(file) => Ok((file, true)),
-        Err(error) => {
-            if error.kind() != ErrorKind::AlreadyExists {
-                return Err(error);
-            }
-            Ok((fs::create(files, name)?, false))
-        }
+    match stored {
+        Ok(()) => store_folder(disk),
+        Err(error) => Err(error),
     }
 }
 
-// Replaces the contents of the file with these bytes, and waits until the system has stored them. Also waits for the
-// folder, unless it is known to be stored with all files made in it.
-fn save_file<R: Files>(files: &R, name: &str, bytes: &[u8], names: &mut bool) -> io::Result<()>
-    ensures { OnOk result (names.new ≡ true) }
+// Waits until the system has stored the file of this name and the folder. Where the file is gone, there is nothing to
+// wait for.
+fn store_found<D: FileCalls>(disk: &mut D, name: &str) -> io::Result<()>
+    ensures { HasStoredOther true name.now (D.calls disk.old) (D.calls disk.new) (is_ok result) }
 {
-    let (mut file, is_new) = make_file(files, name)?;
-    if is_new {
-        *names = false;
+    match disk.store(name) {
+        Ok(stored) => folder_after(disk, stored),
+        Err(error) => match error.kind() {
+            ErrorKind::NotFound => Ok(()),
+            _ => Err(error),
+        },
     }
-    store(&mut file, bytes)?;
-    if !*names {
-        store_folder(files)?;
-        *names = true;
+}
+
+// Does so for the other slot's file, where it was found.
+fn store_other<D: FileCalls>(disk: &mut D, name: &str, found: bool) -> io::Result<()>
+    ensures { HasStoredOther found name.now (D.calls disk.old) (D.calls disk.new) (is_ok result) }
+{
+    if found {
+        return store_found(disk, name);
     }
     Ok(())
 }
 
-/// Replaces the contents of a slot's file with these bytes, and waits until the system has stored them. Before the
-/// first save of a process, it waits until the other slot's file is stored. That file may be the newest, and may have
-/// been read before it was stored.
+// Writes all bytes, and waits until the system has stored them.
+fn write_file<D: FileCalls>(disk: &mut D, file: &mut D::Made, bytes: &[u8]) -> io::Result<()>
+    ensures { HasDone (D.calls disk.old) (D.calls disk.new) (writing_steps bytes.now) (is_ok result) }
+{
+    match disk.write_all(file, bytes) {
+        Ok(()) => disk.store_made(file),
+        Err(error) => Err(error),
+    }
+}
+
+// Opens the file for writing from its start. The flag is true if the file is new.
+fn make_file<D: FileCalls>(disk: &mut D, name: &str) -> io::Result<(D::Made, bool)>
+    ensures { HasMade name.now (D.calls disk.old) (D.calls disk.new) result }
+{
+    match disk.make(name) {
+        Ok(file) => Ok((file, true)),
+        Err(error) => match error.kind() {
+            ErrorKind::AlreadyExists => match disk.empty(name) {
+                Ok(file) => Ok((file, false)),
+                Err(error) => Err(error),
+            },
+            _ => Err(error),
+        },
+    }
+}
+
+// Waits until the system has stored the folder, unless it is known to be stored with all files that were made in it.
+fn store_names<D: FileCalls>(disk: &mut D, names: &mut bool) -> io::Result<()>
+    ensures done { HasDone (D.calls disk.old) (D.calls disk.new) (names_steps names.old) (is_ok result) }
+    ensures names { OnOk result (names.new ≡ true) }
+{
+    if *names {
+        return Ok(());
+    }
+    match store_folder(disk) {
+        Ok(()) => {
+            *names = true;
+            Ok(())
+        }
+        Err(error) => Err(error),
+    }
+}
+
+// Writes the bytes to a file that was just made, and waits until the system has stored them, and the folder where it is
+// not known to be.
+fn fill_file<D: FileCalls>(
+    disk: &mut D,
+    file: &mut D::Made,
+    bytes: &[u8],
+    names: &mut bool,
+) -> io::Result<()>
+    ensures done { HasDone (D.calls disk.old) (D.calls disk.new) (writing_steps bytes.now ++ names_steps names.old) (is_ok result) }
+    ensures names { OnOk result (names.new ≡ true) }
+{
+    match write_file(disk, file, bytes) {
+        Ok(()) => store_names(disk, names),
+        Err(error) => Err(error),
+    }
+}
+
+// Returns whether the folder is still known to be stored with all names.
+fn keeps_names(names: bool, is_new: bool) -> bool
+    ensures { result ≡ (not is_new && names) }
+{
+    if is_new {
+        return false;
+    }
+    names
+}
+
+/// Makes the file of this name hold exactly these bytes, and waits until the system has stored them. Where the folder
+/// is not known to be stored with all files that were made in it, it waits for the folder, too. The clause `done` says
+/// each call that it makes on files, in turn, and after which errors it goes on.
+pub fn save_file<D: FileCalls>(
+    disk: &mut D,
+    name: &str,
+    bytes: &[u8],
+    names: &mut bool,
+) -> io::Result<()>
+    ensures done { HasSavedFile names.old name.now bytes.now (D.calls disk.old) (D.calls disk.new) (is_ok result) }
+    ensures names { OnOk result (names.new ≡ true) }
+{
+    match make_file(disk, name) {
+        Ok((mut file, is_new)) => {
+            *names = keeps_names(*names, is_new);
+            fill_file(disk, &mut file, bytes, names)
+        }
+        Err(error) => Err(error),
+    }
+}
+
+/// Makes a slot's file hold exactly these bytes, and waits until the system has stored them, as `save_file` says. If
+/// the other slot's file was found, it is stored before that. The clause `done` says each call that is made on files,
+/// in turn, and after which errors the save goes on.
+pub fn save_by<D: FileCalls>(
+    disk: &mut D,
+    slot: u8,
+    bytes: &[u8],
+    known: &mut Known,
+    found: bool,
+) -> io::Result<()>
+    requires { slot < 2 }
+    ensures done { HasSavedSlot found known.old.names slot bytes.now (D.calls disk.old) (D.calls disk.new) (is_ok result) }
+    ensures known { OnOk result ((known.new.newest ≡ true) × (known.new.names ≡ true)) }
+{
+    match store_other(disk, name_of(1 - slot), found) {
+        Ok(()) => {
+            known.newest = true;
+            save_file(disk, name_of(slot), bytes, &mut known.names)
+        }
+        Err(error) => Err(error),
+    }
+}
+
+// Returns whether the file of a slot is there.
+fn is_there<R: Files>(files: &R, slot: u8) -> io::Result<bool>
+    requires { slot < 2 }
+{
+    match plain_file(files, name_of(slot)) {
+        Ok(_) => Ok(true),
+        Err(error) => match error.kind() {
+            ErrorKind::NotFound => Ok(false),
+            _ => Err(error),
+        },
+    }
+}
+
+// Returns whether the file of a slot is there and is not known to be stored.
+fn is_unstored<R: Files>(files: &R, slot: u8, newest: bool) -> io::Result<bool>
+    requires { slot < 2 }
+{
+    if newest {
+        return Ok(false);
+    }
+    is_there(files, slot)
+}
+
+/// Makes a slot's file hold exactly these bytes, and waits until the system has stored them, as `save_by` says. Until a
+/// process has stored the other slot's file, each of its saves begins with that: this file may be the newest, and may
+/// have been read though it was not stored.
 pub fn save_slot<R: Files>(files: &R, slot: u8, bytes: &[u8], known: &mut Known) -> io::Result<()>
     requires { slot < 2 }
     ensures { OnOk result ((known.new.newest ≡ true) × (known.new.names ≡ true)) }
 {
     check_place(files, slot)?;
-    if !known.newest {
-        store_found(files, 1 - slot)?;
-        known.newest = true;
-    }
-    save_file(files, name_of(slot), bytes, &mut known.names)
+    let found = is_unstored(files, 1 - slot, known.newest)?;
+    save_by(&mut SystemCalls::new(files), slot, bytes, known, found)
 }

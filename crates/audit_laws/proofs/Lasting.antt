@@ -1,132 +1,440 @@
--- Saved outcomes are in the newest slot, wherever a run is stopped.
-use Rattle.std.proofs.Common.{◌≡◌, ◌⊎◌, inl, inr, ℕ, zero, suc, ◌<◌, ◌≤◌, true, List, [], ◌∷◌, ◌++◌, get_or, length, refl, sym, ◌∙◌, subst, All, AllPairs, Contains, arith}
-use Rattle.std.proofs.lemmas.Bool.{true≢false}
-use Rattle.std.proofs.lemmas.List.Elements.{All-cons, All-head, All-nil, All-tail}
-use Rattle.audit_model.specs.Pair.{Pair}
+-- The newest slot holds what was saved, at whatever moment a run is stopped.
+use Rattle.std.proofs.Common.{◌≡◌, inl, inr, ℕ, zero, suc, ◌+◌, ◌-◌, ◌*◌, ◌/◌, ◌%◌, ◌<◌, ◌≤◌, ◌==◌, ◌&&◌, not, nat_lt, Bool, true, false, cond, List, [], ◌∷◌, ◌++◌, take, get_or, length, map, Option, Some, None, refl, sym, ap, ◌∙◌, subst, append_assoc, All, Contains, IsPermutation, suc-mul, arith}
+use Rattle.std.specs.Prelude.{IsTrue, bytes_eq, option_map, slice_range}
+use Rattle.std.specs.List.{list_all}
+use Rattle.std.proofs.lemmas.Bool.{and_from, true≢false}
+use Rattle.std.proofs.lemmas.List.{map-append}
+use Rattle.std.proofs.lemmas.List.Elements.{All-append, All-cons, All-contains_itself, All-filter, All-head, All-map, All-nil, All-tail, All-take, Contains-append_left}
+use Rattle.std.proofs.lemmas.List.Sorted.{All-permutation, Contains-permutation, IsPermutation-sym}
+use Rattle.std.proofs.lemmas.Option.{same_Some}
+use Rattle.audit_model.specs.Pair.{Pair, Stored}
 use Rattle.audit_model.specs.Tries.{Try}
+use Rattle.audit_model.specs.declared.fault.CkptFault.{CkptFault}
 use Rattle.audit_model.specs.declared.outcome.Outcome.{Outcome}
+use Rattle.audit_model.specs.declared.place.Place.{Place}
+use Rattle.audit_model.specs.declared.setting.Command.{Command}
+use Rattle.audit_model.specs.declared.setting.Command.TheVariants.{Check, Run, Make, Plans, Trace}
+use Rattle.audit_model.specs.declared.setting.Setting.{Setting}
+use Rattle.audit_model.specs.Below.{filter_below}
+use Rattle.audit_model.specs.First.{first_below}
 use Rattle.audit_model.specs.Job.{Job}
-use Rattle.audit_statement.specs.Checkpoint.{IsCheckpoint, job_digest}
-use Rattle.audit_statement.specs.Histories.{HasFailed, KeepsNewest, stopped_in}
-use Rattle.ckpt_store.specs.Laws.{SavesKeepTheNewest}
-use Rattle.audit_statement.specs.Chain.{IsHeldBy}
-use Rattle.audit_statement.specs.Endings.{IsTryOf, place_of}
-use Rattle.audit_laws.specs.Lost.{AreHeldIn, IsKeptIn, KeepsOpening, StopsLoseNothing}
+use Rattle.audit_model.specs.JobOf.{IsJob}
+use Rattle.audit_model.specs.Limits.{IsSettingOf}
+use Rattle.audit_model.specs.Run.{fits, has_id, is_bare, is_in_part, run_ids, taken_up, total}
+use Rattle.audit_model.specs.Trajectory.{bare, outcome}
+use Rattle.audit_model.proofs.Below.{length-map_below, get_or-map_below}
+use Rattle.audit_model.proofs.Filtered.{each_passes}
+use Rattle.audit_model.proofs.First.{first_below_none}
+use Rattle.audit_model.proofs.Fitting as fitting
+use Rattle.audit_statement.specs.Checkpoint.{IsCheckpoint, checkpoint, checkpoint_fault, digest_place, generation_place, job_digest, stated_count}
+use Rattle.audit_statement.specs.Draw.{draw}
+use Rattle.audit_statement.specs.Endings.{StartsFrom, first_place, opening_from, place_of, saves}
+use Rattle.audit_statement.specs.Histories.{AreCarriedOut, AreInTurn, HasFailed, IsNotIntact, KeepsNewest, bytes_at, newest_bytes, stopped_in}
+use Rattle.audit_statement.specs.Chain.{AreSavesWhere, has_walked}
+use Rattle.audit_statement.specs.InOrder.{AreSavesFrom, IsSaveOfIds, last_succeeded_from, next_place, place_after, taken_in}
+use Rattle.audit_statement.specs.Rerun.{AreTriesSoFar}
+use Rattle.audit_statement.specs.Slots.{Slot, absent, broken, checkpoint_limit, newest, newest_for, opening_of, other, ours, outcome_in, outcomes_in, outcomes_of_slot, slot_of, slot_of_bytes, slot_of_checkpoint, slot_of_digest, slot_of_ours}
+use Rattle.ckpt_store.specs.Laws.{CheckpointsAreOurs, SavesKeepTheNewest}
+use Rattle.audit_laws.specs.Lost.{EndsAreStops, HoldsAll, IsKeptIn, KeepsOpening, LosesNothing, StopsKeepTheNewest, StopsLoseNothing}
 
--- ---- a run that was stopped
+-- an outcome that fits a job fits it without its histogram
+abbrev pub BareFits : Type 0
+BareFits = (job : Job) (o : Outcome) → IsTrue (fits job o) → IsTrue (fits job (bare o))
 
--- a stopped run has made at most as many attempts as a complete one
+-- ---- the outcomes of a slot fit the job
+
+module _ (job : Job) where
+  abbrev Fits : Outcome → Type 0
+  Fits o = IsTrue (fits job o)
+
+  -- the slot's outcomes, where it gives the job any, fit
+  abbrev HasFit : Slot → Type 0
+  HasFit absent = Unit {0}
+  HasFit (broken fault) = Unit {0}
+  HasFit (other digest generation) = Unit {0}
+  HasFit (ours generation outcomes) = All Fits outcomes
+
+  count_fit : (bytes : List ℕ) → first_below (stated_count bytes) (λ place. not (fits job (outcome_in bytes place))) ≡ None → All Fits (outcomes_in bytes)
+  count_fit bytes none k d inside =
+      let count = stated_count bytes in
+      let below : k < count = omega (arith, inside, length-map_below count (outcome_in bytes)) in
+      ap (fits job) (get_or-map_below count (outcome_in bytes) k d below)
+      ∙ passes (fits job (outcome_in bytes k)) (first_below_none count (λ place. not (fits job (outcome_in bytes place))) k none below)
+    where
+      passes : (b : Bool) → not b ≡ false → b ≡ true
+      passes true e = refl
+      passes false e = cc
+
+  ours_fit : (bytes : List ℕ) (unfit : Option ℕ) → first_below (stated_count bytes) (λ place. not (fits job (outcome_in bytes place))) ≡ unfit → HasFit (slot_of_ours bytes unfit)
+  ours_fit bytes None none = count_fit bytes none
+  ours_fit bytes (Some place) some = tt
+
+  digest_fit : (bytes : List ℕ) (same : Bool) → HasFit (slot_of_digest job bytes same)
+  digest_fit bytes false = tt
+  digest_fit bytes true = ours_fit bytes (first_below (stated_count bytes) (λ place. not (fits job (outcome_in bytes place)))) refl
+
+  checkpoint_fit : (digest bytes : List ℕ) (fault : Option CkptFault) → HasFit (slot_of_checkpoint job digest bytes fault)
+  checkpoint_fit digest bytes (Some fault) = tt
+  checkpoint_fit digest bytes None = digest_fit bytes (bytes_eq (slice_range bytes digest_place generation_place) digest)
+
+  bytes_fit : (digest bytes : List ℕ) (many : Bool) → HasFit (slot_of_bytes job digest bytes many)
+  bytes_fit digest bytes true = tt
+  bytes_fit digest bytes false = checkpoint_fit digest bytes (checkpoint_fault bytes)
+
+  slot_fits : (digest : List ℕ) (s : Stored) → HasFit (slot_of job digest s)
+  slot_fits digest None = tt
+  slot_fits digest (Some bytes) = bytes_fit digest bytes (nat_lt checkpoint_limit (length bytes))
+
+  given_fit : (slot : Slot) (outcomes : List Outcome) → HasFit slot → outcomes_of_slot slot ≡ Some outcomes → All Fits outcomes
+  given_fit absent outcomes fit e = (let same : [] ≡ outcomes = cc in subst (All Fits) same (All-nil Fits))
+  given_fit (broken fault) outcomes fit e = cc
+  given_fit (other digest generation) outcomes fit e = cc
+  given_fit (ours generation held) outcomes fit e = (let same : held ≡ outcomes = cc in subst (All Fits) same fit)
+
+  newest_fit : (first second : Slot) (n : Option ℕ) (outcomes : List Outcome) → HasFit first → HasFit second → opening_of first second n ≡ Some outcomes → All Fits outcomes
+  newest_fit first second (Some zero) outcomes one two e = given_fit first outcomes one e
+  newest_fit first second (Some (suc n)) outcomes one two e = given_fit second outcomes two e
+  newest_fit absent absent None outcomes one two e = (let same : [] ≡ outcomes = cc in subst (All Fits) same (All-nil Fits))
+  newest_fit absent (broken f) None outcomes one two e = cc
+  newest_fit absent (other d g) None outcomes one two e = cc
+  newest_fit absent (ours g held) None outcomes one two e = cc
+  newest_fit (broken f) second None outcomes one two e = cc
+  newest_fit (other d g) second None outcomes one two e = cc
+  newest_fit (ours g held) second None outcomes one two e = cc
+
+  taken_fit : BareFits → (shift : Bool) (walks : ℕ) (held : List Outcome) → All Fits held → All Fits (taken_up shift walks held)
+  taken_fit bare_fits false walks held fit = All-map Fits bare held (λ k d inside. bare_fits job (get_or held k d) (fit k d inside))
+  taken_fit bare_fits true walks held fit = All-filter (λ o. not (nat_lt o.id walks && is_bare o)) Fits held fit
+
+  resumed_fit : BareFits → (held : Option (List Outcome)) (outcomes : List Outcome) → ((os : List Outcome) → held ≡ Some os → All Fits os)
+      → option_map (taken_up job.setting.shift job.setting.walks) held ≡ Some outcomes → All Fits outcomes
+  resumed_fit bare_fits None outcomes fit e = cc
+  resumed_fit bare_fits (Some os) outcomes fit e =
+      let same : taken_up job.setting.shift job.setting.walks os ≡ outcomes = cc in
+      subst (All Fits) same (taken_fit bare_fits job.setting.shift job.setting.walks os (fit os refl))
+
+  -- what a run starts with fits
+  opening_fit : BareFits → (resumes : Bool) (p : Pair) (outcomes : List Outcome) → opening_from resumes job p ≡ Some outcomes → All Fits outcomes
+  opening_fit bare_fits false p outcomes e = (let same : [] ≡ outcomes = cc in subst (All Fits) same (All-nil Fits))
+  opening_fit bare_fits true p outcomes e =
+      let first = slot_of job (job_digest job) p.zero_slot in
+      let second = slot_of job (job_digest job) p.one_slot in
+      resumed_fit bare_fits (opening_of first second (newest first second)) outcomes
+      (λ os is. newest_fit first second (newest first second) os (slot_fits (job_digest job) p.zero_slot) (slot_fits (job_digest job) p.one_slot) is) e
+
+  few_of : (command : Command) (s : Setting) → IsSettingOf command s → length s.asks ≤ 4
+  few_of Check s is = (let none : length s.asks ≡ 0 = ap length is.no_asks in omega (arith, none))
+  few_of Run s is = is.few_asks
+  few_of Make s is = is.few_asks
+  few_of Plans s is = is.few_asks
+  few_of Trace s is = is.run.few_asks
+
+  run_ids_below : (opening : List Outcome) (budget : ℕ) → All (λ id. id < total job) (run_ids job opening budget)
+  run_ids_below opening budget =
+      let lies : ℕ → Bool = λ id. not (has_id opening id) && is_in_part job.setting.parts job.setting.part id in
+      All-take (λ (id : ℕ). id < total job) budget (filter_below (total job) lies) (λ k d inside. (each_passes (total job) lies k d inside).0)
+
+-- ---- the saves so far of a run
+
+-- of more items, the first ones are some and others
+take_more : {A : Type 0} (a b : ℕ) (l : List A) → a ≤ b → (rest : List A) × (take b l ≡ take a l ++ rest)
+take_more zero b l le = (take b l, refl)
+take_more (suc a) zero l le = absurd (omega arith)
+take_more (suc a) (suc b) [] le = ([], refl)
+take_more (suc a) (suc b) (x ∷ l) le = let more = take_more a b l (omega arith) in (more.0, ap (λ xs. x ∷ xs) more.1)
+
+-- more groups of a size have no fewer members
+more_groups : (every n m : ℕ) → n ≤ m → n * every ≤ m * every
+more_groups every zero m le = (let none : 0 * every ≡ 0 = omega arith in omega (arith, none))
+more_groups every (suc n) zero le = absurd (omega arith)
+more_groups every (suc n) (suc m) le = let rest = more_groups every n m (omega arith) in omega (arith, rest, suc-mul n every, suc-mul m every)
+
+-- what holds of all holds of the one in the middle
+at_middle : (P : Try → Type 0) (earlier later : List Try) (save : Try) → All P (earlier ++ save ∷ later) → P save
+at_middle P [] later save all = All-head P save later all
+at_middle P (e ∷ earlier) later save all = at_middle P earlier later save (All-tail P e (earlier ++ save ∷ later) all)
+
+-- the later save is a checkpoint of the job, of outcomes that fit the job and are all that the earlier one holds, or more
+record IsHeld (job : Job) (earlier later : Try) : Type 0 where
+  first : List Outcome
+  first_generation : ℕ
+  first_is : IsCheckpoint earlier.bytes 2 (job_digest job) first_generation first
+  second : List Outcome
+  second_generation : ℕ
+  second_is : IsCheckpoint later.bytes 2 (job_digest job) second_generation second
+  fit : IsTrue (list_all (fits job) second)
+  held : All (Contains second) first
+
+-- the save is a checkpoint of the job, of outcomes that fit the job and are all of the opening, or more
+record HoldsOpening (job : Job) (opening : List Outcome) (t : Try) : Type 0 where
+  generation : ℕ
+  saved : List Outcome
+  sound : IsCheckpoint t.bytes 2 (job_digest job) generation saved
+  fit : IsTrue (list_all (fits job) saved)
+  held : All (Contains saved) opening
+
+-- each fits, in both forms
+fit_list : (job : Job) (outcomes : List Outcome) → All (Fits job) outcomes → list_all (fits job) outcomes ≡ true
+fit_list job [] fit = refl
+fit_list job (x ∷ xs) fit = and_from (fits job x) (list_all (fits job) xs) (fit 0 x (omega arith)) (fit_list job xs (λ k d inside. fit (suc k) d (omega arith)))
+
+module _ (job : Job) (opening : List Outcome) (every : ℕ) (walked : List ℕ) (few_asks : length job.setting.asks ≤ 4) (opening_fits : All (Fits job) opening)
+    (below : All (λ id. id < total job) walked) where
+  abbrev f : ℕ → Outcome
+  f = outcome job (draw job.setting.key)
+
+  abbrev From : ℕ → Place → List Try → Type 0
+  From n place ts = AreSavesFrom job opening every walked n place ts
+
+  abbrev ids_at : ℕ → List ℕ
+  ids_at n = take (n * every) walked
+
+  abbrev saved_at : ℕ → List Outcome
+  saved_at n = taken_in job opening (ids_at n)
+
+  -- what a save holds fits the job
+  save_fits : (n : ℕ) (place : Place) (t : Try) → IsSaveOfIds job opening place (ids_at n) t → IsTrue (list_all (fits job) (saved_at n))
+  save_fits n place t s =
+      let within : All (λ id. id < total job) (ids_at n) = All-take (λ (id : ℕ). id < total job) (n * every) walked below in
+      let found : All (Fits job) (map f (ids_at n)) =
+      All-map (Fits job) f (ids_at n) (λ k d inside. fitting.found_fits job (draw job.setting.key) job.setting.shift few_asks (get_or (ids_at n) k d) (within k d inside)) in
+      fit_list job (saved_at n) (All-permutation (Fits job) (opening ++ map f (ids_at n)) (saved_at n) s.all (All-append (Fits job) opening (map f (ids_at n)) opening_fits found))
+
+  -- a later save holds all that an earlier one does
+  later_holds : (n m : ℕ) (place at : Place) (t u : Try) → n ≤ m → IsSaveOfIds job opening place (ids_at n) t → IsSaveOfIds job opening at (ids_at m) u → IsHeld job t u
+  later_holds n m place at t u le first second =
+      let split = take_more (n * every) (m * every) walked (more_groups every n m le) in
+      let base = opening ++ map f (ids_at n) in
+      let whole : opening ++ map f (ids_at m) ≡ base ++ map f split.0 =
+      ap (λ l. opening ++ map f l) split.1 ∙ ap (λ l. opening ++ l) (map-append f (ids_at n) split.0) ∙ sym (append_assoc opening (map f (ids_at n)) (map f split.0)) in
+      let moved : IsPermutation (base ++ map f split.0) (saved_at m) = subst (λ l. IsPermutation l (saved_at m)) whole second.all in
+      record {
+        first = saved_at n;
+        first_generation = place.generation;
+        first_is = first.sound;
+        second = saved_at m;
+        second_generation = at.generation;
+        second_is = second.sound;
+        fit = save_fits m at u second;
+        held = All-permutation (Contains (saved_at m)) base (saved_at n) first.all
+            (λ k d inside. Contains-permutation (base ++ map f split.0) (saved_at m) _ moved (Contains-append_left base (map f split.0) _ (All-contains_itself base k d inside)));
+      }
+
+  each_later : (n m : ℕ) (place at : Place) (t : Try) (rest : List Try) → n ≤ m → IsSaveOfIds job opening place (ids_at n) t → From m at rest → All (IsHeld job t) rest
+  each_later n m place at t [] le first goes = All-nil (IsHeld job t)
+  each_later n m place at t (u ∷ rest) le first goes =
+      All-cons (IsHeld job t) u rest (later_holds n m place at t u le first goes.0) (each_later n (suc m) place (place_after at u) t rest (omega arith) first goes.1)
+
+  -- the last save that succeeded, or a later one that failed, holds all of each that succeeded
+  held_in : (n : ℕ) (place : Place) (earlier later : List Try) (save : Try) → From n place (earlier ++ save ∷ later) → All HasFailed later
+      → All (λ t. t.succeeded ≡ true → IsHeld job t save) (earlier ++ save ∷ later)
+  held_in n place [] later save goes failed =
+      All-cons (λ (t : Try). t.succeeded ≡ true → IsHeld job t save) save later (λ done. later_holds n n place place save save (omega arith) goes.0 goes.0)
+      (λ k d inside done. absurd (true≢false (sym done ∙ failed k d inside)))
+  held_in n place (t ∷ earlier) later save goes failed =
+      All-cons (λ (t : Try). t.succeeded ≡ true → IsHeld job t save) t (earlier ++ save ∷ later)
+      (λ done. at_middle (IsHeld job t) earlier later save (each_later n (suc n) place (place_after place t) t (earlier ++ save ∷ later) (omega arith) goes.0 goes.1))
+      (held_in (suc n) (place_after place t) earlier later save goes.1 failed)
+
+  -- each save holds all of the opening
+  opening_held : (n : ℕ) (place : Place) (ts : List Try) → From n place ts → All (HoldsOpening job opening) ts
+  opening_held n place [] goes = All-nil (HoldsOpening job opening)
+  opening_held n place (t ∷ rest) goes =
+      All-cons (HoldsOpening job opening) t rest
+      (record {
+        generation = place.generation;
+        saved = saved_at n;
+        sound = goes.0.sound;
+        fit = save_fits n place t goes.0;
+        held = λ k d inside. Contains-permutation (opening ++ map f (ids_at n)) (saved_at n) _ goes.0.all
+            (Contains-append_left opening (map f (ids_at n)) _ (All-contains_itself opening k d inside));
+      })
+      (opening_held (suc n) (place_after place t) rest goes.1)
+
+  abbrev InTurn : Place → List Try → Type 0
+  InTurn place ts = AreInTurn job (job_digest job) place.slot place.generation ts
+
+  turn_after : (done : Bool) (place : Place) (rest : List Try) → InTurn (cond done (next_place place) place) rest
+      → AreInTurn job (job_digest job) (cond done (1 - place.slot) place.slot) (cond done ((place.generation + 1) % 3) place.generation) rest
+  turn_after true place rest goes = goes
+  turn_after false place rest goes = goes
+
+  -- the saves are in turn
+  in_turn : (n : ℕ) (place : Place) (ts : List Try) → From n place ts → InTurn place ts
+  in_turn n place [] goes = tt
+  in_turn n place (t ∷ rest) goes = (
+    record {
+      slot = goes.0.slot;
+      version = 2;
+      outcomes = saved_at n;
+      bytes = goes.0.bytes;
+      sound = subst (λ (b : List ℕ). IsCheckpoint b 2 (job_digest job) place.generation (saved_at n)) goes.0.bytes goes.0.sound;
+      fit = save_fits n place t goes.0;
+    },
+    turn_after t.succeeded place rest (in_turn (suc n) (place_after place t) rest goes.1),
+  )
+
+-- ---- what the slots hold at the stop
+
+-- a run that is stopped after these saves has them as they are
+same_stopped : (tries : List Try) → stopped_in (length tries) tries ≡ tries
+same_stopped [] = refl
+same_stopped (t ∷ tries) = ap (λ ts. t ∷ ts) (same_stopped tries)
+
+-- the newest slot, whose bytes are known, is what these bytes are
+given_by : (job : Job) (q : Pair) (bytes : List ℕ) (generation : ℕ) (saved : List Outcome) (n : Option ℕ)
+    → bytes_at q n ≡ Some bytes → slot_of job (job_digest job) (Some bytes) ≡ ours generation saved
+    → opening_of (slot_of job (job_digest job) q.zero_slot) (slot_of job (job_digest job) q.one_slot) n ≡ Some saved
+given_by job q bytes generation saved None is read = cc
+given_by job q bytes generation saved (Some zero) is read = ap (λ (s : Stored). outcomes_of_slot (slot_of job (job_digest job) s)) is ∙ ap outcomes_of_slot read
+given_by job q bytes generation saved (Some (suc n)) is read = ap (λ (s : Stored). outcomes_of_slot (slot_of job (job_digest job) s)) is ∙ ap outcomes_of_slot read
+
+-- a newest slot of these bytes holds these outcomes
+holds_all : CheckpointsAreOurs → (job : Job) (q : Pair) (bytes : List ℕ) (generation : ℕ) (saved outcomes : List Outcome) → newest_bytes job (job_digest job) q ≡ Some bytes
+    → IsCheckpoint bytes 2 (job_digest job) generation saved → IsTrue (list_all (fits job) saved) → All (Contains saved) outcomes → HoldsAll job q outcomes
+holds_all ours_law job q bytes generation saved outcomes is sound fit held = record {
+  bytes = bytes;
+  is_newest = is;
+  generation = generation;
+  saved = saved;
+  sound = sound;
+  given = given_by job q bytes generation saved (newest_for job (job_digest job) q) is (ours_law job bytes 2 (job_digest job) generation saved sound fit);
+  held = held;
+}
+
+module _ (newest_law : SavesKeepTheNewest) (bare_fits : BareFits) (job : Job) (sound : IsJob job) (p q : Pair) (tries : List Try) where
+  abbrev Out : Type 0
+  Out = AreCarriedOut IsNotIntact job (job_digest job) p tries q
+
+  abbrev Keeps : Type 0
+  Keeps = KeepsNewest job (job_digest job) p tries q
+
+  few_asks : length job.setting.asks ≤ 4
+  few_asks = few_of job job.setting.command job.setting sound.within.setting.command
+
+  module _ (outcomes : List Outcome) (opens : opening_from job.setting.resume job p ≡ Some outcomes) (walked : List ℕ)
+      (all_walked : IsPermutation walked (run_ids job outcomes job.setting.budget)) (goes : AreSavesFrom job outcomes job.setting.save_every walked 1 (first_place job p) tries) where
+    run_opening_fits : All (Fits job) outcomes
+    run_opening_fits = opening_fit job bare_fits job.setting.resume p outcomes opens
+
+    run_below : All (λ id. id < total job) walked
+    run_below =
+        All-permutation (λ (id : ℕ). id < total job) (run_ids job outcomes job.setting.budget) walked (IsPermutation-sym walked (run_ids job outcomes job.setting.budget) all_walked)
+        (run_ids_below job outcomes job.setting.budget)
+
+    keeps_by : Out → Keeps
+    keeps_by out =
+        subst (λ (ts : List Try). KeepsNewest job (job_digest job) p ts q) (same_stopped tries)
+        (newest_law job (job_digest job) p q (place_of job p).0 (place_of job p).1 tries (length tries) refl
+        (in_turn job outcomes job.setting.save_every walked few_asks run_opening_fits run_below 1 (first_place job p) tries goes)
+        (subst (λ (ts : List Try). AreCarriedOut IsNotIntact job (job_digest job) p ts q) (sym (same_stopped tries)) out))
+
+    saved_by : CheckpointsAreOurs → Keeps → All (λ save. save.succeeded ≡ true → IsKeptIn job q save) tries
+    saved_by ours_law (inl none) = λ k d inside done. absurd (true≢false (sym done ∙ none.0 k d inside))
+    saved_by ours_law (inr (bytes, latest, is)) =
+        let all = held_in job outcomes job.setting.save_every walked few_asks run_opening_fits run_below 1 (first_place job p) latest.earlier latest.later latest.save
+        (subst (λ (ts : List Try). AreSavesFrom job outcomes job.setting.save_every walked 1 (first_place job p) ts) latest.split goes) latest.failed in
+        subst (λ (ts : List Try). All (λ save. save.succeeded ≡ true → IsKeptIn job q save) ts) (sym latest.split) (λ k d inside done. kept_as _ (all k d inside done))
+      where
+        kept_as : (t : Try) → IsHeld job t latest.save → IsKeptIn job q t
+        kept_as t h = record {
+          generation = h.first_generation;
+          outcomes = h.first;
+          sound = h.first_is;
+          kept = holds_all ours_law job q bytes h.second_generation h.second h.first is
+              (subst (λ (b : List ℕ). IsCheckpoint b 2 (job_digest job) h.second_generation h.second) latest.same h.second_is) h.fit h.held;
+        }
+
+    opened_by : CheckpointsAreOurs → Keeps → KeepsOpening job p q outcomes
+    opened_by ours_law (inl none) = inl none.1
+    opened_by ours_law (inr (bytes, latest, is)) =
+        let all = opening_held job outcomes job.setting.save_every walked few_asks run_opening_fits run_below 1 (first_place job p) tries goes in
+        let of = at_middle (HoldsOpening job outcomes) latest.earlier latest.later latest.save (subst (All (HoldsOpening job outcomes)) latest.split all) in
+        inr (holds_all ours_law job q bytes of.generation of.saved outcomes is
+        (subst (λ (b : List ℕ). IsCheckpoint b 2 (job_digest job) of.generation of.saved) latest.same of.sound) of.fit of.held)
+
+  -- without an attempt all is as it was
+  untouched : tries ≡ [] → Out → q ≡ p
+  untouched none out = subst (λ (ts : List Try). AreCarriedOut IsNotIntact job (job_digest job) p ts q) none out
+
+  pub stop_keeps : AreTriesSoFar job p tries → Out → Keeps
+  stop_keeps (inl none) out =
+      inl (subst (All HasFailed) (sym none) (All-nil HasFailed), ap (newest_bytes job (job_digest job)) (untouched none out))
+  stop_keeps (inr run) out = keeps_by run.0 run.1 run.2.walked run.2.all_walked run.2.first.each out
+
+  pub stop_loses : CheckpointsAreOurs → AreTriesSoFar job p tries → Out → LosesNothing job p q tries
+  stop_loses ours_law (inl none) out = record {
+    saved = subst (All (λ (save : Try). save.succeeded ≡ true → IsKeptIn job q save)) (sym none) (All-nil (λ (save : Try). save.succeeded ≡ true → IsKeptIn job q save));
+    opened = λ outcomes opens. inl (ap (newest_bytes job (job_digest job)) (untouched none out));
+  }
+  stop_loses ours_law (inr run) out =
+      let keeps = keeps_by run.0 run.1 run.2.walked run.2.all_walked run.2.first.each out in
+      record {
+        saved = saved_by run.0 run.1 run.2.walked run.2.all_walked run.2.first.each ours_law keeps;
+        opened = λ outcomes opens.
+            let same : run.0 ≡ outcomes = same_Some run.0 outcomes (sym run.1 ∙ opens) in
+            subst (KeepsOpening job p q) same (opened_by run.0 run.1 run.2.walked run.2.all_walked run.2.first.each ours_law keeps);
+      }
+
+-- a stop keeps the newest slot, or leaves a newer one
+pub stops_keep_the_newest : SavesKeepTheNewest → BareFits → StopsKeepTheNewest
+stops_keep_the_newest newest_law bare_fits job p q tries sound so_far out = stop_keeps newest_law bare_fits job sound p q tries so_far out
+
+-- and loses nothing that was saved
+pub stops_lose_nothing : SavesKeepTheNewest → CheckpointsAreOurs → BareFits → StopsLoseNothing
+stops_lose_nothing newest_law ours_law bare_fits job p q tries sound so_far out = stop_loses newest_law bare_fits job sound p q tries ours_law so_far out
+
+-- ---- a run that ended, cut off anywhere
+
+-- no more saves than without the cut
 stopped_length : (n : ℕ) (tries : List Try) → length (stopped_in n tries) ≤ length tries
 stopped_length n [] = omega arith
 stopped_length zero (t ∷ tries) = omega arith
 stopped_length (suc n) (t ∷ tries) = let rest = stopped_length n tries in omega (arith, rest)
 
--- each attempt of a stopped run has the bytes of the complete run's attempt
-stopped_bytes : (n : ℕ) (tries : List Try) (k : ℕ) (d : Try) → k < length (stopped_in n tries) → (get_or (stopped_in n tries) k d).bytes ≡ (get_or tries k d).bytes
-stopped_bytes n [] k d inside = absurd (omega arith)
-stopped_bytes zero (t ∷ tries) zero d inside = refl
-stopped_bytes zero (t ∷ tries) (suc k) d inside = absurd (omega arith)
-stopped_bytes (suc n) (t ∷ tries) zero d inside = refl
-stopped_bytes (suc n) (t ∷ tries) (suc k) d inside = stopped_bytes n tries k d (omega arith)
+-- no more saves than are due
+stopped_few : (k n : ℕ) (whole last : Bool) (tries : List Try) → length tries ≡ k + cond {A = ℕ} (whole && last_succeeded_from last (take k tries)) 0 1
+    → length (stopped_in n tries) ≤ k + cond {A = ℕ} (whole && last_succeeded_from last (take k (stopped_in n tries))) 0 1
+stopped_few k n whole last [] counted = omega arith
+stopped_few zero n whole last (t ∷ rest) counted = (let fewer = stopped_length n (t ∷ rest) in omega (arith, counted, fewer))
+stopped_few (suc k) zero whole last (t ∷ rest) counted = omega arith
+stopped_few (suc k) (suc n) whole last (t ∷ rest) counted =
+    let others = stopped_few k n whole t.succeeded rest (omega (arith, counted)) in omega (arith, others)
 
-module _ (job : Job) where
-  -- the earlier save is the later one, or is contained in it
-  abbrev IsIn : List ℕ → List ℕ → Type 0
-  IsIn first second = (first ≡ second) ⊎ AreHeldIn job (record { slot = 0; bytes = first; succeeded = true }) second
+module _ (job : Job) (opening : List Outcome) (every : ℕ) (walked : List ℕ) where
+  -- the save that is cut off is the same save
+  stopped_each : (n m : ℕ) (place : Place) (tries : List Try) → AreSavesFrom job opening every walked m place tries → AreSavesFrom job opening every walked m place (stopped_in n tries)
+  stopped_each n m place [] goes = tt
+  stopped_each zero m place (t ∷ rest) goes = (record { slot = goes.0.slot; bytes = goes.0.bytes; sound = goes.0.sound; all = goes.0.all }, tt)
+  stopped_each (suc n) m place (t ∷ rest) goes = (goes.0, stopped_each n (suc m) (place_after place t) rest goes.1)
 
-  abbrev In : Try → Try → Type 0
-  In a b = IsIn a.bytes b.bytes
+-- known slots determine the opening
+told_by : (resumes : Bool) (job : Job) (slots : Option Pair) (p : Pair) (o : Option (List Outcome)) → slots ≡ Some p → opening_from resumes job p ≡ o → StartsFrom resumes job slots o
+told_by false job slots p o was opens = opens
+told_by true job None p o was opens = cc
+told_by true job (Some x) p o was opens = (let same : x ≡ p = cc in ap (opening_from true job) same ∙ opens)
 
-  of_held : (a b : Try) → IsHeldBy job a b → In a b
-  of_held a b h = inr (record {
-    first = h.first;
-    first_generation = h.first_generation;
-    first_is = h.first_is;
-    second = h.second;
-    second_generation = h.second_generation;
-    second_is = h.second_is;
-    held = h.held;
-  })
+-- the saves of a run that ended are saves so far, cut off anywhere
+cut_saves : (walks : Bool) (job : Job) (p : Pair) (outcomes : List Outcome) (tries : List Try) (n : ℕ) → opening_from job.setting.resume job p ≡ Some outcomes
+    → AreSavesWhere walks job outcomes p tries → AreTriesSoFar job p (stopped_in n tries)
+cut_saves false job p outcomes tries n opens none = inl (ap (stopped_in n) none)
+cut_saves true job p outcomes tries n opens run =
+    let every = job.setting.save_every in
+    inr (
+      outcomes,
+      opens,
+      record {
+        walked = run.walked;
+        all_walked = run.all_walked;
+        first = record {
+          each = stopped_each job outcomes every run.walked n 1 (first_place job p) tries run.exactly.each;
+          few = stopped_few (length run.walked / every) n (length run.walked % every == 0) false tries run.exactly.counted;
+        };
+      },
+    )
 
-  stopped_pairs : (n : ℕ) (tries : List Try) → AllPairs (IsHeldBy job) tries → AllPairs In (stopped_in n tries)
-  stopped_pairs n tries pairs i j d before inside =
-      subst (λ (x : List ℕ × List ℕ). IsIn x.0 x.1)
-      (λ k. (sym (stopped_bytes n tries i d (omega (arith, before, inside))) k, sym (stopped_bytes n tries j d inside) k))
-      (of_held (get_or tries i d) (get_or tries j d) (pairs i j d before (omega (arith, inside, stopped_length n tries))))
-
-  abbrev InIf : Try → Try → Type 0
-  InIf save t = t.succeeded ≡ true → In t save
-
-  at_middle : (P : Try → Type 0) (earlier later : List Try) (save : Try) → All P (earlier ++ save ∷ later) → P save
-  at_middle P [] later save all = All-head P save later all
-  at_middle P (e ∷ earlier) later save all = at_middle P earlier later save (All-tail P e (earlier ++ save ∷ later) all)
-
-  failed_ones : (save : Try) (later : List Try) → All HasFailed later → All (InIf save) later
-  failed_ones save [] failed = All-nil (InIf save)
-  failed_ones save (t ∷ later) failed =
-      All-cons (InIf save) t later (λ done. absurd (true≢false (sym done ∙ All-head HasFailed t later failed))) (failed_ones save later (All-tail HasFailed t later failed))
-
-  each_in : (earlier later : List Try) (save : Try) → All HasFailed later → AllPairs In (earlier ++ save ∷ later) → All (InIf save) (earlier ++ save ∷ later)
-  each_in [] later save failed pairs = All-cons (InIf save) save later (λ done. inl refl) (failed_ones save later failed)
-  each_in (e ∷ earlier) later save failed pairs =
-      let rest = earlier ++ save ∷ later in
-      All-cons (InIf save) e rest (λ done. at_middle (In e) earlier later save (λ k d inside. pairs 0 (suc k) d (omega arith) (omega (arith, inside))))
-      (each_in earlier later save failed (λ i j d before inside. pairs (suc i) (suc j) d (omega (arith, before)) (omega (arith, inside))))
-
-  kept : (q : Pair) (p : Pair) (carried : List Try) → AllPairs In carried → KeepsNewest job (job_digest job) p carried q → All (λ save. save.succeeded ≡ true → IsKeptIn job q save) carried
-  kept q p carried pairs (inl none) = λ k d inside done. absurd (true≢false (sym done ∙ none.0 k d inside))
-  kept q p carried pairs (inr (bytes, latest, is)) =
-      subst (λ (l : List Try). All (λ save. save.succeeded ≡ true → IsKeptIn job q save) l) (sym latest.split)
-      (λ k d inside done. (
-        bytes,
-        is,
-        kept_as _ (each_in latest.earlier latest.later latest.save latest.failed (subst (AllPairs In) latest.split pairs) k d inside done),
-      ))
-    where
-      kept_as : (t : Try) → In t latest.save → (t.bytes ≡ bytes) ⊎ AreHeldIn job t bytes
-      kept_as t (inl same) = inl (same ∙ latest.same)
-      kept_as t (inr h) = inr (record {
-        first = h.first;
-        first_generation = h.first_generation;
-        first_is = h.first_is;
-        second = h.second;
-        second_generation = h.second_generation;
-        second_is = subst (λ (b : List ℕ). IsCheckpoint b 2 (job_digest job) h.second_generation h.second) latest.same h.second_is;
-        held = h.held;
-      })
-
-  -- ---- the initial outcomes
-
-  -- the bytes are a checkpoint of the job that contains each of these outcomes
-  abbrev HoldThese : List Outcome → List ℕ → Type 0
-  HoldThese opening bytes = (generation : ℕ) × ((saved : List Outcome) × IsCheckpoint bytes 2 (job_digest job) generation saved × All (Contains saved) opening)
-
-  abbrev SavesThese : List Outcome → Try → Type 0
-  SavesThese opening t = HoldThese opening t.bytes
-
-  stopped_hold : (opening : List Outcome) (n : ℕ) (tries : List Try) → All (IsTryOf job opening) tries → All (SavesThese opening) (stopped_in n tries)
-  stopped_hold opening n tries each k d inside =
-      let t = each k d (omega (arith, inside, stopped_length n tries)) in
-      subst (HoldThese opening) (sym (stopped_bytes n tries k d inside)) (t.generation, (t.saved, t.sound, t.holds.opening_kept))
-
-  opening_kept : (p q : Pair) (opening : List Outcome) (carried : List Try) → All (SavesThese opening) carried → KeepsNewest job (job_digest job) p carried q → KeepsOpening job p q opening
-  opening_kept p q opening carried each (inl none) = inl none.1
-  opening_kept p q opening carried each (inr (bytes, latest, is)) =
-      let of = at_middle (SavesThese opening) latest.earlier latest.later latest.save (subst (All (SavesThese opening)) latest.split each) in
-      inr (record {
-        bytes = bytes;
-        is_newest = is;
-        generation = of.0;
-        saved = of.1.0;
-        sound = subst (λ (b : List ℕ). IsCheckpoint b 2 (job_digest job) of.0 of.1.0) latest.same of.1.1;
-        held = of.1.2;
-      })
-
--- no stop loses saved outcomes
-pub stops_lose_nothing : SavesKeepTheNewest → StopsLoseNothing
-stops_lose_nothing law job before after p status told now t n q out =
-    let keeps = law job (job_digest job) p q (place_of job p).0 (place_of job p).1 t.tries n refl t.in_turn out in
-    record {
-      saved = kept job q p (stopped_in n t.tries) (stopped_pairs job n t.tries t.growing) keeps;
-      opened = λ outcomes told_so. opening_kept job p q outcomes (stopped_in n t.tries) (stopped_hold job outcomes n t.tries (t.each outcomes told_so)) keeps;
-    }
+-- a run that ended is one that was stopped
+pub ends_are_stops : EndsAreStops
+ends_are_stops job before after p status told now t outcomes was opens n =
+    cut_saves (saves job.setting && has_walked status) job p outcomes t.tries n opens
+    (t.exactly outcomes (told_by job.setting.resume job before.keeper.slots p (Some outcomes) was opens))

@@ -29,7 +29,7 @@ use Rattle.audit_laws.specs.Promised.{PromisedCallsAuditPlainly}
 use Rattle.audit_statement.specs.Given.{IsGiven}
 use Rattle.audit_statement.specs.Said.{AreSaid}
 use Rattle.audit_laws.proofs.Saying.{IsPlain, run_words, silent_is_plain, words_say}
-use Rattle.audit_laws.proofs.Read.{no_group_read, read_jobs_are_given}
+use Rattle.audit_laws.proofs.Read.{no_frozen_read, no_group_read, read_jobs_are_given}
 use Rattle.audit_statement.specs.Valid.{IsValid}
 use Rattle.audit_statement.specs.Plain.{Decides, plain_report}
 use Rattle.audit_laws.proofs.Judged.{IsJudged, judged_is}
@@ -109,6 +109,8 @@ module _ (words : List (List ℕ)) (before after : World) (done : IsDone words b
         enough = omega (arith, most, done.prepared.sound.within.input.edges);
         none = ap (λ (j : Job). j.regions) (sym judged_so.made);
         none_due = ap (λ (s : Setting). s.group_districts) set ∙ plain.none_due;
+        none_frozen = ap (λ (j : Job). j.frozen) (sym judged_so.made)
+            ∙ no_frozen_read bytes setting.columns judged_so.parsed plain.no_frozen judged_so.read_so;
       }
 
   asks : AsksPlainly job

@@ -25,7 +25,7 @@ use Rattle.audit_model.specs.JobOf.{job_from}
 use Rattle.audit_model.specs.Label.{label_before, label_cmp, same_label}
 use Rattle.audit_model.specs.Limits.{most_people, most_units, most_edges, most_districts}
 use Rattle.dual_json.specs.Names.{label_total}
-use Rattle.audit_statement.specs.Reading.{refused_if, is_no_flag, graph, label_count, missing_column, names_group, repeated_id, first_entry, Document, document, parsed, refusal, bad_part, bad_number, elements, list_of, list_at, node, node_count, entries, entry, id_of, label_of, same_id, key_of, cell, count_of, count_at, label_at, is_new_label, district_at}
+use Rattle.audit_statement.specs.Reading.{refused_if, is_no_flag, graph, label_count, missing_column, names_frozen, names_group, flag_of, repeated_id, first_entry, Document, document, parsed, refusal, bad_part, bad_number, elements, list_of, list_at, node, node_count, entries, entry, id_of, label_of, same_id, key_of, cell, count_of, count_at, label_at, is_new_label, district_at}
 use Rattle.audit_model.proofs.Below.{length-map_below, get_or-map_below, any_below_some, any_below_from}
 use Rattle.audit_model.proofs.Connected.{grows}
 use Rattle.audit_model.proofs.First.{first_below_none, first_some_below_none}
@@ -241,6 +241,7 @@ module _ (setting : Setting) (root : Data) (shape : bad_part root ≡ None) (sou
       ∷ refused_if (is_none (option_and_then (count_of d columns) (cell d columns i column.Second))) column.Second
       ∷ refused_if (names_group d columns && is_none (option_and_then (count_of d columns) (cell d columns i column.Group))) column.Group
       ∷ refused_if (names_group d columns && is_none (option_and_then (count_of d columns) (cell d columns i column.Whole))) column.Whole
+      ∷ refused_if (names_frozen d columns && is_none (option_and_then (flag_of d columns) (cell d columns i column.Frozen))) column.Frozen
       ∷ []
 
   abbrev id_at : ℕ → Label

@@ -27,15 +27,17 @@ use Rattle.audit_model.proofs.Below.{count_below_same}
 use Rattle.audit_model.proofs.Bools.{same_bool}
 use Rattle.audit_model.proofs.Legal.{legal_passes, passes_legal}
 use Rattle.audit_model.proofs.Meeting.{default_meets}
-use Rattle.audit_statement.specs.Report.{ask_words, billionths, ends_line, ends_lines, graph_line, group_line, line, origin_lines, population_line, report, rule_lines, serial_lines, setting_line, shift_line, split_line, splits_line, stop_line, test_lines, thread_report, title_line, walk_line, walk_lines}
+use Rattle.audit_statement.specs.Report.{ask_words, billionths, ends_line, ends_lines, frozen_line, graph_line, group_line, line, origin_lines, population_line, report, rule_lines, serial_lines, setting_line, share_line, shift_line, split_line, splits_line, stop_line, test_lines, thread_report, title_line, walk_line, walk_lines}
 use Rattle.audit_statement.specs.Valid.{IsValid}
 use Rattle.audit_statement.specs.Plain.{Decides, after_step, plan_after, each_below, is_extreme, end, start_rank, outlier_line, parallel_line, plain_report}
 
--- a job without rules beyond legality: all edges may be cut, there are no regions, and no majorities are required
+-- a job without rules beyond legality: all edges may be cut, there are no regions, no majorities are required, and no
+-- unit is frozen
 pub record HasNoRules (job : Job) : Type 0 where
   pub enough : count_edges job.graph (λ u v. true) ≤ job.setting.max_cut
   pub none : job.regions ≡ []
   pub none_due : job.setting.group_districts ≡ 0
+  pub none_frozen : job.frozen ≡ []
 
 -- ---- valid plans are legal
 
@@ -50,7 +52,7 @@ valid_is_legal job plan free h = record {
   in_range = h.in_range;
   connected = h.connected;
   balanced = h.balanced;
-  meeting = default_meets job plan free.enough free.none free.none_due;
+  meeting = default_meets job plan free.enough free.none free.none_due free.none_frozen;
 }
 
 -- ---- the same plans are visited
@@ -332,9 +334,10 @@ module _ (job : Job) (free : HasNoRules job) (plain : AsksPlainly job) (valid : 
   rule_lines_are : rule_lines job ≡ []
   rule_lines_are =
       ap (λ (most : ℕ). cond (nat_lt most most_edges) (line (codes "max-cut" ∷ decimal most ∷ [])) []
-      ++ region_line job.regions ++ all_line job.regions ++ majority_line job.group.members) plain.any_cut
-      ∙ ap (λ (regions : List ℕ). region_line regions ++ all_line regions ++ majority_line job.group.members) free.none
-      ∙ ap majority_line plain.no_group
+      ++ region_line job.regions ++ all_line job.regions ++ majority_line job.group.members ++ part_line job.group.members ++ frozen_line job.frozen) plain.any_cut
+      ∙ ap (λ (regions : List ℕ). region_line regions ++ all_line regions ++ majority_line job.group.members ++ part_line job.group.members ++ frozen_line job.frozen) free.none
+      ∙ ap (λ (members : List ℕ). majority_line members ++ part_line members ++ frozen_line job.frozen) plain.no_group
+      ∙ ap frozen_line free.none_frozen
     where
       region_line : List ℕ → List ℕ
       region_line regions = split_line job.setting.max_split regions
@@ -343,7 +346,10 @@ module _ (job : Job) (free : HasNoRules job) (plain : AsksPlainly job) (valid : 
       all_line regions = splits_line job.setting.max_splits job.setting.max_split_regions regions
 
       majority_line : List ℕ → List ℕ
-      majority_line members = group_line job.setting.group_districts (majorities job.group job.start) members
+      majority_line members = group_line job.setting.group_districts (majorities job.setting.group_share job.group job.start) members
+
+      part_line : List ℕ → List ℕ
+      part_line members = share_line job.setting.group_share members
 
   origin_lines_are : origin_lines job job.origin ≡ []
   origin_lines_are = ap (origin_lines job) plain.no_origin

@@ -25,15 +25,15 @@ use Rattle.audit_model.specs.Trajectory.{Draws, bare, bin_of, four_values, in_ta
 use Rattle.audit_statement.specs.Checkpoint.{checkpoint_fault, job_digest, stated_count}
 use Rattle.audit_statement.specs.Slots.{IsHonestSlot, Slot, absent, broken, checkpoint_limit, other, ours, outcome_in, slot_of, slot_of_bytes, slot_of_checkpoint, slot_of_digest, slot_of_ours, IsNotOurs}
 use Rattle.audit_statement.specs.Histories.{AreCarriedOut, stopped_in}
-use Rattle.ckpt_store.specs.Laws.{HonestSlotsOpenRight, RightIsHonest, SavesKeepTheNewest, SavesLeaveHonestSlots, StopsLeaveHonestSlots}
+use Rattle.ckpt_store.specs.Laws.{HonestSlotsOpenRight, RightIsHonest, SavesLeaveHonestSlots, StopsLeaveHonestSlots}
 use Rattle.audit_statement.specs.Draw.{draw}
 use Rattle.hex.specs.Hex.{encode_lower}
 use Rattle.audit_statement.specs.Report.{ends_lines, graph_line, line, origin_lines, population_line, report, rule_lines, serial_lines, setting_line, shift_line, stop_line, test_lines, thread_report, title_line, walk_lines}
 use Rattle.audit_statement.specs.Chain.{AreHonestOf, ResumesHonestly, TriesOver}
 use Rattle.audit_model.specs.Told.{IfBothTold, IfTold}
-use Rattle.audit_statement.specs.Endings.{WritesReport, place_of}
+use Rattle.audit_statement.specs.Endings.{WritesReport}
 use Rattle.audit_statement.specs.Headline.{StartsWith, WritesOneThreads}
-use Rattle.audit_statement.specs.Rerun.{FindTheSame, ChainsWriteOneReport, Event, HasWritten, IsEvent, IsLink, IsRunOver, Link, Manner, RerunsAreAlike, StopsKeepTheNewest, WroteOneThreads, asking, job_in, ran, rerun, slots_after, stopped}
+use Rattle.audit_statement.specs.Rerun.{FindTheSame, ChainsWriteOneReport, Event, HasWritten, IsEvent, IsLink, IsRunOver, Link, Manner, RerunsAreAlike, WroteOneThreads, asking, job_in, ran, rerun, slots_after, stopped}
 use Rattle.audit_laws.proofs.Halted.{stop_stays}
 use Rattle.audit_laws.proofs.Starting.{opening_told}
 use Rattle.audit_laws.proofs.Chained.{rises_or_not}
@@ -311,13 +311,6 @@ thread_report_same : (job : Job) (manner : Manner) → manner.shift ≡ job.sett
     → thread_report (rerun job manner) draws ≡ thread_report (asking job manner.shift manner.serial manner.origin) draws
 thread_report_same job manner same from draws =
     thread_report_is job manner same from draws ∙ sym (thread_report_is job (own job manner.shift manner.serial manner.origin) same from draws)
-
--- ---- a stop
-
--- a stop keeps the newest slot or leaves a newer one
-pub stops_keep_the_newest : SavesKeepTheNewest → StopsKeepTheNewest
-stops_keep_the_newest law job before after p status told now t n q out =
-    law job (job_digest job) p q (place_of job p).0 (place_of job p).1 t.tries n refl t.in_turn out
 
 -- ---- chains
 

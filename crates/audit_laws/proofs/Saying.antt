@@ -8,7 +8,7 @@ use Rattle.std.proofs.lemmas.Bool.{and_parts, eqb-true, leb-true, ltb-true, or_c
 use Rattle.std.proofs.lemmas.Slice.Eq.{bytes_eq-Decides}
 use Rattle.hex.specs.Hex.{decode_sized}
 use Rattle.audit_model.specs.declared.fault.Name.{Name}
-use Rattle.audit_model.specs.declared.fault.Name.TheVariants.{Pop, First, Second, District, Slack, Key, Walks, Steps, Ends, HubSteps, Ask, Save, Resume, MaxCut, Shift, Stop, Serial, Region, Parts, Part, Group, GroupDistricts, Source}
+use Rattle.audit_model.specs.declared.fault.Name.TheVariants.{Pop, First, Second, District, Slack, Key, Walks, Steps, Ends, HubSteps, Ask, Save, Resume, MaxCut, Shift, Stop, Serial, Region, Parts, Part, Group, GroupDistricts, Source, Freeze}
 use Rattle.audit_model.specs.declared.fault.WordFault.{WordFault}
 use Rattle.audit_model.specs.declared.setting.Ask.{Ask as AskOf}
 use Rattle.audit_model.specs.declared.setting.Command.TheVariants.{Run}
@@ -118,6 +118,7 @@ pub record IsPlain (setting : Setting) : Type 0 where
   pub any_cut : setting.max_cut ≡ most_edges
   pub no_group : setting.columns.group ≡ []
   pub none_due : setting.group_districts ≡ 0
+  pub no_frozen : setting.columns.frozen ≡ []
   pub untold : setting.source ≡ false
 
 -- ---- the whole setting
@@ -195,5 +196,6 @@ silent_is_plain rest faultless h = record {
   any_cut = ap (λ (t : List ℕ). unwrap_or (number_of t) 0) (silent_text rest MaxCut (h 6 [] (omega arith)));
   no_group = silent_text rest Group (h 7 [] (omega arith));
   none_due = none_due rest faultless (silent_text rest Group (h 7 [] (omega arith)));
+  no_frozen = silent_text rest Freeze (h 9 [] (omega arith));
   untold = ap (λ (t : List ℕ). bytes_eq t (codes "yes")) (silent_text rest Source (h 8 [] (omega arith)));
 }

@@ -21,7 +21,7 @@ use Rattle.audit_model.specs.Job.{Job}
 use Rattle.audit_model.specs.Label.{label_before}
 use Rattle.audit_model.specs.Limits.{most_people, most_units, most_edges, most_districts}
 use Rattle.dual_json.proofs.Shapes.{not_refused, parts_good}
-use Rattle.audit_statement.specs.Reading.{accepted_or, bad_number, bad_part, cell, count_of, Document, district_at, document, entries, entry, first_entry, graph, id_of, key_of, label_at, label_count, label_of, list_at, list_of, missing_column, names_group, node, node_count, of_json, of_root, parsed, reading, refusal, repeated_id, same_id}
+use Rattle.audit_statement.specs.Reading.{accepted_or, bad_number, bad_part, cell, count_of, Document, district_at, document, entries, entry, first_entry, graph, id_of, key_of, label_at, label_count, label_of, list_at, list_of, missing_column, names_frozen, names_group, node, node_count, of_json, of_root, parsed, reading, refusal, repeated_id, same_id}
 use Rattle.audit_model.proofs.Below.{any_below_from, any_below_none, count_below_same}
 use Rattle.audit_model.proofs.Bools.{same_bool}
 use Rattle.audit_model.proofs.First.{none_first_below, none_some_below}
@@ -98,7 +98,8 @@ there : {A B : Type 0} (f : A → Option B) (o : Option A) (x : B) → option_an
 there f None x e = cc
 there f (Some a) x e = refl
 
-module _ (root : Data) (job : Job) (g : IsGiven root job) (fit : IsAllowed root job) (valid : IsValid job job.start) (no_group : job.setting.columns.group ≡ []) where
+module _ (root : Data) (job : Job) (g : IsGiven root job) (fit : IsAllowed root job) (valid : IsValid job job.start) (no_group : job.setting.columns.group ≡ [])
+    (no_frozen : job.setting.columns.frozen ≡ []) where
   abbrev columns : Columns
   columns = job.setting.columns
 
@@ -181,6 +182,9 @@ module _ (root : Data) (job : Job) (g : IsGiven root job) (fit : IsAllowed root 
   unasked : (refused : Bool) → (names_group d columns && refused) ≡ false
   unasked refused = ap (λ (b : Bool). b && refused) unnamed
 
+  unfrozen : (refused : Bool) → (names_frozen d columns && refused) ≡ false
+  unfrozen refused = ap (λ (key : List ℕ). not (length key == 0) && refused) no_frozen
+
   cell_at : (c : Column) (numbers : List ℕ) → map (get (key_of d columns c)) g.nodes ≡ map count numbers
       → (i : ℕ) → i < node_count d → cell d columns i c ≡ count (slice_index numbers i)
   cell_at c numbers e i l = at_place (get (key_of d columns c)) count d.nodes numbers null 0 (ap (map (get (key_of d columns c))) nodes_same ∙ e) i l
@@ -204,7 +208,8 @@ module _ (root : Data) (job : Job) (g : IsGiven root job) (fit : IsAllowed root 
       (or_of_none _ _ (not_refused _ _ (there label_of (cell d columns i column.District) (slice_index_or g.labels i (Word [])) (label_there i l)))
       (or_of_none _ _ (not_refused _ _ (unasked _))
       (or_of_none _ _ (not_refused _ _ (unasked _))
-      refl))))))
+      (or_of_none _ _ (not_refused _ _ (unfrozen _))
+      refl)))))))
 
   numbers : (i : ℕ) → i < node_count d → bad_number d columns i ≡ None
   numbers i l = map_none _ _
@@ -213,7 +218,8 @@ module _ (root : Data) (job : Job) (g : IsGiven root job) (fit : IsAllowed root 
       (or_of_none _ _ (not_refused _ _ (is_count column.Second job.counts.second g.second fit.second i l))
       (or_of_none _ _ (not_refused _ _ (unasked _))
       (or_of_none _ _ (not_refused _ _ (unasked _))
-      refl)))))
+      (or_of_none _ _ (not_refused _ _ (unfrozen _))
+      refl))))))
 
   -- ---- districts
 

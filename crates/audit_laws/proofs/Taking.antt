@@ -1,6 +1,6 @@
 -- JSON that gives a graph with a valid start plan within the limits is accepted.
-use Rattle.std.proofs.Common.{◌≡◌, ℕ, ◌<◌, Bool, List, [], ◌∷◌, Ok, None, refl, sym, ap, ◌∙◌, subst, arith}
-use Rattle.std.specs.Prelude.{slice_index}
+use Rattle.std.proofs.Common.{◌≡◌, ℕ, ◌<◌, Bool, not, cond, List, [], ◌∷◌, length, Ok, None, refl, sym, ap, ◌∙◌, subst, arith}
+use Rattle.std.specs.Prelude.{◌==◌, slice_index}
 use Rattle.serde_json.specs.Data.{Data}
 use Rattle.audit_model.specs.declared.outcome.Counts.{Counts}
 use Rattle.audit_model.specs.Graph.{Graph, IsIn, adjacent}
@@ -9,7 +9,7 @@ use Rattle.audit_model.specs.JobOf.{job_from, job_of, job_or, plan_fault}
 use Rattle.audit_model.specs.Path.{IsConnected, IsPath}
 use Rattle.audit_model.specs.District.{in_district}
 use Rattle.audit_model.specs.Plan.{IsLegal}
-use Rattle.audit_statement.specs.Reading.{Document, district_at, document, graph, label_count, node_count, parsed}
+use Rattle.audit_statement.specs.Reading.{Document, district_at, document, flag_at, graph, label_count, node_count, parsed}
 use Rattle.audit_model.proofs.Accepted.{legal_is_accepted}
 use Rattle.audit_model.proofs.Below.{get_or-map_below, length-map_below}
 use Rattle.audit_model.proofs.Meeting.{default_meets}
@@ -78,7 +78,7 @@ module _ (root : Data) (job : Job) (g : IsGiven root job) (fit : IsAllowed root 
 
   pub same : AreOfOneGraph made job
   same = one_graph root made job (record { population = refl; first = refl; second = refl; district = refl })
-      (given_is job.setting root (shape root job g fit valid free.no_group) (sound root job g fit valid free.no_group)) g numbered (valid_is_numbered job valid)
+      (given_is job.setting root (shape root job g fit valid free.no_group free.no_frozen) (sound root job g fit valid free.no_group free.no_frozen)) g numbered (valid_is_numbered job valid)
 
   -- the job with the parsed graph
   abbrev with : Counts → List ℕ → ℕ → Job
@@ -90,6 +90,7 @@ module _ (root : Data) (job : Job) (g : IsGiven root job) (fit : IsAllowed root 
     setting = job.setting;
     regions = [];
     group = made.group;
+    frozen = made.frozen;
     origin = None;
   }
 
@@ -109,7 +110,8 @@ module _ (root : Data) (job : Job) (g : IsGiven root job) (fit : IsAllowed root 
             (λ u v p q. sym (same.edges u v (omega (arith, p, units)) (omega (arith, q, units)))) (valid.connected k l);
         balanced = valid.balanced;
         meeting = default_meets (with job.counts job.start job.districts) job.start
-            (omega (arith, free.any_cut, edges_same root job g fit valid free.no_group, fit.edges)) refl free.none_due;
+            (omega (arith, free.any_cut, edges_same root job g fit valid free.no_group free.no_frozen, fit.edges)) refl free.none_due
+            (ap (λ (key : List ℕ). cond (not (length key == 0)) (map_below (node_count d) (flag_at d job.setting.columns)) []) free.no_frozen);
       }
 
   pub accepted : job_of (parsed d job.setting.columns) job.setting [] ≡ Ok made
@@ -121,7 +123,7 @@ module _ (root : Data) (job : Job) (g : IsGiven root job) (fit : IsAllowed root 
 pub given_jobs_are_taken : GivenJobsAreTaken
 given_jobs_are_taken bytes root job text json g valid fit free = record {
   parsed = parsed (document root) job.setting.columns;
-  read_so = read_so root job g fit valid free.no_group bytes text json;
+  read_so = read_so root job g fit valid free.no_group free.no_frozen bytes text json;
   accepted = accepted root job g fit valid free;
   same = same root job g fit valid free;
 }

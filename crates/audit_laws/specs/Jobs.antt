@@ -16,7 +16,7 @@ use Rattle.audit_model.specs.Trajectory.{no_bins}
 abbrev pub run_of : ℕ → ℕ → ℕ → ℕ → ℕ → List Ask → Setting
 run_of slack walks steps ends hub_steps asks = record {
   command = Run;
-  columns = record { population = []; first = []; second = []; district = []; group = []; whole = [] };
+  columns = record { population = []; first = []; second = []; district = []; group = []; whole = []; frozen = [] };
   slack = slack;
   key = replicate 32 0;
   walks = walks;
@@ -40,6 +40,7 @@ run_of slack walks steps ends hub_steps asks = record {
   max_splits = 995000;
   max_split_regions = 5000;
   group_districts = 0;
+  group_share = 5000;
   source = false;
   first_id = 0;
   last_id = 0;
@@ -60,6 +61,9 @@ no_rules = record {
   max_split_regions = 5000;
   group = no_group;
   group_districts = 0;
+  group_share = 5000;
+  frozen = [];
+  home = [];
 }
 
 -- a group in four units with three of four people in the last two and one of two in the first two
@@ -92,6 +96,7 @@ job_of_four graph setting = record {
   setting = setting;
   regions = [];
   group = no_group;
+  frozen = [];
   origin = None;
 }
 
@@ -123,6 +128,7 @@ job_of_three setting = record {
   setting = setting;
   regions = [];
   group = no_group;
+  frozen = [];
   origin = None;
 }
 
@@ -136,6 +142,7 @@ job_of_three_districts setting = record {
   setting = setting;
   regions = [];
   group = no_group;
+  frozen = [];
   origin = None;
 }
 
@@ -149,6 +156,7 @@ job_of_two setting = record {
   setting = setting;
   regions = [];
   group = no_group;
+  frozen = [];
   origin = None;
 }
 

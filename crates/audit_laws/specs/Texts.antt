@@ -9,7 +9,7 @@ use Rattle.audit_model.specs.Parsed.{Parsed}
 
 -- the columns of these texts
 abbrev pub columns : Columns
-columns = record { population = codes "pop"; first = codes "a"; second = codes "b"; district = codes "d"; group = []; whole = [] }
+columns = record { population = codes "pop"; first = codes "a"; second = codes "b"; district = codes "d"; group = []; whole = []; frozen = [] }
 
 -- four units in a row, with numbers as ids and labels
 abbrev pub path_text : List ℕ
@@ -33,6 +33,7 @@ parsed_four graph labels = record {
   graph = graph;
   counts = counts_of_votes (3 ∷ 1 ∷ 1 ∷ 2 ∷ []) (1 ∷ 2 ∷ 2 ∷ 1 ∷ []) 4;
   group = no_group;
+  frozen = [];
   start = 0 ∷ 0 ∷ 1 ∷ 1 ∷ [];
   labels = labels;
 }

@@ -1,6 +1,7 @@
 //! Computed examples, so that each definition was tried on cases small enough to work out by hand.
 
 pub mod formats;
+pub mod frozen;
 pub mod further;
 pub mod limits;
 pub mod model;

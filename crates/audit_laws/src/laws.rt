@@ -1,19 +1,21 @@
-//! Laws of the endings of calls and of the runs of one job, each the contract of an empty function.
+//! Laws of calls that ended and of the runs of one job. Each law is the contract of a function that does nothing.
 
 ghost use Rattle.audit_laws.specs.Ended.{EndedCallsKeepTheirPromise};
-ghost use Rattle.audit_laws.specs.Lost.{StopsLoseNothing};
+ghost use Rattle.audit_laws.specs.Lost.{EndsAreStops, StopsKeepTheNewest, StopsLoseNothing};
 ghost use Rattle.audit_laws.specs.Gathered.{CutGatheringsReach, GatheredRunsWriteOneReport, GatheringsReach};
 ghost use Rattle.audit_statement.specs.Along.{TracesEndAsFound};
-ghost use Rattle.audit_statement.specs.Rerun.{ChainsWriteOneReport, RerunsAreAlike, StopsKeepTheNewest};
+ghost use Rattle.audit_statement.specs.Rerun.{ChainsWriteOneReport, RerunsAreAlike};
 
+use audit_model::laws::bare_outcomes_fit;
 use ckpt_store::gathered_laws::honest_slots_give_honest_outcomes;
 use ckpt_store::laws::{
-    a_stop_in_a_save_leaves_honest_slots, honest_slots_open_right, right_outcomes_are_honest,
-    saves_keep_the_newest, saves_leave_honest_slots,
+    a_stop_in_a_save_leaves_honest_slots, checkpoints_are_ours, honest_slots_open_right,
+    right_outcomes_are_honest, saves_keep_the_newest, saves_leave_honest_slots,
 };
 use outcome_book::union_laws::unions_are_right;
 
-/// Shows that a call that ended for a reason, with the effects of that reason, meets the contract of the top call.
+/// States that a call has kept all that the top call promises, if it ended for a reason and left what that reason
+/// leaves.
 pub fn ended_calls_keep_their_promise()
     ensures { EndedCallsKeepTheirPromise }
 {
@@ -21,35 +23,46 @@ pub fn ended_calls_keep_their_promise()
     right_outcomes_are_honest();
 }
 
-/// Shows that the manner of a run does not change the job's digest, the outcomes of its trajectories or its report. The
-/// manner is the command, the number of workers, the budget, saving, resuming and the part. The report of one of
-/// several plans is thus the one that `run` gives for this plan alone. A histogram does not change the digest, the full
-/// outcomes or the consistency of slots. Neither does the origin, which only adds lines to the report.
+/// States that the manner of a run changes nothing of the job's digest, of what its trajectories find, and of its
+/// report. The manner is the command, the number of workers, the budget, what is saved and resumed, and which of how
+/// many parts is walked. So the report of one of several plans is the one that `run` gives for this plan alone. A run
+/// with or without histograms has the same digest, the same outcomes with their histograms, and the same consistent
+/// slots. So has a run with or without its origin, which only the report shows.
 pub fn reruns_are_alike()
     ensures { RerunsAreAlike }
 {}
 
-/// Shows that a stop anywhere in a run, within a save or between two, keeps the newest slot from before or leaves a
-/// newer one.
+/// States that a stop at any moment of a run, within a save or between two, keeps the newest slot of before or leaves a
+/// newer one. The run need not be one that returns: the law speaks of the save attempts so far.
 pub fn stops_keep_the_newest()
     ensures { StopsKeepTheNewest }
 {
     saves_keep_the_newest();
+    bare_outcomes_fit();
 }
 
-/// Shows that nothing that was saved is lost, wherever a run is stopped, within a save at any byte, and whichever saves
-/// failed before. The newest slot is each earlier successful save or contains it. It also is the slot from which the
-/// run started, or contains its outcomes.
+/// States that nothing that was saved is lost. A run may be stopped at any moment, also within a save, at any byte,
+/// whichever saves failed before, and whether it would ever return or not. The newest slot then holds all of each save
+/// that succeeded before. It is the slot with which the run opened, or holds all that the run opened with. A run that
+/// resumes starts from it.
 pub fn stops_lose_nothing()
     ensures { StopsLoseNothing }
 {
     saves_keep_the_newest();
+    checkpoints_are_ours();
+    bare_outcomes_fit();
 }
 
-/// Shows that chains of runs write one report. A chain of halted, stopped and resumed runs starts from consistent
-/// slots, such as empty ones. Each of its runs that ends with status 0 has written the report of one thread. The report
-/// is that of the job with this run's choice of histogram and origin. Neither the choices of earlier runs nor the
-/// format version of the first slots matter.
+/// States that the saves of a run that returned, cut off anywhere or not at all, are among those of which
+/// `stops_keep_the_newest` and `stops_lose_nothing` speak.
+pub fn ends_are_stops()
+    ensures { EndsAreStops }
+{}
+
+/// States that every run of a chain that ends with status 0 has written the report of one thread. The chain starts from
+/// consistent slots, and so from absent ones, in whichever version of the format. Its runs may be halted, killed at any
+/// moment and resumed. The report has histograms and an origin exactly where the run that wrote it asked for them,
+/// whatever the runs before it asked for.
 pub fn chains_write_one_report()
     ensures { ChainsWriteOneReport }
 {
@@ -59,9 +72,10 @@ pub fn chains_write_one_report()
     saves_leave_honest_slots();
 }
 
-/// Shows that, over any number of machines and folders, the slots are consistent. Each run from them that ends with
-/// status 0 has written the report of one thread. A folder may hold the slots left by runs of any part of the job,
-/// ended or stopped, and by gatherings of other folders, complete or not.
+/// States that this also holds over any number of machines and folders. The slots of each folder come from consistent
+/// ones by runs of any part of the job, which ended or were killed, and by gatherings of such folders, which ended or
+/// were cut off. Then they are consistent, and each run from them that ends with status 0 has written the report of one
+/// thread.
 pub fn gathered_runs_write_one_report()
     ensures { GatheredRunsWriteOneReport }
 {
@@ -73,19 +87,19 @@ pub fn gathered_runs_write_one_report()
     a_stop_in_a_save_leaves_honest_slots();
 }
 
-/// Shows that the slots after one call of `ckpt_store::whole::gather` are reached, if its slots and those of its
+/// States that the slots that one call of `ckpt_store::whole::gather` leaves were reached, if they were before and all
 /// folders were.
 pub fn gatherings_reach()
     ensures { GatheringsReach }
 {}
 
-/// Shows that the slots after a gathering whose save failed or was cut off are reached.
+/// States that the slots that a gathering leaves were reached, if its save failed or was cut off.
 pub fn cut_gatherings_reach()
     ensures { CutGatheringsReach }
 {}
 
-/// Shows that the plans of a trajectory determine its outcome: its moves, the counts of a walk, and the scores of an
-/// endpoint.
+/// States that the plans of a trajectory give what the report says of it: its moves, the counts of a walk, and the
+/// scores of an endpoint trajectory.
 pub fn traces_end_as_found()
     ensures { TracesEndAsFound }
 {}

@@ -19,7 +19,7 @@ use Rattle.audit_model.specs.Rounded.{quotient_up}
 use Rattle.audit_model.proofs.Connected.{connected_passes, passes_connected}
 use Rattle.audit_model.proofs.Least.{quotient_up_is_least}
 use Rattle.audit_model.proofs.Legal.{balanced_passes, passes_balanced}
-use Rattle.audit_model.proofs.Meeting.{splits_from}
+use Rattle.audit_model.proofs.Meeting.{own_keeps, splits_from}
 use Rattle.audit_model.proofs.Options.{option_map_none, option_or_none, cond_some_none}
 use Rattle.audit_model.proofs.First.{first_below_none, none_first_below}
 
@@ -112,9 +112,10 @@ accepted_is_legal job complete in_range h =
           few_regions = ltb-false job.setting.max_split_regions (split_regions job.regions job.start)
               (cond_some_none (nat_lt job.setting.max_split_regions (split_regions job.regions job.start))
               (TooManySplitRegions (split_regions job.regions job.start) job.setting.max_split_regions) parts.6);
-          enough = ltb-false (majorities job.group job.start) job.setting.group_districts
-              (cond_some_none (nat_lt (majorities job.group job.start) job.setting.group_districts)
-              (TooFewMajorities (majorities job.group job.start) job.setting.group_districts) parts.7);
+          enough = ltb-false (majorities job.setting.group_share job.group job.start) job.setting.group_districts
+              (cond_some_none (nat_lt (majorities job.setting.group_share job.group job.start) job.setting.group_districts)
+              (TooFewMajorities (majorities job.setting.group_share job.group job.start) job.setting.group_districts job.setting.group_share) parts.7);
+          keeps = own_keeps job.frozen job.start;
         };
       },
     )
@@ -146,6 +147,6 @@ legal_is_accepted job votes legal =
     (Some (TooManySplitRegions (split_regions job.regions job.start) job.setting.max_split_regions)) None
     (le-ltb job.setting.max_split_regions (split_regions job.regions job.start) legal.meeting.few_regions))
     ∙ ap (λ o. option_or o (first_some []))
-    (cond-false (nat_lt (majorities job.group job.start) job.setting.group_districts)
-    (Some (TooFewMajorities (majorities job.group job.start) job.setting.group_districts)) None
-    (le-ltb (majorities job.group job.start) job.setting.group_districts legal.meeting.enough))
+    (cond-false (nat_lt (majorities job.setting.group_share job.group job.start) job.setting.group_districts)
+    (Some (TooFewMajorities (majorities job.setting.group_share job.group job.start) job.setting.group_districts job.setting.group_share)) None
+    (le-ltb (majorities job.setting.group_share job.group job.start) job.setting.group_districts legal.meeting.enough))

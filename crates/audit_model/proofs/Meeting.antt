@@ -1,13 +1,13 @@
 -- The test of the rules decides if a plan meets them.
-use Rattle.std.proofs.Common.{◌≡◌, ℕ, zero, suc, ◌<◌, ◌≤◌, true, not, ◌&&◌, List, [], ◌∷◌, length, refl, ap, ◌∙◌, inl, inr, arith}
-use Rattle.std.specs.Prelude.{◌==◌, ◌-◌, ◌*◌, Bool, nat_le, nat_lt, slice_index}
-use Rattle.std.proofs.lemmas.Bool.{and_left, and_parts, and_from, cases_lt, leb-true, le-leb, ne_eqb}
+use Rattle.std.proofs.Common.{◌≡◌, ℕ, zero, suc, ◌<◌, ◌≤◌, true, false, not, ◌&&◌, List, [], ◌∷◌, length, refl, sym, ap, ◌∙◌, inl, inr, arith}
+use Rattle.std.specs.Prelude.{◌==◌, ◌-◌, ◌*◌, ◌||◌, Bool, nat_le, nat_lt, slice_index}
+use Rattle.std.proofs.lemmas.Bool.{and_left, and_parts, and_from, cases_lt, eq-eqb, eqb-true, false_from_ne_true, leb-true, le-leb, ne_eqb, or_left, or_right}
 use Rattle.audit_model.specs.declared.rules.Rules.{Rules}
 use Rattle.audit_model.specs.Below.{above_all, count_below, sum_below}
 use Rattle.audit_model.specs.Graph.{Graph, adjacent, count_edges}
-use Rattle.audit_model.specs.Job.{Job, rules}
+use Rattle.audit_model.specs.Job.{Job, home_of, rules}
 use Rattle.audit_model.specs.Limits.{IsWithinLimits, most_districts, most_edges, most_regions, most_splits}
-use Rattle.audit_model.specs.Meets.{Meets, are_whole, lies_in, majorities, meets_rules, split_of, split_regions, splits_in_all}
+use Rattle.audit_model.specs.Meets.{KeepsFrozen, Meets, are_whole, keeps_frozen, lies_in, majorities, meets_rules, split_of, split_regions, splits_in_all}
 use Rattle.audit_model.specs.Plan.{cut_edges}
 use Rattle.audit_model.proofs.Below.{all_below_at, all_below_from, any_below_none, count_below_le, count_below_none, count_below_more, sum_below_more}
 use Rattle.audit_model.proofs.ListFacts.{above_all_most}
@@ -25,8 +25,33 @@ no_split regions plan region past = count_below_none (above_all plan) (lies_in r
     and_left (slice_index regions u == region) (slice_index plan u == district)
     (ne_eqb (slice_index regions u) region (λ e. omega (arith, e, below_above_all regions u l)))))
 
--- the five tests of the rules, one by one
+-- the test of frozen units decides `KeepsFrozen`
+module _ (frozen home plan : List ℕ) where
+  stays : ℕ → Bool
+  stays u = (slice_index frozen u == 0) || (slice_index plan u == slice_index home u)
+
+  pub keeps_passes : KeepsFrozen frozen home plan → keeps_frozen frozen home plan ≡ true
+  unfolding stays
+  keeps_passes h = all_below_from (length frozen) stays (λ u l. elim (cases_lt 0 (slice_index frozen u)) [
+    | inl some ↦ or_right (slice_index frozen u == 0) (slice_index plan u == slice_index home u) (eq-eqb (slice_index plan u) (slice_index home u) (h u l some))
+    | inr none ↦ or_left (slice_index frozen u == 0) (slice_index plan u == slice_index home u) (eq-eqb (slice_index frozen u) 0 (omega (arith, none)))
+  ])
+
+  pub passes_keeps : keeps_frozen frozen home plan ≡ true → KeepsFrozen frozen home plan
+  unfolding stays
+  passes_keeps h u l some = eqb-true (slice_index plan u) (slice_index home u)
+      (sym (ap (λ test. test || (slice_index plan u == slice_index home u)) (ne_eqb (slice_index frozen u) 0 (λ e. omega (arith, e, some))))
+      ∙ all_below_at (length frozen) stays u h l)
+
+  -- a frozen unit with another district fails the test
+  pub strayed : (u : ℕ) → u < length frozen → (slice_index frozen u ≡ 0 → ⊥) → (slice_index plan u ≡ slice_index home u → ⊥) → keeps_frozen frozen home plan ≡ false
+  strayed u l some off = false_from_ne_true (keeps_frozen frozen home plan) (λ h. off (passes_keeps h u l (omega (arith, some))))
+
+-- the six tests of the rules, one by one
 module _ (rules : Rules) (cut : ℕ) (plan : List ℕ) where
+  kept : Bool
+  kept = keeps_frozen rules.frozen rules.home plan
+
   cuts : Bool
   cuts = nat_le cut rules.max_cut
 
@@ -40,22 +65,24 @@ module _ (rules : Rules) (cut : ℕ) (plan : List ℕ) where
   of_regions = nat_le (split_regions rules.regions plan) rules.max_split_regions
 
   of_group : Bool
-  of_group = nat_le rules.group_districts (majorities rules.group plan)
+  of_group = nat_le rules.group_districts (majorities rules.group_share rules.group plan)
 
 -- a plan that meets the rules passes the test
 pub meets_passes : (rules : Rules) (cut : ℕ) (plan : List ℕ) → Meets rules cut plan → meets_rules rules cut plan ≡ true
-unfolding cuts whole in_all of_regions of_group
+unfolding kept cuts whole in_all of_regions of_group
 meets_passes rules cut plan h =
-    and_from (cuts rules cut plan && whole rules cut plan && in_all rules cut plan && of_regions rules cut plan) (of_group rules cut plan)
-    (and_from (cuts rules cut plan && whole rules cut plan && in_all rules cut plan) (of_regions rules cut plan)
-    (and_from (cuts rules cut plan && whole rules cut plan) (in_all rules cut plan)
-    (and_from (cuts rules cut plan) (whole rules cut plan)
-    (le-leb cut rules.max_cut h.few_cuts)
+    and_from (kept rules cut plan && cuts rules cut plan && whole rules cut plan && in_all rules cut plan && of_regions rules cut plan) (of_group rules cut plan)
+    (and_from (kept rules cut plan && cuts rules cut plan && whole rules cut plan && in_all rules cut plan) (of_regions rules cut plan)
+    (and_from (kept rules cut plan && cuts rules cut plan && whole rules cut plan) (in_all rules cut plan)
+    (and_from (kept rules cut plan && cuts rules cut plan) (whole rules cut plan)
+    (and_from (kept rules cut plan) (cuts rules cut plan)
+    (keeps_passes rules.frozen rules.home plan h.keeps)
+    (le-leb cut rules.max_cut h.few_cuts))
     (all_below_from (above_all rules.regions) (λ region. nat_le (split_of rules.regions plan region) rules.max_split)
     (λ region l. le-leb (split_of rules.regions plan region) rules.max_split (h.few_splits region))))
     (le-leb (splits_in_all rules.regions plan) rules.max_splits h.few_in_all))
     (le-leb (split_regions rules.regions plan) rules.max_split_regions h.few_regions))
-    (le-leb rules.group_districts (majorities rules.group plan) h.enough)
+    (le-leb rules.group_districts (majorities rules.group_share rules.group plan) h.enough)
 
 -- a limit on the regions below the bound holds of all
 pub splits_from : (regions plan : List ℕ) (most : ℕ) → ((region : ℕ) → region < above_all regions → split_of regions plan region ≤ most)
@@ -67,19 +94,21 @@ splits_from regions plan most each region = elim (cases_lt region (above_all reg
 
 -- a plan that passes the test meets the rules
 pub passes_meets : (rules : Rules) (cut : ℕ) (plan : List ℕ) → meets_rules rules cut plan ≡ true → Meets rules cut plan
-unfolding cuts whole in_all of_regions of_group
+unfolding kept cuts whole in_all of_regions of_group
 passes_meets rules cut plan h =
-    let last = and_parts (cuts rules cut plan && whole rules cut plan && in_all rules cut plan && of_regions rules cut plan) (of_group rules cut plan) h in
-    let fourth = and_parts (cuts rules cut plan && whole rules cut plan && in_all rules cut plan) (of_regions rules cut plan) last.0 in
-    let third = and_parts (cuts rules cut plan && whole rules cut plan) (in_all rules cut plan) fourth.0 in
-    let parts = and_parts (cuts rules cut plan) (whole rules cut plan) third.0 in
+    let last = and_parts (kept rules cut plan && cuts rules cut plan && whole rules cut plan && in_all rules cut plan && of_regions rules cut plan) (of_group rules cut plan) h in
+    let fourth = and_parts (kept rules cut plan && cuts rules cut plan && whole rules cut plan && in_all rules cut plan) (of_regions rules cut plan) last.0 in
+    let third = and_parts (kept rules cut plan && cuts rules cut plan && whole rules cut plan) (in_all rules cut plan) fourth.0 in
+    let parts = and_parts (kept rules cut plan && cuts rules cut plan) (whole rules cut plan) third.0 in
+    let first = and_parts (kept rules cut plan) (cuts rules cut plan) parts.0 in
     record {
-      few_cuts = leb-true cut rules.max_cut parts.0;
+      few_cuts = leb-true cut rules.max_cut first.1;
       few_splits = splits_from rules.regions plan rules.max_split (λ region l. leb-true (split_of rules.regions plan region) rules.max_split
           (all_below_at (above_all rules.regions) (λ region. nat_le (split_of rules.regions plan region) rules.max_split) region parts.1 l));
       few_in_all = leb-true (splits_in_all rules.regions plan) rules.max_splits third.1;
       few_regions = leb-true (split_regions rules.regions plan) rules.max_split_regions fourth.1;
-      enough = leb-true rules.group_districts (majorities rules.group plan) last.1;
+      enough = leb-true rules.group_districts (majorities rules.group_share rules.group plan) last.1;
+      keeps = passes_keeps rules.frozen rules.home plan first.0;
     }
 
 -- ---- default rules
@@ -97,10 +126,19 @@ count_below_nothing : (plan : List ℕ) → split_regions [] plan ≡ 0
 unfolding count_below
 count_below_nothing plan = refl
 
--- the default rules allow every plan: no regions, no group majority, and a high enough limit on cut edges
+-- the start plan keeps the frozen units in their districts
+pub own_keeps : (frozen plan : List ℕ) → KeepsFrozen frozen (home_of frozen plan) plan
+own_keeps [] plan u l some = absurd (omega (arith, l))
+own_keeps (f ∷ frozen) plan u l some = refl
+
+-- without frozen units every plan keeps them
+pub none_frozen : (frozen home plan : List ℕ) → frozen ≡ [] → KeepsFrozen frozen home plan
+none_frozen frozen home plan none u l some = absurd (omega (arith, l, ap (λ (xs : List ℕ). length xs) none))
+
+-- the default rules allow every plan: no regions, no group majority, no frozen unit, and a high enough limit on cut edges
 pub default_meets : (job : Job) (plan : List ℕ) → count_edges job.graph (λ u v. true) ≤ job.setting.max_cut → job.regions ≡ []
-    → job.setting.group_districts ≡ 0 → Meets (rules job) (cut_edges job.graph plan) plan
-default_meets job plan enough none no_group =
+    → job.setting.group_districts ≡ 0 → job.frozen ≡ [] → Meets (rules job) (cut_edges job.graph plan) plan
+default_meets job plan enough none no_group unfrozen =
     let few = cut_edges_few job.graph plan in
     let no_region : above_all job.regions ≡ 0 = ap above_all none in
     let no_splits : splits_in_all job.regions plan ≡ 0 = ap (λ regions. splits_in_all regions plan) none in
@@ -111,6 +149,7 @@ default_meets job plan enough none no_group =
       few_in_all = omega (arith, no_splits);
       few_regions = omega (arith, none_split);
       enough = omega (arith, no_group);
+      keeps = none_frozen job.frozen (rules job).home plan unfrozen;
     }
 
 -- a region lies in at most all districts
@@ -124,11 +163,11 @@ sum_few : (n most : ℕ) (f : ℕ → ℕ) → ((k : ℕ) → f k ≤ most) → 
 sum_few zero most f each = omega arith
 sum_few (suc n) most f each = omega (arith, sum_few n most f each, each n)
 
--- rules with each limit at its default allow every plan
+-- rules with each limit at its default and no frozen unit allow every plan
 pub unlimited_meets : (job : Job) (plan : List ℕ) → IsWithinLimits job → ((u : ℕ) → u < length plan → slice_index plan u < job.districts)
     → job.setting.max_cut ≡ most_edges → job.setting.max_split ≡ most_districts → job.setting.max_splits ≡ most_splits
-    → job.setting.max_split_regions ≡ most_regions → job.setting.group_districts ≡ 0 → Meets (rules job) (cut_edges job.graph plan) plan
-unlimited_meets job plan within inside cut split splits split_count no_group =
+    → job.setting.max_split_regions ≡ most_regions → job.setting.group_districts ≡ 0 → job.frozen ≡ [] → Meets (rules job) (cut_edges job.graph plan) plan
+unlimited_meets job plan within inside cut split splits split_count no_group unfrozen =
     let few : job.districts ≤ most_districts = within.input.few in
     let rows : above_all job.regions ≤ most_regions = above_all_most job.regions most_regions (λ u l. within.regions.few u 0 l) in
     let less : (region : ℕ) → split_of job.regions plan region - 1 ≤ 199 = λ region.
@@ -143,4 +182,5 @@ unlimited_meets job plan within inside cut split splits split_count no_group =
       few_in_all = omega (arith, sum, rows, splits);
       few_regions = omega (arith, counted, rows, split_count);
       enough = omega (arith, no_group);
+      keeps = none_frozen job.frozen (rules job).home plan unfrozen;
     }

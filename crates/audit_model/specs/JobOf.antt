@@ -90,8 +90,8 @@ split_regions_fault job =
 
 abbrev pub group_fault : Job → Option PlanFault
 group_fault job =
-    cond (nat_lt (majorities job.group job.start) job.setting.group_districts)
-    (Some (TooFewMajorities (majorities job.group job.start) job.setting.group_districts)) None
+    cond (nat_lt (majorities job.setting.group_share job.group job.start) job.setting.group_districts)
+    (Some (TooFewMajorities (majorities job.setting.group_share job.group job.start) job.setting.group_districts job.setting.group_share)) None
 
 -- the first fault of the start plan
 abbrev pub plan_fault : Job → Option PlanFault
@@ -113,6 +113,7 @@ job_from parsed setting regions = record {
   setting = setting;
   regions = regions;
   group = parsed.group;
+  frozen = parsed.frozen;
   origin = None;
 }
 

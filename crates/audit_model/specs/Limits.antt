@@ -118,6 +118,7 @@ pub record IsSetting (s : Setting) : Type 0 where
   pub few_in_all : s.max_splits ≤ most_splits
   pub few_split_regions : s.max_split_regions ≤ most_regions
   pub few_group_districts : s.group_districts ≤ most_districts
+  pub few_shares : s.group_share ≤ 10000
   pub part : HasPart s
   pub command : IsSettingOf s.command s
 
@@ -130,9 +131,14 @@ pub record AreRegions (units : ℕ) (regions : List ℕ) : Type 0 where
 abbrev pub IsGroup : ℕ → Group → Type 0
 IsGroup units group = ((group.members ≡ []) × (group.whole ≡ [])) ⊎ (IsColumn units group.members × IsColumn units group.whole)
 
+-- frozen has one number per unit or is empty
+abbrev pub AreFrozen : ℕ → List ℕ → Type 0
+AreFrozen units frozen = (frozen ≡ []) ⊎ (length frozen ≡ units)
+
 -- all data of a job are within the limits
 pub record IsWithinLimits (job : Job) : Type 0 where
   pub input : AreWithin job.graph job.counts job.start job.districts
   pub setting : IsSetting job.setting
   pub regions : AreRegions job.graph.units job.regions
   pub group : IsGroup job.graph.units job.group
+  pub frozen : AreFrozen job.graph.units job.frozen

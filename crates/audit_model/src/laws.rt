@@ -101,18 +101,19 @@ pub fn bare_outcomes_fit()
     ensures { (job : Job) (o : Outcome) → IsTrue (fits job o) → IsTrue (fits job (bare o)) }
 {}
 
-/// Shows that the default rules allow every plan: no regions, no group majority, and a limit on cut
-/// edges no lower than the number of edges.
+/// Shows that the default rules allow every plan: no regions, no group majority, no frozen unit, and
+/// a limit on cut edges no lower than the number of edges.
 pub fn default_rules_limit_nothing()
     ensures { (job : Job) (plan : List ℕ) → count_edges job.graph (λ u v. true) ≤ job.setting.max_cut → job.regions ≡ [] →
-        job.setting.group_districts ≡ 0 → Meets (rules job) (cut_edges job.graph plan) plan }
+        job.setting.group_districts ≡ 0 → job.frozen ≡ [] → Meets (rules job) (cut_edges job.graph plan) plan }
 {}
 
-/// Shows that rules with each limit at its default allow every plan of a job's districts.
+/// Shows that rules with each limit at its default and no frozen unit allow every plan of a job's
+/// districts.
 pub fn unlimited_rules_limit_nothing()
     ensures { (job : Job) (plan : List ℕ) → IsWithinLimits job → ((u : ℕ) → u < length plan → slice_index plan u < job.districts) →
         job.setting.max_cut ≡ most_edges → job.setting.max_split ≡ most_districts → job.setting.max_splits ≡ most_splits →
-        job.setting.max_split_regions ≡ most_regions → job.setting.group_districts ≡ 0 → Meets (rules job) (cut_edges job.graph plan) plan }
+        job.setting.max_split_regions ≡ most_regions → job.setting.group_districts ≡ 0 → job.frozen ≡ [] → Meets (rules job) (cut_edges job.graph plan) plan }
 {}
 
 /// Shows that the population bounds are two integers: the least population that is large enough,

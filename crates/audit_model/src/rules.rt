@@ -1,6 +1,7 @@
 //! The rules that a plan must meet beyond population and contiguity.
 
-ghost use Rattle.std.specs.Prelude.{◌≡◌, IfOk};
+ghost use Rattle.std.specs.Prelude.{◌≡◌, ◌≤◌, IfOk, length};
+ghost use Rattle.audit_model.specs.Meets.{keeps_frozen};
 
 use crate::lists::{NumList, UnitList};
 use crate::memory::Memory;
@@ -29,7 +30,9 @@ impl Group {
 ///
 /// `max_cut` limits the cut edges. `regions` has the region of each unit, or is empty. `max_split`
 /// limits the districts of one region, `max_splits` the splits in all, and `max_split_regions` the
-/// split regions. The group must have a majority in at least `group_districts` districts.
+/// split regions. The group must have a majority in at least `group_districts` districts: more than
+/// `group_share` hundredths of a percent of the district. `frozen` has 1 for each frozen unit and 0
+/// for each other, and `home` the start plan; both are empty if no column of frozen units is named.
 #[derive(Drop)]
 pub struct Rules {
     pub max_cut: u32,
@@ -39,6 +42,9 @@ pub struct Rules {
     pub max_split_regions: u32,
     pub group: Group,
     pub group_districts: u32,
+    pub group_share: u32,
+    pub frozen: UnitList,
+    pub home: UnitList,
 }
 
 impl Rules {
@@ -54,6 +60,32 @@ impl Rules {
             max_split_regions: self.max_split_regions,
             group: self.group.copy()?,
             group_districts: self.group_districts,
+            group_share: self.group_share,
+            frozen: self.frozen.copy()?,
+            home: self.home.copy()?,
         })
     }
+
+    /// Returns whether a plan leaves each frozen unit in its district of the start plan.
+    pub fn keeps_frozen(&self, plan: &[u32]) -> bool
+        requires homes { length self.now.frozen ≤ length self.now.home }
+        requires entries { length self.now.frozen ≤ length plan.now }
+        ensures { result ≡ keeps_frozen self.now.frozen self.now.home plan.now }
+    {
+        agrees_on(self.frozen.as_slice(), self.home.as_slice(), plan)
+    }
+}
+
+/// Returns whether two plans agree on each frozen unit.
+fn agrees_on(frozen: &[u32], home: &[u32], plan: &[u32]) -> bool
+    requires homes { length frozen.now ≤ length home.now }
+    requires entries { length frozen.now ≤ length plan.now }
+    ensures { result ≡ keeps_frozen frozen.now home.now plan.now }
+{
+    for unit in 0..frozen.len() {
+        if frozen[unit] != 0 && plan[unit] != home[unit] {
+            return false;
+        }
+    }
+    true
 }

@@ -2,6 +2,9 @@
 //! status but 0 goes to standard error, and checkpoints go to two files of the working folder.
 #![tactic(auto)]
 
+mod this_build;
+
+use crate::this_build::THIS_BUILD;
 use audit_io::file_keeper::FileKeeper;
 use audit_io::gate::FreeGate;
 use audit_io::patient::Patient;
@@ -51,6 +54,7 @@ fn main(rt: HostRuntime) -> ExitCode {
     };
     let (status, _keeper) = audit_plainly(
         &lent,
+        &THIS_BUILD,
         words.as_slice(),
         &mut graph,
         &mut out,

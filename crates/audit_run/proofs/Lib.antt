@@ -1,3 +1,4 @@
+mod Asked
 mod Ending
 mod Following
 mod Likeness

@@ -158,12 +158,12 @@ module _ (words : List (List ℕ)) (setting : Setting) (accepted : setting_of wo
 pub reported_run : (words : List (List ℕ)) (before after : Stream) (named : List Named) (by : ArePlansReady words before after named) (out out' : Stream) (keeper : Kept) (why : Ended)
     → ReportsPlans by.setting.key (jobs_of named) out out' why → PlansRunTo words (world before out keeper) (world after out' keeper) why
 reported_run words before after named by out out' keeper ended.Done r = record {
-  cause = record { setting = by.setting; jobs = jobs_of named; prepared = by.prepared; written = r.0; legal = visit_legally by.setting by.shared.regions by.shared.group named by.shared.each };
+  cause = record { setting = by.setting; jobs = jobs_of named; prepared = by.prepared; written = r.0; legal = visit_legally by.setting by.shared.regions by.shared.group by.shared.frozen named by.shared.each };
   untouched = record { source = tt; read_faults = by.prepared.faults; out = tt; write_faults = r.1; keeper = refl };
   line_is = refl;
 }
 reported_run words before after named by out out' keeper ended.WriteFault r = record {
-  cause = record { setting = by.setting; jobs = jobs_of named; prepared = by.prepared; written = r.0; legal = visit_legally by.setting by.shared.regions by.shared.group named by.shared.each; rose = r.1 };
+  cause = record { setting = by.setting; jobs = jobs_of named; prepared = by.prepared; written = r.0; legal = visit_legally by.setting by.shared.regions by.shared.group by.shared.frozen named by.shared.each; rose = r.1 };
   untouched = record { source = tt; read_faults = by.prepared.faults; out = tt; write_faults = tt; keeper = refl };
   line_is = refl;
 }

@@ -3,17 +3,20 @@ use Rattle.std.proofs.Common.{ℕ, List, arith}
 use Rattle.audit_model.specs.Faults.{Rose}
 use Rattle.audit_model.specs.State.{SureSlots, Stream}
 use Rattle.audit_statement.specs.Sure.{EachEndsSurely, sure_world}
-use Rattle.audit_statement.specs.Whole.{KeepsEachPromise}
+use Rattle.program_help.specs.declared.build.Build.{Build}
+use Rattle.program_help.specs.Answers.{AnswersOrAudits}
+use Rattle.program_help.specs.Laws.{QuestionsWereRefused}
+use Rattle.audit_run.proofs.Asked.{accepted_ask_nothing}
 
 -- a count of 0 did not rise
 never : Rose 0 0 → ⊥
 never h = absurd (omega arith)
 
 -- a call with I/O that never fails ends well if it can
-pub surely : (words : List (List ℕ)) (graph graph' : List ℕ) (keeper keeper' : SureSlots) (n m : Stream) (status : ℕ)
-    → KeepsEachPromise words (sure_world graph keeper) (sure_world graph' keeper') n m status → EachEndsSurely words (sure_world graph keeper) status
-surely words graph graph' keeper keeper' n m status kept = record {
-  one = λ single may. (kept.one single).complete (record {
+pub surely : QuestionsWereRefused → (build : Build) (words : List (List ℕ)) (graph graph' : List ℕ) (keeper keeper' : SureSlots) (n m : Stream) (status : ℕ)
+    → AnswersOrAudits build words (sure_world graph keeper) (sure_world graph' keeper') n m status → EachEndsSurely words (sure_world graph keeper) status
+surely refused build words graph graph' keeper keeper' n m status kept = record {
+  one = λ single may. ((kept.audits (accepted_ask_nothing refused words may.job.setting may.told.words_are)).one single).complete (record {
     job = may.job;
     bytes = may.bytes;
     told = may.told;
@@ -24,5 +27,5 @@ surely words graph graph' keeper keeper' n m status kept = record {
     loads = never;
     saves = never;
   });
-  several = λ many may. (kept.several many).causes.complete may.setting may.jobs may.the_jobs never never;
+  several = λ many may. ((kept.audits (accepted_ask_nothing refused words may.setting may.the_jobs.told.words_are)).several many).causes.complete may.setting may.jobs may.the_jobs never never;
 }

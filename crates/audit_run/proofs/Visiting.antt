@@ -22,7 +22,7 @@ visits_legally job start = record {
 }
 
 -- the plans visited from each of several plans are legal
-pub visit_legally : (setting : Setting) (regions : List ℕ) (group : Group) (named : List Named) → All (IsOneOf setting regions group) named → VisitLegally (jobs_of named)
-visit_legally setting regions group named each =
+pub visit_legally : (setting : Setting) (regions : List ℕ) (group : Group) (frozen : List ℕ) (named : List Named) → All (IsOneOf setting regions group frozen) named → VisitLegally (jobs_of named)
+visit_legally setting regions group frozen named each =
     All-map (λ (plan : List ℕ × Job). VisitsLegally plan.1) pair_of named
     (λ k d inside. visits_legally _ (each k d inside).sound.legal)

@@ -18,11 +18,12 @@ pub record IsCutBench {F A : Type 0} (test : F) (count : ℕ) (n : Named) (judge
 abbrev pub AreCutBenches : {F A : Type 0} → F → ℕ → List Named → List (Vec (Guard F) A) → Type 0
 AreCutBenches test count named benches = ArePaired (IsCutBench test count) named benches
 
--- a job with the limit of these rules on cut edges, without regions and without required majorities
+-- a job with the limit of these rules on cut edges, without regions, required majorities or frozen units
 pub record IsCutBy (by : Rules) (n : Named) : Type 0 where
   pub cut_is : n.job.setting.max_cut ≡ by.max_cut
   pub no_regions : n.job.regions ≡ []
   pub no_group : n.job.setting.group_districts ≡ 0
+  pub no_frozen : n.job.frozen ≡ []
 
 -- `count` constraints of all rules of a plan
 pub record IsRuledBench {F T A : Type 0} (cut : F) (test : T) (count : ℕ) (n : Named) (judges : Vec (RegionGuard F T) A) : Type 0 where

@@ -4,6 +4,7 @@ ghost use Rattle.std.specs.Prelude.{◌≡◌};
 ghost use Rattle.audit_statement.specs.Due.{LetsDueSaves};
 ghost use Rattle.audit_statement.specs.Several.{names_plans as are_of_plans};
 ghost use Rattle.audit_statement.specs.Whole.{KeepsEachPromise};
+ghost use Rattle.program_help.specs.Answers.{AnswersOrAudits};
 ghost use Rattle.audit_statement.specs.World.{world};
 ghost use Rattle.audit_words.specs.Spoken.{spoken};
 
@@ -14,6 +15,7 @@ use audit_io::keeper::Keeper;
 use audit_io::sink::Sink;
 use audit_io::source::Source;
 use claim_counter::runtime::Runtime;
+use program_help::{Build, answer, question_of};
 use std::sync::Wait;
 use std::thread::Threads;
 
@@ -27,24 +29,8 @@ fn names_plans(words: &[String]) -> bool
     word.as_str() == "plans"
 }
 
-/// Runs the command of the arguments. Returns the exit status and the keeper.
-///
-/// The graph is read to its end, or to one byte more than 67,108,864. With several plans, a table follows its first
-/// line feed. `out` gets the text of a check, the report of a run, or one report for each of several plans. `note` gets
-/// the reason of each status but 0:
-///
-/// - 1: refused arguments
-/// - 2: a refused graph, table or plan
-/// - 3: out of memory
-/// - 4: a failed read
-/// - 5: a failed write
-/// - 6: a failed load of a checkpoint
-/// - 7: trajectories are left to another run
-/// - 8: slots from which a run cannot resume
-/// - 9: a failed save
-///
-/// `rt` lends the threads, the allocator and the gate, which learns each trajectory before its walk.
-pub fn audit<
+// Runs the command of the arguments of an audit. Returns the exit status and the keeper.
+fn audit_asked<
     R: Threads + Wait + Sync,
     S: Source,
     K: Sink,
@@ -69,4 +55,53 @@ pub fn audit<
         return (status, keeper);
     }
     audit_single(rt, words, graph, out, note, keeper)
+}
+
+/// Runs the command of the arguments. Returns the exit status and the keeper.
+///
+/// If the arguments ask for help or the version, the answer goes to `out`, and nothing is read or
+/// saved. The status is then 0, or 5 for a failed write.
+///
+/// Otherwise the graph is read to its end, or to one byte more than 67,108,864. With several plans,
+/// a table follows its first line feed. `out` gets the text of a check, the report of a run, the
+/// trace of a run, or one report for each of several plans. `note` gets the reason of each status
+/// but 0:
+///
+/// - 1: refused arguments
+/// - 2: a refused graph, table or plan
+/// - 3: out of memory
+/// - 4: a failed read
+/// - 5: a failed write
+/// - 6: a failed load of a checkpoint
+/// - 7: trajectories are left to another run
+/// - 8: slots from which a run cannot resume
+/// - 9: a failed save
+///
+/// `rt` lends the threads, the allocator and the gate, which learns each trajectory before its
+/// walk. `build` is the build that `--version` reports.
+pub fn audit<
+    R: Threads + Wait + Sync,
+    S: Source,
+    K: Sink,
+    N: Sink,
+    C: Keeper + Send,
+    G: Gate + Sync,
+>(
+    rt: &Runtime<'_, R, G>,
+    build: &Build<'_>,
+    words: &[String],
+    graph: &mut S,
+    out: &mut K,
+    note: &mut N,
+    keeper: C,
+) -> (u8, C)
+    requires lets { LetsDueSaves C.lets (spoken words.now) (world (S.state graph.old) (K.state out.old) (C.state keeper)) }
+    ensures { let before = world (S.state graph.old) (K.state out.old) (C.state keeper) in
+        let after = world (S.state graph.new) (K.state out.new) (C.state result.1) in
+        AnswersOrAudits build.now (spoken words.now) before after (N.state note.old) (N.state note.new) result.0 }
+{
+    match question_of(words) {
+        Some(question) => (answer(build, question, out, note), keeper),
+        None => audit_asked(rt, words, graph, out, note, keeper),
+    }
 }

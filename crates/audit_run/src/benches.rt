@@ -15,8 +15,8 @@ use region_guard::guard::RegionGuard;
 use region_guard::judges::region_guards;
 use std::alloc::Global;
 
-/// Makes `count` constraints for each plan from one test of the cut edges. The plans must have no regions and require
-/// no majorities. The only error is out of memory.
+/// Makes `count` constraints for each plan from one test of the cut edges. The plans must have no
+/// regions, require no majorities and freeze no unit. The only error is out of memory.
 pub fn cut_benches<F: Fn(&SumsView) -> bool + Copy + Drop>(
     alloc: Global,
     test: F,

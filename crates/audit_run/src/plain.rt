@@ -1,11 +1,12 @@
 //! The audit, with a contract on plain runs.
 
 ghost use Rattle.audit_statement.specs.Due.{LetsDueSaves};
-ghost use Rattle.audit_statement.specs.Whole.{KeepsEachPromise};
 ghost use Rattle.audit_statement.specs.World.{world};
 ghost use Rattle.audit_words.specs.Spoken.{spoken};
 ghost use Rattle.audit_statement.specs.Audited.{AuditsPlainly};
 ghost use Rattle.audit_statement.specs.PlainlyEnded.{EndsPlainly};
+ghost use Rattle.program_help.specs.Answers.{AnswersOrAudits};
+ghost use Rattle.std.specs.Prelude.{◌≢◌, ◌∷◌, [], codes};
 
 use crate::audit::audit;
 use audit_io::gate::Gate;
@@ -14,11 +15,15 @@ use audit_io::sink::Sink;
 use audit_io::source::Source;
 use audit_laws::plain_laws::{promised_calls_audit_plainly, promised_calls_end_plainly};
 use claim_counter::runtime::Runtime;
+use program_help::Build;
+use program_help::laws::questions_were_refused;
 use std::sync::Wait;
 use std::thread::Threads;
 
-/// Runs the command of the arguments, as `audit` does. Returns the exit status and the keeper. For a plain run, the
-/// first clause states all that status 0 means. The second states when status 0 is certain.
+/// Runs the command of the arguments, as `audit` does. Returns the exit status and the keeper.
+///
+/// For a plain run other than `run --help`, the first clause states all that status 0 means. The
+/// second states when status 0 is certain.
 pub fn audit_plainly<
     R: Threads + Wait + Sync,
     S: Source,
@@ -28,6 +33,7 @@ pub fn audit_plainly<
     G: Gate + Sync,
 >(
     rt: &Runtime<'_, R, G>,
+    build: &Build<'_>,
     words: &[String],
     graph: &mut S,
     out: &mut K,
@@ -35,15 +41,16 @@ pub fn audit_plainly<
     keeper: C,
 ) -> (u8, C)
     requires lets { LetsDueSaves C.lets (spoken words.now) (world (S.state graph.old) (K.state out.old) (C.state keeper)) }
-    ensures plain { AuditsPlainly (spoken words.now) (S.state graph.old).bytes (K.state out.old).bytes (K.state out.new).bytes result.0 }
+    ensures plain { spoken words.now ≢ codes "run" ∷ codes "--help" ∷ [] → AuditsPlainly (spoken words.now) (S.state graph.old).bytes (K.state out.old).bytes (K.state out.new).bytes result.0 }
     ensures ends { let before = world (S.state graph.old) (K.state out.old) (C.state keeper) in
         let after = world (S.state graph.new) (K.state out.new) (C.state result.1) in
         EndsPlainly (spoken words.now) before after result.0 }
     ensures kept { let before = world (S.state graph.old) (K.state out.old) (C.state keeper) in
         let after = world (S.state graph.new) (K.state out.new) (C.state result.1) in
-        KeepsEachPromise (spoken words.now) before after (N.state note.old) (N.state note.new) result.0 }
+        AnswersOrAudits build.now (spoken words.now) before after (N.state note.old) (N.state note.new) result.0 }
 {
     promised_calls_audit_plainly();
     promised_calls_end_plainly();
-    audit(rt, words, graph, out, note, keeper)
+    questions_were_refused();
+    audit(rt, build, words, graph, out, note, keeper)
 }

@@ -24,7 +24,7 @@ fn first_of(plans: &[Named]) -> &Job
     &plans[0].job
 }
 
-// Reports on plans of a graph without regions and without required majorities.
+// Reports on plans of a graph without regions, required majorities or frozen units.
 fn report_cut<R: Threads + Sync, K: Sink, G: Gate + Sync>(
     rt: &Runtime<'_, R, G>,
     plans: Vec<Named>,
@@ -33,6 +33,7 @@ fn report_cut<R: Threads + Sync, K: Sink, G: Gate + Sync>(
     requires plans { MayRunTogether plans.items }
     requires no_regions { All (λ n. n.job.regions ≡ []) plans.items }
     requires no_group { All (λ n. n.job.setting.group_districts ≡ 0) plans.items }
+    requires no_frozen { All (λ n. n.job.frozen ≡ []) plans.items }
     ensures { (key : List ℕ) → All (λ n. n.job.setting.key ≡ key) plans.items → ReportsPlans key (jobs_of plans.items) (K.state out.old) (K.state out.new) result }
 {
     let first = first_of(plans.as_slice());
@@ -88,7 +89,7 @@ pub fn report_all<R: Threads + Sync, K: Sink, G: Gate + Sync>(
     ensures { (key : List ℕ) → All (λ n. n.job.setting.key ≡ key) plans.items → ReportsPlans key (jobs_of plans.items) (K.state out.old) (K.state out.new) result }
 {
     let rules = first_of(plans.as_slice()).rules();
-    if rules.regions.len() == 0 && rules.group_districts == 0 {
+    if rules.regions.len() == 0 && rules.group_districts == 0 && rules.frozen.len() == 0 {
         report_cut(rt, plans, out)
     } else {
         report_ruled(rt, plans, out)

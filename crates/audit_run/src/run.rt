@@ -91,6 +91,7 @@ fn finish_cut<R: Threads + Wait + Sync, K: Sink, C: Keeper + Send, G: Gate + Syn
     requires opened { IsOpened job.now (C.state keeper).slots opening }
     requires no_regions { job.now.regions ≡ [] }
     requires no_group { job.now.setting.group_districts ≡ 0 }
+    requires no_frozen { job.now.frozen ≡ [] }
     requires lets { LetsSavesOf C.lets job.now (C.state keeper) }
     ensures { Finishes job.now (K.state out.old) (K.state out.new)
         (C.state keeper) (C.state result.1) result.0 }
@@ -156,7 +157,10 @@ pub fn finish_run<R: Threads + Wait + Sync, K: Sink, C: Keeper + Send, G: Gate +
         Ok(opening) => opening,
         Err(why) => return (why, keeper),
     };
-    if job.rules().regions.len() == 0 && job.rules().group_districts == 0 {
+    if job.rules().regions.len() == 0
+        && job.rules().group_districts == 0
+        && job.rules().frozen.len() == 0
+    {
         finish_cut(rt, job, opening, out, keeper)
     } else {
         finish_ruled(rt, job, opening, out, keeper)

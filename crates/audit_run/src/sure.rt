@@ -1,8 +1,8 @@
 //! The audit over a source, an output and a keeper that never fail.
 
 ghost use Rattle.audit_statement.specs.Sure.{EachEndsSurely, sure_world};
-ghost use Rattle.audit_statement.specs.Whole.{KeepsEachPromise};
 ghost use Rattle.audit_words.specs.Spoken.{spoken};
+ghost use Rattle.program_help.specs.Answers.{AnswersOrAudits};
 
 use crate::audit::audit;
 use audit_io::gate::Gate;
@@ -10,6 +10,8 @@ use audit_io::sink::Sink;
 use audit_io::sure::{SureSink, SureSource};
 use audit_io::sure_keeper::SureKeeper;
 use claim_counter::runtime::Runtime;
+use program_help::Build;
+use program_help::laws::questions_were_refused;
 use std::sync::Wait;
 use std::thread::Threads;
 
@@ -20,6 +22,7 @@ use std::thread::Threads;
 /// several plans the condition is that arguments, graph, regions, table and plans are accepted.
 pub fn audit_surely<R: Threads + Wait + Sync, N: Sink, G: Gate + Sync>(
     rt: &Runtime<'_, R, G>,
+    build: &Build<'_>,
     words: &[String],
     graph: &mut SureSource,
     out: &mut SureSink,
@@ -27,8 +30,9 @@ pub fn audit_surely<R: Threads + Wait + Sync, N: Sink, G: Gate + Sync>(
     keeper: SureKeeper,
 ) -> (u8, SureKeeper)
     ensures complete { EachEndsSurely (spoken words.now) (sure_world graph.old keeper) result.0 }
-    ensures kept { KeepsEachPromise (spoken words.now) (sure_world graph.old keeper) (sure_world graph.new result.1)
+    ensures kept { AnswersOrAudits build.now (spoken words.now) (sure_world graph.old keeper) (sure_world graph.new result.1)
         (N.state note.old) (N.state note.new) result.0 }
 {
-    audit(rt, words, graph, out, note, keeper)
+    questions_were_refused();
+    audit(rt, build, words, graph, out, note, keeper)
 }

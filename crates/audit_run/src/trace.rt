@@ -27,13 +27,14 @@ fn range_of(job: &Job) -> TraceRange
     }
 }
 
-// Writes the trace of a job without regions and without required majorities.
+// Writes the trace of a job without regions, required majorities or frozen units.
 fn trace_cut<K: Sink>(alloc: Global, job: &Job, range: TraceRange, out: &mut K) -> Ended
     requires thin { 0 < range.thin }
     requires order { range.first ≤ range.last }
     requires few { range.last < most_trajectories }
     requires no_regions { job.now.regions ≡ [] }
     requires no_group { job.now.setting.group_districts ≡ 0 }
+    requires no_frozen { job.now.frozen ≡ [] }
     ensures { TracesJob job.now range (K.state out.old) (K.state out.new) result }
 {
     let rules = job.rules();
@@ -76,7 +77,10 @@ fn trace_job<K: Sink>(alloc: Global, job: &Job, range: TraceRange, out: &mut K) 
     requires few { range.last < most_trajectories }
     ensures { TracesJob job.now range (K.state out.old) (K.state out.new) result }
 {
-    if job.rules().regions.len() == 0 && job.rules().group_districts == 0 {
+    if job.rules().regions.len() == 0
+        && job.rules().group_districts == 0
+        && job.rules().frozen.len() == 0
+    {
         trace_cut(alloc, job, range, out)
     } else {
         trace_ruled(alloc, job, range, out)

@@ -176,15 +176,28 @@ has_group rules = not (length rules.group.members == 0)
 abbrev pub has_further_rules : Rules → Bool
 has_further_rules rules = limits_splits rules || has_group rules
 
--- the rules limit the cut edges, or have regions or a group
+-- a group is named with a share other than one half
+abbrev pub has_share : Rules → Bool
+has_share rules = has_group rules && not (rules.group_share == 5000)
+
+-- a column of frozen units is named
+abbrev pub has_frozen : Rules → Bool
+has_frozen rules = not (length rules.frozen == 0)
+
+-- a rule is present that the fourth version of the digested bytes adds
+abbrev pub has_newer_rules : Rules → Bool
+has_newer_rules rules = has_share rules || has_frozen rules
+
+-- the rules limit the cut edges, or have regions, or a group, or frozen units
 abbrev pub has_rules : Rules → Bool
-has_rules rules = nat_lt rules.max_cut most_edges || not (length rules.regions == 0) || has_group rules
+has_rules rules = nat_lt rules.max_cut most_edges || not (length rules.regions == 0) || has_group rules || has_frozen rules
 
 -- the first digested bytes, by the rules that the job has
-abbrev pub digest_name : Bool → Bool → List ℕ
-digest_name has_some true = codes "district-job 3"
-digest_name true false = codes "district-job 2"
-digest_name false false = codes "district-job 1"
+abbrev pub digest_name : Bool → Bool → Bool → List ℕ
+digest_name has_some has_further true = codes "district-job 4"
+digest_name has_some true false = codes "district-job 3"
+digest_name true false false = codes "district-job 2"
+digest_name false false false = codes "district-job 1"
 
 -- the limit on districts per region, and each unit's region, if there are regions
 abbrev pub region_bytes : ℕ → List ℕ → List ℕ
@@ -204,16 +217,25 @@ abbrev pub group_bytes : ℕ → Rules → List ℕ
 group_bytes units rules =
     cond (has_group rules) (to_be_bytes w32 rules.group_districts ++ flat_map (member_bytes rules.group) (map_below units (λ u. u))) []
 
+-- the share above which the group has a majority, if it is not one half
+abbrev pub share_bytes : Rules → List ℕ
+share_bytes rules = cond (has_share rules) (codes "group-share" ++ to_be_bytes w32 rules.group_share) []
+
+-- 1 or 0 per unit, if a column of frozen units is named
+abbrev pub frozen_bytes : Rules → List ℕ
+frozen_bytes rules = cond (has_frozen rules) (codes "freeze" ++ flat_map (to_be_bytes w32) rules.frozen) []
+
 -- the rules, if there are some
 abbrev pub rule_bytes : Bool → ℕ → Rules → List ℕ
 rule_bytes true units rules =
     to_be_bytes w32 rules.max_cut ++ region_bytes rules.max_split rules.regions ++ split_bytes rules ++ group_bytes units rules
+    ++ share_bytes rules ++ frozen_bytes rules
 rule_bytes false units rules = []
 
 -- all that a job's outcomes depend on, except for asking for histograms
 abbrev pub job_bytes : Job → List ℕ
 job_bytes job =
-    digest_name (has_rules (rules job)) (has_further_rules (rules job))
+    digest_name (has_rules (rules job)) (has_further_rules (rules job)) (has_newer_rules (rules job))
     ++ to_be_bytes w32 job.graph.units ++ to_be_bytes w32 (count_edges job.graph (λ u v. true)) ++ to_be_bytes w32 job.districts
     ++ edge_bytes job.graph
     ++ flat_map (unit_bytes job) (map_below job.graph.units (λ u. u))

@@ -1,6 +1,6 @@
 -- The diagnostic: the line that says why a run ended without a whole report. This project's formats. A line is a list
 -- of texts, put together; the code writes one after another.
-use Rattle.std.specs.Prelude.{ℕ, List, [], ◌∷◌, ◌++◌, codes, decimal}
+use Rattle.std.specs.Prelude.{ℕ, List, [], ◌∷◌, ◌++◌, codes, decimal, ◌==◌, cond}
 use Rattle.hex.specs.Hex.{encode_lower}
 use Rattle.audit_model.specs.declared.fault.CkptFault.{CkptFault}
 use Rattle.audit_model.specs.declared.fault.CkptFault.TheVariants as ckpt
@@ -68,6 +68,17 @@ column_name columns column.Second = columns.second
 column_name columns column.District = columns.district
 column_name columns column.Group = columns.group
 column_name columns column.Whole = columns.whole
+column_name columns column.Frozen = columns.frozen
+
+-- the kind of value that is missing at a node, by column
+abbrev pub no_value : Column → List ℕ
+no_value column.Population = codes " has no whole number from 0 to 1000000000 in column "
+no_value column.First = codes " has no whole number from 0 to 1000000000 in column "
+no_value column.Second = codes " has no whole number from 0 to 1000000000 in column "
+no_value column.District = codes " has no whole number from 0 to 1000000000 in column "
+no_value column.Group = codes " has no whole number from 0 to 1000000000 in column "
+no_value column.Whole = codes " has no whole number from 0 to 1000000000 in column "
+no_value column.Frozen = codes " has no true, false or whole number from 0 to 1000000000 in column "
 
 -- the message for a graph's fault
 abbrev pub graph_note : Columns → GraphFault → List (List ℕ)
@@ -82,7 +93,7 @@ graph_note columns (graph.BadNeighbour i j) = codes "neighbour " ∷ decimal j �
 graph_note columns (graph.UnknownNeighbour i j) = codes "neighbour " ∷ decimal j ∷ codes " of node " ∷ decimal i ∷ codes " is unknown" ∷ []
 graph_note columns (graph.TooManyEdges n) = decimal n ∷ codes " edges, more than 400000" ∷ []
 graph_note columns (graph.Missing i c) = codes "node " ∷ decimal i ∷ codes " has no column " ∷ column_name columns c ∷ []
-graph_note columns (graph.BadNumber i c) = codes "node " ∷ decimal i ∷ codes " has no whole number from 0 to 1000000000 in column " ∷ column_name columns c ∷ []
+graph_note columns (graph.BadNumber i c) = codes "node " ∷ decimal i ∷ no_value c ∷ column_name columns c ∷ []
 graph_note columns (graph.BadLabel i) = codes "node " ∷ decimal i ∷ codes " has no usable label" ∷ []
 graph_note columns (graph.DistrictCount n) = decimal n ∷ codes " districts, not 2 to 200" ∷ []
 graph_note columns graph.Memory = codes "memory" ∷ []
@@ -107,6 +118,11 @@ table_note (table.MissingUnit u) = codes "unit " ∷ decimal u ∷ codes " is mi
 table_note (table.DistrictCount i n) = codes "plan " ∷ decimal i ∷ codes " has " ∷ decimal n ∷ codes " districts, not 2 to 200" ∷ []
 table_note table.Memory = codes "memory" ∷ []
 
+-- the start of the message about a group's majorities, by the required share
+abbrev pub majority_text : ℕ → List (List ℕ)
+majority_text share =
+    cond (share == 5000) (codes "the group has a majority in " ∷ []) (codes "the group has more than " ∷ decimal share ∷ codes " of 10000 in " ∷ [])
+
 -- the message for a plan's fault
 abbrev pub plan_note : PlanFault → List (List ℕ)
 plan_note plan.NoVotes = codes "no votes" ∷ []
@@ -116,7 +132,7 @@ plan_note (plan.TooManyCut cut most) = decimal cut ∷ codes " cut edges, more t
 plan_note (plan.TooManySplit q districts most) = codes "region " ∷ decimal q ∷ codes " lies in " ∷ decimal districts ∷ codes " districts, more than " ∷ decimal most ∷ []
 plan_note (plan.TooManySplits splits most) = decimal splits ∷ codes " splits of regions, more than " ∷ decimal most ∷ []
 plan_note (plan.TooManySplitRegions regions most) = decimal regions ∷ codes " regions lie in more than one district, more than " ∷ decimal most ∷ []
-plan_note (plan.TooFewMajorities districts least) = codes "the group has a majority in " ∷ decimal districts ∷ codes " districts, fewer than " ∷ decimal least ∷ []
+plan_note (plan.TooFewMajorities districts least share) = majority_text share ++ decimal districts ∷ codes " districts, fewer than " ∷ decimal least ∷ []
 plan_note plan.Memory = codes "memory" ∷ []
 
 -- the reason why a slot is no checkpoint, in a word or two

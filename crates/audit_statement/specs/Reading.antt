@@ -2,6 +2,7 @@
 -- `Graph.from_json` reads; JSON is what `serde_json` reads. Edges are a test on pairs; the code looks ids up and sorts.
 use Rattle.std.specs.Prelude.{ℕ, ◌==◌, ◌&&◌, ◌||◌, Bool, true, false, not, cond, nat_lt, nat_le, List, [], ◌∷◌, length, map, codes, Option, Some, None, is_some, is_none, unwrap_or, option_map, option_and_then, Result, Ok, Err}
 use Rattle.std.specs.List.{slice_index_or, list_all}
+use Rattle.std.specs.Option.{option_or}
 use Rattle.std.specs.Str.{is_utf8}
 use Rattle.serde_json.specs.Data.{Data, null, boolean, number, string, array, object, Items, no_items, item}
 use Rattle.serde_json.specs.Read.{read}
@@ -130,10 +131,15 @@ module _ (read_of : Document) where
     key_of column.District = columns.district
     key_of column.Group = columns.group
     key_of column.Whole = columns.whole
+    key_of column.Frozen = columns.frozen
 
     -- a group is named
     abbrev pub names_group : Bool
     names_group = not (length columns.group == 0)
+
+    -- a column of frozen units is named
+    abbrev pub names_frozen : Bool
+    names_frozen = not (length columns.frozen == 0)
 
     -- a node's value in a column
     abbrev pub cell : ℕ → Column → Option Data
@@ -142,6 +148,14 @@ module _ (read_of : Document) where
     -- an integer from 0 to 10 ^ 9
     abbrev pub count_of : Data → Option ℕ
     count_of d = option_and_then (λ n. cond (nat_le n most_people) (Some n) None) (option_and_then as_u64 (as_number d))
+
+    -- 1 for `true` and a number above 0, and 0 for `false` and 0
+    abbrev pub flag_of : Data → Option ℕ
+    flag_of d = option_or (option_map (λ b. cond b 1 0) (as_bool d)) (option_map (λ n. cond (nat_lt 0 n) 1 0) (count_of d))
+
+    -- whether a node is frozen, as 1 or 0
+    abbrev pub flag_at : ℕ → ℕ
+    flag_at i = unwrap_or (option_and_then flag_of (cell i column.Frozen)) 0
 
     -- the number in a node's column, or 0 without one
     abbrev pub count_at : Column → ℕ → ℕ
@@ -185,9 +199,10 @@ module _ (read_of : Document) where
         ∷ refused_if (is_none (cell i column.District)) column.District
         ∷ refused_if (names_group && is_none (cell i column.Group)) column.Group
         ∷ refused_if (names_group && is_none (cell i column.Whole)) column.Whole
+        ∷ refused_if (names_frozen && is_none (cell i column.Frozen)) column.Frozen
         ∷ []))
 
-    -- the first column of a node without a valid number
+    -- the first column of a node without a valid number or, for frozen units, without a number or a truth value
     abbrev pub bad_number : ℕ → Option GraphFault
     bad_number i = option_map (fault.BadNumber i) (first_some (
         refused_if (is_none (option_and_then count_of (cell i column.Population))) column.Population
@@ -195,6 +210,7 @@ module _ (read_of : Document) where
         ∷ refused_if (is_none (option_and_then count_of (cell i column.Second))) column.Second
         ∷ refused_if (names_group && is_none (option_and_then count_of (cell i column.Group))) column.Group
         ∷ refused_if (names_group && is_none (option_and_then count_of (cell i column.Whole))) column.Whole
+        ∷ refused_if (names_frozen && is_none (option_and_then flag_of (cell i column.Frozen))) column.Frozen
         ∷ []))
 
     -- the first fault, in their order
@@ -227,6 +243,7 @@ module _ (read_of : Document) where
         members = cond names_group (map_below node_count (count_at column.Group)) [];
         whole = cond names_group (map_below node_count (count_at column.Whole)) [];
       };
+      frozen = cond names_frozen (map_below node_count flag_at) [];
       start = map_below node_count district_at;
       labels = map_below label_count (λ d. unwrap_or (option_map label_at (first_below node_count (λ i. district_at i == d))) (Word []));
     }

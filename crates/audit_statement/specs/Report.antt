@@ -1,6 +1,6 @@
 -- The report, the check text, and their lines, as lists of bytes. This project's formats. A text is one list of lines;
 -- the code appends to a preallocated buffer.
-use Rattle.std.specs.Prelude.{ℕ, zero, suc, ◌+◌, ◌-◌, ◌/◌, ◌%◌, ◌^◌, Bool, true, false, ◌||◌, cond, nat_lt, List, [], ◌∷◌, ◌++◌, length, map, replicate, slice_index, codes, decimal, flat_map, filter, zip, Option, Some, None, ℤ, unsigned_abs}
+use Rattle.std.specs.Prelude.{ℕ, zero, suc, ◌+◌, ◌-◌, ◌/◌, ◌%◌, ◌^◌, ◌==◌, Bool, true, false, ◌||◌, cond, nat_lt, List, [], ◌∷◌, ◌++◌, length, map, replicate, slice_index, codes, decimal, flat_map, filter, zip, Option, Some, None, ℤ, unsigned_abs}
 use Rattle.std.specs.Fmt.{signed_decimal}
 use Rattle.hex.specs.Hex.{encode_lower}
 use Rattle.json.specs.Print.{quoted}
@@ -10,7 +10,7 @@ use Rattle.audit_model.specs.declared.setting.Ask.{Ask}
 use Rattle.audit_model.specs.declared.setting.Columns.{Columns}
 use Rattle.audit_model.specs.Graph.{count_edges}
 use Rattle.audit_model.specs.Job.{Job, total_population, total_votes}
-use Rattle.audit_model.specs.Meets.{region_count, majorities}
+use Rattle.audit_model.specs.Meets.{region_count, majorities, frozen_count}
 use Rattle.audit_model.specs.Plan.{least_population, greatest_population}
 use Rattle.audit_model.specs.Score.{denominator}
 use Rattle.audit_model.specs.Serially.{serial_told}
@@ -71,13 +71,25 @@ abbrev pub group_line : ℕ → ℕ → List ℕ → List ℕ
 group_line least there [] = []
 group_line least there (n ∷ rest) = line (codes "group-districts" ∷ decimal least ∷ codes "of" ∷ decimal there ∷ [])
 
+-- the share above which a group has a majority, in hundredths of a percent, if it is not one half
+abbrev pub share_line : ℕ → List ℕ → List ℕ
+share_line share [] = []
+share_line share (n ∷ rest) = cond (share == 5000) [] (line (codes "group-share" ∷ decimal share ∷ []))
+
+-- the number of frozen units, if a column of frozen units is named
+abbrev pub frozen_line : List ℕ → List ℕ
+frozen_line [] = []
+frozen_line (f ∷ rest) = line (codes "frozen" ∷ decimal (frozen_count (f ∷ rest)) ∷ [])
+
 -- the rules, if there are some
 abbrev pub rule_lines : Job → List ℕ
 rule_lines job =
     cut_line job
     ++ split_line job.setting.max_split job.regions
     ++ splits_line job.setting.max_splits job.setting.max_split_regions job.regions
-    ++ group_line job.setting.group_districts (majorities job.group job.start) job.group.members
+    ++ group_line job.setting.group_districts (majorities job.setting.group_share job.group job.start) job.group.members
+    ++ share_line job.setting.group_share job.group.members
+    ++ frozen_line job.frozen
 
 -- the numbers of trajectories and of their steps
 abbrev pub setting_line : Job → List ℕ
@@ -168,11 +180,16 @@ abbrev pub group_words : List ℕ → List ℕ → List (List ℕ)
 group_words [] whole = []
 group_words (c ∷ column) whole = codes "group" ∷ quoted (c ∷ column) ∷ codes "of" ∷ quoted whole ∷ []
 
+-- the column of frozen units, if one is named
+abbrev pub frozen_words : List ℕ → List (List ℕ)
+frozen_words [] = []
+frozen_words (c ∷ column) = codes "freeze" ∷ quoted (c ∷ column) ∷ []
+
 -- the names of the columns as JSON texts: population, votes, districts, and optional ones
 abbrev pub columns_line : Columns → List ℕ → List ℕ
 columns_line columns region = line (
     (codes "columns" ∷ quoted columns.population ∷ quoted columns.first ∷ quoted columns.second ∷ quoted columns.district ∷ [])
-    ++ region_words region ++ group_words columns.group columns.whole)
+    ++ region_words region ++ group_words columns.group columns.whole ++ frozen_words columns.frozen)
 
 -- the digest of the source and its columns, if the job has an origin
 abbrev pub origin_lines : Job → Option Origin → List ℕ

@@ -13,7 +13,7 @@ use Rattle.audit_model.specs.Serially.{serial_of}
 use Rattle.audit_model.specs.Stopping.{stops_of}
 use Rattle.audit_model.specs.Trajectory.{Draws, outcome, sequence, whole}
 use Rattle.audit_statement.specs.Checkpoint.{job_digest}
-use Rattle.audit_statement.specs.Histories.{AreCarriedOut, IsNotIntact, KeepsNewest, stopped_in}
+use Rattle.audit_statement.specs.Histories.{AreCarriedOut}
 use Rattle.audit_statement.specs.Slots.{IsNotOurs}
 use Rattle.audit_statement.specs.Draw.{draw}
 use Rattle.audit_statement.specs.Report.{report, thread_report}
@@ -86,15 +86,6 @@ pub record FindTheSame (job other : Job) : Type 0 where
 -- the manner of a run does not change what its job finds
 abbrev pub RerunsAreAlike : Type 0
 RerunsAreAlike = (job : Job) (manner : Manner) → FindTheSame job (rerun job manner)
-
--- ---- a stop
-
--- A stop keeps the newest slot or leaves a newer one: the last success, or a later failed save that had left all its
--- bytes. A failed or interrupted save is required to leave no other valid checkpoint.
-abbrev pub StopsKeepTheNewest : Type 0
-StopsKeepTheNewest = (job : Job) (before after : World) (p : Pair) (status : ℕ) (told now : List Try)
-    (t : TriesOver job before after p status told now) (n : ℕ) (q : Pair)
-    → AreCarriedOut IsNotIntact job (job_digest job) p (stopped_in n t.tries) q → KeepsNewest job (job_digest job) p (stopped_in n t.tries) q
 
 -- ---- chains
 

@@ -16,12 +16,12 @@ abbrev pub IsSilent : List (List ℕ) → List ℕ → Type 0
 IsSilent words name = (other : List ℕ) → said words name other ≡ other
 
 -- The arguments give none of the optional features: saves, resuming, early stopping, the serial test, histograms,
--- regions, a limit on cut edges, a group, the origin. A run that saves nothing walks all its trajectories, so parts
+-- regions, a limit on cut edges, a group, frozen units, the origin. A run that saves nothing walks all its trajectories, so parts
 -- need no mention.
 abbrev pub ArePlain : List (List ℕ) → Type 0
 ArePlain words = All (IsSilent words) (
     codes "--save" ∷ codes "--resume" ∷ codes "--stop" ∷ codes "--serial" ∷ codes "--shift" ∷ codes "--region" ∷ codes "--max-cut"
-    ∷ codes "--group" ∷ codes "--source" ∷ [])
+    ∷ codes "--group" ∷ codes "--source" ∷ codes "--freeze" ∷ [])
 
 -- the text is the digits of the number; `decimal` keeps the last 64 digits only
 abbrev pub IsSpelled : List ℕ → ℕ → Type 0

@@ -6,7 +6,7 @@ use Rattle.std.specs.List.{list_any, slice_index_or, before_first, after_first}
 use Rattle.std.specs.Option.{option_or}
 use Rattle.hex.specs.Hex.{decode_sized}
 use Rattle.audit_model.specs.declared.fault.Name.{Name}
-use Rattle.audit_model.specs.declared.fault.Name.TheVariants.{Pop, First, Second, District, Size, Slack, Key, Walks, Steps, Ends, HubSteps, Ask, Workers, Budget, Save, Resume, MaxCut, Shift, Stop, Serial, Region, MaxSplit, Parts, Part, MaxSplits, MaxSplitRegions, Group, GroupOf, GroupDistricts, Source, Ids, Thin}
+use Rattle.audit_model.specs.declared.fault.Name.TheVariants.{Pop, First, Second, District, Size, Slack, Key, Walks, Steps, Ends, HubSteps, Ask, Workers, Budget, Save, Resume, MaxCut, Shift, Stop, Serial, Region, MaxSplit, Parts, Part, MaxSplits, MaxSplitRegions, Group, GroupOf, GroupDistricts, Source, Ids, Thin, GroupShare, Freeze}
 use Rattle.audit_model.specs.declared.fault.WordFault.{WordFault}
 use Rattle.audit_model.specs.declared.fault.WordFault.TheVariants.{NoCommand, UnknownCommand, UnknownName, Twice, NoValue, MissingName, BadValue}
 use Rattle.audit_model.specs.declared.setting.Ask.{Ask as AskOf}
@@ -30,17 +30,17 @@ use Rattle.audit_model.specs.Limits.{most_trajectories, most_districts, most_reg
 abbrev pub names_of : Command → List Name
 names_of Check =
     Pop ∷ First ∷ Second ∷ District ∷ Slack ∷ MaxCut ∷ Region ∷ MaxSplit
-    ∷ MaxSplits ∷ MaxSplitRegions ∷ Group ∷ GroupOf ∷ GroupDistricts ∷ Source ∷ []
+    ∷ MaxSplits ∷ MaxSplitRegions ∷ Group ∷ GroupOf ∷ GroupDistricts ∷ Source ∷ GroupShare ∷ Freeze ∷ []
 names_of Run =
     Pop ∷ First ∷ Second ∷ District ∷ Slack ∷ Key ∷ Walks ∷ Steps ∷ Ends ∷ HubSteps ∷ Ask ∷ Workers ∷ Budget ∷ Save ∷ Resume ∷ MaxCut ∷ Shift ∷ Stop ∷ Serial ∷ Region ∷ MaxSplit ∷ Parts ∷ Part
-    ∷ MaxSplits ∷ MaxSplitRegions ∷ Group ∷ GroupOf ∷ GroupDistricts ∷ Source ∷ []
+    ∷ MaxSplits ∷ MaxSplitRegions ∷ Group ∷ GroupOf ∷ GroupDistricts ∷ Source ∷ GroupShare ∷ Freeze ∷ []
 names_of Make = Size ∷ Slack ∷ Key ∷ Walks ∷ Steps ∷ Ends ∷ HubSteps ∷ Ask ∷ Workers ∷ Budget ∷ Save ∷ Resume ∷ MaxCut ∷ Shift ∷ Stop ∷ Serial ∷ Parts ∷ Part ∷ []
 names_of Plans =
     Pop ∷ First ∷ Second ∷ District ∷ Slack ∷ Key ∷ Walks ∷ Steps ∷ Ends ∷ HubSteps ∷ Ask ∷ Workers ∷ MaxCut ∷ Shift ∷ Stop ∷ Serial ∷ Region ∷ MaxSplit
-    ∷ MaxSplits ∷ MaxSplitRegions ∷ Group ∷ GroupOf ∷ GroupDistricts ∷ Source ∷ []
+    ∷ MaxSplits ∷ MaxSplitRegions ∷ Group ∷ GroupOf ∷ GroupDistricts ∷ Source ∷ GroupShare ∷ Freeze ∷ []
 names_of Trace =
     Pop ∷ First ∷ Second ∷ District ∷ Slack ∷ Key ∷ Walks ∷ Steps ∷ Ends ∷ HubSteps ∷ Ask ∷ MaxCut ∷ Region ∷ MaxSplit
-    ∷ MaxSplits ∷ MaxSplitRegions ∷ Group ∷ GroupOf ∷ GroupDistricts ∷ Source ∷ Ids ∷ Thin ∷ []
+    ∷ MaxSplits ∷ MaxSplitRegions ∷ Group ∷ GroupOf ∷ GroupDistricts ∷ Source ∷ Ids ∷ Thin ∷ GroupShare ∷ Freeze ∷ []
 
 -- the default of an option, if it may be left out
 abbrev pub default_of : Name → Option (List ℕ)
@@ -76,6 +76,8 @@ default_of GroupDistricts = Some (codes "0")
 default_of Source = Some (codes "no")
 default_of Ids = Some (codes "0")
 default_of Thin = Some (codes "1000")
+default_of GroupShare = Some (codes "5000")
+default_of Freeze = Some []
 
 -- ---- values
 
@@ -265,6 +267,10 @@ module _ (command : Command) (words : List NameAndValue) where
   abbrev pub has_majority_group : Bool
   has_majority_group = (number_named GroupDistricts == 0) || not (is_empty Group)
 
+  -- a share of a group is given only with a group
+  abbrev pub has_share_group : Bool
+  has_share_group = (number_named GroupShare == 5000) || not (is_empty Group)
+
   -- a run of one of several parts saves
   abbrev pub saves_parts : Bool
   saves_parts = (number_named Parts == 1) || nat_le 1 (number_named Save)
@@ -317,6 +323,8 @@ module _ (command : Command) (words : List NameAndValue) where
   is_good Source = is_yes_or_no Source
   is_good Ids = has_ids
   is_good Thin = is_number 1 most_steps (text_of Thin)
+  is_good GroupShare = is_number 0 10000 (text_of GroupShare) && has_share_group
+  is_good Freeze = true
 
   -- the first fault, in their order
   abbrev pub fault_of : Option WordFault
@@ -335,6 +343,7 @@ module _ (command : Command) (words : List NameAndValue) where
     district = text_of District;
     group = text_of Group;
     whole = whole_column (text_of Group) (text_of GroupOf) (text_of Pop);
+    frozen = text_of Freeze;
   }
 
   -- the setting of a run with these values
@@ -365,6 +374,7 @@ module _ (command : Command) (words : List NameAndValue) where
     max_splits = number_named MaxSplits;
     max_split_regions = number_named MaxSplitRegions;
     group_districts = number_named GroupDistricts;
+    group_share = number_named GroupShare;
     source = is_yes Source;
     first_id = 0;
     last_id = 0;
@@ -399,6 +409,7 @@ setting_for Check words = record {
   max_splits = number_named Check words MaxSplits;
   max_split_regions = number_named Check words MaxSplitRegions;
   group_districts = number_named Check words GroupDistricts;
+  group_share = number_named Check words GroupShare;
   source = is_yes Check words Source;
   first_id = 0;
   last_id = 0;
@@ -413,6 +424,7 @@ setting_for Make words = record (as_run Make words) {
     district = codes "district";
     group = [];
     whole = [];
+    frozen = [];
   };
   size = number_named Make words Size;
   region = [];
@@ -420,6 +432,7 @@ setting_for Make words = record (as_run Make words) {
   max_splits = most_splits;
   max_split_regions = most_regions;
   group_districts = 0;
+  group_share = 5000;
   source = false;
 }
 setting_for Plans words = as_run Plans words

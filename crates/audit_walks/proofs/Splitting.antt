@@ -34,5 +34,6 @@ takes_plans job by districts within same count above few =
     let regioned : is_for job.graph.units by.regions ≡ true = rw same (for_units job.graph.units job.regions within.regions.width) in
     let grouped : is_for job.graph.units by.group.members ≡ true =
     rw same (for_units job.graph.units job.group.members (group_for job.graph.units job.group within.group)) in
+    let freezing : is_for job.graph.units by.frozen ≡ true = rw same (for_units job.graph.units job.frozen within.frozen) in
     let below : above ≤ districts = rw count few in
-    rw (regioned, grouped, le-leb above districts below) refl
+    rw (regioned, grouped, freezing, le-leb above districts below) refl

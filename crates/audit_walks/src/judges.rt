@@ -11,8 +11,8 @@ use audit_model::rules::Rules;
 use flip_guard::guard::Guard;
 use std::alloc::Global;
 
-/// Makes `count` constraints from one test of the number of cut edges. The rules must name no regions and require no
-/// majorities. The only error is out of memory.
+/// Makes `count` constraints from one test of the number of cut edges. The rules must name no
+/// regions, require no majorities and freeze no unit. The only error is out of memory.
 pub fn guards<F: Fn(&SumsView) -> bool + Copy + Drop>(
     alloc: Global,
     test: F,
@@ -23,6 +23,7 @@ pub fn guards<F: Fn(&SumsView) -> bool + Copy + Drop>(
     requires answers { (sums : Sums) (answer : Bool) → sums.cut < 2 ^ 32 → FnReturnsAt F.Fn test sums answer → answer ≡ nat_le sums.cut rules.now.max_cut }
     requires no_regions { rules.now.regions ≡ [] }
     requires no_group { rules.now.group_districts ≡ 0 }
+    requires no_frozen { rules.now.frozen ≡ [] }
     ensures each { IfOk result (λ j. AreGuards test rules.now j.items) }
     ensures count { IfOk result (λ j. vec_len j ≡ count) }
 {

@@ -119,6 +119,7 @@ IsSetting-run command words good limits is = record {
   few_in_all = limits.max_splits;
   few_split_regions = limits.max_split_regions;
   few_group_districts = limits.group_districts;
+  few_shares = limits.group_share;
   part = HasPart-good command words good;
   command = is;
 }
@@ -134,6 +135,7 @@ IsSetting-good Check words good = record {
   few_in_all = (AreBounded-good words good.2).max_splits;
   few_split_regions = (AreBounded-good words good.2).max_split_regions;
   few_group_districts = (AreBounded-good words good.2).group_districts;
+  few_shares = (AreBounded-good words good.2).group_share;
   part = record { some = omega arith; few = omega arith; one_of = omega arith; saves = λ several. absurd (omega (arith, several)) };
   command = record {
     no_walks = refl;
@@ -155,6 +157,7 @@ IsSetting-good Make words good = record {
   few_in_all = omega arith;
   few_split_regions = omega arith;
   few_group_districts = omega arith;
+  few_shares = omega arith;
   part = HasPart-made words (HasPart-good Make words good.0);
   command = IsRunSetting-made words (IsRunSetting-good Make words good.0);
 }
@@ -174,6 +177,7 @@ IsSetting-good Trace words good =
       few_in_all = bounds.max_splits;
       few_split_regions = bounds.max_split_regions;
       few_group_districts = bounds.group_districts;
+      few_shares = bounds.group_share;
       part = record { some = part.some; few = part.few; one_of = part.one_of; saves = part.saves };
       command = record {
         run = record {

@@ -107,7 +107,7 @@ pub fn is_good(command: Command, words: &[String], name: Name) -> bool
 {
     let text = text_of(words, name);
     match name {
-        Name::Pop | Name::First | Name::Second | Name::Region | Name::Group => true,
+        Name::Pop | Name::First | Name::Second | Name::Region | Name::Group | Name::Freeze => true,
         Name::District => is_one_line(command, text),
         Name::Size => is_number(1, 30, text),
         Name::Slack => is_number(0, 10_000, text),
@@ -170,5 +170,8 @@ pub fn is_good(command: Command, words: &[String], name: Name) -> bool
             )
         }
         Name::Thin => is_number(1, 1_000_000_000, text),
+        Name::GroupShare => {
+            is_number(0, 10_000, text) && is_set_for(words, name, 5_000, Name::Group)
+        }
     }
 }

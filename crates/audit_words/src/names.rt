@@ -6,7 +6,7 @@ ghost use Rattle.audit_statement.specs.Words as definition;
 use audit_model::fault::Name;
 use audit_model::setting::Command;
 
-const OF_CHECK: [Name; 14] = [
+const OF_CHECK: [Name; 16] = [
     Name::Pop,
     Name::First,
     Name::Second,
@@ -21,9 +21,11 @@ const OF_CHECK: [Name; 14] = [
     Name::GroupOf,
     Name::GroupDistricts,
     Name::Source,
+    Name::GroupShare,
+    Name::Freeze,
 ];
 
-const OF_RUN: [Name; 29] = [
+const OF_RUN: [Name; 31] = [
     Name::Pop,
     Name::First,
     Name::Second,
@@ -53,6 +55,8 @@ const OF_RUN: [Name; 29] = [
     Name::GroupOf,
     Name::GroupDistricts,
     Name::Source,
+    Name::GroupShare,
+    Name::Freeze,
 ];
 
 const OF_MAKE: [Name; 18] = [
@@ -76,7 +80,7 @@ const OF_MAKE: [Name; 18] = [
     Name::Part,
 ];
 
-const OF_PLANS: [Name; 24] = [
+const OF_PLANS: [Name; 26] = [
     Name::Pop,
     Name::First,
     Name::Second,
@@ -101,9 +105,11 @@ const OF_PLANS: [Name; 24] = [
     Name::GroupOf,
     Name::GroupDistricts,
     Name::Source,
+    Name::GroupShare,
+    Name::Freeze,
 ];
 
-const OF_TRACE: [Name; 22] = [
+const OF_TRACE: [Name; 24] = [
     Name::Pop,
     Name::First,
     Name::Second,
@@ -126,6 +132,8 @@ const OF_TRACE: [Name; 22] = [
     Name::Source,
     Name::Ids,
     Name::Thin,
+    Name::GroupShare,
+    Name::Freeze,
 ];
 
 /// Returns the default value of a name, if the name may be omitted.
@@ -141,10 +149,10 @@ pub fn default_of(name: Name) -> Option<&'static str>
         Name::Part | Name::GroupDistricts | Name::Ids => Some("0"),
         Name::Resume | Name::Shift | Name::Serial | Name::Source => Some("no"),
         Name::MaxCut => Some("400000"),
-        Name::Region | Name::Group | Name::GroupOf => Some(""),
+        Name::Region | Name::Group | Name::GroupOf | Name::Freeze => Some(""),
         Name::MaxSplit => Some("200"),
         Name::MaxSplits => Some("995000"),
-        Name::MaxSplitRegions => Some("5000"),
+        Name::MaxSplitRegions | Name::GroupShare => Some("5000"),
         Name::Pop | Name::First | Name::Second | Name::District => None,
         Name::Size | Name::Key | Name::Ask => None,
     }

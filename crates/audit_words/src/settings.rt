@@ -51,11 +51,12 @@ fn columns_of(alloc: Global, words: &[String]) -> Result<Columns, Memory>
         district: copied(alloc, text_of(words, Name::District))?,
         group: copied(alloc, text_of(words, Name::Group))?,
         whole: copied(alloc, whole_column(words))?,
+        frozen: copied(alloc, text_of(words, Name::Freeze))?,
     })
 }
 
 fn columns_of_grid(alloc: Global) -> Result<Columns, Memory>
-    ensures { IfOk result (λ columns. columns ≡ record { population = codes "pop"; first = codes "a"; second = codes "b"; district = codes "district"; group = []; whole = [] }) }
+    ensures { IfOk result (λ columns. columns ≡ record { population = codes "pop"; first = codes "a"; second = codes "b"; district = codes "district"; group = []; whole = []; frozen = [] }) }
 {
     Ok(Columns {
         population: copied(alloc, "pop")?,
@@ -64,16 +65,19 @@ fn columns_of_grid(alloc: Global) -> Result<Columns, Memory>
         district: copied(alloc, "district")?,
         group: Text::new(alloc),
         whole: Text::new(alloc),
+        frozen: Text::new(alloc),
     })
 }
 
-/// The limits on the splits of regions and on the majority districts of a group.
+/// The limits on the splits of regions and on the majority districts of a group, and the share that
+/// a majority exceeds.
 #[derive(Clone, Copy)]
 struct Limits {
     max_split: u32,
     max_splits: u32,
     max_split_regions: u32,
     group_districts: u32,
+    group_share: u32,
 }
 
 fn limits_of(words: &[String]) -> Limits
@@ -82,12 +86,14 @@ fn limits_of(words: &[String]) -> Limits
     ensures max_splits { result.max_splits ≡ definition.number_named command.Check (pairs_in words.now) name.MaxSplits }
     ensures max_split_regions { result.max_split_regions ≡ definition.number_named command.Check (pairs_in words.now) name.MaxSplitRegions }
     ensures group_districts { result.group_districts ≡ definition.number_named command.Check (pairs_in words.now) name.GroupDistricts }
+    ensures group_share { result.group_share ≡ definition.number_named command.Check (pairs_in words.now) name.GroupShare }
 {
     Limits {
         max_split: number_at(words, Name::MaxSplit),
         max_splits: number_at(words, Name::MaxSplits),
         max_split_regions: number_at(words, Name::MaxSplitRegions),
         group_districts: number_at(words, Name::GroupDistricts),
+        group_share: number_at(words, Name::GroupShare),
     }
 }
 
@@ -124,6 +130,7 @@ fn check_setting(alloc: Global, words: &[String]) -> Result<Setting, Memory>
         max_splits: limits.max_splits,
         max_split_regions: limits.max_split_regions,
         group_districts: limits.group_districts,
+        group_share: limits.group_share,
         source: text_of(words, Name::Source) == "yes",
         first_id: 0,
         last_id: 0,
@@ -149,7 +156,7 @@ fn run_setting(
     ground: Ground,
 ) -> Result<Setting, Memory>
     requires { AreGood (pairs_in words.now) }
-    ensures { IfOk result (λ setting. setting ≡ record (definition.as_run command (pairs_in words.now)) { columns = ground.columns; size = ground.size; region = ground.region; max_split = ground.limits.max_split; max_splits = ground.limits.max_splits; max_split_regions = ground.limits.max_split_regions; group_districts = ground.limits.group_districts; source = ground.source }) }
+    ensures { IfOk result (λ setting. setting ≡ record (definition.as_run command (pairs_in words.now)) { columns = ground.columns; size = ground.size; region = ground.region; max_split = ground.limits.max_split; max_splits = ground.limits.max_splits; max_split_regions = ground.limits.max_split_regions; group_districts = ground.limits.group_districts; group_share = ground.limits.group_share; source = ground.source }) }
 {
     Ok(Setting {
         command,
@@ -177,6 +184,7 @@ fn run_setting(
         max_splits: ground.limits.max_splits,
         max_split_regions: ground.limits.max_split_regions,
         group_districts: ground.limits.group_districts,
+        group_share: ground.limits.group_share,
         source: ground.source,
         first_id: 0,
         last_id: 0,
@@ -219,7 +227,8 @@ fn trace_setting(alloc: Global, words: &[String]) -> Result<Setting, Memory>
     })
 }
 
-/// Returns the setting of a run on a generated grid, which has no regions, no group and no origin.
+/// Returns the setting of a run on a generated grid, which has no regions, no group, no frozen
+/// units and no origin.
 fn made_setting(alloc: Global, words: &[String]) -> Result<Setting, Memory>
     requires run { AreGood (pairs_in words.now) }
     requires size { definition.is_good command.Make (pairs_in words.now) name.Size ≡ true }
@@ -234,6 +243,7 @@ fn made_setting(alloc: Global, words: &[String]) -> Result<Setting, Memory>
             max_splits: 995_000,
             max_split_regions: 5_000,
             group_districts: 0,
+            group_share: 5_000,
         },
         source: false,
     };

@@ -7,7 +7,7 @@ ghost use Rattle.audit_model.specs.Graph.{IsGraph, count_edges};
 ghost use Rattle.audit_model.specs.JobOf.{IsJob};
 ghost use Rattle.audit_model.specs.Limits.{IsGroup};
 ghost use Rattle.audit_statement.specs.Checkpoint as definition;
-ghost use Rattle.audit_statement.specs.Checkpoint.{digest_name, edge_bytes, group_bytes, has_further_rules, has_group, has_rules, limits_splits, member_bytes, region_bytes, rule_bytes, split_bytes, unit_bytes, score_code, tail_code};
+ghost use Rattle.audit_statement.specs.Checkpoint.{digest_name, edge_bytes, frozen_bytes, group_bytes, has_frozen, has_further_rules, has_group, has_newer_rules, has_rules, has_share, limits_splits, member_bytes, region_bytes, rule_bytes, share_bytes, split_bytes, unit_bytes, score_code, tail_code};
 ghost use Rattle.ckpt_format.specs.Hashed.{Hashes, ask_bytes, counts_bytes, edges_from, setting_bytes};
 
 use audit_model::rules::{Group, Rules};
@@ -23,7 +23,12 @@ pub fn job_digest(job: &Job) -> [u8; 32]
     let mut hasher = Sha256::new();
     let rules = job.rules();
     let limited = has_rules(rules);
-    hash_name(&mut hasher, limited, has_further_rules(rules));
+    hash_name(
+        &mut hasher,
+        limited,
+        has_further_rules(rules),
+        has_newer_rules(rules),
+    );
     hash_counts(&mut hasher, job);
     hash_edges(&mut hasher, job.graph());
     hash_units(&mut hasher, job);
@@ -32,11 +37,11 @@ pub fn job_digest(job: &Job) -> [u8; 32]
     hasher.finalize()
 }
 
-/// Returns true if the rules limit the cut edges or have regions or a group.
+/// Returns true if the rules limit the cut edges or have regions, a group or frozen units.
 fn has_rules(rules: &Rules) -> bool
     ensures { result ≡ has_rules rules.now }
 {
-    rules.max_cut < 400_000 || rules.regions.len() != 0 || has_group(rules)
+    rules.max_cut < 400_000 || rules.regions.len() != 0 || has_group(rules) || has_frozen(rules)
 }
 
 /// Returns true if the rules limit splits in all or split regions, or have a group. The digest then has its third form.
@@ -59,11 +64,36 @@ fn has_group(rules: &Rules) -> bool
     rules.group.members.len() != 0
 }
 
-/// Hashes the name of the format: the second with limits, the third with further rules, else the first.
-fn hash_name(hasher: &mut Sha256, limited: bool, further: bool)
-    ensures { Hashes hasher.old hasher.new (digest_name limited further) }
+/// Returns true if there is a group and the share for its majority is not one half.
+fn has_share(rules: &Rules) -> bool
+    ensures { result ≡ has_share rules.now }
 {
-    if further {
+    has_group(rules) && rules.group_share != 5_000
+}
+
+/// Returns true if the rules have a column of frozen units.
+fn has_frozen(rules: &Rules) -> bool
+    ensures { result ≡ has_frozen rules.now }
+{
+    rules.frozen.len() != 0
+}
+
+/// Returns true if a group's share is not one half, or if there is a column of frozen units. The
+/// digest then has its fourth form.
+fn has_newer_rules(rules: &Rules) -> bool
+    ensures { result ≡ has_newer_rules rules.now }
+{
+    has_share(rules) || has_frozen(rules)
+}
+
+/// Hashes the name of the format: the second with limits, the third with further rules, the fourth
+/// with newer rules, else the first.
+fn hash_name(hasher: &mut Sha256, limited: bool, further: bool, newer: bool)
+    ensures { Hashes hasher.old hasher.new (digest_name limited further newer) }
+{
+    if newer {
+        hasher.update("district-job 4");
+    } else if further {
         hasher.update("district-job 3");
     } else if limited {
         hasher.update("district-job 2");
@@ -150,6 +180,8 @@ fn hash_rules(hasher: &mut Sha256, limited: bool, units: u32, rules: &Rules)
         hash_regions(hasher, rules.max_split, rules.regions.as_slice());
         hash_splits(hasher, rules);
         hash_group(hasher, units, rules);
+        hash_share(hasher, rules);
+        hash_frozen(hasher, rules);
     }
 }
 
@@ -196,6 +228,34 @@ fn hash_members(hasher: &mut Sha256, units: u32, group: &Group)
     }
 }
 
+/// Hashes the share for a group's majority if there is a group and the share is not one half.
+fn hash_share(hasher: &mut Sha256, rules: &Rules)
+    ensures { Hashes hasher.old hasher.new (share_bytes rules.now) }
+{
+    if has_share(rules) {
+        hash_tag(hasher, "group-share");
+        hash_u32(hasher, rules.group_share);
+    }
+}
+
+/// Hashes the flag of each unit if there is a column of frozen units.
+fn hash_frozen(hasher: &mut Sha256, rules: &Rules)
+    ensures { Hashes hasher.old hasher.new (frozen_bytes rules.now) }
+{
+    if has_frozen(rules) {
+        hash_tag(hasher, "freeze");
+        hash_numbers(hasher, rules.frozen.as_slice());
+    }
+}
+
+/// Hashes the bytes of a text.
+fn hash_tag(hasher: &mut Sha256, tag: &str)
+    ensures { Hashes hasher.old hasher.new tag.now }
+{
+    hasher.update(tag);
+}
+
+/// Hashes numbers of four bytes each.
 fn hash_numbers(hasher: &mut Sha256, numbers: &[u32])
     ensures { Hashes hasher.old hasher.new (flat_map (to_be_bytes w32) numbers.now) }
 {

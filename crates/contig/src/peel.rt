@@ -7,6 +7,7 @@ use crate::face::Face;
 use audit_model::memory::Memory;
 use dual_graph::graph::Graph;
 use std::alloc::Global;
+use std::mem::swap;
 
 /// The weight of a crowded side, in neighbors.
 const CROWDED: usize = 4;
@@ -171,14 +172,20 @@ impl Sides {
 /// there is none, it drops a ring. In a plane graph, at most two faces share a side.
 pub fn peeled(alloc: Global, graph: &Graph, rings: &[Face]) -> Result<Vec<Face>, Memory> {
     let mut sides = Sides::of(alloc, graph, rings)?;
-    let order = drop_order(alloc, graph, &sides, rings)?;
+    let mut counts = sides.counts.clone()?;
     let mut left: Vec<bool> = vec![in alloc; true; rings.len()]?;
     let mut kept = Vec::new(alloc);
-    for number in order {
-        keep_ready(graph, rings, &mut sides, &mut left, &mut kept)?;
-        take_off(graph, rings, &mut sides, &mut left, number)?;
-    }
     keep_ready(graph, rings, &mut sides, &mut left, &mut kept)?;
+    if kept.len() < rings.len() {
+        // The classes go by all rings, those among them that are taken off already.
+        swap(&mut sides.counts, &mut counts);
+        let order = drop_order(alloc, graph, &sides, rings)?;
+        swap(&mut sides.counts, &mut counts);
+        for number in order {
+            take_off(graph, rings, &mut sides, &mut left, number)?;
+            keep_ready(graph, rings, &mut sides, &mut left, &mut kept)?;
+        }
+    }
     kept.reverse();
     Ok(kept)
 }

@@ -18,12 +18,12 @@ use Rattle.audit_model.specs.Below.{any_below, count_below, filter_below, map_be
 use Rattle.audit_model.specs.First.{first_below, first_some_below}
 use Rattle.audit_model.specs.Graph.{Graph, IsGraph, count_edges}
 use Rattle.audit_model.specs.Label.{same_label, label_before}
-use Rattle.audit_model.specs.Limits.{IsColumn, AreWithin, IsGroup}
+use Rattle.audit_model.specs.Limits.{AreFrozen, IsColumn, AreWithin, IsGroup}
 use Rattle.audit_model.specs.Parsed.{Parsed}
 use Rattle.audit_statement.specs.Reading.{Document, graph, joined, id_of, same_id, refused_if, label_count, label_at, is_new_label, district_at, refusal, parsed, reading, of_root, of_json, bad_part}
 use Rattle.audit_model.proofs.Below.{count_below_same, filter_below_same, length-map_below, get_or-map_below, map_below_same}
 use Rattle.audit_model.proofs.First.{first_below_same, first_some_below_same, any_below_same, first_passes, none_or_any}
-use Rattle.dual_json.specs.Columns.{count_from, count_in, names_group, missing, bad, numbers_in, AreOfGroup}
+use Rattle.dual_json.specs.Columns.{count_from, count_in, flag_in, flags_in, frozen_in, names_frozen, names_group, missing, bad, numbers_in, AreOfGroup}
 use Rattle.dual_json.specs.Districts.{AreDistricts, district_count_fault, is_new, different_count}
 use Rattle.dual_json.specs.Edges.{entries_at, first_in, first_entry_in, is_unknown, is_unnamed, joined_in, graph_in, edges_fault, names_node}
 use Rattle.dual_json.specs.Places.{object_at, nth, first_unnamed, AreLabels, place_of_label, repeated_label}
@@ -189,18 +189,20 @@ module _ (d : Document) (columns : Columns) (labels found : List Label) (start :
 -- ---- the result
 
 -- the graph and the columns are the parsed document
-pub parsed_is : (d : Document) (columns : Columns) (g : Graph) (counts : Counts) (group : Group) (start : List ℕ) (found : List Label) → graph d ≡ g
-    → AreRows columns d.nodes counts group start found → parsed d columns ≡ record { graph = g; counts = counts; group = group; start = start; labels = found }
-parsed_is d columns g counts group start found is rows =
+pub parsed_is : (d : Document) (columns : Columns) (g : Graph) (counts : Counts) (group : Group) (frozen start : List ℕ) (found : List Label) → graph d ≡ g
+    → AreRows columns d.nodes counts group frozen start found
+    → parsed d columns ≡ record { graph = g; counts = counts; group = group; frozen = frozen; start = start; labels = found }
+parsed_is d columns g counts group frozen start found is rows =
     let old = parsed d columns in
-    ap (λ (x : Graph). made x old.counts old.group old.start old.labels) is
-    ∙ ap (λ x. made g (counted x old.counts.first old.counts.second) old.group old.start old.labels) (sym rows.population)
-    ∙ ap (λ x. made g (counted counts.population x old.counts.second) old.group old.start old.labels) (sym rows.first)
-    ∙ ap (λ x. made g (counted counts.population counts.first x) old.group old.start old.labels) (sym rows.second)
-    ∙ ap (λ x. made g counts (grouped x old.group.whole) old.start old.labels) (sym rows.grouped.members)
-    ∙ ap (λ x. made g counts (grouped group.members x) old.start old.labels) (sym rows.grouped.whole)
-    ∙ ap (λ x. made g counts group x old.labels) (start_same d columns rows.labels found start rows.labelled rows.districts)
-    ∙ ap (λ x. made g counts group start x) (labels_same d columns rows.labels found start rows.labelled rows.districts)
+    ap (λ (x : Graph). made x old.counts old.group old.frozen old.start old.labels) is
+    ∙ ap (λ x. made g (counted x old.counts.first old.counts.second) old.group old.frozen old.start old.labels) (sym rows.population)
+    ∙ ap (λ x. made g (counted counts.population x old.counts.second) old.group old.frozen old.start old.labels) (sym rows.first)
+    ∙ ap (λ x. made g (counted counts.population counts.first x) old.group old.frozen old.start old.labels) (sym rows.second)
+    ∙ ap (λ x. made g counts (grouped x old.group.whole) old.frozen old.start old.labels) (sym rows.grouped.members)
+    ∙ ap (λ x. made g counts (grouped group.members x) old.frozen old.start old.labels) (sym rows.grouped.whole)
+    ∙ ap (λ x. made g counts group x old.start old.labels) (sym rows.freezing)
+    ∙ ap (λ x. made g counts group frozen x old.labels) (start_same d columns rows.labels found start rows.labelled rows.districts)
+    ∙ ap (λ x. made g counts group frozen start x) (labels_same d columns rows.labels found start rows.labelled rows.districts)
   where
     counted : List ℕ → List ℕ → List ℕ → Counts
     counted a b c = record { population = a; first = b; second = c }
@@ -208,8 +210,8 @@ parsed_is d columns g counts group start found is rows =
     grouped : List ℕ → List ℕ → Group
     grouped a b = record { members = a; whole = b }
 
-    made : Graph → Counts → Group → List ℕ → List Label → Parsed
-    made g counts group start labels = record { graph = g; counts = counts; group = group; start = start; labels = labels }
+    made : Graph → Counts → Group → List ℕ → List ℕ → List Label → Parsed
+    made g counts group frozen start labels = record { graph = g; counts = counts; group = group; frozen = frozen; start = start; labels = labels }
 
 -- an accepted count is at most 10 ^ 9
 small_count : (o : Option ℕ) → unwrap_or (option_and_then (λ n. cond (nat_le n (10 ^ 9)) (Some n) None) o) 0 ≤ 10 ^ 9
@@ -237,9 +239,9 @@ column_is key nodes units numbers is long =
     }
 
 -- the data of few enough nodes is within the limits
-pub within_is : (nodes : List Data) (columns : Columns) (g : Graph) (counts : Counts) (group : Group) (start : List ℕ) (found : List Label) → IsGraph g → g.units ≡ length nodes → length nodes ≤ 100000
-    → count_edges g (λ u v. true) ≤ 400000 → AreRows columns nodes counts group start found → AreWithin g counts start (length found)
-within_is nodes columns g counts group start found simple units few edges rows = record {
+pub within_is : (nodes : List Data) (columns : Columns) (g : Graph) (counts : Counts) (group : Group) (frozen start : List ℕ) (found : List Label) → IsGraph g → g.units ≡ length nodes → length nodes ≤ 100000
+    → count_edges g (λ u v. true) ≤ 400000 → AreRows columns nodes counts group frozen start found → AreWithin g counts start (length found)
+within_is nodes columns g counts group frozen start found simple units few edges rows = record {
   simple = simple;
   units = omega (arith, units, few);
   edges = edges;
@@ -259,6 +261,14 @@ group_is nodes columns units group are long = by (names_group columns) are.membe
     by : (b : Bool) → group.members ≡ cond b (numbers_in columns.group nodes) [] → group.whole ≡ cond b (numbers_in columns.whole nodes) [] → IsGroup units group
     by true members whole = inr (column_is columns.group nodes units group.members members long, column_is columns.whole nodes units group.whole whole long)
     by false members whole = inl (members, whole)
+
+-- the frozen units that are read have one flag per unit, or none
+pub frozen_is : (nodes : List Data) (columns : Columns) (units : ℕ) (frozen : List ℕ) → frozen ≡ frozen_in columns nodes → units ≡ length nodes → AreFrozen units frozen
+frozen_is nodes columns units frozen is long = by (names_frozen columns) is
+  where
+    by : (b : Bool) → frozen ≡ cond b (flags_in columns.frozen nodes) [] → AreFrozen units frozen
+    by true all = inr (ap length all ∙ length-map_below (length nodes) (λ i. unwrap_or (flag_in columns.frozen (object_at nodes i)) 0) ∙ sym long)
+    by false none = inl none
 
 -- a number of districts without a fault is 2 to 200
 pub count_within : (n : ℕ) → district_count_fault n ≡ None → (2 ≤ n) × (n ≤ 200)

@@ -12,7 +12,7 @@ use Rattle.audit_model.specs.Below.{any_below}
 use Rattle.audit_model.specs.First.{first_below, first_some_below}
 use Rattle.audit_model.specs.Graph.{count_edges}
 use Rattle.audit_statement.specs.Reading.{Document, graph, id_of, same_id, refused_if}
-use Rattle.dual_json.specs.Columns.{missing, bad, numbers_in, AreOfGroup}
+use Rattle.dual_json.specs.Columns.{missing, bad, numbers_in, frozen_in, AreOfGroup}
 use Rattle.dual_json.specs.Districts.{AreDistricts}
 use Rattle.dual_json.specs.Edges.{entries_at, first_in, is_unnamed}
 use Rattle.dual_json.specs.Places.{object_at, first_unnamed, AreLabels}
@@ -51,11 +51,12 @@ abbrev pub labels_fault : Columns → List Data → Option GraphFault
 labels_fault columns nodes = option_or (missing columns nodes) (option_or (bad columns nodes) (option_map fault.BadLabel (first_unnamed columns.district nodes)))
 
 -- the data of the columns
-pub record AreRows (columns : Columns) (nodes : List Data) (counts : Counts) (group : Group) (start : List ℕ) (found : List Label) : Type 0 where
+pub record AreRows (columns : Columns) (nodes : List Data) (counts : Counts) (group : Group) (frozen start : List ℕ) (found : List Label) : Type 0 where
   pub population : counts.population ≡ numbers_in columns.population nodes
   pub first : counts.first ≡ numbers_in columns.first nodes
   pub second : counts.second ≡ numbers_in columns.second nodes
   pub grouped : AreOfGroup columns nodes group
+  pub freezing : frozen ≡ frozen_in columns nodes
   pub labels : List Label
   pub labelled : AreLabels columns.district nodes labels
   pub districts : AreDistricts labels found start

@@ -6,7 +6,7 @@ ghost use Rattle.serde_json.specs.Read.{read};
 ghost use Rattle.dual_json.specs.Values.{value_data};
 ghost use Rattle.audit_model.specs.declared.fault.GraphFault.TheVariants as fault;
 ghost use Rattle.audit_model.specs.Graph.{IsGraph, count_edges};
-ghost use Rattle.audit_model.specs.Limits.{AreWithin, IsGroup, most_units, most_edges};
+ghost use Rattle.audit_model.specs.Limits.{AreFrozen, AreWithin, IsGroup, most_units, most_edges};
 ghost use Rattle.dual_graph.specs.Read.{parsed_of};
 ghost use Rattle.audit_statement.specs.Reading.{graph, parsed, reading, refusal};
 ghost use Rattle.dual_json.specs.Districts.{district_count_fault, different_count};
@@ -14,7 +14,7 @@ ghost use Rattle.dual_json.specs.Places.{labels_from, repeated_label, AreLabels}
 ghost use Rattle.dual_json.specs.Shape.{views, document_of_parts};
 ghost use Rattle.dual_json.specs.Stages.{ids_fault, graph_fault, labels_fault, AreRows};
 
-use crate::columns::{check_columns, check_numbers, counts_of, group_of};
+use crate::columns::{check_columns, check_numbers, counts_of, frozen_of, group_of};
 use crate::districts::{check_count, different, labels_of, start_of};
 use crate::edges::{check_entries, graph_of};
 use crate::index::Index;
@@ -57,11 +57,13 @@ pub(crate) fn value_of<'t>(
 struct Rows {
     counts: Counts,
     group: Group,
+    frozen: UnitList,
     start: UnitList,
     labels: LabelList,
 }
 
-/// Reads the graph, its counts, the group if one is named, the start plan and the district labels.
+/// Reads the graph, its counts, the start plan and the district labels. The group and the frozen
+/// units are read if they are named.
 ///
 /// The text is in networkx's adjacency format.
 ///
@@ -74,6 +76,7 @@ pub fn read_graph(alloc: Global, bytes: &[u8], cols: &Columns) -> Result<Parsed,
         (λ f. (f ≡ fault.Memory) ⊎ (reading bytes.now cols.now ≡ Err f)) }
     ensures within { IfOk result (λ p. AreWithin p.graph p.counts p.start (length p.labels)) }
     ensures group { IfOk result (λ p. IsGroup p.graph.units p.group) }
+    ensures frozen { IfOk result (λ p. AreFrozen p.graph.units p.frozen) }
 {
     let mut scratch = Scratch::new(alloc);
     read_beside(alloc, bytes, cols, &mut scratch)
@@ -90,6 +93,7 @@ fn read_beside<'t>(
         (λ f. (f ≡ fault.Memory) ⊎ (reading bytes.now cols.now ≡ Err f)) }
     ensures within { IfOk result (λ p. AreWithin p.graph p.counts p.start (length p.labels)) }
     ensures group { IfOk result (λ p. IsGroup p.graph.units p.group) }
+    ensures frozen { IfOk result (λ p. AreFrozen p.graph.units p.frozen) }
 {
     let root = value_of(alloc, bytes, scratch)?;
     match parts_of(&root) {
@@ -153,7 +157,7 @@ fn rows_of<'v>(
     requires few { length names.now ≤ most_units }
     requires labels { AreLabels columns.now.district (views nodes.now) (labels_from names.now) }
     ensures { MatchResult result
-        (λ rows. (district_count_fault (different_count (labels_from names.now)) ≡ None) × AreRows columns.now (views nodes.now) rows.counts rows.group rows.start rows.labels)
+        (λ rows. (district_count_fault (different_count (labels_from names.now)) ≡ None) × AreRows columns.now (views nodes.now) rows.counts rows.group rows.frozen rows.start rows.labels)
         (λ f. (f ≡ fault.Memory) ⊎ (district_count_fault (different_count (labels_from names.now)) ≡ Some f)) }
 {
     let found = different(alloc, names)?;
@@ -161,10 +165,12 @@ fn rows_of<'v>(
     check_count(found.len())?;
     let counts = counts_of(alloc, nodes, columns)?;
     let group = group_of(alloc, nodes, columns)?;
+    let frozen = frozen_of(alloc, nodes, columns)?;
     let labels = labels_of(alloc, &found)?;
     Ok(Rows {
         counts,
         group,
+        frozen,
         start,
         labels,
     })
@@ -177,6 +183,7 @@ fn read_parts(alloc: Global, parts: &Parts<'_, '_>, columns: &Columns) -> Result
         (λ f. (f ≡ fault.Memory) ⊎ (refusal (document_of_parts parts.now) columns.now ≡ Some f)) }
     ensures within { IfOk result (λ p. AreWithin p.graph p.counts p.start (length p.labels)) }
     ensures group { IfOk result (λ p. IsGroup p.graph.units p.group) }
+    ensures frozen { IfOk result (λ p. AreFrozen p.graph.units p.frozen) }
 {
     let graph = graph_in(alloc, parts)?;
     let names = names_in(alloc, parts.nodes, columns)?;
@@ -185,6 +192,7 @@ fn read_parts(alloc: Global, parts: &Parts<'_, '_>, columns: &Columns) -> Result
         graph,
         counts: rows.counts,
         group: rows.group,
+        frozen: rows.frozen,
         start: rows.start,
         labels: rows.labels,
     })

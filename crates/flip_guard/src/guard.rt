@@ -22,12 +22,13 @@ pub struct Guard<F> {
 impl<F: Fn(&SumsView) -> bool + Drop> Guard<F> {
     /// Wraps a closure that returns true if the cut edges are at most the rules' maximum.
     ///
-    /// The rules have no regions and require no group majority.
+    /// The rules have no regions, require no group majority and freeze no unit.
     pub fn new(test: F, rules: Rules) -> Guard<F>
         requires callable { F.IsAlwaysCallable test }
         requires answers { (sums : Sums) (answer : Bool) → sums.cut < 2 ^ 32 → FnReturnsAt F.Fn test sums answer → answer ≡ nat_le sums.cut rules.max_cut }
         requires no_regions { rules.regions ≡ [] }
         requires no_group { rules.group_districts ≡ 0 }
+        requires no_frozen { rules.frozen ≡ [] }
         ensures rules { result.rules ≡ rules }
         ensures test { result.test ≡ test }
     {
@@ -61,7 +62,8 @@ impl<F: Fn(&SumsView) -> bool + Drop> Judge for Guard<F> {
       keeps = F.IsAlwaysCallable g.test
           × ((sums : Sums) (answer : Bool) → sums.cut < 2 ^ 32 → FnReturnsAt F.Fn g.test sums answer → answer ≡ nat_le sums.cut g.rules.max_cut)
           × (g.rules.regions ≡ [])
-          × (g.rules.group_districts ≡ 0);
+          × (g.rules.group_districts ≡ 0)
+          × (g.rules.frozen ≡ []);
       stands = λ plan. ⊤;
     } };
 

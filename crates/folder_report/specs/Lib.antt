@@ -1,4 +1,5 @@
 pub mod FolderLines
 pub mod Gatherings
+pub mod Helps
 pub mod Shown
 pub mod SlotLines

@@ -2,9 +2,11 @@
 #![tactic(auto)]
 
 pub mod gathering;
+pub mod help;
 mod lines;
 mod slot_lines;
 pub mod slots;
 
 pub use gathering::gather_and_tell;
+pub use help::{FolderProgram, answer_words};
 pub use slots::tell_slots;

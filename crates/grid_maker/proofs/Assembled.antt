@@ -215,15 +215,16 @@ module _ (size : ℕ) (key : List ℕ) (some : 1 ≤ size) (small : size ≤ 30)
   second_count : (i : ℕ) → i < units_of size → count_in (codes "b") (node_tree size key i) ≡ Some (100 - first_votes_of key i)
   second_count i l = rw (le-leb (100 - first_votes_of key i) (10 ^ 9) (omega arith)) refl
 
-  pub made_rows : (counts : Counts) (group : Group) (start : List ℕ) (found : List Label) → counts.population ≡ map_below (units_of size) (λ u. 100)
+  pub made_rows : (counts : Counts) (group : Group) (frozen start : List ℕ) (found : List Label) → counts.population ≡ map_below (units_of size) (λ u. 100)
       → counts.first ≡ map_below (units_of size) (first_votes_of key) → counts.second ≡ map_below (units_of size) (λ u. 100 - first_votes_of key u)
-      → group ≡ record { members = []; whole = [] } → start ≡ map_below (units_of size) (district_of size) → found ≡ map_below 10 (λ d. Whole (pos d))
-      → AreRows grid_columns made.nodes counts group start found
-  made_rows counts group start found population first second none starts labels = record {
+      → group ≡ record { members = []; whole = [] } → frozen ≡ [] → start ≡ map_below (units_of size) (district_of size) → found ≡ map_below 10 (λ d. Whole (pos d))
+      → AreRows grid_columns made.nodes counts group frozen start found
+  made_rows counts group frozen start found population first second none unfrozen starts labels = record {
     population = population ∙ column_is (codes "pop") (units_of size) (node_tree size key) (λ u. 100) (λ i l. refl);
     first = first ∙ column_is (codes "a") (units_of size) (node_tree size key) (first_votes_of key) first_count;
     second = second ∙ column_is (codes "b") (units_of size) (node_tree size key) (λ u. 100 - first_votes_of key u) second_count;
     grouped = record { members = ap (λ (g : Group). g.members) none; whole = ap (λ (g : Group). g.whole) none };
+    freezing = unfrozen;
     labels = label_list;
     labelled = labelled;
     districts = subst (λ (ls : List Label). AreDistricts label_list ls start) (sym labels) (subst (λ (xs : List ℕ). AreDistricts label_list ten xs) (sym starts) districts);
@@ -233,11 +234,11 @@ module _ (size : ℕ) (key : List ℕ) (some : 1 ≤ size) (small : size ≤ 30)
 
   -- ---- the whole grid
 
-  pub made_is_read : (g : Graph) (counts : Counts) (group : Group) (start : List ℕ) (found : List Label) → graph made ≡ g → AreRows grid_columns made.nodes counts group start found
-      → reading (grid size key) grid_columns ≡ Ok (record { graph = g; counts = counts; group = group; start = start; labels = found })
-  made_is_read g counts group start found same rows = grid_gives size key some small ∙ ap Ok (parsed_is made grid_columns g counts group start found same rows)
+  pub made_is_read : (g : Graph) (counts : Counts) (group : Group) (frozen start : List ℕ) (found : List Label) → graph made ≡ g → AreRows grid_columns made.nodes counts group frozen start found
+      → reading (grid size key) grid_columns ≡ Ok (record { graph = g; counts = counts; group = group; frozen = frozen; start = start; labels = found })
+  made_is_read g counts group frozen start found same rows = grid_gives size key some small ∙ ap Ok (parsed_is made grid_columns g counts group frozen start found same rows)
 
-  pub made_within : (g : Graph) (counts : Counts) (group : Group) (start : List ℕ) (found : List Label) → IsGraph g → g.units ≡ units_of size → count_edges g (λ u v. true) ≤ 400000
-      → AreRows grid_columns made.nodes counts group start found → AreWithin g counts start (length found)
-  made_within g counts group start found is units few rows =
-      within_is made.nodes grid_columns g counts group start found is (units ∙ sym (count_is size key)) (omega (arith, count_is size key, few_units size small)) few rows
+  pub made_within : (g : Graph) (counts : Counts) (group : Group) (frozen start : List ℕ) (found : List Label) → IsGraph g → g.units ≡ units_of size → count_edges g (λ u v. true) ≤ 400000
+      → AreRows grid_columns made.nodes counts group frozen start found → AreWithin g counts start (length found)
+  made_within g counts group frozen start found is units few rows =
+      within_is made.nodes grid_columns g counts group frozen start found is (units ∙ sym (count_is size key)) (omega (arith, count_is size key, few_units size small)) few rows

@@ -3,7 +3,7 @@
 ghost use Rattle.std.specs.Prelude.{◌≡◌, ◌-◌, ◌*◌, ◌/◌, ◌≤◌, [], Ok, pos, length, IfOk, OnOk};
 ghost use Rattle.audit_model.specs.declared.setting.Label.TheVariants.{Whole};
 ghost use Rattle.audit_model.specs.Below.{map_below};
-ghost use Rattle.audit_model.specs.Limits.{AreWithin, IsGroup};
+ghost use Rattle.audit_model.specs.Limits.{AreFrozen, AreWithin, IsGroup};
 ghost use Rattle.audit_statement.specs.Grid.{grid, grid_side, first_votes_of};
 ghost use Rattle.dual_graph.specs.Read.{parsed_of};
 ghost use Rattle.audit_statement.specs.Reading.{reading};
@@ -30,6 +30,7 @@ pub fn read_made(alloc: Global, size: u32, key: [u8; 32]) -> Result<Parsed, Memo
     ensures read { IfOk result (λ p. reading (grid size key) grid_columns ≡ Ok (parsed_of p)) }
     ensures within { IfOk result (λ p. AreWithin p.graph p.counts p.start (length p.labels)) }
     ensures group { IfOk result (λ p. IsGroup p.graph.units p.group) }
+    ensures frozen { IfOk result (λ p. AreFrozen p.graph.units p.frozen) }
 {
     let square = Square { size };
     let side = 10 * size;
@@ -42,6 +43,7 @@ pub fn read_made(alloc: Global, size: u32, key: [u8; 32]) -> Result<Parsed, Memo
         graph,
         counts,
         group: no_group(alloc),
+        frozen: none_frozen(alloc),
         start,
         labels,
     })
@@ -102,6 +104,13 @@ fn no_group(alloc: Global) -> Group
         members: NumList::new(alloc),
         whole: NumList::new(alloc),
     }
+}
+
+/// Returns the empty list of frozen units; the grid has no column of them.
+fn none_frozen(alloc: Global) -> UnitList
+    ensures { result ≡ [] }
+{
+    UnitList::new(alloc)
 }
 
 /// Assigns districts: each consists of `size` full rows.

@@ -1,7 +1,7 @@
 -- The faults of a plan and its legality.
 use Rattle.std.proofs.Common.{◌≡◌, ℕ, ◌<◌, [], ◌∷◌, Bool, true, false, not, ◌&&◌, List, length, get_or, Option, Some, None, refl, sym, ap, ◌∙◌, subst, inl, inr}
 use Rattle.std.specs.Prelude.{◌↔◌, nat_lt, is_none, is_some, option_map, unwrap_or, ◌⊎◌, Result, Ok, Err, MatchResult}
-use Rattle.std.proofs.lemmas.Bool.{and_parts, and_from, cases_Bool, cond-true, cond-false, le-ltb, ltb-false, not-false, not_from_true, not_from_false, and_left}
+use Rattle.std.proofs.lemmas.Bool.{and_parts, and_from, cases_Bool, cond-true, cond-false, le-ltb, ltb-false, not-false, not_from_true, not_from_false, and_left, false_from_ne_true, true≢false, false≢true}
 use Rattle.audit_model.specs.declared.fault.PlanFault.{PlanFault}
 use Rattle.audit_model.specs.declared.fault.PlanFault.TheVariants.{Disconnected, TooManyCut, TooManySplits, TooManySplitRegions, TooFewMajorities, Memory}
 use Rattle.audit_model.specs.declared.setting.Label.{Label}
@@ -9,10 +9,10 @@ use Rattle.audit_model.specs.declared.setting.Setting.{Setting}
 use Rattle.audit_model.specs.Below.{above_all}
 use Rattle.audit_model.specs.First.{first_some, first_below}
 use Rattle.audit_model.specs.Graph.{Graph}
-use Rattle.audit_model.specs.Job.{Job}
+use Rattle.audit_model.specs.Job.{Job, home_of}
 use Rattle.audit_model.specs.JobOf.{IsJob, job_from, job_of, job_or, job_with, restarted, is_unbalanced, is_parted, cuts_too_many, is_oversplit, out_of_bounds, disconnected, oversplit, bounds_fault, path_fault, cut_fault, split_fault, splits_fault, split_regions_fault, group_fault, plan_fault}
 use Rattle.audit_model.specs.Limits.{IsWithinLimits}
-use Rattle.audit_model.specs.Meets.{majorities, split_of, split_regions, splits_in_all}
+use Rattle.audit_model.specs.Meets.{KeepsFrozen, keeps_frozen, majorities, split_of, split_regions, splits_in_all}
 use Rattle.audit_model.specs.Parsed.{Parsed}
 use Rattle.audit_model.specs.Path.{is_connected}
 use Rattle.audit_model.specs.District.{in_district, district_sum}
@@ -20,7 +20,7 @@ use Rattle.audit_model.specs.Plan.{IsLegal, is_legal, cut_edges, is_balanced}
 use Rattle.audit_model.proofs.Accepted.{accepted_is_legal}
 use Rattle.audit_model.proofs.Connected.{connected_passes, passes_connected}
 use Rattle.audit_model.proofs.Legal.{balanced_passes, passes_balanced, legal_passes, passes_legal}
-use Rattle.audit_model.proofs.Meeting.{splits_from}
+use Rattle.audit_model.proofs.Meeting.{keeps_passes, passes_keeps, splits_from}
 use Rattle.audit_model.proofs.Bools.{same_bool}
 use Rattle.audit_model.proofs.Options.{none_or, option_or_none, cond_some_none, some_is_not_none, option_map_none}
 use Rattle.audit_model.proofs.First.{first_below_here, first_below_none, none_first_below}
@@ -108,7 +108,23 @@ parts_shape job paths cut split splits regions group =
     ∙ none_or (split_regions_fault job) (first_some (group_fault job ∷ [])) regions
     ∙ none_or (group_fault job) (first_some []) group
 
-module _ (job : Job) (plan : List ℕ) (complete : length plan ≡ job.graph.units) (in_range : (u : ℕ) → u < job.graph.units → get_or plan u 0 < job.districts) where
+-- a plan that passes the test of frozen units keeps their districts
+pub keeps_of : (job : Job) (plan : List ℕ) → keeps_frozen job.frozen (home_of job.frozen job.start) plan ≡ true → KeepsFrozen job.frozen (home_of job.frozen job.start) plan
+keeps_of job plan h = passes_keeps job.frozen (home_of job.frozen job.start) plan h
+
+-- a plan that fails the test of frozen units is not legal
+pub strayed_same : (job : Job) (plan : List ℕ) → keeps_frozen job.frozen (home_of job.frozen job.start) plan ≡ false → false ≡ is_legal job plan
+strayed_same job plan off = sym (false_from_ne_true (is_legal job plan) (λ h.
+    true≢false (sym (keeps_passes job.frozen (home_of job.frozen job.start) plan (passes_legal job plan h).meeting.keeps) ∙ off)))
+
+pub strayed_decides : (job : Job) (plan : List ℕ) → keeps_frozen job.frozen (home_of job.frozen job.start) plan ≡ false → (false ≡ true) ↔ IsLegal job plan
+strayed_decides job plan off = (
+  λ h. absurd (false≢true h),
+  λ legal. absurd (true≢false (sym (keeps_passes job.frozen (home_of job.frozen job.start) plan legal.meeting.keeps) ∙ off)),
+)
+
+module _ (job : Job) (plan : List ℕ) (complete : length plan ≡ job.graph.units) (in_range : (u : ℕ) → u < job.graph.units → get_or plan u 0 < job.districts)
+    (keeps : KeepsFrozen job.frozen (home_of job.frozen job.start) plan) where
   accepted : bounds_fault (with_start job plan) ≡ None → shape_fault (with_start job plan) ≡ None → IsLegal job plan
   accepted bounds shape =
       let parts = shape_parts (with_start job plan) shape in
@@ -136,9 +152,10 @@ module _ (job : Job) (plan : List ℕ) (complete : length plan ≡ job.graph.uni
           few_regions = ltb-false job.setting.max_split_regions (split_regions job.regions plan)
               (cond_some_none (nat_lt job.setting.max_split_regions (split_regions job.regions plan))
               (TooManySplitRegions (split_regions job.regions plan) job.setting.max_split_regions) parts.4);
-          enough = ltb-false (majorities job.group plan) job.setting.group_districts
-              (cond_some_none (nat_lt (majorities job.group plan) job.setting.group_districts)
-              (TooFewMajorities (majorities job.group plan) job.setting.group_districts) parts.5);
+          enough = ltb-false (majorities job.setting.group_share job.group plan) job.setting.group_districts
+              (cond_some_none (nat_lt (majorities job.setting.group_share job.group plan) job.setting.group_districts)
+              (TooFewMajorities (majorities job.setting.group_share job.group plan) job.setting.group_districts job.setting.group_share) parts.5);
+          keeps = keeps;
         };
       }
 
@@ -162,9 +179,9 @@ module _ (job : Job) (plan : List ℕ) (complete : length plan ≡ job.graph.uni
         (cond-false (nat_lt job.setting.max_split_regions (split_regions job.regions plan))
         (Some (TooManySplitRegions (split_regions job.regions plan) job.setting.max_split_regions)) None
         (le-ltb job.setting.max_split_regions (split_regions job.regions plan) legal.meeting.few_regions))
-        (cond-false (nat_lt (majorities job.group plan) job.setting.group_districts)
-        (Some (TooFewMajorities (majorities job.group plan) job.setting.group_districts)) None
-        (le-ltb (majorities job.group plan) job.setting.group_districts legal.meeting.enough)),
+        (cond-false (nat_lt (majorities job.setting.group_share job.group plan) job.setting.group_districts)
+        (Some (TooFewMajorities (majorities job.setting.group_share job.group plan) job.setting.group_districts job.setting.group_share)) None
+        (le-ltb (majorities job.setting.group_share job.group plan) job.setting.group_districts legal.meeting.enough)),
   )
 
   judged : (r : Bool) → r ≡ (is_none (bounds_fault (with_start job plan)) && is_none (shape_fault (with_start job plan))) → (r ≡ true) ↔ IsLegal job plan

@@ -1,4 +1,5 @@
 pub mod Bounded
+pub mod Freezing
 pub mod Judged
 pub mod Majorities
 pub mod Moved

@@ -20,6 +20,7 @@ moved_is_job job origin sound = record {
     setting = sound.within.setting;
     regions = sound.within.regions;
     group = sound.within.group;
+    frozen = sound.within.frozen;
   };
   votes = sound.votes;
   legal = record {

@@ -1,6 +1,6 @@
 //! Majorities of a group.
 
-ghost use Rattle.std.specs.Prelude.{◌≡◌, ◌*◌, ◌<◌, ◌≤◌, ℕ, nat_lt, length, slice_index};
+ghost use Rattle.std.specs.Prelude.{◌≡◌, ◌*◌, ◌^◌, ◌<◌, ◌≤◌, ℕ, nat_lt, length, slice_index};
 ghost use Rattle.audit_model.specs.Below.{count_below};
 ghost use Rattle.audit_model.specs.Limits.{IsGroup, most_units, most_people, most_districts};
 ghost use Rattle.audit_model.specs.Meets.{majorities};
@@ -8,14 +8,24 @@ ghost use Rattle.audit_model.specs.Meets.{majorities};
 use crate::sums::district_sums;
 use audit_model::rules::Group;
 
-/// Counts the districts whose members are more than half of the base population.
-fn count_over_half(members: &[u64; 200], whole: &[u64; 200]) -> u32
-    requires { (d : ℕ) → d < most_districts → slice_index members.now d ≤ most_people * most_units }
-    ensures { result ≡ count_below most_districts (λ d. nat_lt (slice_index whole.now d) (2 * slice_index members.now d)) }
+/// Returns whether the members are more than a share of the whole, in hundredths of a percent.
+fn is_above(share: u32, members: u64, whole: u64) -> bool
+    requires few { 10000 * members < 2 ^ 64 }
+    requires few_whole { share * whole < 2 ^ 64 }
+    ensures { result ≡ nat_lt (share * whole) (10000 * members) }
+{
+    u64::from(share) * whole < 10_000 * members
+}
+
+/// Returns the number of districts in which the members are more than a share of the whole.
+fn count_over_share(share: u32, members: &[u64; 200], whole: &[u64; 200]) -> u32
+    requires members { (d : ℕ) → d < most_districts → slice_index members.now d ≤ most_people * most_units }
+    requires whole { (d : ℕ) → d < most_districts → share * slice_index whole.now d < 2 ^ 64 }
+    ensures { result ≡ count_below most_districts (λ d. nat_lt (share * slice_index whole.now d) (10000 * slice_index members.now d)) }
 {
     let mut count = 0;
     for district in 0..200usize {
-        if whole[district] < 2 * members[district] {
+        if is_above(share, members[district], whole[district]) {
             count += 1;
         }
     }
@@ -23,16 +33,19 @@ fn count_over_half(members: &[u64; 200], whole: &[u64; 200]) -> u32
 }
 
 /// Returns the number of districts in which the group has a majority. Without a group it is 0.
-pub fn count_majorities(group: &Group, plan: &[u32]) -> u32
+///
+/// A majority is more than `share` of the base population, in hundredths of a percent.
+pub fn count_majorities(share: u32, group: &Group, plan: &[u32]) -> u32
+    requires share { share ≤ 10000 }
     requires group { IsGroup (length plan.now) group.now }
     requires few { length plan.now ≤ most_units }
     requires districts { (u : ℕ) → u < length plan.now → slice_index plan.now u < most_districts }
-    ensures { result ≡ majorities group.now plan.now }
+    ensures { result ≡ majorities share group.now plan.now }
 {
     if group.members.as_slice().is_empty() {
         return 0;
     }
     let members = district_sums(group.members.as_slice(), plan);
     let whole = district_sums(group.whole.as_slice(), plan);
-    count_over_half(&members, &whole)
+    count_over_share(share, &members, &whole)
 }

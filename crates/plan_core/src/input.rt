@@ -2,10 +2,10 @@
 
 ghost use Rattle.std.specs.Prelude.{◌≡◌, ◌<◌, ◌≤◌, ℕ, length, slice_index, IfOk};
 ghost use Rattle.std.specs.List.{list_any};
-ghost use Rattle.audit_model.specs.Job.{total_population, total_votes, rules};
+ghost use Rattle.audit_model.specs.Job.{home_of, total_population, total_votes, rules};
 ghost use Rattle.audit_model.specs.JobOf.{is_gap, lacks_votes, bounds_fault, path_fault, cut_fault, group_fault, plan_fault, job_from};
 ghost use Rattle.audit_model.specs.Limits.{IsWithinLimits, most_districts};
-ghost use Rattle.audit_model.specs.Meets.{majorities};
+ghost use Rattle.audit_model.specs.Meets.{keeps_frozen, majorities};
 ghost use Rattle.audit_model.specs.Plan.{least_population, greatest_population};
 ghost use Rattle.dual_graph.specs.Read.{parsed_of};
 
@@ -67,10 +67,10 @@ impl Model for Input {
 
     ghost use Rattle.plan_core.specs.Input.{IsInput};
 
-    ghost view = { λ i. record { graph = i.graph; counts = i.counts; start = i.start; districts = i.districts; setting = i.setting; regions = i.rules.regions; group = i.rules.group; origin = i.origin } };
+    ghost view = { λ i. record { graph = i.graph; counts = i.counts; start = i.start; districts = i.districts; setting = i.setting; regions = i.rules.regions; group = i.rules.group; frozen = i.rules.frozen; origin = i.origin } };
 
     ghost invariant = { λ i. IsInput
-        (record { graph = i.graph; counts = i.counts; start = i.start; districts = i.districts; setting = i.setting; regions = i.rules.regions; group = i.rules.group; origin = i.origin })
+        (record { graph = i.graph; counts = i.counts; start = i.start; districts = i.districts; setting = i.setting; regions = i.rules.regions; group = i.rules.group; frozen = i.rules.frozen; origin = i.origin })
         i.rules i.population i.votes };
 }
 
@@ -90,14 +90,27 @@ fn asks_gap(asks: &[Ask]) -> bool
     asks.iter().any(|ask| is_gap(ask.score))
 }
 
+/// Returns the plan whose districts the frozen units keep. It is empty if no unit may be frozen.
+fn home_of(frozen: &UnitList, start: &UnitList) -> Result<UnitList, Memory>
+    ensures { IfOk result (λ home. home ≡ home_of frozen.now start.now) }
+{
+    if frozen.len() == 0 {
+        frozen.copy()
+    } else {
+        start.copy()
+    }
+}
+
 impl Input {
     ghost use Rattle.plan_core.specs.Input.{GivesDistricts, with_start, many_splits, many_regions, regions_fault, shape_fault};
 
     /// Combines a parsed source with a setting and the regions of the units. It has no origin.
-    pub fn new(parsed: Parsed, setting: Setting, regions: UnitList) -> Input
+    /// Fails if there is no memory.
+    pub fn new(parsed: Parsed, setting: Setting, regions: UnitList) -> Result<Input, Memory>
         requires { IsWithinLimits (job_from (parsed_of parsed) setting regions) }
-        ensures { result ≡ job_from (parsed_of parsed) setting regions }
+        ensures { IfOk result (λ input. input ≡ job_from (parsed_of parsed) setting regions) }
     {
+        let home = home_of(&parsed.frozen, &parsed.start)?;
         let rules = Rules {
             max_cut: setting.max_cut,
             regions,
@@ -106,11 +119,14 @@ impl Input {
             max_split_regions: setting.max_split_regions,
             group: parsed.group,
             group_districts: setting.group_districts,
+            group_share: setting.group_share,
+            frozen: parsed.frozen,
+            home,
         };
         let population = sum_of(parsed.counts.population.as_slice());
         let votes = sum_of(parsed.counts.first.as_slice())
             + sum_of(parsed.counts.second.as_slice());
-        Input {
+        Ok(Input {
             graph: parsed.graph,
             counts: parsed.counts,
             start: parsed.start,
@@ -120,7 +136,7 @@ impl Input {
             origin: None,
             population,
             votes,
-        }
+        })
     }
 
     // Copies the graph and the counts. Fails if there is no memory.
@@ -134,12 +150,24 @@ impl Input {
         }
     }
 
-    // Copies the setting and the rules. Fails if there is no memory.
-    fn copy_words(&self) -> Result<(Setting, Rules), Memory>
-        ensures { IfOk result (λ w. (w.0 ≡ self.now.setting) × (w.1 ≡ rules self.now)) }
+    // Copies the rules, with frozen units kept in their districts of another start plan. Fails if
+    // there is no memory.
+    fn copy_rules(&self, start: &UnitList) -> Result<Rules, Memory>
+        ensures { IfOk result (λ r. r ≡ record (rules self.now) { home = home_of self.now.frozen start.now }) }
+    {
+        let home = home_of(&self.rules.frozen, start)?;
+        match self.rules.copy() {
+            Ok(rules) => Ok(Rules { home, ..rules }),
+            Err(_) => Err(Memory),
+        }
+    }
+
+    // Copies the setting, and the rules for another start plan. Fails if there is no memory.
+    fn copy_words(&self, start: &UnitList) -> Result<(Setting, Rules), Memory>
+        ensures { IfOk result (λ w. (w.0 ≡ self.now.setting) × (w.1 ≡ record (rules self.now) { home = home_of self.now.frozen start.now })) }
     {
         let setting = self.setting.copy()?;
-        match self.rules.copy() {
+        match self.copy_rules(start) {
             Ok(rules) => Ok((setting, rules)),
             Err(_) => Err(Memory),
         }
@@ -154,7 +182,7 @@ impl Input {
         ensures { IfOk result (λ input. input ≡ record self.now { start = start; districts = districts }) }
     {
         let (graph, counts) = self.copy_map()?;
-        let (setting, rules) = self.copy_words()?;
+        let (setting, rules) = self.copy_words(&start)?;
         Ok(Input {
             graph,
             counts,
@@ -360,9 +388,9 @@ impl Input {
     /// Returns the number of districts of a plan in which the group has a majority.
     pub fn majorities(&self, plan: &[u32]) -> u32
         requires { GivesDistricts self.now.graph.units self.now.districts plan.now }
-        ensures { result ≡ majorities self.now.group plan.now }
+        ensures { result ≡ majorities self.now.setting.group_share self.now.group plan.now }
     {
-        count_majorities(&self.rules.group, plan)
+        count_majorities(self.rules.group_share, &self.rules.group, plan)
     }
 
     /// Returns the fault of a plan with too few group majorities.
@@ -375,9 +403,18 @@ impl Input {
             return Some(PlanFault::TooFewMajorities {
                 districts,
                 least: self.rules.group_districts,
+                share: self.rules.group_share,
             });
         }
         None
+    }
+
+    /// Returns true if a plan gives each frozen unit its district in the start plan.
+    pub fn keeps_frozen(&self, plan: &[u32]) -> bool
+        requires { length plan.now ≡ self.now.graph.units }
+        ensures { result ≡ keeps_frozen self.now.frozen (home_of self.now.frozen self.now.start) plan.now }
+    {
+        self.rules.keeps_frozen(plan)
     }
 
     /// Returns the first fault of a plan other than missing votes and populations.

@@ -1,12 +1,12 @@
 //! The job of a run.
 
-ghost use Rattle.std.specs.Prelude.{◌≡◌, ◌+◌, ◌<◌, ◌≤◌, ◌↔◌, ◌⊎◌, ℕ, [], None, Some, Ok, Err, length, slice_index, pos, IsTrue, IfOk, IfSome, MatchResult};
+ghost use Rattle.std.specs.Prelude.{◌≡◌, ◌+◌, ◌<◌, ◌≤◌, ◌↔◌, ◌⊎◌, ℕ, [], true, None, Some, Ok, Err, length, slice_index, pos, IsTrue, IfOk, IfSome, MatchResult};
 ghost use Rattle.std.specs.List.{slice_get, slice_index_or};
 ghost use Rattle.audit_model.specs.declared.fault.PlanFault.TheVariants as plan;
-ghost use Rattle.audit_model.specs.Job.{total_population, total_votes, rules};
+ghost use Rattle.audit_model.specs.Job.{home_of, total_population, total_votes, rules};
 ghost use Rattle.audit_model.specs.JobOf.{IsJob, job_from, job_of, job_with, plan_fault};
 ghost use Rattle.audit_model.specs.Limits.{IsWithinLimits, most_districts};
-ghost use Rattle.audit_model.specs.Meets.{majorities};
+ghost use Rattle.audit_model.specs.Meets.{keeps_frozen, majorities};
 ghost use Rattle.audit_model.specs.Plan.{IsLegal, is_legal, least_population, greatest_population};
 ghost use Rattle.audit_model.specs.Trajectory.{plan_value};
 ghost use Rattle.dual_graph.specs.Read.{parsed_of};
@@ -113,7 +113,10 @@ impl Job {
             (λ fault. (fault ≡ plan.Memory) ⊎ (job_of (parsed_of parsed) setting regions ≡ Err fault)) }
         ensures sound { IfOk result (λ job. IsJob job) }
     {
-        Job::of_input(alloc, Input::new(parsed, setting, regions))
+        match Input::new(parsed, setting, regions) {
+            Ok(input) => Job::of_input(alloc, input),
+            Err(_) => Err(PlanFault::Memory),
+        }
     }
 
     /// Makes a job on the same graph, setting and rules from another start plan.
@@ -189,6 +192,22 @@ impl Job {
         ensures decides { IsTrue result ↔ IsLegal self.now plan.now }
         ensures marks { marks.new.units ≡ marks.old.units }
     {
+        if !self.input.keeps_frozen(plan) {
+            return false;
+        }
+        self.is_unrefused(plan, marks)
+    }
+
+    // Returns true if a plan that keeps the districts of frozen units is legal.
+    fn is_unrefused(&self, plan: &[u32], marks: &mut Marks) -> bool
+        requires complete { length plan.now ≡ self.now.graph.units }
+        requires in_range { (u : ℕ) → u < self.now.graph.units → slice_index plan.now u < self.now.districts }
+        requires marks { marks.old.units ≡ self.now.graph.units }
+        requires keeps { keeps_frozen self.now.frozen (home_of self.now.frozen self.now.start) plan.now ≡ true }
+        ensures value { result ≡ is_legal self.now plan.now }
+        ensures decides { IsTrue result ↔ IsLegal self.now plan.now }
+        ensures marks { marks.new.units ≡ marks.old.units }
+    {
         self.input.bounds_fault(plan).is_none() && self.input.shape_fault(plan, marks).is_none()
     }
 
@@ -245,7 +264,7 @@ impl Job {
 
     /// Returns the number of districts of the start plan in which the group has a majority.
     pub fn majorities(&self) -> u32
-        ensures { result ≡ majorities self.now.group self.now.start }
+        ensures { result ≡ majorities self.now.setting.group_share self.now.group self.now.start }
     {
         self.input.majorities(self.input.start().as_slice())
     }

@@ -43,20 +43,20 @@ drop_here (x ∷ xs) (suc i) p l is = drop_here xs i p (omega (arith, l)) is
 
 -- facts that a job with another plan keeps
 module _ (job : Job) (start : List ℕ) (labels : List Label) (made : Job) where
-  pub kept : job_with job start labels ≡ Ok made → (made.setting ≡ job.setting) × (made.regions ≡ job.regions) × (made.group ≡ job.group)
+  pub kept : job_with job start labels ≡ Ok made → (made.setting ≡ job.setting) × (made.regions ≡ job.regions) × (made.group ≡ job.group) × (made.frozen ≡ job.frozen)
   unfolding job_with
   kept e = by (plan_fault (restarted job start labels)) e
     where
-      by : (o : Option PlanFault) → job_or (restarted job start labels) o ≡ Ok made → (made.setting ≡ job.setting) × (made.regions ≡ job.regions) × (made.group ≡ job.group)
+      by : (o : Option PlanFault) → job_or (restarted job start labels) o ≡ Ok made → (made.setting ≡ job.setting) × (made.regions ≡ job.regions) × (made.group ≡ job.group) × (made.frozen ≡ job.frozen)
       by None h =
           let same : restarted job start labels ≡ made = cc h in
-          (sym (ap (λ (j : Job). j.setting) same), sym (ap (λ (j : Job). j.regions) same), sym (ap (λ (j : Job). j.group) same))
+          (sym (ap (λ (j : Job). j.setting) same), sym (ap (λ (j : Job). j.regions) same), sym (ap (λ (j : Job). j.group) same), sym (ap (λ (j : Job). j.frozen) same))
       by (Some f) h = cc h
 
 -- the jobs of the first plans
 pub record AreNamed (job : Job) (plans : List Assigned) (i : ℕ) (named : List Named) : Type 0 where
   pub rest : named_jobs job plans ≡ after (jobs_of named) (named_jobs job (drop i plans))
-  pub each : All (IsOneOf job.setting job.regions job.group) named
+  pub each : All (IsOneOf job.setting job.regions job.group job.frozen) named
 
 -- before the first plan, no job is made
 pub named_none : (job : Job) (plans : List Assigned) → AreNamed job plans 0 []
@@ -79,8 +79,8 @@ module _ (job : Job) (plans : List Assigned) (i : ℕ) (named : List Named) (bef
             ∙ ap (λ (js : Jobs). after js (named_jobs job (drop (suc i) plans))) (sym (map-append pair_of named (n ∷ [])))
             ∙ ap (λ (ns : List Named). after (jobs_of ns) (named_jobs job (drop (suc i) plans))) (sym made)
             ∙ ap (λ k. after (jobs_of new) (named_jobs job (drop k plans))) next;
-        each = subst (λ (ns : List Named). All (IsOneOf job.setting job.regions job.group) ns) (sym made)
-            (All-push (IsOneOf job.setting job.regions job.group) named n before.each (record { sound = by.sound; set = keeps.0; regioned = keeps.1; grouped = keeps.2 }));
+        each = subst (λ (ns : List Named). All (IsOneOf job.setting job.regions job.group job.frozen) ns) (sym made)
+            (All-push (IsOneOf job.setting job.regions job.group job.frozen) named n before.each (record { sound = by.sound; set = keeps.0; regioned = keeps.1; grouped = keeps.2; freezing = keeps.3 }));
       }
 
   pub refused_here : (f : PlansFault) → RefusesPlan job p f → IsNamedFault (named_jobs job plans) f

@@ -116,13 +116,14 @@ pub all_first : {A : Type 0} (P : A → Type 0) → (x : A) (xs : List A) → P 
 all_first P x xs here rest zero d l = here
 all_first P x xs here rest (suc k) d l = rest k d (omega (arith, l))
 
--- jobs of one setting, one list of regions and one group share them
-pub shared_with : (n : Named) (ns : List Named) → IsJob n.job → All (IsOneOf n.job.setting n.job.regions n.job.group) ns → AreShared n.job.setting (n ∷ ns)
+-- jobs of one setting, one list of regions, one group and one list of frozen units share them
+pub shared_with : (n : Named) (ns : List Named) → IsJob n.job → All (IsOneOf n.job.setting n.job.regions n.job.group n.job.frozen) ns → AreShared n.job.setting (n ∷ ns)
 shared_with n ns sound each = record {
   some = omega arith;
   regions = n.job.regions;
   group = n.job.group;
-  each = all_first (IsOneOf n.job.setting n.job.regions n.job.group) n ns (record { sound = sound; set = refl; regioned = refl; grouped = refl }) each;
+  frozen = n.job.frozen;
+  each = all_first (IsOneOf n.job.setting n.job.regions n.job.group n.job.frozen) n ns (record { sound = sound; set = refl; regioned = refl; grouped = refl; freezing = refl }) each;
 }
 
 -- the graph is refused

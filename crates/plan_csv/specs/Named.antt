@@ -13,9 +13,10 @@ pair_of n = (n.name, n.job)
 abbrev pub jobs_of : List Named → List (List ℕ × Job)
 jobs_of named = map pair_of named
 
--- a job with this setting, these regions and this group
-pub record IsOneOf (setting : Setting) (regions : List ℕ) (group : Group) (n : Named) : Type 0 where
+-- a job with this setting, these regions, this group and these frozen units
+pub record IsOneOf (setting : Setting) (regions : List ℕ) (group : Group) (frozen : List ℕ) (n : Named) : Type 0 where
   pub sound : IsJob n.job
   pub set : n.job.setting ≡ setting
   pub regioned : n.job.regions ≡ regions
   pub grouped : n.job.group ≡ group
+  pub freezing : n.job.frozen ≡ frozen

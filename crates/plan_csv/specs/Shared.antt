@@ -6,9 +6,10 @@ use Rattle.audit_model.specs.declared.setting.Setting.{Setting}
 use Rattle.plan_csv.specs.declared.named.Named.{Named}
 use Rattle.plan_csv.specs.Named.{IsOneOf}
 
--- there is at least one job, and all share this setting, the regions and the group
+-- there is at least one job, and all share this setting, the regions, the group and the frozen units
 pub record AreShared (setting : Setting) (named : List Named) : Type 0 where
   pub some : 0 < length named
   pub regions : List ℕ
   pub group : Group
-  pub each : All (IsOneOf setting regions group) named
+  pub frozen : List ℕ
+  pub each : All (IsOneOf setting regions group frozen) named

@@ -4,7 +4,7 @@ ghost use Rattle.std.specs.Prelude.{◌≡◌, ◌⊎◌, ◌∷◌, [], Ok, Err
 ghost use Rattle.audit_model.specs.declared.fault.RegionFault.TheVariants as region;
 ghost use Rattle.audit_model.specs.declared.setting.Columns.{Columns as ColumnsValue};
 ghost use Rattle.audit_model.specs.JobOf.{IsJob, job_of};
-ghost use Rattle.audit_model.specs.Limits.{AreRegions, AreWithin, IsGroup, IsSetting};
+ghost use Rattle.audit_model.specs.Limits.{AreFrozen, AreRegions, AreWithin, IsGroup, IsSetting};
 ghost use Rattle.audit_model.specs.Parsed.{Parsed as ParsedOf};
 ghost use Rattle.dual_graph.specs.Read.{parsed_of};
 ghost use Rattle.dual_json.specs.Numbered.{IsGraphText};
@@ -85,6 +85,7 @@ fn own_of(
 ) -> Result<Named, PlansFault>
     requires within { AreWithin parsed.graph parsed.counts parsed.start (length parsed.labels) }
     requires group { IsGroup parsed.graph.units parsed.group }
+    requires frozen { AreFrozen parsed.graph.units parsed.frozen }
     requires setting { IsSetting setting.now }
     requires regions { AreRegions parsed.graph.units regions }
     ensures { MatchResult result (IsOwn setting.now origin (parsed_of parsed) regions)
@@ -117,6 +118,7 @@ fn jobs_from(
     requires read { reading parts.now.graph.now setting.now.columns ≡ Ok (parsed_of parsed) }
     requires within { AreWithin parsed.graph parsed.counts parsed.start (length parsed.labels) }
     requires group { IsGroup parsed.graph.units parsed.group }
+    requires frozen { AreFrozen parsed.graph.units parsed.frozen }
     requires setting { IsSetting setting.now }
     requires regions { AreRegions parsed.graph.units regions }
     ensures read { MatchResult result (λ named. jobs_over_regions setting.now origin parts.now.graph.now parts.now.table.now (parsed_of parsed) (Ok regions) ≡ Ok (jobs_of named.items))
@@ -146,6 +148,7 @@ fn jobs_read(
     requires read { reading parts.now.graph.now setting.now.columns ≡ Ok (parsed_of parsed) }
     requires within { AreWithin parsed.graph parsed.counts parsed.start (length parsed.labels) }
     requires group { IsGroup parsed.graph.units parsed.group }
+    requires frozen { AreFrozen parsed.graph.units parsed.frozen }
     requires setting { IsSetting setting.now }
     ensures read { MatchResult result (λ named. from_graph setting.now origin parts.now.graph.now parts.now.table.now (Ok (parsed_of parsed)) ≡ Ok (jobs_of named.items))
         (λ f. (f ≡ fault.Memory) ⊎ (from_graph setting.now origin parts.now.graph.now parts.now.table.now (Ok (parsed_of parsed)) ≡ Err f)) }

@@ -54,7 +54,7 @@ fn add_all(
     requires fit { All (IsPlanOf job.now.graph.units) plans.now }
     ensures read { MatchResult result (λ _. named_jobs job.now plans.now ≡ Ok (jobs_of named.new.items))
         (λ f. (f ≡ fault.Memory) ⊎ IsNamedFault (named_jobs job.now plans.now) f) }
-    ensures each { IfOk result (λ _. All (IsOneOf job.now.setting job.now.regions job.now.group) named.new.items) }
+    ensures each { IfOk result (λ _. All (IsOneOf job.now.setting job.now.regions job.now.group job.now.frozen) named.new.items) }
 {
     for plan in plans {
         match named_of(alloc, job, plan) {
@@ -74,7 +74,7 @@ pub fn named_all(alloc: Global, job: &Job, plans: &[Assigned]) -> Result<Vec<Nam
     requires fit { All (IsPlanOf job.now.graph.units) plans.now }
     ensures read { MatchResult result (λ named. named_jobs job.now plans.now ≡ Ok (jobs_of named.items))
         (λ f. (f ≡ fault.Memory) ⊎ IsNamedFault (named_jobs job.now plans.now) f) }
-    ensures each { IfOk result (λ named. All (IsOneOf job.now.setting job.now.regions job.now.group) named.items) }
+    ensures each { IfOk result (λ named. All (IsOneOf job.now.setting job.now.regions job.now.group job.now.frozen) named.items) }
 {
     let mut named = Vec::new(alloc);
     match add_all(&mut named, alloc, job, plans) {

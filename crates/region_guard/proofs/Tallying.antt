@@ -3,6 +3,7 @@ use Rattle.std.proofs.Common.{◌≡◌, ℕ, ◌+◌, ◌*◌, ◌-◌, ◌^◌
 use Rattle.std.specs.Prelude.{nat_lt}
 use Rattle.std.proofs.Math.ListN.{set, length-set}
 use Rattle.std.proofs.lemmas.Bool.{cases_eq, cond-true, cond-false, eq-eqb, ne_eqb, false_from_ne_true, ltb-true}
+use Rattle.std.proofs.lemmas.Nat.{mul-le}
 use Rattle.std.proofs.lemmas.List.{get_or-set_same, get_or-set_other, get_or_past, set-get_or}
 use Rattle.audit_model.specs.declared.rules.Group.{Group}
 use Rattle.audit_model.specs.Below.{above_all, count_below, sum_below}
@@ -161,21 +162,20 @@ own_columns group is = elim is [
     bare xs none no_members = record { width = omega (arith, none, no_members); small = λ k d l. absurd (omega (arith, none, l)) }
 
 -- districts beyond the plan's have no majority
-pub majorities_within : (group : Group) (plan : List ℕ) (districts : ℕ) → above_all plan ≤ districts
-    → majorities group plan ≡ count_below districts (has_majority group plan)
-majorities_within group plan districts l =
-    count_longer districts (above_all plan) (has_majority group plan) l (λ d past.
+pub majorities_within : (share : ℕ) (group : Group) (plan : List ℕ) (districts : ℕ) → above_all plan ≤ districts
+    → majorities share group plan ≡ count_below districts (has_majority share group plan)
+majorities_within share group plan districts l =
+    count_longer districts (above_all plan) (has_majority share group plan) l (λ d past.
     let members = no_sum group.members plan d past in
-    let whole = no_sum group.whole plan d past in
-    false_from_ne_true (has_majority group plan d) (λ h.
-    let less = ltb-true (district_sum group.whole plan d) (2 * district_sum group.members plan d) h in omega (arith, members, whole, less)))
+    false_from_ne_true (has_majority share group plan d) (λ h.
+    let less = ltb-true (share * district_sum group.whole plan d) (10000 * district_sum group.members plan d) h in omega (arith, members, less)))
 
 -- without a group, there are no majorities
-pub no_majority : (group : Group) (plan : List ℕ) → length group.members ≡ 0 → majorities group plan ≡ 0
-no_majority group plan none = count_below_none (above_all plan) (has_majority group plan) (λ d l.
+pub no_majority : (share : ℕ) (group : Group) (plan : List ℕ) → length group.members ≡ 0 → majorities share group plan ≡ 0
+no_majority share group plan none = count_below_none (above_all plan) (has_majority share group plan) (λ d l.
     let members = bare_sum group.members plan d none in
-    false_from_ne_true (has_majority group plan d) (λ h.
-    let less = ltb-true (district_sum group.whole plan d) (2 * district_sum group.members plan d) h in omega (arith, members, less)))
+    false_from_ne_true (has_majority share group plan d) (λ h.
+    let less = ltb-true (share * district_sum group.whole plan d) (10000 * district_sum group.members plan d) h in omega (arith, members, less)))
 
 -- without a group, the sums are those of every plan
 pub none_tallied : (group : Group) (districts : ℕ) (tally : GroupTally) (plan other : List ℕ) → length group.members ≡ 0 → length group.whole ≡ 0
@@ -183,27 +183,30 @@ pub none_tallied : (group : Group) (districts : ℕ) (tally : GroupTally) (plan 
 none_tallied group districts tally plan other none no_whole stood = record {
   members = λ d l. stood.members d l ∙ bare_sum group.members plan d none ∙ sym (bare_sum group.members other d none);
   whole = λ d l. stood.whole d l ∙ bare_sum group.whole plan d no_whole ∙ sym (bare_sum group.whole other d no_whole);
-  majorities = stood.majorities ∙ no_majority group plan none ∙ sym (no_majority group other none);
+  majorities = stood.majorities ∙ no_majority tally.share group plan none ∙ sym (no_majority tally.share group other none);
 }
 
 -- recomputed sums are the plan's
-pub tallied_anew : (group : Group) (districts : ℕ) (members whole : List ℕ) (n : ℕ) (plan : List ℕ) → above_all plan ≤ districts → length members ≡ districts
+pub tallied_anew : (share : ℕ) (group : Group) (districts : ℕ) (members whole : List ℕ) (n : ℕ) (plan : List ℕ) → above_all plan ≤ districts → length members ≡ districts
     → ((d : ℕ) → d < districts → get_or members d 0 ≡ district_sum group.members plan d)
     → ((d : ℕ) → d < districts → get_or whole d 0 ≡ district_sum group.whole plan d)
-    → n ≡ count_below (length members) (λ d. nat_lt (get_or whole d 0) (2 * get_or members d 0))
-    → IsTallied group districts (record { members = members; whole = whole; majorities = n }) plan
-tallied_anew group districts members whole n plan below long each each_whole is = record {
+    → n ≡ count_below (length members) (λ d. nat_lt (share * get_or whole d 0) (10000 * get_or members d 0))
+    → IsTallied group districts (record { members = members; whole = whole; share = share; majorities = n }) plan
+tallied_anew share group districts members whole n plan below long each each_whole is = record {
   members = each;
   whole = each_whole;
   majorities =
-      is ∙ ap (λ (k : ℕ). count_below k (λ d. nat_lt (get_or whole d 0) (2 * get_or members d 0))) long
-      ∙ count_below_same districts (λ d. nat_lt (get_or whole d 0) (2 * get_or members d 0)) (has_majority group plan) (λ d l.
-      ap (λ (m : ℕ). nat_lt (get_or whole d 0) (2 * m)) (each d l) ∙ ap (λ (w : ℕ). nat_lt w (2 * district_sum group.members plan d)) (each_whole d l))
-      ∙ sym (majorities_within group plan districts below);
+      is ∙ ap (λ (k : ℕ). count_below k (λ d. nat_lt (share * get_or whole d 0) (10000 * get_or members d 0))) long
+      ∙ count_below_same districts (λ d. nat_lt (share * get_or whole d 0) (10000 * get_or members d 0)) (has_majority share group plan) (λ d l.
+      ap (λ (m : ℕ). nat_lt (share * get_or whole d 0) (10000 * m)) (each d l) ∙ ap (λ (w : ℕ). nat_lt (share * w) (10000 * district_sum group.members plan d)) (each_whole d l))
+      ∙ sym (majorities_within share group plan districts below);
 }
 
 module _ (group : Group) (districts : ℕ) (tally : GroupTally) (after : List ℕ) (u from : ℕ) (table : IsGroupTable group districts tally)
     (step : IsStep group.members districts after u from) (stood : IsTallied group districts tally (set after u from)) where
+  abbrev pub share : ℕ
+  share = tally.share
+
   abbrev pub plan_before : List ℕ
   plan_before = set after u from
 
@@ -246,6 +249,18 @@ module _ (group : Group) (districts : ℕ) (tally : GroupTally) (after : List �
       (omega (arith, columns.1.width, table.few_units)) in
       omega (arith, stood.whole d l, sum)
 
+  -- the shares of the sums do not overflow either
+  pub few_share : (d : ℕ) → d < districts → share * get_or tally.whole d 0 < 2 ^ 64
+  few_share d l = omega (arith, mul-le share (get_or tally.whole d 0) 10000 (10 ^ 14) table.few_share (few_whole d l))
+
+  pub few_share_less : (d amount : ℕ) → d < districts → share * (get_or tally.whole d 0 - amount) < 2 ^ 64
+  few_share_less d amount l =
+      omega (arith, mul-le share (get_or tally.whole d 0 - amount) 10000 (10 ^ 14) table.few_share (omega (arith, few_whole d l)))
+
+  pub few_share_more : (d amount : ℕ) → d < districts → amount ≤ 10 ^ 9 → share * (get_or tally.whole d 0 + amount) < 2 ^ 64
+  few_share_more d amount l small =
+      omega (arith, mul-le share (get_or tally.whole d 0 + amount) 10000 (10 ^ 14 + 10 ^ 9) table.few_share (omega (arith, few_whole d l, small)))
+
   pub unit_members : get_or group.members u 0 ≤ 10 ^ 9
   unit_members = small_members u has_members
 
@@ -253,8 +268,8 @@ module _ (group : Group) (districts : ℕ) (tally : GroupTally) (after : List �
   unit_whole = small_whole u has_whole
 
   -- if the unit stays, so do the majorities
-  pub stayed : target ≡ from → tally.majorities ≡ majorities group after
-  stayed e = stood.majorities ∙ ap (majorities group) (ap (λ d. set after u d) (sym e) ∙ set-get_or after u 0)
+  pub stayed : target ≡ from → tally.majorities ≡ majorities share group after
+  stayed e = stood.majorities ∙ ap (majorities share group) (ap (λ d. set after u d) (sym e) ∙ set-get_or after u 0)
 
   module _ (apart : target ≡ from → ⊥) where
     left_members : district_sum group.members plan_before from ≡ district_sum group.members after from + get_or group.members u 0
@@ -270,49 +285,49 @@ module _ (group : Group) (districts : ℕ) (tally : GroupTally) (after : List �
     pub some_whole : get_or group.whole u 0 ≤ get_or tally.whole from 0
     some_whole = omega (arith, left_whole, stood.whole from home_below)
 
-    majority_at : (d : ℕ) → d < districts → one_if (nat_lt (get_or tally.whole d 0) (2 * get_or tally.members d 0)) ≡ one_if (has_majority group plan_before d)
-    majority_at d l = ap (λ (m : ℕ). one_if (nat_lt (get_or tally.whole d 0) (2 * m))) (stood.members d l)
-        ∙ ap (λ (w : ℕ). one_if (nat_lt w (2 * district_sum group.members plan_before d))) (stood.whole d l)
+    majority_at : (d : ℕ) → d < districts → one_if (nat_lt (share * get_or tally.whole d 0) (10000 * get_or tally.members d 0)) ≡ one_if (has_majority share group plan_before d)
+    majority_at d l = ap (λ (m : ℕ). one_if (nat_lt (share * get_or tally.whole d 0) (10000 * m))) (stood.members d l)
+        ∙ ap (λ (w : ℕ). one_if (nat_lt (share * w) (10000 * district_sum group.members plan_before d))) (stood.whole d l)
 
-    majority_left : one_if (nat_lt (get_or tally.whole from 0 - get_or group.whole u 0) (2 * (get_or tally.members from 0 - get_or group.members u 0)))
-        ≡ one_if (has_majority group after from)
+    majority_left : one_if (nat_lt (share * (get_or tally.whole from 0 - get_or group.whole u 0)) (10000 * (get_or tally.members from 0 - get_or group.members u 0)))
+        ≡ one_if (has_majority share group after from)
     majority_left =
         let members : get_or tally.members from 0 - get_or group.members u 0 ≡ district_sum group.members after from = omega (arith, stood.members from home_below, left_members) in
         let whole : get_or tally.whole from 0 - get_or group.whole u 0 ≡ district_sum group.whole after from = omega (arith, stood.whole from home_below, left_whole) in
-        ap (λ (m : ℕ). one_if (nat_lt (get_or tally.whole from 0 - get_or group.whole u 0) (2 * m))) members
-        ∙ ap (λ (w : ℕ). one_if (nat_lt w (2 * district_sum group.members after from))) whole
+        ap (λ (m : ℕ). one_if (nat_lt (share * (get_or tally.whole from 0 - get_or group.whole u 0)) (10000 * m))) members
+        ∙ ap (λ (w : ℕ). one_if (nat_lt (share * w) (10000 * district_sum group.members after from))) whole
 
-    majority_come : one_if (nat_lt (get_or tally.whole target 0 + get_or group.whole u 0) (2 * (get_or tally.members target 0 + get_or group.members u 0)))
-        ≡ one_if (has_majority group after target)
+    majority_come : one_if (nat_lt (share * (get_or tally.whole target 0 + get_or group.whole u 0)) (10000 * (get_or tally.members target 0 + get_or group.members u 0)))
+        ≡ one_if (has_majority share group after target)
     majority_come =
         let members : get_or tally.members target 0 + get_or group.members u 0 ≡ district_sum group.members after target =
         omega (arith, stood.members target target_below, come_sum group.members after u from step.unit_below apart) in
         let whole : get_or tally.whole target 0 + get_or group.whole u 0 ≡ district_sum group.whole after target =
         omega (arith, stood.whole target target_below, come_sum group.whole after u from step.unit_below apart) in
-        ap (λ (m : ℕ). one_if (nat_lt (get_or tally.whole target 0 + get_or group.whole u 0) (2 * m))) members
-        ∙ ap (λ (w : ℕ). one_if (nat_lt w (2 * district_sum group.members after target))) whole
+        ap (λ (m : ℕ). one_if (nat_lt (share * (get_or tally.whole target 0 + get_or group.whole u 0)) (10000 * m))) members
+        ∙ ap (λ (w : ℕ). one_if (nat_lt (share * w) (10000 * district_sum group.members after target))) whole
 
     -- the majorities change as those of the two districts do
-    majorities_moved : majorities group after + one_if (has_majority group plan_before from) + one_if (has_majority group plan_before target)
-        ≡ majorities group plan_before + one_if (has_majority group after from) + one_if (has_majority group after target)
+    majorities_moved : majorities share group after + one_if (has_majority share group plan_before from) + one_if (has_majority share group plan_before target)
+        ≡ majorities share group plan_before + one_if (has_majority share group after from) + one_if (has_majority share group after target)
     majorities_moved =
-        let two = count_but_two districts from target (has_majority group after) (has_majority group plan_before) home_below target_below (λ e. apart (sym e))
+        let two = count_but_two districts from target (has_majority share group after) (has_majority share group plan_before) home_below target_below (λ e. apart (sym e))
         (λ d l off_from off_to.
-        ap (λ (m : ℕ). nat_lt (district_sum group.whole after d) (2 * m)) (kept_sum group.members after u from step.unit_below d off_from off_to)
-        ∙ ap (λ (w : ℕ). nat_lt w (2 * district_sum group.members plan_before d)) (kept_sum group.whole after u from step.unit_below d off_from off_to)) in
-        omega (arith, two, majorities_within group after districts step.after_below, majorities_within group plan_before districts step.before_below)
+        ap (λ (m : ℕ). nat_lt (share * district_sum group.whole after d) (10000 * m)) (kept_sum group.members after u from step.unit_below d off_from off_to)
+        ∙ ap (λ (w : ℕ). nat_lt (share * w) (10000 * district_sum group.members plan_before d)) (kept_sum group.whole after u from step.unit_below d off_from off_to)) in
+        omega (arith, two, majorities_within share group after districts step.after_below, majorities_within share group plan_before districts step.before_below)
 
     pub few_majorities : tally.majorities ≤ 200
     few_majorities =
-        omega (arith, stood.majorities, majorities_within group plan_before districts step.before_below, count_below_le districts (has_majority group plan_before), table.few)
+        omega (arith, stood.majorities, majorities_within share group plan_before districts step.before_below, count_below_le districts (has_majority share group plan_before), table.few)
 
     -- the number of majorities, from those of the two districts before and after the move
     module _ (left come home there : ℕ)
-        (left_is : left ≡ one_if (nat_lt (get_or tally.whole from 0 - get_or group.whole u 0) (2 * (get_or tally.members from 0 - get_or group.members u 0))))
-        (come_is : come ≡ one_if (nat_lt (get_or tally.whole target 0 + get_or group.whole u 0) (2 * (get_or tally.members target 0 + get_or group.members u 0))))
-        (home_is : home ≡ one_if (nat_lt (get_or tally.whole from 0) (2 * get_or tally.members from 0)))
-        (there_is : there ≡ one_if (nat_lt (get_or tally.whole target 0) (2 * get_or tally.members target 0))) where
-      summed : majorities group after + home + there ≡ tally.majorities + left + come
+        (left_is : left ≡ one_if (nat_lt (share * (get_or tally.whole from 0 - get_or group.whole u 0)) (10000 * (get_or tally.members from 0 - get_or group.members u 0))))
+        (come_is : come ≡ one_if (nat_lt (share * (get_or tally.whole target 0 + get_or group.whole u 0)) (10000 * (get_or tally.members target 0 + get_or group.members u 0))))
+        (home_is : home ≡ one_if (nat_lt (share * get_or tally.whole from 0) (10000 * get_or tally.members from 0)))
+        (there_is : there ≡ one_if (nat_lt (share * get_or tally.whole target 0) (10000 * get_or tally.members target 0))) where
+      summed : majorities share group after + home + there ≡ tally.majorities + left + come
       summed = omega (
         arith,
         majorities_moved,
@@ -333,7 +348,7 @@ module _ (group : Group) (districts : ℕ) (tally : GroupTally) (after : List �
       pub enough_for_both : home + there ≤ tally.majorities + left + come
       enough_for_both = omega (arith, summed)
 
-      pub majorities_found : tally.majorities + left + come - home - there ≡ majorities group after
+      pub majorities_found : tally.majorities + left + come - home - there ≡ majorities share group after
       majorities_found = omega (arith, summed)
 
     -- the sums after the move
@@ -342,7 +357,7 @@ module _ (group : Group) (districts : ℕ) (tally : GroupTally) (after : List �
         members ≡ set less target (get_or less target 0 + get_or group.members u 0)
         → let less : List ℕ = set tally.whole from (get_or tally.whole from 0 - get_or group.whole u 0) in
         whole ≡ set less target (get_or less target 0 + get_or group.whole u 0)
-        → n ≡ majorities group after → IsTallied group districts (record { members = members; whole = whole; majorities = n }) after
+        → n ≡ majorities share group after → IsTallied group districts (record { members = members; whole = whole; share = share; majorities = n }) after
     tallied_after members whole n is_members is_whole is_n = record {
       members = λ d l. ap (λ (xs : List ℕ). get_or xs d 0) is_members
           ∙ shifted_sums group.members after u from step.unit_below apart districts tally.members home_below target_below table.members stood.members d l;

@@ -1,5 +1,5 @@
 -- Constraints by a test of the cut edges and a test of the districts of a region.
-use Rattle.std.specs.Prelude.{◌≡◌, ℕ, List}
+use Rattle.std.specs.Prelude.{◌≡◌, ◌≤◌, ℕ, List, length}
 use Rattle.std.specs.List.{All}
 use Rattle.audit_model.specs.declared.rules.Rules.{Rules}
 use Rattle.region_guard.specs.declared.guard.RegionGuard.{RegionGuard}
@@ -14,6 +14,8 @@ pub record IsRegionGuard {F T : Type 0} (cut : F) (test : T) (by : Rules) (distr
   pub districts_are : g.districts ≡ districts
   pub table : IsTable by.regions districts g.splits
   pub group_table : IsGroupTable by.group districts g.tally
+  pub share_is : g.tally.share ≡ by.group_share
+  pub homes : length by.frozen ≤ length by.home
 
 abbrev pub AreRegionGuards : {F T : Type 0} → F → T → Rules → ℕ → List (RegionGuard F T) → Type 0
 AreRegionGuards cut test by districts judges = All (IsRegionGuard cut test by districts) judges

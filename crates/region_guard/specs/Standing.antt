@@ -5,7 +5,7 @@ use Rattle.audit_model.specs.declared.rules.Rules.{Rules}
 use Rattle.audit_model.specs.Below.{above_all, count_below, sum_below}
 use Rattle.audit_model.specs.District.{district_sum}
 use Rattle.audit_model.specs.Limits.{IsGroup, most_regions, most_districts, most_units}
-use Rattle.audit_model.specs.Meets.{are_whole, majorities, split_of, split_regions, splits_in_all}
+use Rattle.audit_model.specs.Meets.{are_whole, keeps_frozen, majorities, split_of, split_regions, splits_in_all}
 use Rattle.region_guard.specs.declared.majority.GroupTally.{GroupTally}
 use Rattle.region_guard.specs.declared.splits.Splits.{Splits}
 use Rattle.region_guard.specs.declared.splits.Totals.{Totals}
@@ -14,10 +14,11 @@ use Rattle.region_guard.specs.declared.splits.Totals.{Totals}
 abbrev pub is_for : ℕ → List ℕ → Bool
 is_for units entries = (length entries == 0) || (length entries == units)
 
--- plans of this many units with districts below `above` are accepted: the regions and the group have that many units,
--- and the tables enough districts
+-- plans of this many units with districts below `above` are accepted: the regions, the group and the frozen units
+-- have that many units, and the tables enough districts
 abbrev pub is_fitting : Rules → ℕ → ℕ → ℕ → Bool
-is_fitting rules districts units above = is_for units rules.regions && is_for units rules.group.members && nat_le above districts
+is_fitting rules districts units above =
+    is_for units rules.regions && is_for units rules.group.members && is_for units rules.frozen && nat_le above districts
 
 -- the plans before and after a move fit the tables, and each unit has an entry in the list
 pub record IsStep (entries : List ℕ) (districts : ℕ) (after : List ℕ) (unit from : ℕ) : Type 0 where
@@ -94,16 +95,18 @@ pub record IsGroupTable (group : Group) (districts : ℕ) (tally : GroupTally) :
   pub members : length tally.members ≡ districts
   pub whole : length tally.whole ≡ districts
   pub few : districts ≤ most_districts
+  pub few_share : tally.share ≤ 10000
 
 -- the sums and the number of majorities are the plan's
 pub record IsTallied (group : Group) (districts : ℕ) (tally : GroupTally) (plan : List ℕ) : Type 0 where
   pub members : (district : ℕ) → district < districts → slice_index tally.members district ≡ district_sum group.members plan district
   pub whole : (district : ℕ) → district < districts → slice_index tally.whole district ≡ district_sum group.whole plan district
-  pub majorities : tally.majorities ≡ majorities group plan
+  pub majorities : tally.majorities ≡ majorities tally.share group plan
 
 -- ---- all rules
 
--- all counts are the plan's
-pub record IsStanding (rules : Rules) (districts : ℕ) (splits : Splits) (tally : GroupTally) (plan : List ℕ) : Type 0 where
+-- all counts are the plan's, and `kept` is true if the plan keeps the districts of frozen units
+pub record IsStanding (rules : Rules) (districts : ℕ) (splits : Splits) (tally : GroupTally) (kept : Bool) (plan : List ℕ) : Type 0 where
   pub regions : AreSplits rules.regions rules.max_split districts splits plan
   pub group : IsTallied rules.group districts tally plan
+  pub frozen : kept ≡ keeps_frozen rules.frozen rules.home plan

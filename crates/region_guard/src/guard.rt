@@ -1,11 +1,12 @@
 //! A constraint by two stored closures and running counts.
 
-ghost use Rattle.std.specs.Prelude.{◌≡◌, ℕ, ◌+◌, ◌<◌, ◌≤◌, ◌^◌, ◌≢◌, cond, not, nat_le, Bool, IfOk, length, slice_index, slice_set, replicate, false, All};
+ghost use Rattle.std.specs.Prelude.{◌≡◌, ◌↔◌, ℕ, ◌+◌, ◌<◌, ◌≤◌, ◌^◌, ◌≢◌, IsTrue, cond, not, nat_le, Bool, IfOk, length, slice_index, slice_set, replicate, false, All};
 ghost use Rattle.std.specs.Fn.{FnReturnsAt};
 ghost use Rattle.audit_model.specs.declared.outcome.SumsView.{SumsView as Sums};
 ghost use Rattle.audit_model.specs.Below.{count_below};
 ghost use Rattle.audit_model.specs.Limits.{IsGroup, most_districts, most_regions, most_units};
-ghost use Rattle.audit_model.specs.Meets.{split_of};
+ghost use Rattle.audit_model.specs.Meets.{keeps_frozen, split_of};
+ghost use Rattle.flip_guard.specs.Limiting.{LimitNothing};
 ghost use Rattle.region_guard.specs.Standing.{AreSplits, IsFitStep, IsGroupTable, IsStanding, IsStep, IsTable, is_fitting, permits_splits, totals_from, totals_of};
 
 use crate::counting::{
@@ -24,7 +25,8 @@ use std::alloc::Global;
 ///
 /// `cut` tests the cut edges, and `test` the number of districts of a region. Running counts
 /// describe the current plan: how its regions are split, and in how many districts the group has a
-/// majority. There may be no regions and no group.
+/// majority. `kept` is true if the frozen units keep their districts. There may be no regions, no
+/// group and no frozen units.
 #[derive(Drop)]
 pub struct RegionGuard<F, T> {
     cut: Guard<F>,
@@ -33,6 +35,7 @@ pub struct RegionGuard<F, T> {
     districts: u32,
     splits: Splits,
     tally: GroupTally,
+    kept: bool,
 }
 
 impl<F: Fn(&SumsView) -> bool + Drop, T: Fn(u32) -> bool + Drop> RegionGuard<F, T> {
@@ -180,6 +183,42 @@ impl<F: Fn(&SumsView) -> bool + Drop, T: Fn(u32) -> bool + Drop> RegionGuard<F, 
         self.splits.totals = totals;
     }
 
+    /// Returns true if the plan after a move keeps the districts of frozen units. If the plan
+    /// before the move kept them, the unit that moved decides.
+    #[inline]
+    fn keeps_with(&self, after: &[u32], unit: u32, _from: u32) -> bool
+        requires homes { length self.now.rules.frozen ≤ length self.now.rules.home }
+        requires entries { length self.now.rules.frozen ≤ length after.now }
+        requires unit { unit < length after.now }
+        requires stood { self.now.kept ≡ keeps_frozen self.now.rules.frozen self.now.rules.home (slice_set after.now unit _from) }
+        ensures { result ≡ keeps_frozen self.now.rules.frozen self.now.rules.home after.now }
+    {
+        if !self.kept {
+            return self.rules.keeps_frozen(after);
+        }
+        let place = unit as usize;
+        let frozen = self.rules.frozen.as_slice();
+        if place >= frozen.len() {
+            return true;
+        }
+        if frozen[place] == 0 {
+            return true;
+        }
+        after[place] == self.rules.home.as_slice()[place]
+    }
+
+    /// Returns true if the rules limit nothing.
+    #[inline]
+    fn has_no_limits(&self) -> bool
+        requires { self.now.cut.rules.max_cut ≡ self.now.rules.max_cut }
+        ensures { IsTrue result ↔ LimitNothing self.now.rules }
+    {
+        self.cut.allows_all()
+            && self.rules.regions.len() == 0
+            && self.rules.group_districts == 0
+            && self.rules.frozen.len() == 0
+    }
+
     /// Allocates a constraint for plans whose districts are below `districts`.
     ///
     /// It describes no plan until it is reset to one. Fails if there is no memory.
@@ -198,6 +237,8 @@ impl<F: Fn(&SumsView) -> bool + Drop, T: Fn(u32) -> bool + Drop> RegionGuard<F, 
         requires few_regions { All (λ r. r < most_regions) rules.regions }
         requires group { IsGroup (length rules.group.members) rules.group }
         requires few_units { length rules.group.members ≤ most_units }
+        requires share { rules.group_share ≤ 10000 }
+        requires homes { length rules.frozen ≤ length rules.home }
         requires districts { (1 ≤ districts) × (districts ≤ most_districts) }
         ensures cut { IfOk result (λ g. g.cut ≡ cut) }
         ensures test { IfOk result (λ g. g.test ≡ test) }
@@ -210,11 +251,12 @@ impl<F: Fn(&SumsView) -> bool + Drop, T: Fn(u32) -> bool + Drop> RegionGuard<F, 
           widths = replicate (length g.splits.widths) 0;
           totals = record { broken = 0; in_all = 0; split = 0 };
         }) }
-        ensures tally { IfOk result (λ g. g.tally ≡ record { members = replicate districts 0; whole = replicate districts 0; majorities = 0 }) }
+        ensures tally { IfOk result (λ g. g.tally ≡ record { members = replicate districts 0; whole = replicate districts 0; share = rules.group_share; majorities = 0 }) }
+        ensures kept { IfOk result (λ g. g.kept ≡ false) }
     {
         let rows = row_count(rules.regions.as_slice()) as usize;
         let splits = Splits::zeros(alloc, rows, districts as usize)?;
-        let tally = GroupTally::zeros(alloc, districts as usize)?;
+        let tally = GroupTally::zeros(alloc, districts as usize, rules.group_share)?;
         Ok(RegionGuard {
             cut,
             test,
@@ -222,6 +264,7 @@ impl<F: Fn(&SumsView) -> bool + Drop, T: Fn(u32) -> bool + Drop> RegionGuard<F, 
             districts,
             splits,
             tally,
+            kept: false,
         })
     }
 }
@@ -236,17 +279,20 @@ impl<F: Fn(&SumsView) -> bool + Drop, T: Fn(u32) -> bool + Drop> Judge for Regio
           × T.IsAlwaysCallable g.test
           × ((width : ℕ) (answer : Bool) → width < 2 ^ 32 → T.post g.test width answer → answer ≡ nat_le width g.rules.max_split)
           × IsTable g.rules.regions g.districts g.splits
-          × IsGroupTable g.rules.group g.districts g.tally;
-      stands = λ plan. IsStanding g.rules g.districts g.splits g.tally plan;
+          × IsGroupTable g.rules.group g.districts g.tally
+          × (g.tally.share ≡ g.rules.group_share)
+          × (length g.rules.frozen ≤ length g.rules.home);
+      stands = λ plan. IsStanding g.rules g.districts g.splits g.tally g.kept plan;
     } };
 
     #[inline]
     fn limits_nothing(&self) -> bool {
-        self.cut.allows_all() && self.rules.regions.len() == 0 && self.rules.group_districts == 0
+        self.has_no_limits()
     }
 
     fn permits(&self, after: &[u32], sums: &SumsView, unit: u32, from: u32) -> bool {
-        self.cut.allows(sums)
+        self.keeps_with(after, unit, from)
+            && self.cut.allows(sums)
             && self.permits_regions(after, unit, from)
             && self.rules.group_districts
                 <= self
@@ -258,8 +304,10 @@ impl<F: Fn(&SumsView) -> bool + Drop, T: Fn(u32) -> bool + Drop> Judge for Regio
         if after[unit as usize] == from {
             return;
         }
+        let kept = self.keeps_with(after, unit, from);
         self.move_region(after, unit, from);
         self.tally.moved(&self.rules.group, after, unit, from);
+        self.kept = kept;
     }
 
     fn reset(&mut self, plan: &[u32]) {
@@ -275,5 +323,6 @@ impl<F: Fn(&SumsView) -> bool + Drop, T: Fn(u32) -> bool + Drop> Judge for Regio
         count_widths(&self.splits.cells, districts, &mut self.splits.widths);
         self.splits.totals = self.count_totals();
         self.tally.reset(&self.rules.group, plan);
+        self.kept = self.rules.keeps_frozen(plan);
     }
 }

@@ -32,6 +32,8 @@ pub fn region_guards<F: Fn(&SumsView) -> bool + Copy + Drop, T: Fn(u32) -> bool 
     requires few_regions { All (λ r. r < most_regions) rules.now.regions }
     requires group { IsGroup (length rules.now.group.members) rules.now.group }
     requires few_units { length rules.now.group.members ≤ most_units }
+    requires share { rules.now.group_share ≤ 10000 }
+    requires homes { length rules.now.frozen ≤ length rules.now.home }
     requires districts { (1 ≤ districts) × (districts ≤ most_districts) }
     ensures each { IfOk result (λ j. AreRegionGuards cut test rules.now districts j.items) }
     ensures count { IfOk result (λ j. vec_len j ≡ count) }
@@ -48,6 +50,7 @@ fn cut_rules(alloc: Global, rules: &Rules) -> Rules
     ensures max_cut { result.max_cut ≡ rules.now.max_cut }
     ensures no_regions { result.regions ≡ [] }
     ensures no_group { result.group_districts ≡ 0 }
+    ensures no_frozen { result.frozen ≡ [] }
 {
     Rules {
         max_cut: rules.max_cut,
@@ -60,6 +63,9 @@ fn cut_rules(alloc: Global, rules: &Rules) -> Rules
             whole: NumList::new(alloc),
         },
         group_districts: 0,
+        group_share: rules.group_share,
+        frozen: UnitList::new(alloc),
+        home: UnitList::new(alloc),
     }
 }
 
@@ -78,6 +84,8 @@ fn region_guard_of<F: Fn(&SumsView) -> bool + Copy + Drop, T: Fn(u32) -> bool + 
     requires few_regions { All (λ r. r < most_regions) rules.now.regions }
     requires group { IsGroup (length rules.now.group.members) rules.now.group }
     requires few_units { length rules.now.group.members ≤ most_units }
+    requires share { rules.now.group_share ≤ 10000 }
+    requires homes { length rules.now.frozen ≤ length rules.now.home }
     requires districts { (1 ≤ districts) × (districts ≤ most_districts) }
     ensures { IfOk result (λ g. IsRegionGuard cut test rules.now districts g) }
 {

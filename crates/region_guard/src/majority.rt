@@ -13,22 +13,25 @@ use audit_model::rules::Group;
 use std::alloc::Global;
 
 /// Sums by district: the people of a group (`members`) and its base population (`whole`).
-/// `majorities` is the number of districts in which the members are more than half.
+/// `majorities` is the number of districts in which the members are more than `share`, in
+/// hundredths of a percent.
 #[derive(Drop)]
 pub struct GroupTally {
     members: NumList,
     whole: NumList,
+    share: u32,
     majorities: u32,
 }
 
 impl GroupTally {
     /// Allocates sums of zero. Fails if there is no memory.
-    pub(crate) fn zeros(alloc: Global, districts: usize) -> Result<GroupTally, Memory>
-        ensures { IfOk result (λ t. t ≡ record { members = replicate districts 0; whole = replicate districts 0; majorities = 0 }) }
+    pub(crate) fn zeros(alloc: Global, districts: usize, share: u32) -> Result<GroupTally, Memory>
+        ensures { IfOk result (λ t. t ≡ record { members = replicate districts 0; whole = replicate districts 0; share = share; majorities = 0 }) }
     {
         Ok(GroupTally {
             members: NumList::zeros(alloc, districts)?,
             whole: NumList::zeros(alloc, districts)?,
+            share,
             majorities: 0,
         })
     }
@@ -38,11 +41,16 @@ impl GroupTally {
     fn majority_in(&self, district: u32) -> u32
         requires members { district < length self.now.members }
         requires whole { district < length self.now.whole }
-        requires few { 2 * slice_index self.now.members district < 2 ^ 64 }
-        ensures { result ≡ cond (nat_lt (slice_index self.now.whole district) (2 * slice_index self.now.members district)) 1 0 }
+        requires few { 10000 * slice_index self.now.members district < 2 ^ 64 }
+        requires few_whole { self.now.share * slice_index self.now.whole district < 2 ^ 64 }
+        ensures { result ≡ cond (nat_lt (self.now.share * slice_index self.now.whole district) (10000 * slice_index self.now.members district)) 1 0 }
     {
         let place = district as usize;
-        majority_of(self.members.as_slice()[place], self.whole.as_slice()[place])
+        majority_of(
+            self.share,
+            self.members.as_slice()[place],
+            self.whole.as_slice()[place],
+        )
     }
 
     /// Returns what [`Self::majority_in`] would return after a unit has left the district.
@@ -54,14 +62,16 @@ impl GroupTally {
         requires unit_whole { unit < length group.now.whole }
         requires some_members { slice_index group.now.members unit ≤ slice_index self.now.members district }
         requires some_whole { slice_index group.now.whole unit ≤ slice_index self.now.whole district }
-        requires few { 2 * slice_index self.now.members district < 2 ^ 64 }
-        ensures { result ≡ cond (nat_lt (slice_index self.now.whole district - slice_index group.now.whole unit)
-            (2 * (slice_index self.now.members district - slice_index group.now.members unit))) 1 0 }
+        requires few { 10000 * slice_index self.now.members district < 2 ^ 64 }
+        requires few_whole { self.now.share * (slice_index self.now.whole district - slice_index group.now.whole unit) < 2 ^ 64 }
+        ensures { result ≡ cond (nat_lt (self.now.share * (slice_index self.now.whole district - slice_index group.now.whole unit))
+            (10000 * (slice_index self.now.members district - slice_index group.now.members unit))) 1 0 }
     {
         let place = district as usize;
         let members = group.members.as_slice()[unit as usize];
         let whole = group.whole.as_slice()[unit as usize];
         majority_of(
+            self.share,
             self.members.as_slice()[place] - members,
             self.whole.as_slice()[place] - whole,
         )
@@ -74,15 +84,17 @@ impl GroupTally {
         requires whole { district < length self.now.whole }
         requires unit_members { unit < length group.now.members }
         requires unit_whole { unit < length group.now.whole }
-        requires few { 2 * (slice_index self.now.members district + slice_index group.now.members unit) < 2 ^ 64 }
-        requires few_whole { slice_index self.now.whole district + slice_index group.now.whole unit < 2 ^ 64 }
-        ensures { result ≡ cond (nat_lt (slice_index self.now.whole district + slice_index group.now.whole unit)
-            (2 * (slice_index self.now.members district + slice_index group.now.members unit))) 1 0 }
+        requires few { 10000 * (slice_index self.now.members district + slice_index group.now.members unit) < 2 ^ 64 }
+        requires few_sum { slice_index self.now.whole district + slice_index group.now.whole unit < 2 ^ 64 }
+        requires few_whole { self.now.share * (slice_index self.now.whole district + slice_index group.now.whole unit) < 2 ^ 64 }
+        ensures { result ≡ cond (nat_lt (self.now.share * (slice_index self.now.whole district + slice_index group.now.whole unit))
+            (10000 * (slice_index self.now.members district + slice_index group.now.members unit))) 1 0 }
     {
         let place = district as usize;
         let members = group.members.as_slice()[unit as usize];
         let whole = group.whole.as_slice()[unit as usize];
         majority_of(
+            self.share,
             self.members.as_slice()[place] + members,
             self.whole.as_slice()[place] + whole,
         )
@@ -93,7 +105,7 @@ impl GroupTally {
         requires table { IsGroupTable group.now (length self.now.members) self.now }
         requires step { IsStep group.now.members (length self.now.members) after.now unit from }
         requires stood { IsTallied group.now (length self.now.members) self.now (slice_set after.now unit from) }
-        ensures { result ≡ majorities group.now after.now }
+        ensures { result ≡ majorities self.now.share group.now after.now }
     {
         let to = after[unit as usize];
         if to == from {
@@ -110,7 +122,7 @@ impl GroupTally {
         requires table { IsGroupTable group.now (length self.now.members) self.now }
         requires step { IsFitStep group.now.members (length self.now.members) after.now unit from }
         requires stood { IsTallied group.now (length self.now.members) self.now (slice_set after.now unit from) }
-        ensures { result ≡ majorities group.now after.now }
+        ensures { result ≡ majorities self.now.share group.now after.now }
     {
         if group.members.len() == 0 {
             return self.majorities;
@@ -125,6 +137,7 @@ impl GroupTally {
         requires stood { IsTallied group.now (length self.old.members) self.old (slice_set after.now unit from) }
         requires apart { slice_index after.now unit ≢ from }
         ensures table { IsGroupTable group.now (length self.old.members) self.new }
+        ensures share { self.new.share ≡ self.old.share }
         ensures stands { IsTallied group.now (length self.old.members) self.new after.now }
     {
         let majorities = self.majorities_after(group, after, unit, from);
@@ -141,6 +154,7 @@ impl GroupTally {
         requires stood { IsTallied group.now (length self.old.members) self.old (slice_set after.now unit from) }
         requires apart { slice_index after.now unit ≢ from }
         ensures table { IsGroupTable group.now (length self.old.members) self.new }
+        ensures share { self.new.share ≡ self.old.share }
         ensures stands { IsTallied group.now (length self.old.members) self.new after.now }
     {
         if group.members.len() > 0 {
@@ -152,9 +166,10 @@ impl GroupTally {
     fn count_majorities(&self) -> u32
         requires few { length self.now.members ≤ most_districts }
         requires places { length self.now.whole ≡ length self.now.members }
-        requires small { (d : ℕ) → d < length self.now.members → 2 * slice_index self.now.members d < 2 ^ 64 }
+        requires small { (d : ℕ) → d < length self.now.members → 10000 * slice_index self.now.members d < 2 ^ 64 }
+        requires small_whole { (d : ℕ) → d < length self.now.members → self.now.share * slice_index self.now.whole d < 2 ^ 64 }
         ensures { result ≡ count_below (length self.now.members)
-            (λ d. nat_lt (slice_index self.now.whole d) (2 * slice_index self.now.members d)) }
+            (λ d. nat_lt (self.now.share * slice_index self.now.whole d) (10000 * slice_index self.now.members d)) }
     {
         let mut majorities = 0;
         for district in 0..self.members.len() {
@@ -169,6 +184,7 @@ impl GroupTally {
         requires entries { length group.now.members ≤ length plan.now }
         requires below { above_all plan.now ≤ length self.old.members }
         ensures table { IsGroupTable group.now (length self.old.members) self.new }
+        ensures share { self.new.share ≡ self.old.share }
         ensures stands { IsTallied group.now (length self.old.members) self.new plan.now }
     {
         refill(&group.members, plan, &mut self.members);
@@ -177,11 +193,17 @@ impl GroupTally {
     }
 }
 
-/// Returns 1 if the members are more than half of the base population, else 0.
+/// Returns 1 if the members are more than a share of the base population, else 0. The share is in
+/// hundredths of a percent.
 #[inline]
-fn majority_of(members: u64, whole: u64) -> u32
-    requires few { 2 * members < 2 ^ 64 }
-    ensures { result ≡ cond (nat_lt whole (2 * members)) 1 0 }
+fn majority_of(share: u32, members: u64, whole: u64) -> u32
+    requires few { 10000 * members < 2 ^ 64 }
+    requires few_whole { share * whole < 2 ^ 64 }
+    ensures { result ≡ cond (nat_lt (share * whole) (10000 * members)) 1 0 }
 {
-    if 2 * members > whole { 1 } else { 0 }
+    if 10_000 * members > u64::from(share) * whole {
+        1
+    } else {
+        0
+    }
 }

@@ -1,6 +1,6 @@
 -- The greatest length of a report.
 use Rattle.std.proofs.Common.{◌≡◌, ℕ, zero, suc, ◌+◌, ◌-◌, ◌*◌, ◌^◌, ◌<◌, ◌≤◌, true, List, [], ◌∷◌, ◌++◌, length, flat_map, filter, refl, ap, sym, ◌∙◌, subst, arith, length-append, codes, decimal, get_or, take, zero-add, ℤ, pos, negsuc, unsigned_abs}
-use Rattle.std.specs.Prelude.{◌||◌, nat_lt, nat_le, slice_index, sum_by, zip, Bool, false, Option, Some, None}
+use Rattle.std.specs.Prelude.{◌==◌, ◌||◌, nat_lt, nat_le, slice_index, sum_by, zip, Bool, false, Option, Some, None}
 use Rattle.std.specs.Fmt.{signed_decimal}
 use Rattle.std.specs.List.{All}
 use Rattle.std.specs.Option.{IfSome, SomeIff}
@@ -27,7 +27,7 @@ use Rattle.audit_model.specs.declared.setting.Tail.TheVariants.{Low, High}
 use Rattle.audit_model.specs.Graph.{count_edges}
 use Rattle.audit_model.specs.Job.{Job, total_population, total_votes}
 use Rattle.audit_model.specs.JobOf.{IsJob}
-use Rattle.audit_model.specs.Meets.{majorities, region_count}
+use Rattle.audit_model.specs.Meets.{frozen_count, majorities, region_count}
 use Rattle.audit_model.specs.Plan.{least_population, greatest_population}
 use Rattle.audit_model.specs.Run.{steps_of}
 use Rattle.audit_model.specs.Score.{denominator}
@@ -36,7 +36,7 @@ use Rattle.audit_model.specs.Trajectory.{in_tail, plan_value, rank, value_at}
 use Rattle.audit_model.proofs.Least.{bound_is_least, quotient_up_is_least}
 use Rattle.audit_statement.specs.Names.{score_name, tail_name}
 use Rattle.audit_model.specs.Stopping.{placed_asks}
-use Rattle.audit_statement.specs.Report.{line, fraction, billionths, graph_line, population_line, columns_line, cut_line, group_line, group_words, origin_lines, region_words, split_line, splits_line, rule_lines, setting_line, walk_line, walk_lines, ends_line, ends_lines, stop_line, title_line, shift_line, stopped_line, test_lines, serial_line, serial_lines, report}
+use Rattle.audit_statement.specs.Report.{line, fraction, billionths, graph_line, population_line, columns_line, cut_line, frozen_line, frozen_words, group_line, group_words, origin_lines, region_words, share_line, split_line, splits_line, rule_lines, setting_line, walk_line, walk_lines, ends_line, ends_lines, stop_line, title_line, shift_line, stopped_line, test_lines, serial_line, serial_lines, report}
 use Rattle.report.specs.Outcomes.{AreOutcomesOf, AreStops, AreStopsBy, AreStopsOf, HasCounts, IsCount, IsRank, IsSerialBy, IsSerialOf, IsStopOf}
 use Rattle.report.specs.Parts.{head, key_line, lines_of, names_length, source_line}
 use Rattle.report.proofs.Escapes.{length-quoted}
@@ -355,23 +355,42 @@ length-group_line least there (n ∷ rest) =
     let whole = length-line (codes "group-districts") (decimal least ∷ codes "of" ∷ decimal there ∷ []) in
     omega (arith, whole, length-decimal_any least, length-decimal_any there)
 
--- the lines of the rules are at most 529 bytes long
-length-rule_lines : (job : Job) → length (rule_lines job) ≤ 529
+-- the line of the share is at most 77 bytes long
+length-share_line : (share : ℕ) (members : List ℕ) → length (share_line share members) ≤ 77
+length-share_line share [] = omega arith
+length-share_line share (n ∷ rest) =
+    let text = line (codes "group-share" ∷ decimal share ∷ []) in
+    let whole = length-line (codes "group-share") (decimal share ∷ []) in
+    cond_both {A = List ℕ} (share == 5000) [] text (λ t. length t ≤ 77) (λ _. omega arith) (λ _. omega (arith, whole, length-decimal_any share))
+
+-- the line of frozen units is at most 72 bytes long
+length-frozen_line : (frozen : List ℕ) → length (frozen_line frozen) ≤ 72
+length-frozen_line [] = omega arith
+length-frozen_line (f ∷ rest) =
+    let count = frozen_count (f ∷ rest) in
+    let whole = length-line (codes "frozen") (decimal count ∷ []) in
+    omega (arith, whole, length-decimal_any count)
+
+-- the lines of the rules are at most 678 bytes long
+length-rule_lines : (job : Job) → length (rule_lines job) ≤ 678
 length-rule_lines job =
-    let there = majorities job.group job.start in
+    let there = majorities job.setting.group_share job.group job.start in
     let splits = splits_line job.setting.max_splits job.setting.max_split_regions job.regions in
     let group = group_line job.setting.group_districts there job.group.members in
-    four-le (cut_line job) (split_line job.setting.max_split job.regions) splits group 529
+    six-le (cut_line job) (split_line job.setting.max_split job.regions) splits group
+    (share_line job.setting.group_share job.group.members) (frozen_line job.frozen) 678
     (omega (
       arith,
       length-cut_line job,
       length-split_line job.setting.max_split job.regions,
       length-splits_line job.setting.max_splits job.setting.max_split_regions job.regions,
       length-group_line job.setting.group_districts there job.group.members,
+      length-share_line job.setting.group_share job.group.members,
+      length-frozen_line job.frozen,
     ))
   where
-    four-le : (a b c d : List ℕ) (n : ℕ) → length a + length b + length c + length d ≤ n → length (a ++ b ++ c ++ d) ≤ n
-    four-le a b c d n h = simp length-append h
+    six-le : (a b c d e f : List ℕ) (n : ℕ) → length a + length b + length c + length d + length e + length f ≤ n → length (a ++ b ++ c ++ d ++ e ++ f) ≤ n
+    six-le a b c d e f n h = simp length-append h
 
 -- the line of early stopping is at most 70 bytes long
 length-stop_line : (n : ℕ) → length (stop_line n) ≤ 70
@@ -421,18 +440,26 @@ group_words-le (c ∷ column) whole =
     let other = length-quoted whole in
     omega (arith, name, other)
 
--- the line of the columns has at most 45 bytes, and 6 for each byte of their names
-pub length-columns_line : (columns : Columns) (region : List ℕ) → length (columns_line columns region) ≤ 45 + names_length columns region * 6
+-- the words of the column of frozen units have at most 10 bytes, and 6 for each byte of its name
+frozen_words-le : (frozen : List ℕ) → width (frozen_words frozen) ≤ 10 + length frozen * 6
+frozen_words-le [] = omega arith
+frozen_words-le (c ∷ column) = let name = length-quoted (c ∷ column) in omega (arith, name)
+
+-- the line of the columns has at most 55 bytes, and 6 for each byte of their names
+pub length-columns_line : (columns : Columns) (region : List ℕ) → length (columns_line columns region) ≤ 55 + names_length columns region * 6
 length-columns_line columns region =
-    let more = region_words region ++ group_words columns.group columns.whole in
+    let more = region_words region ++ group_words columns.group columns.whole ++ frozen_words columns.frozen in
     let whole = length-line (codes "columns") (quoted columns.population ∷ quoted columns.first ∷ quoted columns.second ∷ quoted columns.district ∷ more) in
-    let rest = width-append (region_words region) (group_words columns.group columns.whole) in
+    let both = width-append (region_words region) (group_words columns.group columns.whole) in
+    let rest = width-append (region_words region ++ group_words columns.group columns.whole) (frozen_words columns.frozen) in
     omega (
       arith,
       whole,
+      both,
       rest,
       region_words-le region,
       group_words-le columns.group columns.whole,
+      frozen_words-le columns.frozen,
       length-quoted columns.population,
       length-quoted columns.first,
       length-quoted columns.second,
@@ -443,11 +470,11 @@ length-columns_line columns region =
 joined-le : (a b c d e f g h : List ℕ) (n : ℕ) → length a + length b + length c + length d + length e + length f + length g + length h ≤ n → length (a ++ b ++ c ++ d ++ e ++ f ++ g ++ h) ≤ n
 joined-le a b c d e f g h n few = simp length-append few
 
--- the head is at most 1508 bytes long, without the lines of the origin
-length-head : (job : Job) → IsJob job → length (head job) ≤ 1508 + length (origin_lines job job.origin)
+-- the head is at most 1657 bytes long, without the lines of the origin
+length-head : (job : Job) → IsJob job → length (head job) ≤ 1657 + length (origin_lines job job.origin)
 length-head job h =
     joined-le (title_line job.setting.shift) (origin_lines job job.origin) (key_line job) (graph_line job) (population_line job) (rule_lines job) (setting_line job) (stop_line job.setting.stop)
-    (1508 + length (origin_lines job job.origin))
+    (1657 + length (origin_lines job job.origin))
     (omega (arith, length-title_line job.setting.shift, length-key_line job h, length-graph_line job, length-population_line job, length-rule_lines job, length-setting_line job, length-stop_line job.setting.stop))
 
 -- ---- all of it
@@ -463,7 +490,7 @@ pub both_told : (first second : List ℕ) (one two : ℕ) (fits : Type 0) (answe
 both_told first second one two fits answer short brief is = told (first ++ second) (two + one) fits answer (omega (arith, short, brief, length-append first second)) is
 
 -- the six parts of a report, each within its bound, are joined within the sum
-parts-le : (a b c d e f : List ℕ) (h l m n k : ℕ) → length a ≤ 1508 + h → length b ≤ l → length c ≤ 591 → length d ≤ m → length e ≤ n → length f ≤ 4 → 2103 + h + l + m + n ≤ k
+parts-le : (a b c d e f : List ℕ) (h l m n k : ℕ) → length a ≤ 1657 + h → length b ≤ l → length c ≤ 591 → length d ≤ m → length e ≤ n → length f ≤ 4 → 2252 + h + l + m + n ≤ k
     → length (a ++ b ++ c ++ d ++ e ++ f) ≤ k
 parts-le a b c d e f h l m n k la lb lc ld le lf most = simp length-append (omega arith)
 
@@ -480,7 +507,7 @@ report-le job os stops serial h all_of stopped found =
     (length-head job h) (walk_lines-le job os h all_of) (length-shift_line job.setting.shift os) (test_lines-le job.setting.stop job os stops h refl all_of stopped)
     (serial_lines-le job.setting.serial job serial h found) (omega arith) (products walks asks origin)
   where
-    products : (w a h : ℕ) → 2103 + h + w * (a * 200) + a * 200 + a * 200 ≤ 2560 + (w + 2) * a * 200 + h
+    products : (w a h : ℕ) → 2252 + h + w * (a * 200) + a * 200 + a * 200 ≤ 2560 + (w + 2) * a * 200 + h
     products w a h = grind arith
 
 -- the bound without the origin is below 90 million bytes

@@ -78,6 +78,14 @@ line-parts word words more last =
     joined : (a b c d : List ℕ) → a ++ (((b ++ c) ++ d) ++ 10 ∷ []) ≡ (((a ++ b) ++ c) ++ d) ++ 10 ∷ []
     joined a b c d = simp append_assoc
 
+-- one more list of words is appended to the line
+pub line-four : (word : List ℕ) (words more last end : List (List ℕ))
+    → ((((word ++ spaced words) ++ spaced more) ++ spaced last) ++ spaced end) ++ 10 ∷ [] ≡ line (word ∷ (((words ++ more) ++ last) ++ end))
+line-four word words more last end =
+    ap (λ t. ((t ++ spaced last) ++ spaced end) ++ 10 ∷ [])
+    (append_assoc word (spaced words) (spaced more) ∙ ap (λ t. word ++ t) (sym (flat_map-append (λ (w : List ℕ). 32 ∷ w) words more)))
+    ∙ line-parts word (words ++ more) last end
+
 -- two texts are appended one after the other
 pub appends-two : (old mid new : RoomyBytes) (a b : List ℕ) (r : Result (Unit {0}) Memory) → AppendsText old mid a (Ok tt) → AppendsText mid new b r → AppendsText old new (a ++ b) r
 appends-two old mid new a b r first second = written-last old mid new (a ++ b) b r (written-more old old mid (a ++ b) a b (written-none old (a ++ b) (a ++ b) refl) first) second

@@ -18,7 +18,7 @@ source_line origin = line (codes "source" ∷ codes "sha256" ∷ encode_lower or
 abbrev pub names_length : Columns → List ℕ → ℕ
 names_length columns region =
     length columns.population + length columns.first + length columns.second + length columns.district + length columns.group + length columns.whole
-    + length region
+    + length columns.frozen + length region
 
 -- the line with the key
 abbrev pub key_line : Job → List ℕ

@@ -247,7 +247,7 @@ fn graph_line<'a>(fault: &GraphFault, columns: &'a Columns) -> Line<'a>
         GraphFault::BadNumber { node, column } => line_of(&[
             Text("node "),
             Number(u64::from(*node)),
-            Text(" has no whole number from 0 to 1000000000 in column "),
+            Text(no_value(*column)),
             Text(column_name(columns, *column)),
         ]),
         GraphFault::BadLabel(node) => line_of(&[
@@ -340,14 +340,36 @@ fn plan_line(fault: &PlanFault) -> Line<'static>
             Text(" regions lie in more than one district, more than "),
             Number(u64::from(*most)),
         ]),
-        PlanFault::TooFewMajorities { districts, least } => line_of(&[
-            Text("the group has a majority in "),
-            Number(u64::from(*districts)),
-            Text(" districts, fewer than "),
-            Number(u64::from(*least)),
-        ]),
+        PlanFault::TooFewMajorities {
+            districts,
+            least,
+            share,
+        } => majorities_line(*districts, *least, *share),
         PlanFault::Memory => text_line("memory"),
     }
+}
+
+// Returns the line about too few districts with a majority of the group. A share of one half is not
+// named.
+fn majorities_line(districts: u32, least: u32, share: u32) -> Line<'static>
+    ensures { terms.as_line (map piece_text result) ≡ terms.as_line (terms.plan_note (plan.TooFewMajorities districts least share)) }
+{
+    if share == 5_000 {
+        return line_of(&[
+            Text("the group has a majority in "),
+            Number(u64::from(districts)),
+            Text(" districts, fewer than "),
+            Number(u64::from(least)),
+        ]);
+    }
+    line_of(&[
+        Text("the group has more than "),
+        Number(u64::from(share)),
+        Text(" of 10000 in "),
+        Number(u64::from(districts)),
+        Text(" districts, fewer than "),
+        Number(u64::from(least)),
+    ])
 }
 
 fn table_line(fault: &TableFault) -> Line<'static>
@@ -460,6 +482,22 @@ fn column_name(columns: &Columns, column: Column) -> &str
         Column::District => columns.district.as_str(),
         Column::Group => columns.group.as_str(),
         Column::Whole => columns.whole.as_str(),
+        Column::Frozen => columns.frozen.as_str(),
+    }
+}
+
+// Returns the words for a column in which a node has no valid value.
+fn no_value(column: Column) -> &'static str
+    ensures { result.now ≡ terms.no_value column }
+{
+    match column {
+        Column::Frozen => " has no true, false or whole number from 0 to 1000000000 in column ",
+        Column::Population
+        | Column::First
+        | Column::Second
+        | Column::District
+        | Column::Group
+        | Column::Whole => " has no whole number from 0 to 1000000000 in column ",
     }
 }
 

@@ -61,6 +61,7 @@ fn push_columns_line(columns: &Columns, region: &Text, out: &mut Bytes) -> Resul
     )?;
     push_region_words(region, out)?;
     push_group_words(columns, out)?;
+    push_frozen_words(&columns.frozen, out)?;
     out.push(b'\n')
 }
 
@@ -73,6 +74,17 @@ fn push_region_words(region: &Text, out: &mut Bytes) -> Result<(), Memory>
         return Ok(());
     }
     push_words(out, &[Word::Text("region"), Word::Quoted(name)])
+}
+
+/// Appends the column of frozen units, if one is named.
+fn push_frozen_words(frozen: &Text, out: &mut Bytes) -> Result<(), Memory>
+    ensures { AppendsText out.old out.new (spaced (definition.frozen_words frozen.now)) result }
+{
+    let name = frozen.as_str();
+    if name.is_empty() {
+        return Ok(());
+    }
+    push_words(out, &[Word::Text("freeze"), Word::Quoted(name)])
 }
 
 /// Appends the columns of a group, if one is named.

@@ -1,10 +1,10 @@
 //! The lines of the rules on plans.
 
-ghost use Rattle.std.specs.Prelude.{◌≡◌, ◌<◌, ℕ, ◌||◌, false, nat_lt, length, All};
+ghost use Rattle.std.specs.Prelude.{◌≡◌, ◌<◌, ◌^◌, ℕ, ◌||◌, false, nat_lt, length, All};
 ghost use Rattle.std.specs.List.{slice_index_or};
 ghost use Rattle.audit_model.specs.Below.{count_below};
 ghost use Rattle.audit_model.specs.Graph.{has};
-ghost use Rattle.audit_model.specs.Meets.{majorities, region_count};
+ghost use Rattle.audit_model.specs.Meets.{frozen_count, majorities, region_count};
 ghost use Rattle.report.specs.Lines.{AppendsText};
 ghost use Rattle.audit_statement.specs.Report as definition;
 ghost use Rattle.audit_model.specs.Limits.{most_regions, most_splits};
@@ -25,7 +25,9 @@ pub fn push_rule_lines(job: &Job, out: &mut Bytes) -> Result<(), Memory>
     push_cut_line(job, out)?;
     push_split_line(job, out)?;
     push_splits_line(job, out)?;
-    push_group_line(job, out)
+    push_group_line(job, out)?;
+    push_share_line(job, out)?;
+    push_frozen_line(job, out)
 }
 
 /// Appends the line with the most cut edges, if they are limited.
@@ -88,7 +90,7 @@ fn limits_splits(setting: &Setting) -> bool
 /// Appends the line of the group, if there is one: the required number of majority districts, and that of the start
 /// plan.
 fn push_group_line(job: &Job, out: &mut Bytes) -> Result<(), Memory>
-    ensures { AppendsText out.old out.new (definition.group_line job.now.setting.group_districts (majorities job.now.group job.now.start) job.now.group.members) result }
+    ensures { AppendsText out.old out.new (definition.group_line job.now.setting.group_districts (majorities job.now.setting.group_share job.now.group job.now.start) job.now.group.members) result }
 {
     if job.rules().group.members.as_slice().is_empty() {
         return Ok(());
@@ -102,6 +104,52 @@ fn push_group_line(job: &Job, out: &mut Bytes) -> Result<(), Memory>
             Word::Number(u64::from(job.majorities())),
         ],
     )
+}
+
+/// Appends the line of the share for a group's majority, if there is a group and the share is not
+/// one half.
+fn push_share_line(job: &Job, out: &mut Bytes) -> Result<(), Memory>
+    ensures { AppendsText out.old out.new (definition.share_line job.now.setting.group_share job.now.group.members) result }
+{
+    let share = job.setting().group_share;
+    if job.rules().group.members.as_slice().is_empty() || share == 5_000 {
+        return Ok(());
+    }
+    push_line(
+        out,
+        &[Word::Text("group-share"), Word::Number(u64::from(share))],
+    )
+}
+
+/// Appends the line with the number of frozen units, if there is a column of them.
+fn push_frozen_line(job: &Job, out: &mut Bytes) -> Result<(), Memory>
+    ensures { AppendsText out.old out.new (definition.frozen_line job.now.frozen) result }
+{
+    let frozen = job.rules().frozen.as_slice();
+    if frozen.is_empty() {
+        return Ok(());
+    }
+    push_line(
+        out,
+        &[
+            Word::Text("frozen"),
+            Word::Number(u64::from(count_frozen(frozen))),
+        ],
+    )
+}
+
+/// Returns the number of frozen units.
+fn count_frozen(frozen: &[u32]) -> u32
+    requires { length frozen.now < 2 ^ 32 }
+    ensures { result ≡ frozen_count frozen.now }
+{
+    let mut count = 0;
+    for unit in 0..frozen.len() {
+        if frozen[unit] > 0 {
+            count += 1;
+        }
+    }
+    count
 }
 
 fn regions_of(job: &Job) -> &[u32]

@@ -28,12 +28,12 @@ pub fn small_split_counts()
 /// Shows the number of majority districts of a group. One half is no majority, and the group may exceed its base
 /// population.
 pub fn small_majorities()
-    ensures half { has_majority group_of_four (0 ∷ 0 ∷ 1 ∷ 1 ∷ []) 0 ≡ false }
-    ensures more { has_majority group_of_four (0 ∷ 0 ∷ 1 ∷ 1 ∷ []) 1 ≡ true }
-    ensures one { majorities group_of_four (0 ∷ 0 ∷ 1 ∷ 1 ∷ []) ≡ 1 }
-    ensures two { majorities group_of_four (0 ∷ 1 ∷ 1 ∷ 0 ∷ []) ≡ 2 }
-    ensures above { majorities (record { members = 5 ∷ []; whole = 1 ∷ [] }) (0 ∷ []) ≡ 1 }
-    ensures of_none { majorities no_group (0 ∷ 0 ∷ 1 ∷ 1 ∷ []) ≡ 0 }
+    ensures half { has_majority 5000 group_of_four (0 ∷ 0 ∷ 1 ∷ 1 ∷ []) 0 ≡ false }
+    ensures more { has_majority 5000 group_of_four (0 ∷ 0 ∷ 1 ∷ 1 ∷ []) 1 ≡ true }
+    ensures one { majorities 5000 group_of_four (0 ∷ 0 ∷ 1 ∷ 1 ∷ []) ≡ 1 }
+    ensures two { majorities 5000 group_of_four (0 ∷ 1 ∷ 1 ∷ 0 ∷ []) ≡ 2 }
+    ensures above { majorities 5000 (record { members = 5 ∷ []; whole = 1 ∷ [] }) (0 ∷ []) ≡ 1 }
+    ensures of_none { majorities 5000 no_group (0 ∷ 0 ∷ 1 ∷ 1 ∷ []) ≡ 0 }
 {}
 
 /// Shows plans within limits and beyond them.
@@ -54,7 +54,7 @@ pub fn refused_by_limits()
     ensures split { plan_fault (record (limited_job 1 1 2) { setting = record (limited_job 1 1 2).setting { max_split = 1 } }) ≡ Some (TooManySplit 0 2 1) }
     ensures splits { plan_fault (limited_job 1 1 2) ≡ Some (TooManySplits 2 1) }
     ensures regions { plan_fault (limited_job 2 1 2) ≡ Some (TooManySplitRegions 2 1) }
-    ensures group { plan_fault (limited_job 2 2 2) ≡ Some (TooFewMajorities 1 2) }
+    ensures group { plan_fault (limited_job 2 2 2) ≡ Some (TooFewMajorities 1 2 5000) }
     ensures none { plan_fault (limited_job 2 2 1) ≡ None }
 {}
 

@@ -95,6 +95,7 @@ pub fn refused_plans()
       setting = run_of 1000 1 8 0 1000 [];
       regions = [];
       group = no_group;
+      frozen = [];
       origin = None;
     }) ≡ Some (OutOfBounds 2 4 3 3) }
     ensures parted { plan_fault (record {
@@ -105,6 +106,7 @@ pub fn refused_plans()
       setting = run_of 5000 1 8 0 1000 [];
       regions = [];
       group = no_group;
+      frozen = [];
       origin = None;
     }) ≡ Some (Disconnected 0 0 2) }
 {}

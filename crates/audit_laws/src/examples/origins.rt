@@ -52,7 +52,7 @@ pub fn read_groups()
     ensures group { reading path_text (record columns { group = codes "a"; whole = codes "pop" }) ≡
         Ok (record (parsed_four path_of_four (Whole (pos 1) ∷ Whole (pos 2) ∷ [])) { group = record { members = 3 ∷ 1 ∷ 1 ∷ 2 ∷ []; whole = 1 ∷ 1 ∷ 1 ∷ 1 ∷ [] } }) }
     ensures missing { reading path_text (record columns { group = codes "a"; whole = codes "v" }) ≡ Err (Missing 0 column.Whole) }
-    ensures no_number { reading region_text (record { population = codes "id"; first = codes "id"; second = codes "id"; district = codes "r"; group = codes "s"; whole = codes "id" }) ≡
+    ensures no_number { reading region_text (record { population = codes "id"; first = codes "id"; second = codes "id"; district = codes "r"; group = codes "s"; whole = codes "id"; frozen = [] }) ≡
         Err (BadNumber 0 column.Group) }
 {}
 
@@ -62,7 +62,7 @@ pub fn notes_of_limits()
     ensures no_whole { note (record columns { group = codes "g"; whole = codes "v" }) (bad_graph (Missing 3 column.Whole)) ≡ codes "graph: node 3 has no column v" ++ 10 ∷ [] }
     ensures splits { note columns (bad_plan (plan.TooManySplits 13 12)) ≡ codes "plan: 13 splits of regions, more than 12" ++ 10 ∷ [] }
     ensures regions { note columns (bad_plan (plan.TooManySplitRegions 14 9)) ≡ codes "plan: 14 regions lie in more than one district, more than 9" ++ 10 ∷ [] }
-    ensures group { note columns (bad_plan (plan.TooFewMajorities 1 2)) ≡ codes "plan: the group has a majority in 1 districts, fewer than 2" ++ 10 ∷ [] }
+    ensures group { note columns (bad_plan (plan.TooFewMajorities 1 2 5000)) ≡ codes "plan: the group has a majority in 1 districts, fewer than 2" ++ 10 ∷ [] }
 {}
 
 /// Shows that bytes have an origin if the setting requests it.

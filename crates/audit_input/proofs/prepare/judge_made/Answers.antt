@@ -6,7 +6,7 @@ use Rattle.audit_input.proofs.Judging.{is_judged, is_sourced, judged_plan_end, n
 use Rattle.audit_input.proofs.prepare.judge_made.Goals as goal
 
 pub new-requires : goal.new-requires
-new-requires c = record { within = within_limits (parsed_of c.args.parsed) c.args.setting [] c.requires.within c.requires.setting (no_regions c.args.parsed.graph.units) c.requires.group }
+new-requires c = record { within = within_limits (parsed_of c.args.parsed) c.args.setting [] c.requires.within c.requires.setting (no_regions c.args.parsed.graph.units) c.requires.group c.requires.frozen }
 
 pub returns-in-Ok : goal.returns-in-Ok
 returns-in-Ok c =

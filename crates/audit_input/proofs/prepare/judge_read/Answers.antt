@@ -9,7 +9,7 @@ pub with_regions-requires : goal.with_regions-requires
 with_regions-requires c =
     record {
       within = within_limits (parsed_of c.args.parsed) c.args.setting c.in-Ok.regions c.requires.within c.requires.setting
-          (c.in-Ok.ensures.within c.args.setting.columns (parsed_of c.args.parsed) c.requires.read) c.requires.group;
+          (c.in-Ok.ensures.within c.args.setting.columns (parsed_of c.args.parsed) c.requires.read) c.requires.group c.requires.frozen;
     }
 
 pub returns-in-Ok-with_regions : goal.returns-in-Ok-with_regions

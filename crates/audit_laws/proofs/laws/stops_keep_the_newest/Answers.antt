@@ -1,5 +1,5 @@
-use Rattle.audit_laws.proofs.Reruns.{stops_keep_the_newest}
+use Rattle.audit_laws.proofs.Lasting.{stops_keep_the_newest}
 use Rattle.audit_laws.proofs.laws.stops_keep_the_newest.Goals as goal
 
 pub returns : goal.returns
-returns c = stops_keep_the_newest c.saves_keep_the_newest.ensures
+returns c = stops_keep_the_newest c.saves_keep_the_newest.ensures c.bare_outcomes_fit.ensures

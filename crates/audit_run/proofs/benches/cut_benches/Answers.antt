@@ -22,6 +22,11 @@ guards-requires-clause-no_group g c =
     let here = (subst (IsCutBy c.args.rules.now) (sym c.plan-item.is) (c.requires.plans c.loop-plan.plan-index c.plan-item.result (omega arith))) in
     ap (λ (r : Rules). r.group_districts) c.rules.ensures ∙ here.no_group
 
+pub guards-requires-clause-no_frozen : goal.guards-requires-clause-no_frozen
+guards-requires-clause-no_frozen g c =
+    let here = (subst (IsCutBy c.args.rules.now) (sym c.plan-item.is) (c.requires.plans c.loop-plan.plan-index c.plan-item.result (omega arith))) in
+    ap (λ (r : Rules). r.frozen) c.rules.ensures ∙ here.no_frozen
+
 pub loop-plan-preserved : goal.loop-plan-preserved
 loop-plan-preserved g c =
     let bench = IsCutBench c.args.test c.args.count in

@@ -4,6 +4,7 @@ use Rattle.audit_model.specs.declared.rules.Rules.{Rules}
 use Rattle.plan_csv.specs.declared.named.Named.{Named}
 use Rattle.audit_saving.specs.Paired.{ArePaired}
 use Rattle.audit_run.specs.Benches.{IsRuledBy, IsRuledBench}
+use Rattle.plan_core.proofs.Freezing.{frozen_home}
 use Rattle.audit_walks.proofs.Splitting.{own_group}
 use Rattle.audit_run.proofs.Pairing.{paired_push}
 use Rattle.audit_run.proofs.benches.ruled_benches.Goals as goal
@@ -32,6 +33,16 @@ pub region_guards-requires-clause-few_units : goal.region_guards-requires-clause
 region_guards-requires-clause-few_units g c =
     let here = (subst (IsRuledBy c.args.rules.now) (sym c.plan-item.is) (c.requires.plans c.loop-plan.plan-index c.plan-item.result (omega arith))) in
     rw c.rules.ensures (omega (arith, (own_group _ _ here.sound.within.group).1, here.sound.within.input.units))
+
+pub region_guards-requires-clause-share : goal.region_guards-requires-clause-share
+region_guards-requires-clause-share g c =
+    let here = (subst (IsRuledBy c.args.rules.now) (sym c.plan-item.is) (c.requires.plans c.loop-plan.plan-index c.plan-item.result (omega arith))) in
+    rw c.rules.ensures here.sound.within.setting.few_shares
+
+pub region_guards-requires-clause-homes : goal.region_guards-requires-clause-homes
+region_guards-requires-clause-homes g c =
+    let here = (subst (IsRuledBy c.args.rules.now) (sym c.plan-item.is) (c.requires.plans c.loop-plan.plan-index c.plan-item.result (omega arith))) in
+    rw c.rules.ensures (frozen_home _ here.sound.within)
 
 pub region_guards-requires-clause-districts : goal.region_guards-requires-clause-districts
 region_guards-requires-clause-districts g c =

@@ -28,13 +28,14 @@ cut_benches-requires-clause-plans g c =
       cut_is = ap (λ (s : Setting). s.max_cut) like.set ∙ sym cut;
       no_regions = c.requires.no_regions k d inside;
       no_group = c.requires.no_group k d inside;
+      no_frozen = c.requires.no_frozen k d inside;
     })
 
 pub report_plans-requires-clause-judges : goal.report_plans-requires-clause-judges
 report_plans-requires-clause-judges g c κs within =
     let cut = ap (λ (r : Rules). r.max_cut) c.rules-rules.ensures ∙ ap (λ (j : Job). j.setting.max_cut) c.first_of-first.ensures.2 in
     let workers = ap (λ (s : Setting). s.workers) c.setting.ensures ∙ ap (λ (j : Job). j.setting.workers) c.first_of-first.ensures.2 in
-    paired_with (λ n. IsLike c.first_of-first.ensures.0 n × (n.job.regions ≡ []) × (n.job.setting.group_districts ≡ 0)) _ _ (λ n judges each bench.
+    paired_with (λ n. IsLike c.first_of-first.ensures.0 n × (n.job.regions ≡ []) × (n.job.setting.group_districts ≡ 0) × (n.job.frozen ≡ [])) _ _ (λ n judges each bench.
     let same = each.0.set in
     record {
       judges_are = λ i e within_judges.
@@ -46,6 +47,7 @@ report_plans-requires-clause-judges g c κs within =
               rw (is.test_is, is.rules_are, limit_cut) (first_of (search rules, grind (arith, common_steps))),
               ap (λ (r : Rules). r.regions) is.rules_are ∙ each.1,
               ap (λ (r : Rules). r.group_districts) is.rules_are ∙ each.2,
+              ap (λ (r : Rules). r.frozen) is.rules_are ∙ each.3,
             );
             ruled = is.rules_are;
             taken = λ districts few. refl;
@@ -55,6 +57,7 @@ report_plans-requires-clause-judges g c κs within =
       (all_like c.args.plans.items c.first_of-first.ensures.0 (rw c.as_slice.ensures.value at c.first_of-first.ensures.1) c.requires.plans) k d inside,
       c.requires.no_regions k d inside,
       c.requires.no_group k d inside,
+      c.requires.no_frozen k d inside,
     )) (rw c.as_slice-2.ensures.value at c.in-Ok.ensures)
 
 pub returns-in-Err : goal.returns-in-Err

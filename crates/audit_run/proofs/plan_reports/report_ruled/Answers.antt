@@ -54,6 +54,8 @@ report_plans-requires-clause-judges g c κs within =
               rw (is.test_is, is.rules_are, limit_split) (first_of (search rules, grind (arith, common_steps))),
               rw (is.rules_are, is.districts_are) is.table,
               rw (is.rules_are, is.districts_are) is.group_table,
+              is.share_is ∙ ap (λ (r : Rules). r.group_share) (sym is.rules_are),
+              rw is.rules_are is.homes,
             );
             ruled = is.rules_are;
             taken = takes_plans n.job _ _ each.sound.within is.rules_are is.districts_are;

@@ -17,6 +17,9 @@ guards-requires-clause-no_regions g c = ap (λ (r : Rules). r.regions) c.rules-r
 pub guards-requires-clause-no_group : goal.guards-requires-clause-no_group
 guards-requires-clause-no_group g c = ap (λ (r : Rules). r.group_districts) c.rules-rules.ensures ∙ c.requires.no_group
 
+pub guards-requires-clause-no_frozen : goal.guards-requires-clause-no_frozen
+guards-requires-clause-no_frozen g c = ap (λ (r : Rules). r.frozen) c.rules-rules.ensures ∙ c.requires.no_frozen
+
 pub finish_judged-requires-clause-judges : goal.finish_judged-requires-clause-judges
 finish_judged-requires-clause-judges g c κs within =
     record {
@@ -28,6 +31,7 @@ finish_judged-requires-clause-judges g c κs within =
               rw (is.test_is, is.rules_are) (first_of (search rules, grind (arith, common_steps))),
               ap (λ (r : Rules). r.regions) (is.rules_are ∙ c.rules-rules.ensures) ∙ c.requires.no_regions,
               ap (λ (r : Rules). r.group_districts) (is.rules_are ∙ c.rules-rules.ensures) ∙ c.requires.no_group,
+              ap (λ (r : Rules). r.frozen) (is.rules_are ∙ c.rules-rules.ensures) ∙ c.requires.no_frozen,
             );
             ruled = is.rules_are ∙ c.rules-rules.ensures;
             taken = λ districts few. refl;

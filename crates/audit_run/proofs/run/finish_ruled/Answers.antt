@@ -2,6 +2,7 @@ use Rattle.std.proofs.Common.{◌∙◌, ap, arith, rules, sym}
 use Rattle.std.proofs.lemmas.Grind.{common_steps}
 use Rattle.audit_model.specs.declared.rules.Rules.{Rules}
 use Rattle.audit_model.specs.declared.setting.Setting.{Setting}
+use Rattle.plan_core.proofs.Freezing.{frozen_home}
 use Rattle.audit_walks.proofs.Splitting.{own_group, takes_plans}
 use Rattle.audit_laws.proofs.Running.{run_setting}
 use Rattle.audit_run.proofs.run.finish_ruled.Goals as goal
@@ -19,6 +20,12 @@ pub region_guards-requires-clause-few_units : goal.region_guards-requires-clause
 region_guards-requires-clause-few_units g c =
     rw c.rules-rules.ensures (omega (arith, (own_group _ _ c.requires.opened.run.sound.within.group).1, c.requires.opened.run.sound.within.input.units))
 
+pub region_guards-requires-clause-share : goal.region_guards-requires-clause-share
+region_guards-requires-clause-share g c = rw c.rules-rules.ensures c.requires.opened.run.sound.within.setting.few_shares
+
+pub region_guards-requires-clause-homes : goal.region_guards-requires-clause-homes
+region_guards-requires-clause-homes g c = rw c.rules-rules.ensures (frozen_home c.args.job.now c.requires.opened.run.sound.within)
+
 pub finish_judged-requires-clause-judges : goal.finish_judged-requires-clause-judges
 finish_judged-requires-clause-judges g c κs within = record {
   judges_are = λ k d inside.
@@ -33,6 +40,8 @@ finish_judged-requires-clause-judges g c κs within = record {
           rw (is.test_is, is.rules_are) (first_of (search rules, grind (arith, common_steps))),
           rw (is.rules_are, is.districts_are) is.table,
           rw (is.rules_are, is.districts_are) is.group_table,
+          is.share_is ∙ ap (λ (r : Rules). r.group_share) (sym is.rules_are),
+          rw is.rules_are is.homes,
         );
         ruled = ruled;
         taken = takes_plans c.args.job.now _ _ c.requires.opened.run.sound.within ruled (is.districts_are ∙ c.districts.ensures);

@@ -1,6 +1,7 @@
 use Rattle.std.proofs.Common.{◌∙◌, ap, arith, rules, sym}
 use Rattle.std.proofs.lemmas.Grind.{common_steps}
 use Rattle.audit_model.specs.declared.rules.Rules.{Rules}
+use Rattle.plan_core.proofs.Freezing.{frozen_home}
 use Rattle.audit_walks.proofs.Splitting.{own_group, takes_plans}
 use Rattle.audit_run.proofs.trace.trace_ruled.Goals as goal
 
@@ -11,6 +12,12 @@ pub region_guards-requires-clause-few_units : goal.region_guards-requires-clause
 region_guards-requires-clause-few_units g c =
     let within = c.units-units.ensures.sound.within in
     rw c.rules-rules.ensures (omega (arith, (own_group _ _ within.group).1, within.input.units))
+
+pub region_guards-requires-clause-share : goal.region_guards-requires-clause-share
+region_guards-requires-clause-share g c = rw c.rules-rules.ensures c.units-units.ensures.sound.within.setting.few_shares
+
+pub region_guards-requires-clause-homes : goal.region_guards-requires-clause-homes
+region_guards-requires-clause-homes g c = rw c.rules-rules.ensures (frozen_home c.args.job.now c.units-units.ensures.sound.within)
 
 pub trace-requires-clause-judge : goal.trace-requires-clause-judge
 trace-requires-clause-judge g c =
@@ -25,6 +32,8 @@ trace-requires-clause-judge g c =
         rw (is.test_is, is.rules_are) (first_of (search rules, grind (arith, common_steps))),
         rw (is.rules_are, is.districts_are) is.table,
         rw (is.rules_are, is.districts_are) is.group_table,
+        is.share_is ∙ ap (λ (r : Rules). r.group_share) (sym is.rules_are),
+        rw is.rules_are is.homes,
       );
       ruled = ruled;
       taken = takes_plans c.args.job.now _ _ c.units-units.ensures.sound.within ruled (is.districts_are ∙ c.districts.ensures);

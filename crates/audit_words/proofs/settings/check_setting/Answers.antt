@@ -26,5 +26,6 @@ returns c =
       c.limits_of-limits.ensures.max_splits,
       c.limits_of-limits.ensures.max_split_regions,
       c.limits_of-limits.ensures.group_districts,
+      c.limits_of-limits.ensures.group_share,
       source,
     ) refl

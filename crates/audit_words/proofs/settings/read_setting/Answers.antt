@@ -18,5 +18,6 @@ returns c =
       c.limits_of.ensures.max_splits,
       c.limits_of.ensures.max_split_regions,
       c.limits_of.ensures.group_districts,
+      c.limits_of.ensures.group_share,
       source,
     ) at c.run_setting.ensures

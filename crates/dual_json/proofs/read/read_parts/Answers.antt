@@ -11,7 +11,7 @@ use Rattle.dual_json.specs.Places.{labels_from}
 use Rattle.dual_json.specs.Shape.{views, document_of_parts}
 use Rattle.dual_json.specs.Stages.{graph_fault, labels_fault}
 use Rattle.dual_json.specs.declared.names.Name.{Name}
-use Rattle.dual_json.proofs.Bridge.{refusal_is, different_same, parsed_is, within_is, group_is}
+use Rattle.dual_json.proofs.Bridge.{refusal_is, different_same, parsed_is, within_is, frozen_is, group_is}
 use Rattle.dual_json.proofs.Listed.{length-views}
 use Rattle.dual_json.proofs.read.read_parts.Goals as goal
 
@@ -36,17 +36,22 @@ returns-clause-read c =
     let labels : List Label = labels_from c.in_ok-names.names.items in (
       refusal_is d columns ∙ or_of_none (graph_fault d) _ c.in_ok-graph.ensures.0 (or_of_none (labels_fault columns d.nodes) _ c.in_ok-names.ensures.0
           (ap district_count_fault (different_same d columns labels c.in_ok-names.ensures.1) ∙ ap (λ (ns : List Name). district_count_fault (different_count (labels_from ns))) (sym c.deref.ensures.value) ∙ c.in_ok-rows.ensures.0)),
-      parsed_is d columns c.in_ok-graph.graph c.in_ok-rows.rows.counts c.in_ok-rows.rows.group c.in_ok-rows.rows.start c.in_ok-rows.rows.labels c.in_ok-graph.ensures.1 c.in_ok-rows.ensures.1,
+      parsed_is d columns c.in_ok-graph.graph c.in_ok-rows.rows.counts c.in_ok-rows.rows.group c.in_ok-rows.rows.frozen c.in_ok-rows.rows.start c.in_ok-rows.rows.labels c.in_ok-graph.ensures.1 c.in_ok-rows.ensures.1,
     )
 
 pub returns-clause-within : goal.returns-clause-within
 returns-clause-within c =
     let nodes = views c.args.parts.now.nodes.now in
     let few = c.in_ok-graph.ensures.2 in
-    within_is nodes c.args.columns.now c.in_ok-graph.graph c.in_ok-rows.rows.counts c.in_ok-rows.rows.group c.in_ok-rows.rows.start c.in_ok-rows.rows.labels c.in_ok-graph.ensures.3
+    within_is nodes c.args.columns.now c.in_ok-graph.graph c.in_ok-rows.rows.counts c.in_ok-rows.rows.group c.in_ok-rows.rows.frozen c.in_ok-rows.rows.start c.in_ok-rows.rows.labels c.in_ok-graph.ensures.3
     (ap (λ (g : Graph). g.units) (sym c.in_ok-graph.ensures.1)) (omega (arith, few, length-views c.args.parts.now.nodes.now)) c.in_ok-graph.ensures.4 c.in_ok-rows.ensures.1
 
 pub returns-clause-group : goal.returns-clause-group
 returns-clause-group c =
     group_is (views c.args.parts.now.nodes.now) c.args.columns.now c.in_ok-graph.graph.units c.in_ok-rows.rows.group c.in_ok-rows.ensures.1.grouped
+    (ap (λ (g : Graph). g.units) (sym c.in_ok-graph.ensures.1))
+
+pub returns-clause-frozen : goal.returns-clause-frozen
+returns-clause-frozen c =
+    frozen_is (views c.args.parts.now.nodes.now) c.args.columns.now c.in_ok-graph.graph.units c.in_ok-rows.rows.frozen c.in_ok-rows.ensures.1.freezing
     (ap (λ (g : Graph). g.units) (sym c.in_ok-graph.ensures.1))

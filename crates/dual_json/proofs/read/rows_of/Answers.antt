@@ -34,6 +34,7 @@ returns c =
         first = c.in_ok-counts.ensures.first;
         second = c.in_ok-counts.ensures.second;
         grouped = c.in_ok-group.ensures;
+        freezing = c.in_ok-frozen.ensures;
         labels = labels_from c.args.names.now;
         labelled = c.requires.labels;
         districts = subst (λ (ls : List Label). AreDistricts (labels_from c.args.names.now) ls c.in_ok-start.start) (sym found) c.in_ok-start.ensures;

@@ -35,7 +35,7 @@ pub returns-in-Missing : goal.returns-in-Missing
 returns-in-Missing c = c.line_of-in-Missing.ensures ∙ rw (c.in-Missing.is, c.from-in-Missing.ensures, c.column_name.ensures)
 
 pub returns-in-BadNumber : goal.returns-in-BadNumber
-returns-in-BadNumber c = c.line_of-in-BadNumber.ensures ∙ rw (c.in-BadNumber.is, c.from-in-BadNumber.ensures, c.column_name-in-BadNumber.ensures)
+returns-in-BadNumber c = c.line_of-in-BadNumber.ensures ∙ rw (c.in-BadNumber.is, c.from-in-BadNumber.ensures, c.no_value.ensures, c.column_name-in-BadNumber.ensures)
 
 pub returns-in-BadLabel : goal.returns-in-BadLabel
 returns-in-BadLabel c = c.line_of-in-BadLabel.ensures ∙ rw (c.in-BadLabel.is, c.from-in-BadLabel.ensures)

@@ -23,7 +23,7 @@ pub returns-in-TooManySplitRegions : goal.returns-in-TooManySplitRegions
 returns-in-TooManySplitRegions c = c.line_of-in-TooManySplitRegions.ensures ∙ rw (c.in-TooManySplitRegions.is, c.from-in-TooManySplitRegions.ensures, c.from-in-TooManySplitRegions-2.ensures)
 
 pub returns-in-TooFewMajorities : goal.returns-in-TooFewMajorities
-returns-in-TooFewMajorities c = c.line_of-in-TooFewMajorities.ensures ∙ rw (c.in-TooFewMajorities.is, c.from-in-TooFewMajorities.ensures, c.from-in-TooFewMajorities-2.ensures)
+returns-in-TooFewMajorities c = c.majorities_line.ensures ∙ rw c.in-TooFewMajorities.is
 
 pub returns-in-Memory : goal.returns-in-Memory
 returns-in-Memory c = c.text_line-in-Memory.ensures ∙ rw c.in-Memory.is

@@ -1,8 +1,8 @@
 use Rattle.std.proofs.Common.{◌++◌, ◌∷◌, [], codes}
-use Rattle.audit_statement.specs.Report.{columns_line, group_words, region_words}
+use Rattle.audit_statement.specs.Report.{columns_line, frozen_words, group_words, region_words}
 use Rattle.json.specs.Print.{quoted}
 use Rattle.report.specs.Lines.{spaced}
-use Rattle.report.proofs.Written.{appends-by, appends-two, line-parts}
+use Rattle.report.proofs.Written.{appends-by, appends-two, line-four}
 use Rattle.report.proofs.origin.push_columns_line.Goals as goal
 
 pub returns : goal.returns
@@ -14,10 +14,12 @@ returns c =
     let first = codes "columns" ++ spaced names in
     let second = first ++ spaced (region_words region) in
     let third = second ++ spaced (group_words columns.group columns.whole) in
+    let fourth = third ++ spaced (frozen_words columns.frozen) in
     let named = appends-two out c.push_word.new.out c.push_words.new.out (codes "columns") (spaced names) _ c.in_ok-push_word.ensures
     (rw (c.as_str.ensures, c.as_str-2.ensures, c.as_str-3.ensures, c.as_str-4.ensures) at c.in_ok-push_words.ensures) in
     let regions = appends-two out c.push_words.new.out c.push_region_words.new.out first (spaced (region_words region)) _ named c.in_ok-push_region_words.ensures in
     let group = appends-two out c.push_region_words.new.out c.push_group_words.new.out second (spaced (group_words columns.group columns.whole)) _ regions c.in_ok-push_group_words.ensures in
-    appends-by out c.push.new.self (third ++ 10 ∷ []) (columns_line columns region) c.push.result
-    (line-parts (codes "columns") names (region_words region) (group_words columns.group columns.whole))
-    (appends-two out c.push_group_words.new.out c.push.new.self third (10 ∷ []) _ group (record { ok = c.push.ensures.ok; room = c.push.ensures.room }))
+    let frozen = appends-two out c.push_group_words.new.out c.push_frozen_words.new.out third (spaced (frozen_words columns.frozen)) _ group c.in_ok-push_frozen_words.ensures in
+    appends-by out c.push.new.self (fourth ++ 10 ∷ []) (columns_line columns region) c.push.result
+    (line-four (codes "columns") names (region_words region) (group_words columns.group columns.whole) (frozen_words columns.frozen))
+    (appends-two out c.push_frozen_words.new.out c.push.new.self fourth (10 ∷ []) _ frozen (record { ok = c.push.ensures.ok; room = c.push.ensures.room }))

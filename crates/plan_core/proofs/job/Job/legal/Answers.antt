@@ -1,38 +1,25 @@
-use Rattle.std.proofs.Common.{◌≡◌, ℕ, List, subst}
-use Rattle.audit_model.specs.Job.{Job}
-use Rattle.audit_model.specs.JobOf.{bounds_fault}
-use Rattle.plan_core.specs.Input.{with_start, shape_fault}
-use Rattle.plan_core.proofs.Judged.{refused_decides, refused_same, tried_decides, tried_same}
+use Rattle.std.proofs.Common.{◌≡◌, ℕ, List, subst, sym, ◌∙◌}
+use Rattle.audit_model.specs.Job.{Job, home_of}
+use Rattle.audit_model.specs.Meets.{keeps_frozen}
+use Rattle.plan_core.proofs.Judged.{strayed_decides, strayed_same}
 use Rattle.plan_core.proofs.job.Job.legal.Goals as goal
 
-pub returns-then-is_none-clause-value : goal.returns-then-is_none-clause-value
-returns-then-is_none-clause-value c =
-    let job : Job = c.args.self.now in
+pub is_unrefused-requires-clause-keeps : goal.is_unrefused-requires-clause-keeps
+is_unrefused-requires-clause-keeps c =
     let plan : List ℕ = c.args.plan.now in
-    let bounds : c.bounds_fault.result ≡ bounds_fault (with_start job plan) = subst (λ (j : Job). c.bounds_fault.result ≡ bounds_fault (with_start j plan)) c.self.view_is c.bounds_fault.ensures in
-    let paths : c.shape_fault.result ≡ shape_fault (with_start job plan) = subst (λ (j : Job). c.shape_fault.result ≡ shape_fault (with_start j plan)) c.self.view_is c.shape_fault.ensures.fault in
-    tried_same job plan c.requires.complete c.requires.in_range c.bounds_fault.result bounds c.is_none.result c.is_none.ensures c.if-is_none.true
-    c.shape_fault.result paths c.is_none-then-is_none.result c.is_none-then-is_none.ensures
+    sym (subst (λ (j : Job). c.keeps_frozen.result ≡ keeps_frozen j.frozen (home_of j.frozen j.start) plan) c.self.view_is c.keeps_frozen.ensures)
+    ∙ c.if-not-keeps_frozen.false
 
-pub returns-then-is_none-clause-decides : goal.returns-then-is_none-clause-decides
-returns-then-is_none-clause-decides c =
-    let job : Job = c.args.self.now in
+pub returns-then-not-keeps_frozen-clause-value : goal.returns-then-not-keeps_frozen-clause-value
+returns-then-not-keeps_frozen-clause-value c =
     let plan : List ℕ = c.args.plan.now in
-    let bounds : c.bounds_fault.result ≡ bounds_fault (with_start job plan) = subst (λ (j : Job). c.bounds_fault.result ≡ bounds_fault (with_start j plan)) c.self.view_is c.bounds_fault.ensures in
-    let paths : c.shape_fault.result ≡ shape_fault (with_start job plan) = subst (λ (j : Job). c.shape_fault.result ≡ shape_fault (with_start j plan)) c.self.view_is c.shape_fault.ensures.fault in
-    tried_decides job plan c.requires.complete c.requires.in_range c.bounds_fault.result bounds c.is_none.result c.is_none.ensures c.if-is_none.true
-    c.shape_fault.result paths c.is_none-then-is_none.result c.is_none-then-is_none.ensures
+    strayed_same c.args.self.now plan
+    (sym (subst (λ (j : Job). c.keeps_frozen.result ≡ keeps_frozen j.frozen (home_of j.frozen j.start) plan) c.self.view_is c.keeps_frozen.ensures)
+    ∙ c.if-not-keeps_frozen.true)
 
-pub returns-else-is_none-clause-value : goal.returns-else-is_none-clause-value
-returns-else-is_none-clause-value c =
-    let job : Job = c.args.self.now in
+pub returns-then-not-keeps_frozen-clause-decides : goal.returns-then-not-keeps_frozen-clause-decides
+returns-then-not-keeps_frozen-clause-decides c =
     let plan : List ℕ = c.args.plan.now in
-    let bounds : c.bounds_fault.result ≡ bounds_fault (with_start job plan) = subst (λ (j : Job). c.bounds_fault.result ≡ bounds_fault (with_start j plan)) c.self.view_is c.bounds_fault.ensures in
-    refused_same job plan c.requires.complete c.requires.in_range c.bounds_fault.result bounds c.is_none.result c.is_none.ensures c.if-is_none.false
-
-pub returns-else-is_none-clause-decides : goal.returns-else-is_none-clause-decides
-returns-else-is_none-clause-decides c =
-    let job : Job = c.args.self.now in
-    let plan : List ℕ = c.args.plan.now in
-    let bounds : c.bounds_fault.result ≡ bounds_fault (with_start job plan) = subst (λ (j : Job). c.bounds_fault.result ≡ bounds_fault (with_start j plan)) c.self.view_is c.bounds_fault.ensures in
-    refused_decides job plan c.requires.complete c.requires.in_range c.bounds_fault.result bounds c.is_none.result c.is_none.ensures c.if-is_none.false
+    strayed_decides c.args.self.now plan
+    (sym (subst (λ (j : Job). c.keeps_frozen.result ≡ keeps_frozen j.frozen (home_of j.frozen j.start) plan) c.self.view_is c.keeps_frozen.ensures)
+    ∙ c.if-not-keeps_frozen.true)

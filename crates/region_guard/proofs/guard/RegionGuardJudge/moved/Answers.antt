@@ -16,4 +16,4 @@ returns-clause-kept g c =
     subst (λ (n : ℕ). IsGroupTable new.rules.group n c.moved.new.self) long c.moved.ensures.table in
     let same : IsGroupTable old.rules.group old.districts c.moved.new.self =
     subst (λ (s : G). IsGroupTable s.rules.group s.districts c.moved.new.self) others last in
-    rw others (kept.0, kept.1, kept.2, kept.3, kept.4, c.move_region.ensures.table, same)
+    rw others (kept.0, kept.1, kept.2, kept.3, kept.4, c.move_region.ensures.table, same, c.moved.ensures.share ∙ ap (λ (s : G). s.tally.share) others ∙ kept.7, kept.8)

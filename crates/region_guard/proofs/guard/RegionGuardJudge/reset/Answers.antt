@@ -52,6 +52,13 @@ reset-requires-clause-below g c =
     let fit = fit_parts rules c.args.self.now.districts (length plan) (above_all plan) c.requires.plan in
     omega (arith, fit.below, c.requires.kept.6.members)
 
+pub keeps_frozen-self-requires-clause-entries : goal.keeps_frozen-self-requires-clause-entries
+keeps_frozen-self-requires-clause-entries g c =
+    let rules : Rules = c.args.self.now.rules in
+    let plan : List ℕ = c.args.plan.now in
+    let fit = fit_parts rules c.args.self.now.districts (length plan) (above_all plan) c.requires.plan in
+    no_more (length plan) rules.frozen fit.frozen
+
 pub returns-clause-stands : goal.returns-clause-stands
 returns-clause-stands g c =
     let rules : Rules = c.args.self.now.rules in
@@ -72,4 +79,5 @@ returns-clause-stands g c =
           (λ q lq. c.count_widths.ensures.counted q (omega (arith, lq, c.count_widths.ensures.places)))
           c.count_totals-self.ensures;
       group = subst (λ (n : ℕ). IsTallied rules.group n c.reset.new.self plan) c.requires.kept.6.members c.reset.ensures.stands;
+      frozen = c.keeps_frozen-self.ensures;
     }

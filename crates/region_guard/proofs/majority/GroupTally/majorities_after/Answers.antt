@@ -3,7 +3,7 @@ use Rattle.audit_model.specs.declared.rules.Group.{Group}
 use Rattle.region_guard.specs.declared.majority.GroupTally.{GroupTally}
 use Rattle.std.specs.Prelude.{nat_lt}
 use Rattle.region_guard.proofs.Cells.{one_if, one_small}
-use Rattle.region_guard.proofs.Tallying.{home_below, target_below, few_members, few_whole, unit_members, unit_whole, some_members, some_whole, stayed, few_majorities, enough_for_home, enough_for_both, majorities_found}
+use Rattle.region_guard.proofs.Tallying.{home_below, target_below, few_members, few_share, few_share_less, few_share_more, few_whole, unit_members, unit_whole, some_members, some_whole, stayed, few_majorities, enough_for_home, enough_for_both, majorities_found}
 use Rattle.region_guard.proofs.majority.GroupTally.majorities_after.Goals as goal
 
 pub majority_without-left-requires-clause-members : goal.majority_without-left-requires-clause-members
@@ -62,8 +62,8 @@ majority_beside-entered-requires-clause-few c =
     let after : List ℕ = c.args.after.now in
     omega (arith, few_members group (length {A = ℕ} tally.members) tally after c.args.unit c.args.from c.requires.table c.requires.step c.requires.stood (get_or c.args.after.now c.args.unit 0) (target_below group (length {A = ℕ} tally.members) tally after c.args.unit c.args.from c.requires.table c.requires.step c.requires.stood), unit_members group (length {A = ℕ} tally.members) tally after c.args.unit c.args.from c.requires.table c.requires.step c.requires.stood)
 
-pub majority_beside-entered-requires-clause-few_whole : goal.majority_beside-entered-requires-clause-few_whole
-majority_beside-entered-requires-clause-few_whole c =
+pub majority_beside-entered-requires-clause-few_sum : goal.majority_beside-entered-requires-clause-few_sum
+majority_beside-entered-requires-clause-few_sum c =
     let group : Group = c.args.group.now in
     let tally : GroupTally = c.args.self.now in
     let after : List ℕ = c.args.after.now in
@@ -74,14 +74,14 @@ overflow_add-result c =
     let group : Group = c.args.group.now in
     let tally : GroupTally = c.args.self.now in
     let after : List ℕ = c.args.after.now in
-    omega (arith, few_majorities group (length {A = ℕ} tally.members) tally after c.args.unit c.args.from c.requires.table c.requires.step c.requires.stood c.if-to-from.false, c.majority_without-left.ensures, one_small (nat_lt (get_or tally.whole c.args.from 0 - get_or group.whole c.args.unit 0) (2 * (get_or tally.members c.args.from 0 - get_or group.members c.args.unit 0))))
+    omega (arith, few_majorities group (length {A = ℕ} tally.members) tally after c.args.unit c.args.from c.requires.table c.requires.step c.requires.stood c.if-to-from.false, c.majority_without-left.ensures, one_small (nat_lt (tally.share * (get_or tally.whole c.args.from 0 - get_or group.whole c.args.unit 0)) (10000 * (get_or tally.members c.args.from 0 - get_or group.members c.args.unit 0))))
 
 pub overflow_add-result-2 : goal.overflow_add-result-2
 overflow_add-result-2 c =
     let group : Group = c.args.group.now in
     let tally : GroupTally = c.args.self.now in
     let after : List ℕ = c.args.after.now in
-    omega (arith, few_majorities group (length {A = ℕ} tally.members) tally after c.args.unit c.args.from c.requires.table c.requires.step c.requires.stood c.if-to-from.false, c.majority_without-left.ensures, one_small (nat_lt (get_or tally.whole c.args.from 0 - get_or group.whole c.args.unit 0) (2 * (get_or tally.members c.args.from 0 - get_or group.members c.args.unit 0))), c.majority_beside-entered.ensures, one_small (nat_lt (get_or tally.whole (get_or c.args.after.now c.args.unit 0) 0 + get_or group.whole c.args.unit 0) (2 * (get_or tally.members (get_or c.args.after.now c.args.unit 0) 0 + get_or group.members c.args.unit 0))))
+    omega (arith, few_majorities group (length {A = ℕ} tally.members) tally after c.args.unit c.args.from c.requires.table c.requires.step c.requires.stood c.if-to-from.false, c.majority_without-left.ensures, one_small (nat_lt (tally.share * (get_or tally.whole c.args.from 0 - get_or group.whole c.args.unit 0)) (10000 * (get_or tally.members c.args.from 0 - get_or group.members c.args.unit 0))), c.majority_beside-entered.ensures, one_small (nat_lt (tally.share * (get_or tally.whole (get_or c.args.after.now c.args.unit 0) 0 + get_or group.whole c.args.unit 0)) (10000 * (get_or tally.members (get_or c.args.after.now c.args.unit 0) 0 + get_or group.members c.args.unit 0))))
 
 pub majority_in-requires-clause-members : goal.majority_in-requires-clause-members
 majority_in-requires-clause-members c =
@@ -110,7 +110,7 @@ overflow_sub-result c =
     let tally : GroupTally = c.args.self.now in
     let after : List ℕ = c.args.after.now in
     let home : ℕ = c.majority_in.result in
-    let there : ℕ = one_if (nat_lt (get_or tally.whole (get_or c.args.after.now c.args.unit 0) 0) (2 * get_or tally.members (get_or c.args.after.now c.args.unit 0) 0)) in
+    let there : ℕ = one_if (nat_lt (tally.share * get_or tally.whole (get_or c.args.after.now c.args.unit 0) 0) (10000 * get_or tally.members (get_or c.args.after.now c.args.unit 0) 0)) in
     enough_for_home group (length {A = ℕ} tally.members) tally after c.args.unit c.args.from c.requires.table c.requires.step c.requires.stood c.if-to-from.false c.majority_without-left.result c.majority_beside-entered.result home there
     c.majority_without-left.ensures c.majority_beside-entered.ensures c.majority_in.ensures refl
 
@@ -158,3 +158,31 @@ returns c =
     let after : List ℕ = c.args.after.now in
     majorities_found group (length {A = ℕ} tally.members) tally after c.args.unit c.args.from c.requires.table c.requires.step c.requires.stood c.if-to-from.false c.majority_without-left.result c.majority_beside-entered.result c.majority_in.result c.majority_in-2.result
     c.majority_without-left.ensures c.majority_beside-entered.ensures c.majority_in.ensures c.majority_in-2.ensures
+
+pub majority_without-left-requires-clause-few_whole : goal.majority_without-left-requires-clause-few_whole
+majority_without-left-requires-clause-few_whole c =
+    let group : Group = c.args.group.now in
+    let tally : GroupTally = c.args.self.now in
+    let after : List ℕ = c.args.after.now in
+    few_share_less group (length {A = ℕ} tally.members) tally after c.args.unit c.args.from c.requires.table c.requires.step c.requires.stood c.args.from (get_or group.whole c.args.unit 0) (home_below group (length {A = ℕ} tally.members) tally after c.args.unit c.args.from c.requires.table c.requires.step c.requires.stood)
+
+pub majority_beside-entered-requires-clause-few_whole : goal.majority_beside-entered-requires-clause-few_whole
+majority_beside-entered-requires-clause-few_whole c =
+    let group : Group = c.args.group.now in
+    let tally : GroupTally = c.args.self.now in
+    let after : List ℕ = c.args.after.now in
+    few_share_more group (length {A = ℕ} tally.members) tally after c.args.unit c.args.from c.requires.table c.requires.step c.requires.stood (get_or c.args.after.now c.args.unit 0) (get_or group.whole c.args.unit 0) (target_below group (length {A = ℕ} tally.members) tally after c.args.unit c.args.from c.requires.table c.requires.step c.requires.stood) (unit_whole group (length {A = ℕ} tally.members) tally after c.args.unit c.args.from c.requires.table c.requires.step c.requires.stood)
+
+pub majority_in-requires-clause-few_whole : goal.majority_in-requires-clause-few_whole
+majority_in-requires-clause-few_whole c =
+    let group : Group = c.args.group.now in
+    let tally : GroupTally = c.args.self.now in
+    let after : List ℕ = c.args.after.now in
+    few_share group (length {A = ℕ} tally.members) tally after c.args.unit c.args.from c.requires.table c.requires.step c.requires.stood c.args.from (home_below group (length {A = ℕ} tally.members) tally after c.args.unit c.args.from c.requires.table c.requires.step c.requires.stood)
+
+pub majority_in-requires-2-clause-few_whole : goal.majority_in-requires-2-clause-few_whole
+majority_in-requires-2-clause-few_whole c =
+    let group : Group = c.args.group.now in
+    let tally : GroupTally = c.args.self.now in
+    let after : List ℕ = c.args.after.now in
+    few_share group (length {A = ℕ} tally.members) tally after c.args.unit c.args.from c.requires.table c.requires.step c.requires.stood (get_or c.args.after.now c.args.unit 0) (target_below group (length {A = ℕ} tally.members) tally after c.args.unit c.args.from c.requires.table c.requires.step c.requires.stood)

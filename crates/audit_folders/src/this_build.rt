@@ -1,0 +1,13 @@
+//! The build that `--version` reports.
+
+use program_help::Build;
+
+/// The version of the package, the commit of the sources, and the kit.
+///
+/// `scripts/install.sh` writes the commit of the clone that it builds in place of `unknown`, and
+/// restores `unknown` afterwards.
+pub const THIS_BUILD: Build<'static> = Build {
+    version: "0.1.0",
+    commit: "unknown",
+    kit: "rattle-kit-13f logic dac8208d650f15bf",
+};

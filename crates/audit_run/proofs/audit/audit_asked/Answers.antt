@@ -1,0 +1,18 @@
+use Rattle.std.proofs.Common.{◌∙◌, sym}
+use Rattle.std.proofs.lemmas.Bool.{false≢true}
+use Rattle.audit_run.proofs.audit.audit_asked.Goals as goal
+
+pub audit_plans-status-requires-after_bounds : goal.audit_plans-status-requires-after_bounds
+audit_plans-status-requires-after_bounds g c κs within = sym c.names_plans.ensures ∙ c.if-names_plans.true
+
+pub returns-then-names_plans : goal.returns-then-names_plans
+returns-then-names_plans g c = record {
+  one = λ single. absurd (false≢true (sym single ∙ sym c.names_plans.ensures ∙ c.if-names_plans.true));
+  several = λ many. c.audit_plans-status.ensures (g.C.Keeper.state c.args.keeper);
+}
+
+pub returns : goal.returns
+returns g c = record {
+  one = λ single. c.audit_single.ensures;
+  several = λ many. absurd (false≢true (sym c.if-names_plans.false ∙ c.names_plans.ensures ∙ many));
+}

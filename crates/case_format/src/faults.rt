@@ -1,0 +1,73 @@
+//! Runs in which each call fails in turn, for each line of a file.
+//!
+//! After its name a line has the kind of failing calls: `reads`, `writes`, `saves`, `loads` or `none`. Then come the
+//! most bytes of a read and of a write, and the contents of slots 0 and 1 before each run, as in `keeping`. The file of
+//! the graph and the arguments of the audit follow. The first such call fails in the first run, the second in the
+//! second, and so on, until a run ends with status 0 or 7.
+
+use crate::given::{Given, Origin, Watched};
+use crate::held::{Held, saves_failing};
+use crate::said::Said;
+use crate::streams::{number, word};
+use std::str::SplitWhitespace;
+use std::test::Fail;
+
+/// The first run number that no line reaches.
+pub const PAST_RUNS: u64 = 1000;
+
+/// The capacity of the output.
+const ROOM: usize = 4000;
+
+/// The part of a line that each of its runs shares.
+#[derive(Clone, Copy)]
+pub struct Setup<'a> {
+    pub calls: &'a str,
+    pub most: usize,
+    pub zero: &'a str,
+    pub one: &'a str,
+    pub file: &'a str,
+}
+
+/// Parses the part of a line before the arguments.
+pub fn setup_of<'a>(parts: &mut SplitWhitespace<'a>) -> Result<Setup<'a>, Fail> {
+    let calls = word(parts);
+    let most = number(parts)? as usize;
+    Ok(Setup {
+        calls,
+        most,
+        zero: word(parts),
+        one: word(parts),
+        file: word(parts),
+    })
+}
+
+// Returns the number of the call that fails in this run, or 0 if calls of this kind do not fail.
+fn failing_call(setup: &Setup<'_>, calls: &str, run: u64) -> u64 {
+    if setup.calls == calls { run } else { 0 }
+}
+
+fn given_in<'a>(setup: &Setup<'a>, run: u64) -> Given<'a> {
+    Given {
+        graph: Origin::File(setup.file),
+        most_read: setup.most,
+        failing_read: failing_call(setup, "reads", run),
+        room: ROOM,
+        most_write: setup.most,
+        failing_write: failing_call(setup, "writes", run),
+        watched: Watched::Noted(0),
+    }
+}
+
+/// Returns the setup of the run with this number.
+pub fn said_in<'a>(setup: &Setup<'a>, run: u64) -> Said<'a> {
+    Said {
+        held: Held {
+            zero: setup.zero,
+            one: setup.one,
+            failing_load: failing_call(setup, "loads", run),
+        },
+        saves: saves_failing(failing_call(setup, "saves", run)),
+        given: given_in(setup, run),
+        is_told: true,
+    }
+}

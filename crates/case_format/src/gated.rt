@@ -1,0 +1,56 @@
+//! Runs at other kinds of gates, one for each line of a file. One gate holds every caller until three have begun, one
+//! shares a count with the keeper, and one has a clock. After its name a line has the file of the graph and the
+//! arguments of the audit. The status and the notes of the gate are printed.
+
+use crate::counted::Saves;
+use crate::crowd::CrowdGate;
+use crate::given::{Given, Origin, READ, Watched};
+use crate::held::{ABSENT, UNSTOPPED};
+use crate::said::Said;
+use crate::streams::word;
+use crate::timed::TimedGate;
+use std::io;
+use std::str::SplitWhitespace;
+
+/// Parses a line for a run at such a gate.
+pub fn said_of<'a>(parts: &mut SplitWhitespace<'a>, watched: Watched) -> Said<'a> {
+    let given = Given {
+        graph: Origin::File(word(parts)),
+        most_read: READ,
+        failing_read: 0,
+        room: 4000,
+        most_write: 100,
+        failing_write: 0,
+        watched,
+    };
+    Said {
+        held: ABSENT,
+        saves: UNSTOPPED,
+        given,
+        is_told: false,
+    }
+}
+
+/// Prints the status, the number of announced ids, and the number of callers let go before three had begun.
+pub fn show_crowd(rt: &HostRuntime, status: u8, gate: &CrowdGate) -> io::Result<()> {
+    let told = gate.begun();
+    let given_up = gate.given_up();
+    println!(rt; "status {status} told {told} given up {given_up}")
+}
+
+/// Prints the result of a run that saves with each post: its status, the number of announced ids, and the numbers of
+/// saves and of early saves.
+pub fn show_counted(rt: &HostRuntime, status: u8, told: u64, saves: Saves) -> io::Result<()> {
+    println!(rt;
+        "status {status} told {told} saves {} early {}",
+        saves.all, saves.early
+    )
+}
+
+/// Prints the result of a run of one long walk: its status, the number of announced ids, and whether the first came in
+/// the first half of the time.
+pub fn show_timed(rt: &HostRuntime, status: u8, gate: &TimedGate) -> io::Result<()> {
+    let early = gate.was_told_early();
+    let told = gate.told();
+    println!(rt; "status {status} told {told} in the first half {early}")
+}

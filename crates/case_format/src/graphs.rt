@@ -1,0 +1,38 @@
+//! Checks of graphs, one for each line of a file. After its name a line has the whole text of a graph, or `hex` and its
+//! bytes in hexadecimal digits.
+
+use crate::given::{Given, Origin, READ, WRITE, Watched};
+use crate::held::{ABSENT, UNSTOPPED};
+use crate::said::Said;
+use crate::streams::word;
+
+/// The arguments of each check.
+pub const WORDS: &str = "check --pop pop --first a --second b --district d --slack 1000";
+
+fn graph_of(line: &str) -> Origin<'_> {
+    let mut parts = line.split_whitespace();
+    if word(&mut parts) == "hex" {
+        Origin::Hex(word(&mut parts))
+    } else {
+        Origin::Text(line)
+    }
+}
+
+/// Returns the setup of a line's check.
+pub fn said_of(line: &str) -> Said<'_> {
+    let given = Given {
+        graph: graph_of(line),
+        most_read: READ,
+        failing_read: 0,
+        room: 1000,
+        most_write: WRITE,
+        failing_write: 0,
+        watched: Watched::Noted(0),
+    };
+    Said {
+        held: ABSENT,
+        saves: UNSTOPPED,
+        given,
+        is_told: false,
+    }
+}

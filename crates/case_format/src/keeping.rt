@@ -1,0 +1,74 @@
+//! Runs that start from the slots of the run before, one for each line of a file.
+//!
+//! After its name a line has these parts in order:
+//!
+//! - The contents of slots 0 and 1 before the run: `absent`, the `same` as after the run before, that with its last
+//!   byte changed (`spoilt`), one byte too many (`long`), or a file of hexadecimal digits.
+//! - The number of the load that fails, and that of the save, or 0 for none.
+//! - The capacity of the sink in bytes.
+//! - The file of the graph, and the arguments of the audit.
+//!
+//! In place of the number of a save, `2/40` is a stop within the second save that leaves 40 of its bytes. No later save
+//! changes anything.
+
+use crate::given::{Given, Origin, READ, WRITE, Watched};
+use crate::held::{Held, Saves, saves_failing};
+use crate::said::Said;
+use crate::streams::{number, word};
+use std::num::ParseIntError;
+use std::str::SplitWhitespace;
+use std::test::Fail;
+
+fn failing_save(said: &str) -> Result<Saves, ParseIntError> {
+    Ok(saves_failing(said.parse::<u64>()?))
+}
+
+fn stopping_save(at: &str, kept: &str) -> Result<Saves, ParseIntError> {
+    let stop_at = at.parse::<u32>()?;
+    let kept = kept.parse::<u32>()?;
+    Ok(Saves {
+        failing: 0,
+        stop_at,
+        kept,
+    })
+}
+
+fn saves_of(said: &str) -> Result<Saves, ParseIntError> {
+    match said.split_once('/') {
+        None => failing_save(said),
+        Some((at, kept)) => stopping_save(at, kept),
+    }
+}
+
+fn held_of<'a>(parts: &mut SplitWhitespace<'a>) -> Result<Held<'a>, Fail> {
+    let zero = word(parts);
+    let one = word(parts);
+    let failing_load = number(parts)?;
+    Ok(Held {
+        zero,
+        one,
+        failing_load,
+    })
+}
+
+/// Parses the part of a line before the arguments.
+pub fn said_of<'a>(parts: &mut SplitWhitespace<'a>) -> Result<Said<'a>, Fail> {
+    let held = held_of(parts)?;
+    let saves = saves_of(word(parts))?;
+    let room = number(parts)? as usize;
+    let given = Given {
+        graph: Origin::File(word(parts)),
+        most_read: READ,
+        failing_read: 0,
+        room,
+        most_write: WRITE,
+        failing_write: 0,
+        watched: Watched::Noted(0),
+    };
+    Ok(Said {
+        held,
+        saves,
+        given,
+        is_told: true,
+    })
+}

@@ -1,0 +1,17 @@
+//! The names of cases. A line of output before the answer of each case has its name, so that a difference names its
+//! case.
+
+use std::io;
+
+/// Prints the name of the case that begins here.
+pub fn begin_case(rt: &HostRuntime, name: &str) -> io::Result<()> {
+    println!(rt; "case {name}")
+}
+
+/// Prints the name that a line begins with, and the rest of the line. Returns the rest.
+pub fn begin_line<'a>(rt: &HostRuntime, line: &'a str) -> io::Result<&'a str> {
+    let (name, rest) = line.split_once(' ').unwrap_or((line, ""));
+    begin_case(rt, name)?;
+    rt.println(rest)?;
+    Ok(rest)
+}

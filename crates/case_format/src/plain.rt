@@ -1,0 +1,34 @@
+//! Runs over empty slots, one for each line of a file.
+//!
+//! After its name a line has the number of the read that fails, 0 for none, and the capacity of the sink in bytes. Then
+//! comes the number of trajectories that have to begin before the first one may walk, 0 for a gate that holds nobody
+//! and is not shown. The file of the graph and the arguments of the audit follow.
+
+use crate::given::{Given, Origin, READ, WRITE, Watched};
+use crate::held::{ABSENT, UNSTOPPED};
+use crate::said::Said;
+use crate::streams::{number, word};
+use std::str::SplitWhitespace;
+use std::test::Fail;
+
+/// Parses the part of a line before the arguments.
+pub fn said_of<'a>(parts: &mut SplitWhitespace<'a>) -> Result<Said<'a>, Fail> {
+    let failing_read = number(parts)?;
+    let room = number(parts)? as usize;
+    let wanted = number(parts)?;
+    let given = Given {
+        graph: Origin::File(word(parts)),
+        most_read: READ,
+        failing_read,
+        room,
+        most_write: WRITE,
+        failing_write: 0,
+        watched: Watched::Noted(wanted),
+    };
+    Ok(Said {
+        held: ABSENT,
+        saves: UNSTOPPED,
+        given,
+        is_told: false,
+    })
+}

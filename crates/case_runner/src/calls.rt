@@ -1,0 +1,63 @@
+//! Public calls that are made directly.
+
+use crate::flips::show_proposals;
+use crate::jobs::{grid_job, other_job, plain_job, strict_job};
+use crate::saves::show_saves;
+use crate::shown::{Shown, show_job};
+use case_format::{
+    begin_case, show_book, show_checkpoint, show_leaving, show_machine, show_outside, show_rings,
+    show_texts,
+};
+use std::{fs, io};
+
+// Prints the legality of jobs with regions, and with another plan.
+fn show_jobs(rt: &HostRuntime, text: &[u8]) -> io::Result<()> {
+    begin_case(rt, "job_with_split_region")?;
+    show_job(rt, strict_job(rt.alloc(), text, "a"), Shown::Legal)?;
+    begin_case(rt, "job_with_whole_regions")?;
+    show_job(rt, strict_job(rt.alloc(), text, "district"), Shown::Legal)?;
+    begin_case(rt, "job_with_another_plan")?;
+    show_job(rt, other_job(rt.alloc(), text), Shown::Legal)
+}
+
+fn show_path_text(rt: &HostRuntime, text: &[u8]) -> io::Result<()> {
+    show_texts(rt, text)?;
+    show_jobs(rt, text)?;
+    show_proposals(rt)?;
+    begin_case(rt, "flips_on_a_path")?;
+    show_job(rt, plain_job(rt.alloc(), text), Shown::Flips)
+}
+
+// Prints the calls on four units in a row.
+fn show_path(rt: &HostRuntime) -> io::Result<()> {
+    let text = fs::read(rt, "four_in_a_row.json")?;
+    show_path_text(rt, text.as_slice())
+}
+
+// Prints the calls on a ring of six units with a seventh beside it. The ring's district has a hole, so counting alone
+// does not decide.
+fn show_ring(rt: &HostRuntime) -> io::Result<()> {
+    begin_case(rt, "flips_on_a_ring")?;
+    let text = fs::read(rt, "ring_and_one.json")?;
+    show_job(rt, plain_job(rt.alloc(), text.as_slice()), Shown::Flips)
+}
+
+// Prints the calls on the grid of 900 units.
+fn show_grid(rt: &HostRuntime) -> io::Result<()> {
+    begin_case(rt, "flips_on_a_grid")?;
+    show_job(rt, grid_job(rt.alloc()), Shown::Flips)
+}
+
+/// Makes each call and prints its answer.
+pub fn show_calls(rt: &HostRuntime) -> io::Result<()> {
+    show_outside(rt)?;
+    show_saves(rt)?;
+    show_checkpoint(rt)?;
+    show_book(rt)?;
+    show_machine(rt)?;
+    show_rings(rt)?;
+    show_leaving(rt)?;
+    show_path(rt)?;
+    show_ring(rt)?;
+    show_grid(rt)
+}

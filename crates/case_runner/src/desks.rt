@@ -1,0 +1,399 @@
+//! Desks at which two passes claim the first three ids of a job in turn, and the results of closing them.
+
+ghost use Rattle.std.specs.Prelude.{◌≡◌, ℕ, ◌≤◌, List, [], IfOk, IfSome};
+ghost use Rattle.case_runner.specs.Passes.{OwesNothing};
+ghost use Rattle.audit_model.specs.Job.{rules};
+ghost use Rattle.audit_model.specs.Run.{run_ids, total};
+ghost use Rattle.audit_model.specs.State.{Kept as KeeperState};
+ghost use Rattle.ckpt_store.specs.Places.{IsPlace};
+ghost use Rattle.claim_counter.specs.Walks.{IsWithin};
+ghost use Rattle.audit_statement.specs.Checkpoint as definition;
+ghost use Rattle.flip_kernel.specs.Judged.{IsJudgeFor};
+ghost use Rattle.tally_desk.specs.Crews.{IsWalker, WalksAtDesk};
+ghost use Rattle.tally_desk.specs.Founded.{parts_of};
+ghost use Rattle.tally_desk.specs.Parts.{IsPlaceFor, MayFound};
+ghost use Rattle.tally_desk.specs.Passes.{IsFirstPass};
+
+use crate::settling::job_with;
+use audit_io::keeper::Keeper;
+use audit_model::buffers::Bytes;
+use audit_model::fault::PlanFault;
+use audit_model::lists::UnitList;
+use audit_model::memory::Memory;
+use audit_model::outcome::SumsView;
+use audit_model::rules::Rules;
+use audit_walks::todo::todo_of;
+use audit_words::read;
+use case_format::{RunKeeper, begin_case, counting_keeper};
+use ckpt_format::digest::job_digest;
+use ckpt_store::look::look;
+use flip_guard::guard::Guard;
+use flip_guard::judge::Judge;
+use outcome_book::book::Book;
+use plan_core::job::Job;
+use std::alloc::{AllocError, Global};
+use std::sync::Wait;
+use std::{fs, io};
+use tally_desk::desk::Desk;
+use tally_desk::handing::{DeskPlan, Kept, Outset};
+use tally_desk::laws::posts_stay_whole;
+use tally_desk::pass::DeskPass;
+use walker::walker::Walker;
+
+/// The arguments of a run of twelve walks of eight steps.
+const WORDS: &str =
+    "run --pop pop --first a --second b --district d --slack 5000 --key 0000000000000000000000000000000000000000000000000000000000000000 --walks 12 --steps 8 --ask gap:low";
+
+/// The number of ids of a desk.
+const IDS: u32 = 3;
+
+// Claims an id, walks its trajectory and posts the outcome, unless the pass has ended.
+fn take_turn<R: Wait, C: Keeper, J: Judge>(
+    rt: &R,
+    job: &Job,
+    walker: &mut Walker<J>,
+    desk: &Desk<C>,
+    pass: &mut DeskPass,
+)
+    requires walks { IsWalker job.now walker.old }
+    requires shared { WalksAtDesk job.now (parts_of C.state desk.now.table.shared.key) [] }
+    requires pass { OwesNothing desk.now.table.shared.table_id (parts_of C.state desk.now.table.shared.key) pass.old }
+    ensures walks { IsWalker job.now walker.new }
+    ensures pass { OwesNothing desk.now.table.shared.table_id (parts_of C.state desk.now.table.shared.key) pass.new }
+{
+    // Called for its contract: a pass that posts what it claims has posted all its claims.
+    posts_stay_whole();
+    if pass.ended() {
+        return;
+    }
+    if let Some(id) = desk.claim(pass) {
+        desk.post(rt, pass, walker.walk(job, &[], id));
+    }
+}
+
+// Lets two passes claim in turn until both have ended.
+fn take_turns<R: Wait, C: Keeper, J: Judge>(
+    rt: &R,
+    job: &Job,
+    walker: &mut Walker<J>,
+    desk: &Desk<C>,
+    first: &mut DeskPass,
+    second: &mut DeskPass,
+)
+    requires walks { IsWalker job.now walker.old }
+    requires shared { WalksAtDesk job.now (parts_of C.state desk.now.table.shared.key) [] }
+    requires first { OwesNothing desk.now.table.shared.table_id (parts_of C.state desk.now.table.shared.key) first.old }
+    requires second { OwesNothing desk.now.table.shared.table_id (parts_of C.state desk.now.table.shared.key) second.old }
+    ensures first { OwesNothing desk.now.table.shared.table_id (parts_of C.state desk.now.table.shared.key) first.new }
+    ensures second { OwesNothing desk.now.table.shared.table_id (parts_of C.state desk.now.table.shared.key) second.new }
+{
+    for _ in 0..IDS {
+        take_turn(rt, job, walker, desk, first);
+        take_turn(rt, job, walker, desk, second);
+    }
+}
+
+// Lets two passes claim all ids in turn, and closes the desk.
+fn serve<R: Wait, C: Keeper + Drop, J: Judge>(
+    rt: &R,
+    job: &Job,
+    walker: &mut Walker<J>,
+    desk: Desk<C>,
+    pass: DeskPass,
+) -> Option<Kept<C>>
+    requires walks { IsWalker job.now walker.old }
+    requires shared { WalksAtDesk job.now (parts_of C.state desk.table.shared.key) [] }
+    requires pass { IsFirstPass desk.table.shared.table_id (parts_of C.state desk.table.shared.key) pass }
+    requires two { (parts_of C.state desk.table.shared.key).seats ≡ 2 }
+{
+    // Called for its contract: a pass that posts what it claims has posted all its claims.
+    posts_stay_whole();
+    let mut first = pass;
+    let mut second = desk.split(&mut first);
+    take_turns(rt, job, walker, &desk, &mut first, &mut second);
+    let both = desk.join(first, second);
+    if both.ended() {
+        Some(desk.close(both))
+    } else {
+        drop(desk);
+        None
+    }
+}
+
+// Makes the save settings of a desk, with the first place taken from the slots.
+fn plan_of<C: Keeper>(alloc: Global, job: &Job, keeper: &mut C, every: u32) -> Option<DeskPlan>
+    ensures digest { IfSome result (λ p. p.digest ≡ definition.job_digest job.now) }
+    ensures every { IfSome result (λ p. p.save_every ≡ every) }
+    ensures known { IfSome result (λ p. IsPlace p.place) }
+    ensures place { IfSome result (λ p. IsPlaceFor job.now (C.state keeper.new).slots p.place) }
+{
+    let digest = job_digest(job);
+    let mut room = Bytes::new(alloc);
+    match look(alloc, keeper, job, &digest, &mut room) {
+        Ok(slots) => Some(DeskPlan {
+            digest,
+            save_every: every,
+            place: slots.place(),
+        }),
+        Err(_) => None,
+    }
+}
+
+// Makes an empty book, and the first ids of the job.
+fn ids_of(alloc: Global, job: &Job) -> Result<(Book, UnitList), Memory>
+    ensures total { IfOk result (λ b. b.0.total ≡ total job.now) }
+    ensures empty { IfOk result (λ b. b.0.outcomes ≡ []) }
+    ensures ids { IfOk result (λ b. b.1 ≡ run_ids job.now [] 3) }
+    ensures within { IfOk result (λ b. IsWithin job.now b.1) }
+{
+    // Called for its contract: the job is within its limits.
+    let _units = job.units();
+    let book = Book::with_room(alloc, job.total())?;
+    let ids = todo_of(alloc, job, &book, IDS)?;
+    Ok((book, ids))
+}
+
+// Makes the initial state of a desk.
+fn outset_of<C: Keeper + Drop>(
+    alloc: Global,
+    job: &Job,
+    mut keeper: C,
+    every: u32,
+) -> Option<Outset<C>>
+    requires every { 1 ≤ every }
+    ensures outset { IfSome result (λ o. MayFound job.now (C.state o.keeper).slots o.plan o.todo o.book) }
+    ensures within { IfSome result (λ o. IsWithin job.now o.todo) }
+{
+    let Some(plan) = plan_of(alloc, job, &mut keeper, every) else {
+        return None;
+    };
+    match ids_of(alloc, job) {
+        Ok((book, todo)) => Some(Outset {
+            plan,
+            todo,
+            book,
+            keeper,
+        }),
+        Err(_) => None,
+    }
+}
+
+// Makes the desk and the first of its two passes. Here and in the functions below, the keeper accepts each save.
+fn open<C: Keeper + Drop>(
+    alloc: Global,
+    job: &Job,
+    outset: Outset<C>,
+) -> Option<(Desk<C>, DeskPass)>
+    requires lets { (kept : KeeperState) (slot : ℕ) (bytes : List ℕ) → C.lets kept slot bytes }
+    requires outset { MayFound job.now (C.state outset.keeper).slots outset.plan outset.todo outset.book }
+    requires within { IsWithin job.now outset.todo }
+    requires no_ends { job.now.setting.ends ≡ 0 }
+    ensures shared { IfSome result (λ d. WalksAtDesk job.now (parts_of C.state d.0.table.shared.key) []) }
+    ensures pass { IfSome result (λ d. IsFirstPass d.0.table.shared.table_id (parts_of C.state d.0.table.shared.key) d.1) }
+    ensures two { IfSome result (λ d. (parts_of C.state d.0.table.shared.key).seats ≡ 2) }
+{
+    match Desk::new(alloc, job, outset, 2) {
+        Ok(made) => Some(made),
+        Err(_) => None,
+    }
+}
+
+// Makes the desk from the keeper and the save interval.
+fn open_with<C: Keeper + Drop>(
+    alloc: Global,
+    job: &Job,
+    keeper: C,
+    every: u32,
+) -> Option<(Desk<C>, DeskPass)>
+    requires lets { (kept : KeeperState) (slot : ℕ) (bytes : List ℕ) → C.lets kept slot bytes }
+    requires every { 1 ≤ every }
+    requires no_ends { job.now.setting.ends ≡ 0 }
+    ensures shared { IfSome result (λ d. WalksAtDesk job.now (parts_of C.state d.0.table.shared.key) []) }
+    ensures pass { IfSome result (λ d. IsFirstPass d.0.table.shared.table_id (parts_of C.state d.0.table.shared.key) d.1) }
+    ensures two { IfSome result (λ d. (parts_of C.state d.0.table.shared.key).seats ≡ 2) }
+{
+    match outset_of(alloc, job, keeper, every) {
+        Some(outset) => open(alloc, job, outset),
+        None => None,
+    }
+}
+
+// Makes the desk, runs both passes with this walker, and closes it.
+fn run_walker<R: Wait, C: Keeper + Drop, J: Judge>(
+    rt: &R,
+    alloc: Global,
+    job: &Job,
+    walker: &mut Walker<J>,
+    keeper: C,
+    every: u32,
+) -> Option<Kept<C>>
+    requires lets { (kept : KeeperState) (slot : ℕ) (bytes : List ℕ) → C.lets kept slot bytes }
+    requires walks { IsWalker job.now walker.old }
+    requires every { 1 ≤ every }
+    requires no_ends { job.now.setting.ends ≡ 0 }
+{
+    match open_with(alloc, job, keeper, every) {
+        Some((desk, pass)) => serve(rt, job, walker, desk, pass),
+        None => None,
+    }
+}
+
+// Runs the desk with a walker of this constraint.
+fn run_judge<R: Wait, C: Keeper + Drop, J: Judge>(
+    rt: &R,
+    alloc: Global,
+    job: &Job,
+    judge: J,
+    keeper: C,
+    every: u32,
+) -> Option<Kept<C>>
+    requires lets { (kept : KeeperState) (slot : ℕ) (bytes : List ℕ) → C.lets kept slot bytes }
+    requires judge { IsJudgeFor job.now (J.judging judge) }
+    requires every { 1 ≤ every }
+    requires no_ends { job.now.setting.ends ≡ 0 }
+{
+    match Walker::new(alloc, job, judge) {
+        Ok(mut walker) => {
+            let kept = run_walker(rt, alloc, job, &mut walker, keeper, every);
+            drop(walker);
+            kept
+        }
+        Err(_) => None,
+    }
+}
+
+// Runs the desk with the constraint of the job's rules.
+fn run_ruled<R: Wait, C: Keeper + Drop>(
+    rt: &R,
+    alloc: Global,
+    job: &Job,
+    of_job: Rules,
+    keeper: C,
+    every: u32,
+) -> Option<Kept<C>>
+    requires lets { (kept : KeeperState) (slot : ℕ) (bytes : List ℕ) → C.lets kept slot bytes }
+    requires same { of_job ≡ rules job.now }
+    requires no_regions { of_job.regions ≡ [] }
+    requires no_majority { of_job.group_districts ≡ 0 }
+    requires no_frozen { of_job.frozen ≡ [] }
+    requires every { 1 ≤ every }
+    requires no_ends { job.now.setting.ends ≡ 0 }
+{
+    let max_cut = of_job.max_cut;
+    let judge = Guard::new(move |sums: &SumsView| sums.cut <= max_cut, of_job);
+    run_judge(rt, alloc, job, judge, keeper, every)
+}
+
+// Runs a desk at which two passes claim the first three ids of a job in turn. Returns `None` if out of memory, or if
+// the job has endpoint trajectories, regions, required majorities or frozen units.
+fn run_desk<R: Wait, C: Keeper + Drop>(
+    rt: &R,
+    alloc: Global,
+    job: &Job,
+    keeper: C,
+    every: u32,
+) -> Option<Kept<C>>
+    requires { (kept : KeeperState) (slot : ℕ) (bytes : List ℕ) → C.lets kept slot bytes }
+{
+    let rules = job.rules();
+    if rules.regions.len() > 0
+        || rules.group_districts > 0
+        || rules.frozen.len() > 0
+        || job.setting().ends > 0
+    {
+        return None;
+    }
+    match rules.copy() {
+        Ok(rules) => run_ruled(rt, alloc, job, rules, keeper, every.max(1)),
+        Err(_) => None,
+    }
+}
+
+fn show_id(rt: &HostRuntime, book: &Book, id: u32) -> io::Result<()> {
+    if book.has(id) {
+        return print!(rt; " {id}");
+    }
+    Ok(())
+}
+
+// Prints the ids of the book, the numbers of outcomes, save attempts and failed saves, and whether the last post was
+// saved.
+fn show_kept(rt: &HostRuntime, every: u32, kept: &Kept<RunKeeper>) -> io::Result<()> {
+    print!(rt; "desk save-every {every} ids")?;
+    for id in 0..12 {
+        show_id(rt, &kept.book, id)?;
+    }
+    let count = kept.book.len();
+    let saves = kept.keeper.saves().all;
+    println!(rt;
+        " count {count} saves {saves} failed {} last {}",
+        kept.failed_saves, kept.last_saved
+    )
+}
+
+fn show_closed(rt: &HostRuntime, every: u32, kept: Option<Kept<RunKeeper>>) -> io::Result<()> {
+    match kept {
+        Some(kept) => show_kept(rt, every, &kept),
+        None => rt.println("no desk"),
+    }
+}
+
+// Prints the result of a desk with this save interval, at which the save with this number fails.
+fn show_desk<R: Wait>(
+    rt: &HostRuntime,
+    waiting: &R,
+    job: &Job,
+    every: u32,
+    save: u64,
+) -> io::Result<()> {
+    match counting_keeper(rt.alloc(), save) {
+        Ok(keeper) => show_closed(rt, every, run_desk(waiting, rt.alloc(), job, keeper, every)),
+        Err(_) => rt.println("memory"),
+    }
+}
+
+fn show_each<R: Wait>(rt: &HostRuntime, waiting: &R, job: &Job) -> io::Result<()> {
+    begin_case(rt, "desk_saves_after_each_second_post")?;
+    show_desk(rt, waiting, job, 2, 0)?;
+    begin_case(rt, "desk_saves_after_each_third_post")?;
+    show_desk(rt, waiting, job, 3, 0)?;
+    begin_case(rt, "desk_first_save_fails")?;
+    show_desk(rt, waiting, job, 2, 1)
+}
+
+fn words(alloc: Global) -> Result<Vec<String>, AllocError> {
+    let mut words = Vec::new(alloc);
+    for word in WORDS.split_whitespace() {
+        words.push(String::from_str(alloc, word)?)?;
+    }
+    Ok(words)
+}
+
+fn job_by(alloc: Global, text: &[u8], words: &[String]) -> Result<Job, PlanFault> {
+    match read(alloc, words) {
+        Ok(setting) => job_with(alloc, text, setting),
+        Err(_) => Err(PlanFault::Memory),
+    }
+}
+
+// Makes the job of a graph's text with the arguments.
+fn job_of(alloc: Global, text: &[u8]) -> Result<Job, PlanFault> {
+    match words(alloc) {
+        Ok(words) => job_by(alloc, text, words.as_slice()),
+        Err(_) => Err(PlanFault::Memory),
+    }
+}
+
+/// Prints the results of desks of three ids: saves after each second post, after each third, and after each second with
+/// a failing first save.
+pub fn show_desks<R: Wait>(rt: &HostRuntime, waiting: &R) -> io::Result<()> {
+    let text = fs::read(rt, "cycle.json")?;
+    match job_of(rt.alloc(), text.as_slice()) {
+        Ok(job) => {
+            let told = show_each(rt, waiting, &job);
+            drop(job);
+            told
+        }
+        Err(_) => rt.println("no job"),
+    }
+}

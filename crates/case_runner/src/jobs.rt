@@ -1,0 +1,106 @@
+//! Jobs with and without regions.
+
+ghost use Rattle.std.specs.Prelude.{◌≡◌, length, IfOk};
+
+use audit_model::fault::PlanFault;
+use audit_model::lists::LabelList;
+use audit_model::memory::Memory;
+use audit_model::setting::Label;
+use audit_model::text::Text;
+use case_format::{Accepted, column_of, setting};
+use dual_json::{read_graph, read_regions};
+use grid_maker::made::read_made;
+use plan_core::job::Job;
+use std::alloc::Global;
+
+fn job_of(alloc: Global, text: &[u8], setting: Accepted) -> Result<Job, PlanFault> {
+    match read_graph(alloc, text, setting.columns()) {
+        Ok(parsed) => Job::new(alloc, parsed, setting.into_setting()),
+        Err(_) => Err(PlanFault::Memory),
+    }
+}
+
+/// Makes the job of a graph's text.
+pub fn plain_job(alloc: Global, text: &[u8]) -> Result<Job, PlanFault> {
+    match setting(alloc) {
+        Some(setting) => job_of(alloc, text, setting),
+        None => Err(PlanFault::Memory),
+    }
+}
+
+fn grid_with(alloc: Global, setting: Accepted) -> Result<Job, PlanFault> {
+    match read_made(alloc, 3, [0; 32]) {
+        Ok(parsed) => Job::new(alloc, parsed, setting.into_setting()),
+        Err(_) => Err(PlanFault::Memory),
+    }
+}
+
+/// Makes the job of the grid of 900 units in ten districts.
+pub fn grid_job(alloc: Global) -> Result<Job, PlanFault> {
+    match setting(alloc) {
+        Some(setting) => grid_with(alloc, setting),
+        None => Err(PlanFault::Memory),
+    }
+}
+
+// Makes the job of a graph's text and the regions of a column.
+fn job_with(
+    alloc: Global,
+    text: &[u8],
+    setting: Accepted,
+    column: &Text,
+) -> Result<Job, PlanFault> {
+    let Ok(parsed) = read_graph(alloc, text, setting.columns()) else {
+        return Err(PlanFault::Memory);
+    };
+    let Ok(regions) = read_regions(alloc, text, column) else {
+        drop(parsed);
+        return Err(PlanFault::Memory);
+    };
+    Job::with_regions(alloc, parsed, setting.into_setting(), regions)
+}
+
+/// Makes the job with the regions of this column, none of which may lie in two districts.
+pub fn strict_job(alloc: Global, text: &[u8], name: &str) -> Result<Job, PlanFault> {
+    match setting(alloc) {
+        Some(setting) => named_job(alloc, text, setting.strict(), name),
+        None => Err(PlanFault::Memory),
+    }
+}
+
+fn named_job(alloc: Global, text: &[u8], setting: Accepted, name: &str) -> Result<Job, PlanFault> {
+    match column_of(alloc, name) {
+        Ok(column) => job_with(alloc, text, setting, &column),
+        Err(_) => Err(PlanFault::Memory),
+    }
+}
+
+fn two_labels(alloc: Global) -> Result<LabelList, Memory>
+    ensures { IfOk result (λ labels. length labels ≡ 2) }
+{
+    let mut labels = LabelList::new(alloc);
+    labels.push(Label::Whole(1))?;
+    labels.push(Label::Whole(2))?;
+    Ok(labels)
+}
+
+// Makes the job of two districts again, with its own plan as another plan.
+fn again(alloc: Global, job: &Job) -> Result<Job, PlanFault> {
+    let labels = two_labels(alloc)?;
+    if job.districts() as usize != labels.len() {
+        return Err(PlanFault::Memory);
+    }
+    job.with_plan(alloc, job.start().copy()?, labels)
+}
+
+/// Makes the job of a graph's text of two districts, with its own plan as another plan.
+pub fn other_job(alloc: Global, text: &[u8]) -> Result<Job, PlanFault> {
+    match plain_job(alloc, text) {
+        Ok(job) => {
+            let other = again(alloc, &job);
+            drop(job);
+            other
+        }
+        Err(fault) => Err(fault),
+    }
+}

@@ -1,0 +1,141 @@
+//! Whole audits over sources, sinks and keepers in memory: one for each line of the files `cases`, `slots`, `graphs`
+//! and `sure`, and many for each line of `faults`. The crate `case_format` describes the lines and the output.
+//!
+//! Each line and each call is a case with a name of its own. The output of a case begins with its name.
+//!
+//! Then come public calls that no command of the auditor makes, calls whose answer no contract states, and the
+//! auditor's I/O over real files. Each call is made once and its answer printed. The next tests count the searches of
+//! walks, draw from counters in turn and in threads, claim and post at desks with two passes, and stop tests early. At
+//! last come audits at other kinds of gates: one for each line of the files `crowds`, `counted` and `timed`.
+#![tactic(auto)]
+
+mod calls;
+mod claims;
+mod desks;
+mod flips;
+mod jobs;
+mod noted;
+mod saves;
+mod searches;
+mod settling;
+mod shown;
+
+use crate::calls::show_calls;
+use crate::claims::show_claims;
+use crate::desks::show_desks;
+use crate::settling::show_ends;
+use audit_io::sure_keeper::SureKeeper;
+use audit_run::Runtime;
+use audit_run::audit::audit;
+use audit_run::sure::audit_surely;
+use case_format::{Case, Kind, RunKeeper, SureCase, run_files, sure};
+use program_help::Build;
+use std::alloc::Global;
+use std::io;
+use std::sync::Wait;
+use std::test::Fail;
+use std::thread::Threads;
+
+/// The build that `--version` reports in these audits.
+const BUILD: Build<'static> = Build {
+    version: "1.2.3",
+    commit: "0a1b2c3d",
+    kit: "kit 7 logic 8",
+};
+
+/// The files whose audits come before the calls.
+const BEFORE_CALLS: [(Kind, &str); 4] = [
+    (Kind::Plain, "cases"),
+    (Kind::Keeping, "slots"),
+    (Kind::Graphs, "graphs"),
+    (Kind::Faults, "faults"),
+];
+
+/// The files whose audits come after the calls.
+const AFTER_CALLS: [(Kind, &str); 3] = [
+    (Kind::Crowd, "crowds"),
+    (Kind::Counted, "counted"),
+    (Kind::Timed, "timed"),
+];
+
+fn run<R: Threads + Wait + Sync>(
+    threads: &R,
+    alloc: Global,
+    case: &mut Case,
+    keeper: RunKeeper,
+) -> (u8, RunKeeper) {
+    let lent = Runtime {
+        threads,
+        alloc,
+        gate: &case.gate,
+    };
+    audit(
+        &lent,
+        &BUILD,
+        case.words.as_slice(),
+        &mut case.source,
+        &mut case.out,
+        &mut case.note,
+        keeper,
+    )
+}
+
+fn run_surely<R: Threads + Wait + Sync>(
+    threads: &R,
+    alloc: Global,
+    case: &mut SureCase,
+    keeper: SureKeeper,
+) -> (u8, SureKeeper) {
+    let lent = Runtime {
+        threads,
+        alloc,
+        gate: &case.gate,
+    };
+    audit_surely(
+        &lent,
+        &BUILD,
+        case.words.as_slice(),
+        &mut case.source,
+        &mut case.out,
+        &mut case.note,
+        keeper,
+    )
+}
+
+// Runs the audits of the lines of these files. `rt` prints, and `threads` has the threads.
+fn run_lines<R: Threads + Wait + Sync>(
+    rt: &HostRuntime,
+    threads: &R,
+    files: &[(Kind, &str)],
+) -> Result<(), Fail> {
+    let alloc = rt.alloc();
+    run_files(
+        rt,
+        &|case: &mut Case, keeper: RunKeeper| run(threads, alloc, case, keeper),
+        files,
+    )
+}
+
+fn run_sure_lines<R: Threads + Wait + Sync>(rt: &HostRuntime, threads: &R) -> Result<(), Fail> {
+    let alloc = rt.alloc();
+    sure::run_file(
+        rt,
+        &|case: &mut SureCase, keeper: SureKeeper| run_surely(threads, alloc, case, keeper),
+        "sure",
+    )
+}
+
+// Makes the calls and prints their answers.
+fn show_all<R: Threads + Wait + Sync>(rt: &HostRuntime, threads: &R) -> io::Result<()> {
+    show_calls(rt)?;
+    show_claims(rt, threads)?;
+    show_desks(rt, threads)?;
+    show_ends(rt)
+}
+
+fn main(rt: HostRuntime) -> Result<(), Fail> {
+    run_lines(&rt, &rt, &BEFORE_CALLS)?;
+    run_sure_lines(&rt, &rt)?;
+    show_all(&rt, &rt)?;
+    run_lines(&rt, &rt, &AFTER_CALLS)
+}

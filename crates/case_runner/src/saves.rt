@@ -1,0 +1,43 @@
+//! The order in which a save writes and stores.
+
+ghost use Rattle.std.specs.Prelude.{◌<◌};
+
+use crate::noted::NotedFiles;
+use audit_io::slot_files::{Known, save_slot};
+use case_format::begin_case;
+use std::{fs, io};
+
+// Saves in a slot, and prints each call.
+fn show_save(rt: &HostRuntime, slot: u8, known: &mut Known) -> io::Result<()>
+    requires { slot < 2 }
+{
+    println!(rt; "save in slot {slot}")?;
+    save_slot(&NotedFiles { rt }, slot, b"checkpoint", known)
+}
+
+// Saves in these slots in turn, as a process that has saved nothing yet.
+fn show_process(rt: &HostRuntime, first: u8, second: u8, third: u8) -> io::Result<()>
+    requires first { first < 2 }
+    requires second { second < 2 }
+    requires third { third < 2 }
+{
+    rt.println("a process")?;
+    let mut known = Known::new();
+    show_save(rt, first, &mut known)?;
+    show_save(rt, second, &mut known)?;
+    show_save(rt, third, &mut known)
+}
+
+/// Prints the order in which saves write and store: in a folder without slots, in one with both, and in one whose first
+/// slot is gone.
+pub fn show_saves(rt: &HostRuntime) -> io::Result<()> {
+    begin_case(rt, "saves_in_an_empty_folder")?;
+    fs::remove_file(rt, "audit-0.ckpt")?;
+    fs::remove_file(rt, "audit-1.ckpt")?;
+    show_process(rt, 0, 1, 0)?;
+    begin_case(rt, "saves_over_both_slots")?;
+    show_process(rt, 1, 0, 1)?;
+    begin_case(rt, "saves_without_the_first_slot")?;
+    fs::remove_file(rt, "audit-0.ckpt")?;
+    show_process(rt, 0, 1, 0)
+}

@@ -1,0 +1,5 @@
+pub mod Answers
+pub mod Arguments
+pub mod Laws
+pub mod Questions
+pub mod Usage
