@@ -63,7 +63,7 @@ impl<'a> FolderKeeper<'a> {
 }
 
 impl Keeper for FolderKeeper<'_> {
-    ghost state = { λ k. record { slots = None; tried = None; load_faults = k.load_faults; save_faults = k.save_faults } };
+    ghost state = { λ k. record { slots = None; attempted = None; load_faults = k.load_faults; save_faults = k.save_faults } };
 
     fn load(&mut self, slot: u8, limit: u64, room: &mut Bytes) -> Result<bool, LoadError> {
         let loaded = self.read(slot, limit, room);

@@ -12,9 +12,9 @@ ghost use Rattle.std.specs.Prelude.{◌≡◌, ◌≤◌, IfOk, IfSome, length, 
 ghost use Rattle.audit_model.specs.Limits.{most_trajectories};
 ghost use Rattle.audit_model.specs.Run.{total};
 
+use crate::exit_code::{end_with, exit_code_of};
 use crate::folder_keeper::FolderKeeper;
 use crate::job::{Task, run_words};
-use crate::told::{end_told, end_with};
 use audit_io::file_keeper::FileKeeper;
 use audit_io::std_adapters::WriteSink;
 use audit_words::names::command_of;
@@ -97,7 +97,7 @@ fn look_or_gather(
 pub fn gather_job(rt: &HostRuntime, job: &Job, folders: &[String], looks: bool) -> ExitCode {
     if job.total() > 100_000 {
         // Unreachable: no job has more than 100,000 trajectories.
-        return end_told(rt, Ended::NoMemory);
+        return exit_code_of(rt, Ended::NoMemory);
     }
     match keepers_of(rt, folders, !looks) {
         Ok(mut keepers) => {
@@ -105,7 +105,7 @@ pub fn gather_job(rt: &HostRuntime, job: &Job, folders: &[String], looks: bool) 
             drop(keepers);
             ExitCode::from(status)
         }
-        Err(_) => end_told(rt, Ended::NoMemory),
+        Err(_) => exit_code_of(rt, Ended::NoMemory),
     }
 }
 

@@ -1,8 +1,8 @@
 //! The job of a run's arguments and of the graph on standard input.
 
+use crate::exit_code::exit_code_of;
 use crate::gather::gather_job;
 use crate::slots::show_folder;
-use crate::told::end_told;
 use audit_input::prepare::prepare;
 use audit_io::std_adapters::ReadSource;
 use audit_model::fault::WordFault;
@@ -40,7 +40,7 @@ fn run_read(rt: &HostRuntime, words: &[String], task: Task<'_>) -> ExitCode {
             drop(job);
             code
         }
-        Err(why) => end_told(rt, why),
+        Err(why) => exit_code_of(rt, why),
     }
 }
 
@@ -69,7 +69,7 @@ fn idle_command(words: &[String]) -> Option<&str> {
 /// Runs the task with the job of these arguments and of the graph on standard input.
 pub fn run_words(rt: &HostRuntime, words: &[String], task: Task<'_>) -> ExitCode {
     match idle_command(words) {
-        Some(command) => end_told(rt, no_run(rt.alloc(), command)),
+        Some(command) => exit_code_of(rt, no_run(rt.alloc(), command)),
         None => run_read(rt, words, task),
     }
 }

@@ -5,17 +5,17 @@
 //! first argument `gather`, it merges the outcomes that runs of one job have saved in several folders (`gather`).
 #![tactic(auto)]
 
+mod exit_code;
 mod folder_keeper;
 mod gather;
 mod job;
 mod slots;
 mod this_build;
-mod told;
 
+use crate::exit_code::end_with;
 use crate::gather::gather_by;
 use crate::slots::show_by;
 use crate::this_build::THIS_BUILD;
-use crate::told::end_with;
 use audit_io::std_adapters::WriteSink;
 use folder_report::{FolderProgram, answer_words};
 use std::process::ExitCode;

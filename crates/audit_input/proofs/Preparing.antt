@@ -11,7 +11,7 @@ use Rattle.audit_statement.specs.Endings.{LeavesUntouched, SameUnless, TakesTooM
 use Rattle.audit_input.specs.Steps.{ReadsTooMany}
 use Rattle.audit_laws.specs.Calls.{RunsTo}
 use Rattle.audit_model.specs.State.{Kept, Stream}
-use Rattle.audit_model.specs.Told.{IfTold}
+use Rattle.audit_model.specs.Observed.{IfObserved}
 use Rattle.audit_statement.specs.World.{world}
 use Rattle.audit_input.proofs.Judging.{judged_many}
 
@@ -27,7 +27,7 @@ may_read command before after reads = subst (λ (b : Bool). SameUnless b before 
 
 -- a command that reads has the bytes of the source
 pub reads_source : (command : Command) (setting : Setting) (left : Option (List ℕ)) (bytes : List ℕ) → is_reading command ≡ true
-    → IfTold left (λ input. input ≡ bytes) → IfTold (input_by command setting left) (λ input. input ≡ bytes)
+    → IfObserved left (λ input. input ≡ bytes) → IfObserved (input_by command setting left) (λ input. input ≡ bytes)
 reads_source Check setting left bytes reads given = given
 reads_source Run setting left bytes reads given = given
 reads_source Make setting left bytes reads given = cc
@@ -42,7 +42,7 @@ module _ (words : List (List ℕ)) (setting : Setting) (before after : Stream) (
     source = source_by words setting before after accepted same;
     out = refl;
     slots = refl;
-    tried = refl;
+    attempted = refl;
     read_faults = count;
     write_faults = refl;
     load_faults = refl;

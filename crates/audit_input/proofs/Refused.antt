@@ -12,17 +12,17 @@ use Rattle.audit_statement.specs.Endings.{AreDamaged, IsOtherJob, is_walking, op
 use Rattle.audit_input.specs.Opening.{IsOtherSeen, RefusesSlots}
 use Rattle.audit_laws.specs.Calls.{Finishes}
 use Rattle.audit_model.specs.State.{Kept, Stream}
-use Rattle.audit_input.proofs.Started.{newest_told, one_told, opening_seen, opening_told, saw_pair, slot_told, zero_told}
+use Rattle.audit_input.proofs.Started.{newest_observed, one_observed, opening_seen, opening_observed, saw_pair, slot_observed, zero_observed}
 use Rattle.audit_laws.proofs.Leaving.{left}
 
 module _ (job : Job) (digest : List ℕ) (slots : Slots) (is : digest ≡ job_digest job) (resumes : job.setting.resume ≡ true) where
   undefined : (p : Pair) → AreSlots job digest p slots → opening_seen job.setting slots ≡ None → opening_from job.setting.resume job p ≡ None
-  undefined p seen none = subst (λ (b : Bool). opening_from b job p ≡ None) (sym resumes) (sym (opening_told job digest p slots is seen) ∙ none)
+  undefined p seen none = subst (λ (b : Bool). opening_from b job p ≡ None) (sym resumes) (sym (opening_observed job digest p slots is seen) ∙ none)
 
   are_damaged : (p : Pair) → AreSlots job digest p slots → newest_seen slots ≡ None → AreDamaged (slot_view slots.zero) (slot_view slots.one) job p
   are_damaged p seen none = record {
-    zero_is = sym (zero_told job digest p slots is seen);
-    one_is = sym (one_told job digest p slots is seen);
+    zero_is = sym (zero_observed job digest p slots is seen);
+    one_is = sym (one_observed job digest p slots is seen);
     no_newest = none;
   }
 
@@ -31,8 +31,8 @@ module _ (job : Job) (digest : List ℕ) (slots : Slots) (is : digest ≡ job_di
     wanted_is = is;
     generation = o.generation;
     number = o.number;
-    newest_is = sym (newest_told job digest p slots is seen) ∙ o.newest_is;
-    found_is = sym (slot_told job digest p slots is seen o.number) ∙ o.other_is;
+    newest_is = sym (newest_observed job digest p slots is seen) ∙ o.newest_is;
+    found_is = sym (slot_observed job digest p slots is seen o.number) ∙ o.other_is;
   }
 
   damaged_ends : (out : Stream) (k : Kept) → is_walking job.setting.command ≡ true → SawSlots job digest k.slots slots → newest_seen slots ≡ None → opening_seen job.setting slots ≡ None

@@ -6,7 +6,7 @@ use Rattle.std.proofs.lemmas.List.{length-map}
 use Rattle.std.proofs.lemmas.List.Elements.{All-cons, All-filter, All-head, All-map, All-tail}
 use Rattle.std.proofs.lemmas.List.Sums.{count_by-le-length, length-filter}
 use Rattle.audit_model.specs.State.{Kept}
-use Rattle.audit_model.specs.Told.{IfTold}
+use Rattle.audit_model.specs.Observed.{IfObserved}
 use Rattle.audit_model.specs.Pair.{Pair}
 use Rattle.audit_model.specs.declared.outcome.Outcome.{Outcome}
 use Rattle.audit_model.specs.declared.setting.Setting.{Setting}
@@ -42,35 +42,35 @@ abbrev pub opening_seen : Setting → Slots → Option (List Outcome)
 opening_seen setting slots = opening true setting (slot_view slots.zero) (slot_view slots.one)
 
 module _ (job : Job) (digest : List ℕ) (p : Pair) (slots : Slots) (is : digest ≡ job_digest job) (seen : AreSlots job digest p slots) where
-  pub zero_told : slot_view slots.zero ≡ slot_of job (job_digest job) p.zero_slot
-  zero_told = seen.zero ∙ ap (λ d. slot_of job d p.zero_slot) is
+  pub zero_observed : slot_view slots.zero ≡ slot_of job (job_digest job) p.zero_slot
+  zero_observed = seen.zero ∙ ap (λ d. slot_of job d p.zero_slot) is
 
-  pub one_told : slot_view slots.one ≡ slot_of job (job_digest job) p.one_slot
-  one_told = seen.one ∙ ap (λ d. slot_of job d p.one_slot) is
+  pub one_observed : slot_view slots.one ≡ slot_of job (job_digest job) p.one_slot
+  one_observed = seen.one ∙ ap (λ d. slot_of job d p.one_slot) is
 
-  both_told : {A : Type 0} (f : Slot → Slot → A) → f (slot_view slots.zero) (slot_view slots.one) ≡ f (slot_of job (job_digest job) p.zero_slot) (slot_of job (job_digest job) p.one_slot)
-  both_told f = ap (λ s. f s (slot_view slots.one)) zero_told ∙ ap (λ s. f (slot_of job (job_digest job) p.zero_slot) s) one_told
+  both_observed : {A : Type 0} (f : Slot → Slot → A) → f (slot_view slots.zero) (slot_view slots.one) ≡ f (slot_of job (job_digest job) p.zero_slot) (slot_of job (job_digest job) p.one_slot)
+  both_observed f = ap (λ s. f s (slot_view slots.one)) zero_observed ∙ ap (λ s. f (slot_of job (job_digest job) p.zero_slot) s) one_observed
 
-  pub place_told : place_seen slots ≡ place_of job p
-  place_told = both_told save_place
+  pub place_observed : place_seen slots ≡ place_of job p
+  place_observed = both_observed save_place
 
-  pub opening_told : opening_seen job.setting slots ≡ opening true job.setting (slot_of job (job_digest job) p.zero_slot) (slot_of job (job_digest job) p.one_slot)
-  opening_told = both_told (opening true job.setting)
+  pub opening_observed : opening_seen job.setting slots ≡ opening true job.setting (slot_of job (job_digest job) p.zero_slot) (slot_of job (job_digest job) p.one_slot)
+  opening_observed = both_observed (opening true job.setting)
 
-  pub newest_told : newest_seen slots ≡ newest (slot_of job (job_digest job) p.zero_slot) (slot_of job (job_digest job) p.one_slot)
-  newest_told = both_told newest
+  pub newest_observed : newest_seen slots ≡ newest (slot_of job (job_digest job) p.zero_slot) (slot_of job (job_digest job) p.one_slot)
+  newest_observed = both_observed newest
 
-  pub slot_told : (n : ℕ) → slot_at (slot_view slots.zero) (slot_view slots.one) n ≡ slot_at (slot_of job (job_digest job) p.zero_slot) (slot_of job (job_digest job) p.one_slot) n
-  slot_told n = both_told (λ a b. slot_at a b n)
+  pub slot_observed : (n : ℕ) → slot_at (slot_view slots.zero) (slot_view slots.one) n ≡ slot_at (slot_of job (job_digest job) p.zero_slot) (slot_of job (job_digest job) p.one_slot) n
+  slot_observed n = both_observed (λ a b. slot_at a b n)
 
 -- a property of the pair that was seen, which is the known one or one that was there
-pub saw_pair : (job : Job) (digest : List ℕ) (told : Option Pair) (slots : Slots) (P : Pair → Type 0) (saw : SawSlots job digest told slots) → P saw.pair → Saw told P
-saw_pair job digest told slots P saw holds = record { pair = saw.pair; same = saw.same; holds = holds }
+pub saw_pair : (job : Job) (digest : List ℕ) (observed : Option Pair) (slots : Slots) (P : Pair → Type 0) (saw : SawSlots job digest observed slots) → P saw.pair → Saw observed P
+saw_pair job digest observed slots P saw holds = record { pair = saw.pair; same = saw.same; holds = holds }
 
 -- the slots that were seen are the known ones
-pub saw_told : (job : Job) (digest : List ℕ) (told : Option Pair) (slots : Slots) → SawSlots job digest told slots → IfTold told (λ p. AreSlots job digest p slots)
-saw_told job digest None slots saw = tt
-saw_told job digest (Some p) slots saw = subst (λ q. AreSlots job digest q slots) saw.same saw.are
+pub saw_observed : (job : Job) (digest : List ℕ) (observed : Option Pair) (slots : Slots) → SawSlots job digest observed slots → IfObserved observed (λ p. AreSlots job digest p slots)
+saw_observed job digest None slots saw = tt
+saw_observed job digest (Some p) slots saw = subst (λ q. AreSlots job digest q slots) saw.same saw.are
 
 -- ---- the place of the first save
 
@@ -83,25 +83,25 @@ pub some_target : (job : Job) (slots : Option Pair) (t : Target) → IsRunJob jo
 some_target job slots t run some placed = subst (λ b. IsTarget b job slots (Some t)) (sym (saves_some job run some)) placed
 
 -- the place that was seen is that of the known slots
-place_by : (job : Job) (told : Option Pair) (slots : Slots) (t : Target) → t.digest ≡ job_digest job → (t.place.slot, t.place.generation) ≡ place_seen slots
-    → IfTold told (λ p. AreSlots job t.digest p slots) → IfTold told (λ p. (t.place.slot, t.place.generation) ≡ place_of job p)
+place_by : (job : Job) (observed : Option Pair) (slots : Slots) (t : Target) → t.digest ≡ job_digest job → (t.place.slot, t.place.generation) ≡ place_seen slots
+    → IfObserved observed (λ p. AreSlots job t.digest p slots) → IfObserved observed (λ p. (t.place.slot, t.place.generation) ≡ place_of job p)
 place_by job None slots t is at seen = tt
-place_by job (Some p) slots t is at seen = at ∙ place_told job t.digest p slots is seen
+place_by job (Some p) slots t is at seen = at ∙ place_observed job t.digest p slots is seen
 
 -- the run saves at the place that was seen
-pub placed_at : (job : Job) (told : Option Pair) (slots : Slots) (t : Target) → t.digest ≡ job_digest job → t.place.slot < 2 → t.place.generation < 3
-    → (t.place.slot, t.place.generation) ≡ place_seen slots → IfTold told (λ p. AreSlots job t.digest p slots) → IsTargetFor job told t
-placed_at job told slots t is slot generation at seen =
-    record { digest_is = is; slot_below = slot; generation_below = generation; told = place_by job told slots t is at seen }
+pub placed_at : (job : Job) (observed : Option Pair) (slots : Slots) (t : Target) → t.digest ≡ job_digest job → t.place.slot < 2 → t.place.generation < 3
+    → (t.place.slot, t.place.generation) ≡ place_seen slots → IfObserved observed (λ p. AreSlots job t.digest p slots) → IsTargetFor job observed t
+placed_at job observed slots t is slot generation at seen =
+    record { digest_is = is; slot_below = slot; generation_below = generation; observed = place_by job observed slots t is at seen }
 
 -- ---- the initial outcomes
 
 -- a run that resumes starts with the outcomes of the newest slot that was seen
-pub resumed_opening : (job : Job) (digest : List ℕ) (told : Option Pair) (slots : Slots) (outcomes : List Outcome) → digest ≡ job_digest job → job.setting.resume ≡ true
-    → SawSlots job digest told slots → opening_seen job.setting slots ≡ Some outcomes → AreFit job outcomes → IsOpening job told outcomes
-resumed_opening job digest told slots outcomes is resumes saw found fit = record {
-  seen = saw_pair job digest told slots (λ p. opening_from job.setting.resume job p ≡ Some outcomes) saw
-      (subst (λ (b : Bool). opening_from b job saw.pair ≡ Some outcomes) (sym resumes) (sym (opening_told job digest saw.pair slots is saw.are) ∙ found));
+pub resumed_opening : (job : Job) (digest : List ℕ) (observed : Option Pair) (slots : Slots) (outcomes : List Outcome) → digest ≡ job_digest job → job.setting.resume ≡ true
+    → SawSlots job digest observed slots → opening_seen job.setting slots ≡ Some outcomes → AreFit job outcomes → IsOpening job observed outcomes
+resumed_opening job digest observed slots outcomes is resumes saw found fit = record {
+  seen = saw_pair job digest observed slots (λ p. opening_from job.setting.resume job p ≡ Some outcomes) saw
+      (subst (λ (b : Bool). opening_from b job saw.pair ≡ Some outcomes) (sym resumes) (sym (opening_observed job digest saw.pair slots is saw.are) ∙ found));
   apart = rising_once (map (λ o. o.id) outcomes) fit.rising;
   fitting = fit_list job outcomes fit.fit;
 }
@@ -175,12 +175,12 @@ pub opens_taken : (job : Job) → IsRunJob job → (digest : List ℕ) (k : Kept
     → digest ≡ job_digest job → job.setting.resume ≡ true → SawSlots job digest k.slots slots → held_seen slots ≡ Some held → AreFit job held
     → outcomes ≡ taken_up job.setting.shift job.setting.walks held → (o : Opening) → o.outcomes.items ≡ outcomes → o.target ≡ target
     → IsTarget (saves job.setting) job k.slots target → OpensWith job k k o
-opens_taken job run digest k slots held outcomes target is resumes told seen fit taken o items at placed = record {
+opens_taken job run digest k slots held outcomes target is resumes observed seen fit taken o items at placed = record {
   same = refl;
   opened = record {
     run = run;
     opened = subst (λ (os : List Outcome). IsOpening job k.slots os) (sym here)
-        (resumed_opening job digest k.slots slots (taken_up job.setting.shift job.setting.walks held) is resumes told (taken_some job slots held seen) (taken_fit job held fit));
+        (resumed_opening job digest k.slots slots (taken_up job.setting.shift job.setting.walks held) is resumes observed (taken_some job slots held seen) (taken_fit job held fit));
     fit = subst (λ (os : List Outcome). AreFit job os) (sym here) (taken_fit job held fit);
     target = subst (λ (t : Option Target). IsTarget (saves job.setting) job k.slots t) (sym at) placed;
   };

@@ -6,10 +6,10 @@ use Rattle.audit_statement.specs.Accepted.{most_bytes}
 use Rattle.audit_statement.specs.Endings.{TakesTooMany}
 use Rattle.audit_input.specs.Steps.{ReadsTooMany}
 use Rattle.audit_model.specs.State.{Stream}
-use Rattle.audit_model.specs.Told.{IfTold}
+use Rattle.audit_model.specs.Observed.{IfObserved}
 
 -- at the end, the bytes consumed are all that remained
-pub consumed_all : (a c : Option (List ℕ)) (xs : List ℕ) → Consumes a c xs → IsAtEnd c → IfTold a (λ left. left ≡ xs)
+pub consumed_all : (a c : Option (List ℕ)) (xs : List ℕ) → Consumes a c xs → IsAtEnd c → IfObserved a (λ left. left ≡ xs)
 consumed_all None c xs p e = tt
 consumed_all (Some u) None xs p e = absurd p
 consumed_all (Some u) (Some v) xs p e = p ∙ ap (λ r. xs ++ r) e ∙ append-nil xs
@@ -20,7 +20,7 @@ left_or None xs = xs
 left_or (Some left) xs = left
 
 -- the known bytes are the remaining ones
-pub left_is : (a : Option (List ℕ)) (xs : List ℕ) → IfTold a (λ left. left ≡ left_or a xs)
+pub left_is : (a : Option (List ℕ)) (xs : List ℕ) → IfObserved a (λ left. left ≡ left_or a xs)
 left_is None xs = tt
 left_is (Some left) xs = refl
 

@@ -17,14 +17,14 @@ use Rattle.audit_statement.specs.Endings.{IsOpening, place_of, saves}
 use Rattle.audit_laws.specs.Calls.{Finishes}
 use Rattle.audit_laws.specs.Runs.{IsRunJob}
 use Rattle.audit_model.specs.State.{Kept, Stream}
-use Rattle.audit_model.specs.Told.{IfTold}
+use Rattle.audit_model.specs.Observed.{IfObserved}
 
 -- the place of the job's first save, by the known slots
 pub record IsTargetFor (job : Job) (slots : Option Pair) (t : Target) : Type 0 where
   pub digest_is : t.digest ≡ job_digest job
   pub slot_below : t.place.slot < 2
   pub generation_below : t.place.generation < 3
-  pub told : IfTold slots (λ p. (t.place.slot, t.place.generation) ≡ place_of job p)
+  pub observed : IfObserved slots (λ p. (t.place.slot, t.place.generation) ≡ place_of job p)
 
 -- there is a place exactly if the run saves
 abbrev pub IsTarget : Bool → Job → Option Pair → Option Target → Type 0

@@ -17,12 +17,12 @@ use Rattle.audit_statement.specs.Accepted.{most_bytes, judged}
 use Rattle.audit_statement.specs.Endings.{IsPrepared, TakesTooMany}
 use Rattle.audit_laws.specs.Calls.{RunsTo}
 use Rattle.audit_model.specs.State.{Kept, Stream}
-use Rattle.audit_model.specs.Told.{IfTold}
+use Rattle.audit_model.specs.Observed.{IfObserved}
 use Rattle.audit_statement.specs.World.{world}
 
 -- all remaining bytes were read
 pub record ReadsAll (before after : Stream) (bytes : List ℕ) : Type 0 where
-  pub given : IfTold before.bytes (λ left. left ≡ bytes)
+  pub given : IfObserved before.bytes (λ left. left ≡ bytes)
   pub at_end : IsAtEnd after.bytes
   pub few : length bytes ≤ most_bytes
   pub faults : after.faults ≡ before.faults
@@ -30,7 +30,7 @@ pub record ReadsAll (before after : Stream) (bytes : List ℕ) : Type 0 where
 -- there were more bytes than the limit, and one more than the limit was read
 pub record ReadsTooMany (before after : Stream) : Type 0 where
   pub bytes : List ℕ
-  pub given : IfTold before.bytes (λ left. left ≡ bytes)
+  pub given : IfObserved before.bytes (λ left. left ≡ bytes)
   pub many : most_bytes < length bytes
   pub taken : TakesTooMany true before.bytes after.bytes
   pub faults : after.faults ≡ before.faults

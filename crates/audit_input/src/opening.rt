@@ -2,7 +2,7 @@
 
 ghost use Rattle.std.specs.Prelude.{◌≡◌, ◌∷◌, [], ◌++◌, map, true, IfErr, IfOk, IsTrue, MatchResult, None, OnOk, Option, Some};
 ghost use Rattle.audit_model.specs.State.{Kept};
-ghost use Rattle.audit_model.specs.Told.{IfTold};
+ghost use Rattle.audit_model.specs.Observed.{IfObserved};
 ghost use Rattle.audit_model.specs.Pair.{Pair};
 ghost use Rattle.audit_model.specs.Job as model;
 ghost use Rattle.audit_model.specs.Run.{is_bare, taken_up};
@@ -45,7 +45,7 @@ pub struct Opening {
 fn target_of(job: &Job, slots: &Slots, digest: [u8; 32]) -> Option<Target>
     requires run { IsRunJob job.now }
     requires digest { digest ≡ definition.job_digest job.now }
-    ensures { (told : Option Pair) → IfTold told (λ p. AreSlots job.now digest p slots.now) → IsTarget (saves job.now.setting) job.now told result }
+    ensures { (observed : Option Pair) → IfObserved observed (λ p. AreSlots job.now digest p slots.now) → IsTarget (saves job.now.setting) job.now observed result }
 {
     if job.setting().save_every == 0 {
         return None;

@@ -7,7 +7,7 @@ use Rattle.audit_io.specs.Files.{file_name}
 use Rattle.audit_io.specs.FileCalls.{Call, Follows, HasDone, HasFolderAfter, HasSavedFile, HasSavedSlot, HasStoredOther, Step, What, called, called_all, error_of, file_steps, folder_steps, found_steps, here, making_steps, names_steps, no_error, no_folder_error, opened, other_steps, step, stored, storing, writing_steps}
 
 -- calls added twice are added at once
-pub called_twice : (told : Option (List Call)) (xs ys : List Call) → called_all (called_all told xs) ys ≡ called_all told (xs ++ ys)
+pub called_twice : (observed : Option (List Call)) (xs ys : List Call) → called_all (called_all observed xs) ys ≡ called_all observed (xs ++ ys)
 called_twice None xs ys = refl
 called_twice (Some cs) xs ys = ap (λ (l : List Call). Some l) (append_assoc cs xs ys)
 
@@ -30,7 +30,7 @@ follow_stop (c ∷ a) (s ∷ ss) t (same, inr fails) = (same, inr fails)
 module _ (a b c : Option (List Call)) where
   -- calls after others
   pub together : (xs ys : List Call) → b ≡ called_all a xs → c ≡ called_all b ys → c ≡ called_all a (xs ++ ys)
-  together xs ys one two = two ∙ ap (λ (told : Option (List Call)). called_all told ys) one ∙ called_twice a xs ys
+  together xs ys one two = two ∙ ap (λ (observed : Option (List Call)). called_all observed ys) one ∙ called_twice a xs ys
 
   pub done_then : (s t : List Step) (ok : Bool) → HasDone a b s true → HasDone b c t ok → HasDone a c (s ++ t) ok
   done_then s t ok one two = record {
@@ -46,7 +46,7 @@ done_stop a b s t one = record { added = one.added; calls = one.calls; follows =
 pub none_done : (a : Option (List Call)) → HasDone a a [] true
 none_done a = record { added = []; calls = sym (called_none a); follows = refl }
   where
-    called_none : (told : Option (List Call)) → called_all told [] ≡ told
+    called_none : (observed : Option (List Call)) → called_all observed [] ≡ observed
     called_none None = refl
     called_none (Some cs) = ap (λ (l : List Call). Some l) (append-nil cs)
 

@@ -30,11 +30,11 @@ error_of (Err e) = Some (error_kind e)
 
 -- the calls with more at the end, where they are known
 abbrev pub called_all : Option (List Call) → List Call → Option (List Call)
-called_all told more = option_map (λ calls. calls ++ more) told
+called_all observed more = option_map (λ calls. calls ++ more) observed
 
 -- the calls with one more
 abbrev pub called : Option (List Call) → What → Option ErrorKind → Option (List Call)
-called told what error = called_all told (record { what = what; error = error } ∷ [])
+called observed what error = called_all observed (record { what = what; error = error } ∷ [])
 
 -- the calls of a wait for the file of a name: the file is opened, and where that succeeds the wait is made
 abbrev pub storing : {A : Type 0} → List ℕ → Result (Result A Error) Error → List Call

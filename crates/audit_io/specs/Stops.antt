@@ -4,7 +4,7 @@ use Rattle.std.specs.List.{Contains}
 use Rattle.audit_model.specs.Faults.{HasCause}
 use Rattle.audit_io.specs.Mem.{MemorySlots}
 use Rattle.audit_model.specs.Pair.{HoldsBytes, KeepsOther, Pair, stored}
-use Rattle.audit_model.specs.Tries.{try_of}
+use Rattle.audit_model.specs.Attempts.{try_of}
 
 -- the slots with these bytes in the slot with this number
 abbrev pub with_bytes : Pair → ℕ → List ℕ → Pair
@@ -13,11 +13,11 @@ with_bytes p (suc n) bytes = record p { one_slot = Some bytes }
 
 -- the save was attempted and failed
 abbrev pub with_try : MemorySlots → ℕ → List ℕ → MemorySlots
-with_try k slot bytes = record k { tried = k.tried ++ try_of slot bytes false ∷ [] }
+with_try k slot bytes = record k { attempted = k.attempted ++ try_of slot bytes false ∷ [] }
 
 -- the save was attempted and failed, and left its first bytes
 abbrev pub with_part : MemorySlots → ℕ → List ℕ → ℕ → MemorySlots
-with_part k slot bytes kept = record k { slots = with_bytes k.slots slot (take kept bytes); tried = k.tried ++ try_of slot bytes false ∷ [] }
+with_part k slot bytes kept = record k { slots = with_bytes k.slots slot (take kept bytes); attempted = k.attempted ++ try_of slot bytes false ∷ [] }
 
 -- the effect of a save on a keeper in memory
 pub record HasSaved {E : Type 0} (before now : MemorySlots) (slot : ℕ) (bytes : List ℕ) (result : Result (Unit {0}) E) : Type 0 where
@@ -27,7 +27,7 @@ pub record HasSaved {E : Type 0} (before now : MemorySlots) (slot : ℕ) (bytes 
   pub cause : HasCause before.save_faults now.save_faults result
   pub fails : IsErr result ↔ Contains before.save_fails now.saves
   pub calls : now.saves ≡ min (before.saves + 1) (2 ^ 64 - 1)
-  pub tried : now.tried ≡ before.tried ++ try_of slot bytes (is_ok result) ∷ []
+  pub attempted : now.attempted ≡ before.attempted ++ try_of slot bytes (is_ok result) ∷ []
   pub loads : now.loads ≡ before.loads
   pub load_faults : now.load_faults ≡ before.load_faults
   pub load_fails : now.load_fails ≡ before.load_fails

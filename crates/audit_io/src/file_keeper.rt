@@ -6,10 +6,10 @@ ghost use Rattle.std.specs.Io.KnownBytes.{Appends};
 ghost use Rattle.audit_io.specs.Files.{ReadsWithin, LoadsFile, file_name};
 ghost use Rattle.audit_io.specs.Loads.{LoadsWithin};
 
-use crate::again::read_again;
 use crate::folder_lock::{Taken, lock_folder};
 use crate::keeper::{Keeper, LoadError};
 use crate::load_count::LoadCount;
+use crate::retry_on_eintr::read_again;
 use crate::slot_files::{Known, open_slot, save_slot};
 use crate::source::Failed;
 use audit_model::buffers::Bytes;
@@ -55,7 +55,7 @@ impl<R: Files<File = File> + Drop> FileKeeper<R> {
     /// Makes a keeper over the files that `files` opens. No call has failed yet, and its slots are not observable.
     pub fn new(files: R) -> FileKeeper<R>
         ensures slots { (⟦<FileKeeper<R> as Keeper>⟧.state result).slots ≡ None }
-        ensures tried { (⟦<FileKeeper<R> as Keeper>⟧.state result).tried ≡ None }
+        ensures attempted { (⟦<FileKeeper<R> as Keeper>⟧.state result).attempted ≡ None }
         ensures load_faults { (⟦<FileKeeper<R> as Keeper>⟧.state result).load_faults ≡ record { all = 0; taken = 0 } }
         ensures save_faults { (⟦<FileKeeper<R> as Keeper>⟧.state result).save_faults ≡ 0 }
     {
@@ -70,7 +70,7 @@ impl<R: Files<File = File> + Drop> FileKeeper<R> {
 }
 
 impl<R: Files<File = File> + Drop> Keeper for FileKeeper<R> {
-    ghost state = { λ k. record { slots = None; tried = None; load_faults = k.load_faults; save_faults = k.save_faults } };
+    ghost state = { λ k. record { slots = None; attempted = None; load_faults = k.load_faults; save_faults = k.save_faults } };
 
     /// Returns `Taken` if another keeper holds the folder. Otherwise a slot is empty exactly if opening its file
     /// reports that there is none. A file that was read is a slot, whatever its length. Out of memory, also the

@@ -11,12 +11,12 @@ pub struct Taken;
 
 /// Returns who holds an opened folder, by the answer of the attempt to lock it. Only the answer that the lock is held
 /// elsewhere makes it taken: any other error says that the system has no such lock for the folder.
-pub fn owner_of(opened: File, tried: Result<(), TryLockError>) -> Result<Option<File>, Taken>
-    ensures taken { IsErr result ↔ (tried ≡ Err TryLockError.WouldBlock) }
-    ensures own { IsOk tried → result ≡ Ok (Some opened) }
-    ensures unlocked { IsErrAnd tried (λ e. e ≢ TryLockError.WouldBlock) → result ≡ Ok None }
+pub fn owner_of(opened: File, attempted: Result<(), TryLockError>) -> Result<Option<File>, Taken>
+    ensures taken { IsErr result ↔ (attempted ≡ Err TryLockError.WouldBlock) }
+    ensures own { IsOk attempted → result ≡ Ok (Some opened) }
+    ensures unlocked { IsErrAnd attempted (λ e. e ≢ TryLockError.WouldBlock) → result ≡ Ok None }
 {
-    match tried {
+    match attempted {
         Ok(()) => Ok(Some(opened)),
         Err(TryLockError::WouldBlock) => Err(Taken),
         Err(TryLockError::Error(_)) => Ok(None),
@@ -32,8 +32,8 @@ pub fn owner_of(opened: File, tried: Result<(), TryLockError>) -> Result<Option<
 pub fn lock_folder<R: Files<File = File>>(files: &R, folder: &str) -> Result<Option<File>, Taken> {
     match File::open(files, folder) {
         Ok(opened) => {
-            let tried = opened.try_lock();
-            owner_of(opened, tried)
+            let attempted = opened.try_lock();
+            owner_of(opened, attempted)
         }
         Err(_) => Ok(None),
     }

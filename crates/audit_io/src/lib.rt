@@ -1,7 +1,7 @@
 //! The I/O of an audit: sources, sinks, checkpoint stores and gates, with counts of faults.
 #![tactic(auto)]
 
-mod again;
+mod attempts;
 mod copying;
 pub mod file_calls;
 pub mod file_keeper;
@@ -13,7 +13,8 @@ pub mod mem_keeper;
 pub mod mem_sink;
 mod mem_slot;
 pub mod mem_source;
-pub mod patient;
+mod retry_on_eintr;
+pub mod retry_on_would_block;
 pub mod sink;
 pub mod slot_files;
 pub mod source;
@@ -21,7 +22,6 @@ pub mod std_adapters;
 pub mod stop_keeper;
 pub mod sure;
 pub mod sure_keeper;
-mod tries;
 
 pub use file_calls::{FileCalls, SystemCalls};
 pub use file_keeper::FileKeeper;

@@ -5,13 +5,13 @@ ghost use Rattle.audit_model.specs.Faults.{HasCause};
 ghost use Rattle.audit_io.specs.Loads.{HasLoadCause, Loads, LoadsWithin};
 ghost use Rattle.audit_model.specs.Pair.{KeepsOther, HoldsBytes, stored};
 ghost use Rattle.audit_io.specs.Stops.{with_part, with_try};
-ghost use Rattle.audit_model.specs.Tries.{try_of};
+ghost use Rattle.audit_model.specs.Attempts.{try_of};
 ghost use Rattle.audit_model.specs.Limits.{most_saved_bytes};
 
+use crate::attempts::{Attempts, Save};
 use crate::keeper::{Keeper, LoadError};
 use crate::mem_slot::MemSlot;
 use crate::source::Failed;
-use crate::tries::{Save, Tries};
 use audit_model::buffers::Bytes;
 use audit_model::lists::NumList;
 use audit_model::memory::Memory;
@@ -29,7 +29,7 @@ pub struct MemKeeper {
     saves: u64,
     load_faults: u64,
     save_faults: u64,
-    tried: Tries,
+    attempted: Attempts,
 }
 
 impl Model for MemKeeper {
@@ -45,7 +45,7 @@ impl Model for MemKeeper {
       saves = k.saves;
       load_faults = k.load_faults;
       save_faults = k.save_faults;
-      tried = k.tried.items;
+      attempted = k.attempted.items;
     } };
 }
 
@@ -66,7 +66,7 @@ impl MemKeeper {
           saves = 0;
           load_faults = 0;
           save_faults = 0;
-          tried = [];
+          attempted = [];
         }) }
     {
         Ok(MemKeeper {
@@ -78,7 +78,7 @@ impl MemKeeper {
             saves: 0,
             load_faults: 0,
             save_faults: 0,
-            tried: Tries::new(),
+            attempted: Attempts::new(),
         })
     }
 
@@ -106,7 +106,7 @@ impl MemKeeper {
         requires few { length bytes.now ≤ most_saved_bytes }
         ensures { self.new ≡ with_part self.old slot bytes.now kept }
     {
-        self.tried = self.tried.and(&Save {
+        self.attempted = self.attempted.and(&Save {
             slot,
             bytes,
             succeeded: false,
@@ -122,7 +122,7 @@ impl MemKeeper {
     pub(crate) fn leave_none(&mut self, slot: u8, bytes: &[u8])
         ensures { self.new ≡ with_try self.old slot bytes.now }
     {
-        self.tried = self.tried.and(&Save {
+        self.attempted = self.attempted.and(&Save {
             slot,
             bytes,
             succeeded: false,
@@ -131,7 +131,7 @@ impl MemKeeper {
 }
 
 impl Keeper for MemKeeper {
-    ghost state = { λ k. record { slots = Some k.slots; tried = Some k.tried; load_faults = record { all = k.load_faults; taken = 0 }; save_faults = k.save_faults } };
+    ghost state = { λ k. record { slots = Some k.slots; attempted = Some k.attempted; load_faults = record { all = k.load_faults; taken = 0 }; save_faults = k.save_faults } };
 
     fn load(&mut self, slot: u8, limit: u64, room: &mut Bytes) -> Result<bool, LoadError>
         requires { slot < 2 }
@@ -140,7 +140,7 @@ impl Keeper for MemKeeper {
         ensures slots { self.new.slots ≡ self.old.slots }
         ensures cause { HasLoadCause (record { all = self.old.load_faults; taken = 0 }) (record { all = self.new.load_faults; taken = 0 }) result }
         ensures saves { self.new.save_faults ≡ self.old.save_faults }
-        ensures tried { self.new.tried ≡ self.old.tried }
+        ensures attempted { self.new.attempted ≡ self.old.attempted }
         ensures fails { (result ≡ Err LoadError.Failed) ↔ Contains self.old.load_fails self.new.loads }
         ensures calls { self.new.loads ≡ min (self.old.loads + 1) (2 ^ 64 - 1) }
         ensures same { (self.new.load_fails ≡ self.old.load_fails) × (self.new.save_fails ≡ self.old.save_fails) × (self.new.saves ≡ self.old.saves) }
@@ -161,7 +161,7 @@ impl Keeper for MemKeeper {
         ensures other { KeepsOther (Some self.old.slots) (Some self.new.slots) slot }
         ensures cause { HasCause self.old.save_faults self.new.save_faults result }
         ensures loads { self.new.load_faults ≡ self.old.load_faults }
-        ensures tried { self.new.tried ≡ self.old.tried ++ try_of slot bytes.now (is_ok result) ∷ [] }
+        ensures attempted { self.new.attempted ≡ self.old.attempted ++ try_of slot bytes.now (is_ok result) ∷ [] }
         ensures fails { IsErr result ↔ Contains self.old.save_fails self.new.saves }
         ensures half { OnErr result (stored self.new.slots slot ≡ Some (take (length bytes.now / 2) bytes.now)) }
         ensures calls { self.new.saves ≡ min (self.old.saves + 1) (2 ^ 64 - 1) }
@@ -174,7 +174,7 @@ impl Keeper for MemKeeper {
             0 => self.zero.save(&bytes[..kept]),
             _ => self.one.save(&bytes[..kept]),
         }
-        self.tried = self.tried.and(&Save {
+        self.attempted = self.attempted.and(&Save {
             slot,
             bytes,
             succeeded: !fails,

@@ -5,7 +5,7 @@ ghost use Rattle.audit_model.specs.Faults.{HasCause};
 ghost use Rattle.audit_io.specs.Loads.{HasLoadCause};
 ghost use Rattle.audit_model.specs.Pair.{HoldsBytes, KeepsOther};
 ghost use Rattle.audit_io.specs.Stops.{HasPassed, after_refused};
-ghost use Rattle.audit_model.specs.Tries.{try_of};
+ghost use Rattle.audit_model.specs.Attempts.{try_of};
 ghost use Rattle.audit_model.specs.Limits.{most_saved_bytes};
 
 use crate::keeper::{Keeper, LoadError};
@@ -57,7 +57,7 @@ impl StopKeeper {
 }
 
 impl Keeper for StopKeeper {
-    ghost state = { λ k. record { slots = Some k.inner.slots; tried = Some k.inner.tried; load_faults = record { all = k.inner.load_faults; taken = 0 }; save_faults = min (k.inner.save_faults + k.faults) (2 ^ 64 - 1) } };
+    ghost state = { λ k. record { slots = Some k.inner.slots; attempted = Some k.inner.attempted; load_faults = record { all = k.inner.load_faults; taken = 0 }; save_faults = min (k.inner.save_faults + k.faults) (2 ^ 64 - 1) } };
 
     fn load(&mut self, slot: u8, limit: u64, room: &mut Bytes) -> Result<bool, LoadError> {
         self.inner.load(slot, limit, room)
@@ -70,7 +70,7 @@ impl Keeper for StopKeeper {
         ensures other { KeepsOther (Some self.old.inner.slots) (Some self.new.inner.slots) slot }
         ensures cause { HasCause (min (self.old.inner.save_faults + self.old.faults) (2 ^ 64 - 1)) (min (self.new.inner.save_faults + self.new.faults) (2 ^ 64 - 1)) result }
         ensures loads { self.new.inner.load_faults ≡ self.old.inner.load_faults }
-        ensures tried { self.new.inner.tried ≡ self.old.inner.tried ++ try_of slot bytes.now (is_ok result) ∷ [] }
+        ensures attempted { self.new.inner.attempted ≡ self.old.inner.attempted ++ try_of slot bytes.now (is_ok result) ∷ [] }
         ensures passed { 0 < self.old.passes → HasPassed self.old self.new slot bytes.now result }
         ensures refused { self.old.passes ≡ 0 → IsErr result }
         ensures stopped { self.old.passes ≡ 0 → self.new ≡ after_refused self.old slot bytes.now }

@@ -42,12 +42,12 @@ module _ (words : List (List ℕ)) (before after : World) where
   unsaved r u h0 h5 h7 h9 = u.slots
 
   untried : (r : Option Ending) → LeavesUntouched words before after (marks_of r) → status_of r ≢ 0 → status_of r ≢ 5 → status_of r ≢ 7 → status_of r ≢ 9
-      → after.keeper.tried ≡ before.keeper.tried
+      → after.keeper.attempted ≡ before.keeper.attempted
   untried None u h0 h5 h7 h9 = absurd (h0 refl)
   untried (Some write_fault) u h0 h5 h7 h9 = absurd (h5 refl)
   untried (Some (stopped done all)) u h0 h5 h7 h9 = absurd (h7 refl)
   untried (Some save_fault) u h0 h5 h7 h9 = absurd (h9 refl)
-  untried r u h0 h5 h7 h9 = u.tried
+  untried r u h0 h5 h7 h9 = u.attempted
 
   no_load_fault : (s : Setting) → setting_of words ≡ Ok s → IsFalse (loads s) → IsLoadFault words before after → ⊥
   no_load_fault s e off c =
@@ -73,7 +73,7 @@ module _ (words : List (List ℕ)) (before after : World) where
     not_saving = λ s e off. (
       same_at _ before.keeper.slots after.keeper.slots (and_right _ _ (passes_not saves words s e off)) u.slots,
       same_at _ before.keeper.save_faults after.keeper.save_faults (and_right _ _ (passes_not saves words s e off)) u.save_faults,
-      same_at _ before.keeper.tried after.keeper.tried (and_right _ _ (passes_not saves words s e off)) u.tried,
+      same_at _ before.keeper.attempted after.keeper.attempted (and_right _ _ (passes_not saves words s e off)) u.attempted,
     );
     not_loading = unloaded r c u;
   }

@@ -6,7 +6,7 @@ use Rattle.std.proofs.lemmas.List.{append-nil, get_or-map, length-map}
 use Rattle.std.proofs.lemmas.List.Elements.{All-contains, All-map, All-nil}
 use Rattle.audit_model.specs.Faults.{Rose}
 use Rattle.audit_model.specs.Pair.{Pair, stored}
-use Rattle.audit_model.specs.Tries.{Try}
+use Rattle.audit_model.specs.Attempts.{Try}
 use Rattle.audit_model.specs.declared.outcome.Outcome.{Outcome}
 use Rattle.audit_model.specs.Below.{filter_below}
 use Rattle.audit_model.specs.Graph.{has}
@@ -16,24 +16,24 @@ use Rattle.audit_model.specs.Trajectory.{outcome}
 use Rattle.audit_model.proofs.Filtered.{each_passes, each_rises}
 use Rattle.audit_model.proofs.ListFacts.{find_passes}
 use Rattle.audit_statement.specs.Checkpoint.{job_digest}
-use Rattle.audit_statement.specs.Slots.{IsHonestSlot, opening, slot_of}
+use Rattle.audit_statement.specs.Slots.{IsConsistentSlot, opening, slot_of}
 use Rattle.audit_model.specs.declared.place.Place.{Place}
 use Rattle.audit_statement.specs.Histories.{IsRightSave}
-use Rattle.ckpt_store.specs.Laws.{HonestSlotsOpenRight, RightIsHonest}
+use Rattle.ckpt_store.specs.Laws.{ConsistentSlotsOpenRight, RightIsConsistent}
 use Rattle.audit_statement.specs.Draw.{draw}
 use Rattle.audit_statement.specs.InOrder.{saves_of}
 use Rattle.audit_statement.specs.Words.{setting_of}
 use Rattle.audit_statement.specs.Note.{Ending, write_fault, stopped, save_fault}
 use Rattle.audit_statement.specs.Causes.{IsTheJob}
-use Rattle.audit_statement.specs.Chain.{AreHonestOf, AreSavesWhere, StaysHonest, TriedRightly, TriesOver, has_walked}
+use Rattle.audit_statement.specs.Chain.{AreConsistentOf, AreSavesWhere, StaysConsistent, AttemptedRightly, AttemptsOver, has_walked}
 use Rattle.audit_statement.specs.Status.{status_of}
 use Rattle.audit_laws.proofs.Held.{as_many_as_due, later_hold_more}
 use Rattle.audit_model.specs.State.{Stream}
-use Rattle.audit_model.specs.Told.{IfBothTold, IfTold}
-use Rattle.audit_statement.specs.Endings.{Cause, EndsFor, IsOpening, IsOpeningOrFound, IsPartly, IsPrepared, IsTryOf, LeavesUntouched, NoSaveFailed, SameUnless, SavesAll, SavesInTurn, SavesInTurnAt, SavesWhere, TriesOf, TriesTold, count_of_saves, full_of, last_place, marks_of, StartsFrom, TellsOpening, is_walking, passes, saves}
+use Rattle.audit_model.specs.Observed.{IfBothObserved, IfObserved}
+use Rattle.audit_statement.specs.Endings.{Cause, EndsFor, IsOpening, IsOpeningOrFound, IsPartly, IsPrepared, IsTryOf, LeavesUntouched, NoSaveFailed, SameUnless, SavesAll, SavesInTurn, SavesInTurnAt, SavesWhere, AttemptsOf, AttemptsObserved, count_of_saves, full_of, last_place, marks_of, StartsFrom, TellsOpening, is_walking, passes, saves}
 use Rattle.audit_statement.specs.Headline.{WritesWhole}
 use Rattle.audit_statement.specs.World.{World}
-use Rattle.audit_laws.proofs.Starting.{none_right, opening_known, opening_told}
+use Rattle.audit_laws.proofs.Starting.{none_right, opening_known, opening_observed}
 use Rattle.audit_laws.proofs.Running.{kept_id, rising_apart}
 use Rattle.audit_laws.proofs.Statuses.{job_is}
 
@@ -88,23 +88,23 @@ module _ (job : Job) (kept : List Outcome) (right : IsRight job (draw job.settin
 
 -- ---- the initial outcomes of a run
 
-module _ (law : HonestSlotsOpenRight) (job : Job) where
-  told_right : (p : Pair) (outcomes : List Outcome) → AreHonestOf job p → opening true job.setting (slot_of job (job_digest job) p.zero_slot) (slot_of job (job_digest job) p.one_slot) ≡ Some outcomes
+module _ (law : ConsistentSlotsOpenRight) (job : Job) where
+  observed_right : (p : Pair) (outcomes : List Outcome) → AreConsistentOf job p → opening true job.setting (slot_of job (job_digest job) p.zero_slot) (slot_of job (job_digest job) p.one_slot) ≡ Some outcomes
       → IsRight job (draw job.setting.key) outcomes
-  told_right p outcomes honest e =
-      law job (draw job.setting.key) (slot_of job (job_digest job) p.zero_slot) (slot_of job (job_digest job) p.one_slot) outcomes honest.zero_slot honest.one_slot e
+  observed_right p outcomes consistent e =
+      law job (draw job.setting.key) (slot_of job (job_digest job) p.zero_slot) (slot_of job (job_digest job) p.one_slot) outcomes consistent.zero_slot consistent.one_slot e
 
-  start_right : (slots : Option Pair) (outcomes : List Outcome) → TellsOpening job slots (Some outcomes) → (IsTrue job.setting.resume → IfTold slots (AreHonestOf job))
+  start_right : (slots : Option Pair) (outcomes : List Outcome) → TellsOpening job slots (Some outcomes) → (IsTrue job.setting.resume → IfObserved slots (AreConsistentOf job))
       → IsRight job (draw job.setting.key) outcomes
-  start_right slots outcomes opened honest = by job.setting.resume slots opened honest
+  start_right slots outcomes opened consistent = by job.setting.resume slots opened consistent
     where
-      by : (b : Bool) (s : Option Pair) → StartsFrom b job s (Some outcomes) → (IsTrue b → IfTold s (AreHonestOf job)) → IsRight job (draw job.setting.key) outcomes
+      by : (b : Bool) (s : Option Pair) → StartsFrom b job s (Some outcomes) → (IsTrue b → IfObserved s (AreConsistentOf job)) → IsRight job (draw job.setting.key) outcomes
       by false s e h = let none : [] ≡ outcomes = cc in subst (λ os. IsRight job (draw job.setting.key) os) none (none_right job (draw job.setting.key))
       by true None e h = absurd e
-      by true (Some p) e h = told_right p outcomes (h refl) e
+      by true (Some p) e h = observed_right p outcomes (h refl) e
 
-  opening_right : (p : Pair) (outcomes : List Outcome) → IsOpening job (Some p) outcomes → AreHonestOf job p → IsRight job (draw job.setting.key) outcomes
-  opening_right p outcomes opened honest = start_right (Some p) outcomes (opening_told job (Some p) p outcomes refl opened) (λ _. honest)
+  opening_right : (p : Pair) (outcomes : List Outcome) → IsOpening job (Some p) outcomes → AreConsistentOf job p → IsRight job (draw job.setting.key) outcomes
+  opening_right p outcomes opened consistent = start_right (Some p) outcomes (opening_observed job (Some p) p outcomes refl opened) (λ _. consistent)
 
 -- ---- the slots that a run leaves
 
@@ -118,8 +118,8 @@ rises_or_not before now = by (cases_order (min (before + 1) (2 ^ 64 - 1)) now)
     by (inr (inr l)) = inr (λ r. absurd (omega arith))
 
 -- a relation between values that may be known holds if both are known
-both_known : {A : Type 0} (a b : Option A) (p q : A) (P : A → A → Type 0) → a ≡ Some p → b ≡ Some q → IfBothTold a b P → P p q
-both_known a b p q P e f h = subst (λ x. IfBothTold x (Some q) P) e (subst (λ y. IfBothTold a y P) f h)
+both_known : {A : Type 0} (a b : Option A) (p q : A) (P : A → A → Type 0) → a ≡ Some p → b ≡ Some q → IfBothObserved a b P → P p q
+both_known a b p q P e f h = subst (λ x. IfBothObserved x (Some q) P) e (subst (λ y. IfBothObserved a y P) f h)
 
 -- there is at least one save
 either_way : (n : ℕ) → ((n == 0) || not (n == 0)) ≡ true
@@ -141,18 +141,18 @@ some_save posts every = by (posts / every) refl
         omega (arith, one)
     by (suc k) some_groups = omega (arith, some_groups)
 
-module _ (honestly : RightIsHonest) (job : Job) (p q : Pair) (honest : AreHonestOf job p) where
-  abbrev IsHonestHere : Option (List ℕ) → Type 0
-  IsHonestHere s = IsHonestSlot job (draw job.setting.key) (slot_of job (job_digest job) s)
+module _ (honestly : RightIsConsistent) (job : Job) (p q : Pair) (consistent : AreConsistentOf job p) where
+  abbrev IsConsistentHere : Option (List ℕ) → Type 0
+  IsConsistentHere s = IsConsistentSlot job (draw job.setting.key) (slot_of job (job_digest job) s)
 
   -- two slots named one by one are both consistent
-  both_honest : (n : ℕ) → IsHonestHere (stored q n) → IsHonestHere (stored q (1 - n)) → AreHonestOf job q
-  both_honest zero here beside = record { zero_slot = here; one_slot = beside }
-  both_honest (suc n) here beside = let other : 1 - suc n ≡ 0 = omega arith in record { zero_slot = subst (λ (k : ℕ). IsHonestHere (stored q k)) other beside; one_slot = here }
+  both_consistent : (n : ℕ) → IsConsistentHere (stored q n) → IsConsistentHere (stored q (1 - n)) → AreConsistentOf job q
+  both_consistent zero here beside = record { zero_slot = here; one_slot = beside }
+  both_consistent (suc n) here beside = let other : 1 - suc n ≡ 0 = omega arith in record { zero_slot = subst (λ (k : ℕ). IsConsistentHere (stored q k)) other beside; one_slot = here }
 
-  was_honest : (n : ℕ) → IsHonestHere (stored p n)
-  was_honest zero = honest.zero_slot
-  was_honest (suc n) = honest.one_slot
+  was_consistent : (n : ℕ) → IsConsistentHere (stored p n)
+  was_consistent zero = consistent.zero_slot
+  was_consistent (suc n) = consistent.one_slot
 
   -- a property of the initial outcomes and of those found holds for a part
   part_all : (opening : List Outcome) (P : Outcome → Type 0) → All P opening
@@ -160,41 +160,41 @@ module _ (honestly : RightIsHonest) (job : Job) (p q : Pair) (honest : AreHonest
   part_all opening P all found o (inl has) = All-contains P opening o all has
   part_all opening P all found o (inr is) = found o is.1 is.3
 
-  part_right : (opening : List Outcome) (count generation : ℕ) (s : Option (List ℕ)) → IsRight job (draw job.setting.key) opening → IsPartly job opening count generation s → IsHonestHere s
-  part_right opening count generation s right part = subst (IsHonestSlot job (draw job.setting.key)) (sym part.slot_is) (honestly job (draw job.setting.key) part.saved (record {
+  part_right : (opening : List Outcome) (count generation : ℕ) (s : Option (List ℕ)) → IsRight job (draw job.setting.key) opening → IsPartly job opening count generation s → IsConsistentHere s
+  part_right opening count generation s right part = subst (IsConsistentSlot job (draw job.setting.key)) (sym part.slot_is) (honestly job (draw job.setting.key) part.saved (record {
     apart = rising_apart part.saved part.sound.rising;
     below = λ k d inside. part_all opening (λ (o : Outcome). o.id < total job) right.below (λ o less is. less) _ (part.holds.each k d inside);
     found = λ k d inside. part_all opening (λ (o : Outcome). o ≡ outcome job (draw job.setting.key) o.id) right.found (λ o less is. is) _ (part.holds.each k d inside);
   }))
 
-  beside_honest : (opening : List Outcome) (at : Place) (count : ℕ) → 1 ≤ count → IsRight job (draw job.setting.key) opening → SavesInTurnAt job opening p q at count
-      → IsHonestHere (stored q (1 - at.slot))
-  beside_honest opening at zero least right s = absurd (omega arith)
-  beside_honest opening at (suc zero) least right s = subst IsHonestHere (sym (s.only refl)) (was_honest (1 - at.slot))
-  beside_honest opening at (suc (suc n)) least right s = part_right opening _ _ (stored q (1 - at.slot)) right (s.before_last (omega arith))
+  beside_consistent : (opening : List Outcome) (at : Place) (count : ℕ) → 1 ≤ count → IsRight job (draw job.setting.key) opening → SavesInTurnAt job opening p q at count
+      → IsConsistentHere (stored q (1 - at.slot))
+  beside_consistent opening at zero least right s = absurd (omega arith)
+  beside_consistent opening at (suc zero) least right s = subst IsConsistentHere (sym (s.only refl)) (was_consistent (1 - at.slot))
+  beside_consistent opening at (suc (suc n)) least right s = part_right opening _ _ (stored q (1 - at.slot)) right (s.before_last (omega arith))
 
-  pub turns_stay : (opening : List Outcome) → IsRight job (draw job.setting.key) opening → SavesInTurn job opening p q → AreHonestOf job q
+  pub turns_stay : (opening : List Outcome) → IsRight job (draw job.setting.key) opening → SavesInTurn job opening p q → AreConsistentOf job q
   turns_stay opening right s =
-      both_honest (last_place job opening p).slot (subst (IsHonestSlot job (draw job.setting.key)) (sym s.last_is) (honestly job (draw job.setting.key) (full_of job opening) (full_right job opening right)))
-      (beside_honest opening (last_place job opening p) (count_of_saves job opening) (some_save (length (run_ids job opening job.setting.budget)) job.setting.save_every) right s)
+      both_consistent (last_place job opening p).slot (subst (IsConsistentSlot job (draw job.setting.key)) (sym s.last_is) (honestly job (draw job.setting.key) (full_of job opening) (full_right job opening right)))
+      (beside_consistent opening (last_place job opening p) (count_of_saves job opening) (some_save (length (run_ids job opening job.setting.budget)) job.setting.save_every) right s)
 
-module _ (law : HonestSlotsOpenRight) (honestly : RightIsHonest) (words : List (List ℕ)) (before after : World) (p q : Pair) (was : before.keeper.slots ≡ Some p) (is : after.keeper.slots ≡ Some q) where
+module _ (law : ConsistentSlotsOpenRight) (honestly : RightIsConsistent) (words : List (List ℕ)) (before after : World) (p q : Pair) (was : before.keeper.slots ≡ Some p) (is : after.keeper.slots ≡ Some q) where
   -- the claim to show for a job
   abbrev Stays : Job → Type 0
-  Stays job = AreHonestOf job p → NoSaveFailed before after → AreHonestOf job q
+  Stays job = AreConsistentOf job p → NoSaveFailed before after → AreConsistentOf job q
 
   unchanged : (job : Job) → after.keeper.slots ≡ before.keeper.slots → Stays job
-  unchanged job same honest calm =
+  unchanged job same consistent calm =
       let e : Some p ≡ Some q = sym was ∙ sym same ∙ is in
       let eq : p ≡ q = cc in
-      subst (AreHonestOf job) eq honest
+      subst (AreConsistentOf job) eq consistent
 
-  opening_of_told : (job : Job) (outcomes : List Outcome) → IsOpening job before.keeper.slots outcomes → AreHonestOf job p → IsRight job (draw job.setting.key) outcomes
-  opening_of_told job outcomes opened honest = opening_right law job p outcomes (subst (λ (s : Option Pair). IsOpening job s outcomes) was opened) honest
+  opening_of_observed : (job : Job) (outcomes : List Outcome) → IsOpening job before.keeper.slots outcomes → AreConsistentOf job p → IsRight job (draw job.setting.key) outcomes
+  opening_of_observed job outcomes opened consistent = opening_right law job p outcomes (subst (λ (s : Option Pair). IsOpening job s outcomes) was opened) consistent
 
   all_stays : (made : Type 0) (job : Job) → (NoSaveFailed before after → made) → SavesAll made job before after → Stays job
-  all_stays made job m s honest calm =
-      turns_stay honestly job p q honest s.outcomes (opening_of_told job s.outcomes s.opened honest) (both_known _ _ p q (SavesInTurn job s.outcomes) was is (s.in_turn (m calm)))
+  all_stays made job m s consistent calm =
+      turns_stay honestly job p q consistent s.outcomes (opening_of_observed job s.outcomes s.opened consistent) (both_known _ _ p q (SavesInTurn job s.outcomes) was is (s.in_turn (m calm)))
 
   where_stays : (b : Bool) (made : Type 0) (job : Job) → (NoSaveFailed before after → made) → SavesWhere b made job before after → Stays job
   where_stays false made job m s = unchanged job s
@@ -205,40 +205,40 @@ module _ (law : HonestSlotsOpenRight) (honestly : RightIsHonest) (words : List (
   stays_at job t (Some write_fault) c u =
       subst Stays (job_is words before after job c.job t c.prepared) (where_stays (saves c.job.setting) (NoSaveFailed before after) c.job (λ calm. calm) c.saved)
   stays_at job t (Some (stopped done all)) c u = subst Stays (job_is words before after job c.job t c.prepared) (all_stays ⊤ c.job (λ _. tt) c.saved)
-  stays_at job t (Some save_fault) c u = λ honest calm. absurd (calm c.rose)
+  stays_at job t (Some save_fault) c u = λ consistent calm. absurd (calm c.rose)
   stays_at job t r c u = unchanged job u.slots
 
 -- a call with a correct ending leaves consistent slots if it starts from consistent ones
-pub stays_honest : HonestSlotsOpenRight → RightIsHonest → (words : List (List ℕ)) (before after : World) (n m : Stream) (status : ℕ) → EndsFor words before after n m status
-    → WritesWhole words before after status → StaysHonest words before after status
-stays_honest law honestly words before after n m status e w = record {
-  opens_right = λ job outcomes s honest. start_right law job before.keeper.slots outcomes s.opened honest;
-  one_thread = λ job outcomes s honest z. w.one_thread job outcomes s (start_right law job before.keeper.slots outcomes s.opened honest) z;
-  stays = λ job p q t was is honest calm. stays_at law honestly words before after p q was is job t e.reason e.cause e.untouched honest calm;
+pub stays_consistent : ConsistentSlotsOpenRight → RightIsConsistent → (words : List (List ℕ)) (before after : World) (n m : Stream) (status : ℕ) → EndsFor words before after n m status
+    → WritesWhole words before after status → StaysConsistent words before after status
+stays_consistent law honestly words before after n m status e w = record {
+  opens_right = λ job outcomes s consistent. start_right law job before.keeper.slots outcomes s.opened consistent;
+  one_thread = λ job outcomes s consistent z. w.one_thread job outcomes s (start_right law job before.keeper.slots outcomes s.opened consistent) z;
+  stays = λ job p q t was is consistent calm. stays_at law honestly words before after p q was is job t e.reason e.cause e.untouched consistent calm;
 }
 
 -- ---- the save attempts
 
-module _ (law : HonestSlotsOpenRight) (words : List (List ℕ)) (before after : World) (p : Pair) (status : ℕ) (was : before.keeper.slots ≡ Some p) where
-  abbrev Tried : Job → Type 0
-  Tried job = IfBothTold before.keeper.tried after.keeper.tried (TriesOver job before after p status)
+module _ (law : ConsistentSlotsOpenRight) (words : List (List ℕ)) (before after : World) (p : Pair) (status : ℕ) (was : before.keeper.slots ≡ Some p) where
+  abbrev Attempted : Job → Type 0
+  Attempted job = IfBothObserved before.keeper.attempted after.keeper.attempted (AttemptsOver job before after p status)
 
   -- no save was attempted
-  tried_none : (job : Job) → (saves job.setting && has_walked status) ≡ false → after.keeper.tried ≡ before.keeper.tried → after.keeper.save_faults ≡ before.keeper.save_faults → Tried job
-  tried_none job idle same calm = subst (λ (x : Option (List Try)). IfBothTold before.keeper.tried x (TriesOver job before after p status)) (sym same) (by before.keeper.tried)
+  attempted_none : (job : Job) → (saves job.setting && has_walked status) ≡ false → after.keeper.attempted ≡ before.keeper.attempted → after.keeper.save_faults ≡ before.keeper.save_faults → Attempted job
+  attempted_none job idle same calm = subst (λ (x : Option (List Try)). IfBothObserved before.keeper.attempted x (AttemptsOver job before after p status)) (sym same) (by before.keeper.attempted)
     where
-      by : (a : Option (List Try)) → IfBothTold a a (TriesOver job before after p status)
+      by : (a : Option (List Try)) → IfBothObserved a a (AttemptsOver job before after p status)
       by None = tt
-      by (Some told) = record {
-        tries = [];
-        appended = sym (append-nil told);
+      by (Some observed) = record {
+        attempts = [];
+        appended = sym (append-nil observed);
         exactly = λ outcomes opened. subst (λ (b : Bool). AreSavesWhere b job outcomes p []) (sym idle) refl;
         in_turn = tt;
         each = λ outcomes opened. All-nil (IsTryOf job outcomes);
         growing = λ i j d less inside. absurd (omega arith);
         counted = λ outcomes opened walks all. absurd (true≢false (sym walks ∙ idle));
         covered = omega (arith, calm);
-        right = λ honest. All-nil (λ (t : Try). IsRightSave job (draw job.setting.key) (job_digest job) t.bytes);
+        right = λ consistent. All-nil (λ (t : Try). IsRightSave job (draw job.setting.key) (job_digest job) t.bytes);
       }
 
   some_every : (job : Job) → saves job.setting ≡ true → 1 ≤ job.setting.save_every
@@ -249,42 +249,42 @@ module _ (law : HonestSlotsOpenRight) (words : List (List ℕ)) (before after : 
       by zero false h = absurd (true≢false (sym h))
       by (suc n) b h = omega arith
 
-  over_of : (job : Job) (outcomes : List Outcome) → saves job.setting ≡ true → has_walked status ≡ true → IsOpening job before.keeper.slots outcomes → (told now : List Try) → TriesOf job outcomes p before.keeper.save_faults after.keeper.save_faults told now → TriesOver job before after p status told now
-  over_of job outcomes saving walks opened told now t = record {
-    tries = t.tries;
+  over_of : (job : Job) (outcomes : List Outcome) → saves job.setting ≡ true → has_walked status ≡ true → IsOpening job before.keeper.slots outcomes → (observed now : List Try) → AttemptsOf job outcomes p before.keeper.save_faults after.keeper.save_faults observed now → AttemptsOver job before after p status observed now
+  over_of job outcomes saving walks opened observed now t = record {
+    attempts = t.attempts;
     appended = t.appended;
-    exactly = λ others others_told.
-        let same : Some others ≡ Some outcomes = opening_known job before.keeper.slots (Some others) outcomes others_told opened in
+    exactly = λ others others_observed.
+        let same : Some others ≡ Some outcomes = opening_known job before.keeper.slots (Some others) outcomes others_observed opened in
         let is : outcomes ≡ others = cc in
-        subst (λ (x : Bool × List Outcome). AreSavesWhere x.0 job x.1 p t.tries) (λ i. ((sym saving i) && (sym walks i), is i)) t.exact;
+        subst (λ (x : Bool × List Outcome). AreSavesWhere x.0 job x.1 p t.attempts) (λ i. ((sym saving i) && (sym walks i), is i)) t.exact;
     in_turn = t.in_turn;
-    each = λ others others_told.
-        let same : Some others ≡ Some outcomes = opening_known job before.keeper.slots (Some others) outcomes others_told opened in
+    each = λ others others_observed.
+        let same : Some others ≡ Some outcomes = opening_known job before.keeper.slots (Some others) outcomes others_observed opened in
         let is : outcomes ≡ others = cc in
-        subst (λ (os : List Outcome). All (IsTryOf job os) t.tries) is t.each;
-    growing = later_hold_more job outcomes p t.tries (some_every job saving) t.exact;
-    counted = λ others others_told walking all.
-        let same : Some others ≡ Some outcomes = opening_known job before.keeper.slots (Some others) outcomes others_told opened in
+        subst (λ (os : List Outcome). All (IsTryOf job os) t.attempts) is t.each;
+    growing = later_hold_more job outcomes p t.attempts (some_every job saving) t.exact;
+    counted = λ others others_observed walking all.
+        let same : Some others ≡ Some outcomes = opening_known job before.keeper.slots (Some others) outcomes others_observed opened in
         let is : outcomes ≡ others = cc in
-        subst (λ (os : List Outcome). length t.tries ≡ count_of_saves job os) is (as_many_as_due job outcomes p t.tries (some_every job saving) t.exact all);
+        subst (λ (os : List Outcome). length t.attempts ≡ count_of_saves job os) is (as_many_as_due job outcomes p t.attempts (some_every job saving) t.exact all);
     covered = t.covered;
-    right = λ honest. t.right (start_right law job before.keeper.slots outcomes (opening_told job before.keeper.slots p outcomes was opened) honest);
+    right = λ consistent. t.right (start_right law job before.keeper.slots outcomes (opening_observed job before.keeper.slots p outcomes was opened) consistent);
   }
 
-  told_map : (a b : Option (List Try)) (P Q : List Try → List Try → Type 0) → ((x y : List Try) → P x y → Q x y) → IfBothTold a b P → IfBothTold a b Q
-  told_map None b P Q f h = tt
-  told_map (Some x) None P Q f h = h
-  told_map (Some x) (Some y) P Q f h = f x y h
+  observed_map : (a b : Option (List Try)) (P Q : List Try → List Try → Type 0) → ((x y : List Try) → P x y → Q x y) → IfBothObserved a b P → IfBothObserved a b Q
+  observed_map None b P Q f h = tt
+  observed_map (Some x) None P Q f h = h
+  observed_map (Some x) (Some y) P Q f h = f x y h
 
-  tried_all_of : (job : Job) (outcomes : List Outcome) → saves job.setting ≡ true → has_walked status ≡ true → IsOpening job before.keeper.slots outcomes → TriesTold job outcomes before.keeper after.keeper → Tried job
-  tried_all_of job outcomes saving walks opened t =
-      told_map before.keeper.tried after.keeper.tried (TriesOf job outcomes p before.keeper.save_faults after.keeper.save_faults) (TriesOver job before after p status) (over_of job outcomes saving walks opened)
-      (subst (λ (s : Option Pair). IfTold s (λ x. IfBothTold before.keeper.tried after.keeper.tried (TriesOf job outcomes x before.keeper.save_faults after.keeper.save_faults))) was t)
+  attempted_all_of : (job : Job) (outcomes : List Outcome) → saves job.setting ≡ true → has_walked status ≡ true → IsOpening job before.keeper.slots outcomes → AttemptsObserved job outcomes before.keeper after.keeper → Attempted job
+  attempted_all_of job outcomes saving walks opened t =
+      observed_map before.keeper.attempted after.keeper.attempted (AttemptsOf job outcomes p before.keeper.save_faults after.keeper.save_faults) (AttemptsOver job before after p status) (over_of job outcomes saving walks opened)
+      (subst (λ (s : Option Pair). IfObserved s (λ x. IfBothObserved before.keeper.attempted after.keeper.attempted (AttemptsOf job outcomes x before.keeper.save_faults after.keeper.save_faults))) was t)
 
-  tried_where : (b : Bool) (made : Type 0) (job : Job) → saves job.setting ≡ b → has_walked status ≡ true → (b ≡ false → (after.keeper.tried ≡ before.keeper.tried) × (after.keeper.save_faults ≡ before.keeper.save_faults))
-      → SavesWhere b made job before after → Tried job
-  tried_where false made job is walks none s = tried_none job (ap (λ (b : Bool). b && has_walked status) is) (none refl).0 (none refl).1
-  tried_where true made job is walks none s = tried_all_of job s.outcomes is walks s.opened s.tried
+  attempted_where : (b : Bool) (made : Type 0) (job : Job) → saves job.setting ≡ b → has_walked status ≡ true → (b ≡ false → (after.keeper.attempted ≡ before.keeper.attempted) × (after.keeper.save_faults ≡ before.keeper.save_faults))
+      → SavesWhere b made job before after → Attempted job
+  attempted_where false made job is walks none s = attempted_none job (ap (λ (b : Bool). b && has_walked status) is) (none refl).0 (none refl).1
+  attempted_where true made job is walks none s = attempted_all_of job s.outcomes is walks s.opened s.attempted
 
   untried_where : {A : Type 0} (job : Job) (x y : A) → IsPrepared words before.source after.source job → SameUnless (passes saves (setting_of words)) x y → saves job.setting ≡ false → y ≡ x
   untried_where job x y prepared same off = by (passes saves (setting_of words)) (ap (passes saves) prepared.accepted.words_are ∙ off) same
@@ -293,24 +293,24 @@ module _ (law : HonestSlotsOpenRight) (words : List (List ℕ)) (before after : 
       by true e s = cc
       by false e s = s
 
-  untried_both : (job : Job) → IsPrepared words before.source after.source job → SameUnless (passes saves (setting_of words)) before.keeper.tried after.keeper.tried
+  untried_both : (job : Job) → IsPrepared words before.source after.source job → SameUnless (passes saves (setting_of words)) before.keeper.attempted after.keeper.attempted
       → SameUnless (passes saves (setting_of words)) before.keeper.save_faults after.keeper.save_faults → saves job.setting ≡ false
-      → (after.keeper.tried ≡ before.keeper.tried) × (after.keeper.save_faults ≡ before.keeper.save_faults)
-  untried_both job prepared same calm off = (untried_where job before.keeper.tried after.keeper.tried prepared same off, untried_where job before.keeper.save_faults after.keeper.save_faults prepared calm off)
+      → (after.keeper.attempted ≡ before.keeper.attempted) × (after.keeper.save_faults ≡ before.keeper.save_faults)
+  untried_both job prepared same calm off = (untried_where job before.keeper.attempted after.keeper.attempted prepared same off, untried_where job before.keeper.save_faults after.keeper.save_faults prepared calm off)
 
   idle_at : (b : Bool) → has_walked status ≡ false → (b && has_walked status) ≡ false
   idle_at true is = is
   idle_at false is = refl
 
-  pub tried_at : (job : Job) → IsTheJob words before job → (r : Option Ending) → status ≡ status_of r → Cause words before after r → LeavesUntouched words before after (marks_of r) → Tried job
-  tried_at job t None e c u =
-      subst Tried (job_is words before after job c.job t c.prepared) (tried_where (saves c.job.setting) ⊤ c.job refl (ap has_walked e) (λ off. (untried_where c.job before.keeper.tried after.keeper.tried c.prepared u.tried off, u.save_faults)) c.saved)
-  tried_at job t (Some write_fault) e c u =
-      subst Tried (job_is words before after job c.job t c.prepared) (tried_where (saves c.job.setting) (NoSaveFailed before after) c.job refl (ap has_walked e) (untried_both c.job c.prepared u.tried u.save_faults) c.saved)
-  tried_at job t (Some (stopped done all)) e c u = subst Tried (job_is words before after job c.job t c.prepared) (tried_all_of c.job c.saved.outcomes c.saving (ap has_walked e) c.saved.opened c.saved.tried)
-  tried_at job t (Some save_fault) e c u = subst Tried (job_is words before after job c.job t c.prepared) (tried_all_of c.job c.outcomes c.saving (ap has_walked e) c.opened c.tried)
-  tried_at job t r e c u = tried_none job (idle_at (saves job.setting) (ap has_walked e)) u.tried u.save_faults
+  pub attempted_at : (job : Job) → IsTheJob words before job → (r : Option Ending) → status ≡ status_of r → Cause words before after r → LeavesUntouched words before after (marks_of r) → Attempted job
+  attempted_at job t None e c u =
+      subst Attempted (job_is words before after job c.job t c.prepared) (attempted_where (saves c.job.setting) ⊤ c.job refl (ap has_walked e) (λ off. (untried_where c.job before.keeper.attempted after.keeper.attempted c.prepared u.attempted off, u.save_faults)) c.saved)
+  attempted_at job t (Some write_fault) e c u =
+      subst Attempted (job_is words before after job c.job t c.prepared) (attempted_where (saves c.job.setting) (NoSaveFailed before after) c.job refl (ap has_walked e) (untried_both c.job c.prepared u.attempted u.save_faults) c.saved)
+  attempted_at job t (Some (stopped done all)) e c u = subst Attempted (job_is words before after job c.job t c.prepared) (attempted_all_of c.job c.saved.outcomes c.saving (ap has_walked e) c.saved.opened c.saved.attempted)
+  attempted_at job t (Some save_fault) e c u = subst Attempted (job_is words before after job c.job t c.prepared) (attempted_all_of c.job c.outcomes c.saving (ap has_walked e) c.opened c.attempted)
+  attempted_at job t r e c u = attempted_none job (idle_at (saves job.setting) (ap has_walked e)) u.attempted u.save_faults
 
 -- each save attempt of such a call has correct outcomes
-pub tried_rightly : HonestSlotsOpenRight → (words : List (List ℕ)) (before after : World) (n m : Stream) (status : ℕ) → EndsFor words before after n m status → TriedRightly words before after status
-tried_rightly law words before after n m status e job p t was = tried_at law words before after p status was job t e.reason e.status_is e.cause e.untouched
+pub attempted_rightly : ConsistentSlotsOpenRight → (words : List (List ℕ)) (before after : World) (n m : Stream) (status : ℕ) → EndsFor words before after n m status → AttemptedRightly words before after status
+attempted_rightly law words before after n m status e job p t was = attempted_at law words before after p status was job t e.reason e.status_is e.cause e.untouched

@@ -7,12 +7,12 @@ use Rattle.audit_model.specs.declared.outcome.Outcome.{Outcome}
 use Rattle.audit_model.specs.Below.{filter_below}
 use Rattle.audit_model.specs.Graph.{has}
 use Rattle.audit_model.specs.Job.{Job}
-use Rattle.audit_model.specs.Run.{total, has_id, is_in_part, lacking_ids, part_ids, run_ids}
+use Rattle.audit_model.specs.Run.{total, has_id, is_in_part, pending_ids, part_ids, run_ids}
 use Rattle.audit_model.proofs.Below.{length-filter_below}
 use Rattle.audit_model.proofs.Connected.{filter_below-has}
 use Rattle.audit_model.proofs.Parts.{only_part}
 use Rattle.outcome_book.specs.Booked.{AreApart}
-use Rattle.audit_statement.specs.Endings.{lacking}
+use Rattle.audit_statement.specs.Endings.{pending}
 
 -- ---- the count of numbers below a bound that pass a test
 
@@ -106,8 +106,8 @@ count-ids n (x ∷ xs) apart below =
     lacks k same = no_id xs k (λ j d inside e. apart 0 (suc j) d (omega arith) (omega arith) (same ∙ sym e))
 
 -- the pending and the initial outcomes are all outcomes
-pub lacking_rest : (job : Job) (outcomes : List Outcome) → AreApart outcomes → All (λ o. o.id < total job) outcomes → lacking job outcomes + length outcomes ≡ total job
-lacking_rest job outcomes apart below =
+pub pending_rest : (job : Job) (outcomes : List Outcome) → AreApart outcomes → All (λ o. o.id < total job) outcomes → pending job outcomes + length outcomes ≡ total job
+pending_rest job outcomes apart below =
     omega (arith, count-not (total job) (has_id outcomes), count-ids (total job) outcomes apart below)
 
 -- ---- a stricter test
@@ -158,35 +158,35 @@ module _ (job : Job) (outcomes : List Outcome) where
   lies id = lacks id && is_in_part job.setting.parts job.setting.part id
 
   -- an id of the part that is to be walked is pending
-  pub lies_lacks : (k : ℕ) → lies k ≡ true → lacks k ≡ true
-  lies_lacks k e = (and_parts (lacks k) (is_in_part job.setting.parts job.setting.part k) e).0
+  pub lies_misses : (k : ℕ) → lies k ≡ true → lacks k ≡ true
+  lies_misses k e = (and_parts (lacks k) (is_in_part job.setting.parts job.setting.part k) e).0
 
   length-run_ids : (budget : ℕ) → length (run_ids job outcomes budget) ≡ min budget (count (total job) lies)
   length-run_ids budget = length-take budget (filter_below (total job) lies)
 
   -- the ids walked are at most the pending ones
-  pub few_run_ids : (budget : ℕ) → length (run_ids job outcomes budget) ≤ lacking job outcomes
-  few_run_ids budget = omega (arith, length-run_ids budget, count-fewer (total job) lies lacks lies_lacks)
+  pub few_run_ids : (budget : ℕ) → length (run_ids job outcomes budget) ≤ pending job outcomes
+  few_run_ids budget = omega (arith, length-run_ids budget, count-fewer (total job) lies lacks lies_misses)
 
   -- if the number of ids walked is that of the pending ones, each pending id is walked
-  pub walks_each : (budget : ℕ) → lacking job outcomes ≤ length (run_ids job outcomes budget)
+  pub walks_each : (budget : ℕ) → pending job outcomes ≤ length (run_ids job outcomes budget)
       → (id : ℕ) → id < total job → has_id outcomes id ≡ false → has (run_ids job outcomes budget) id ≡ true
   walks_each budget all id below absent =
       let many = length-run_ids budget in
-      let fewer = count-fewer (total job) lies lacks lies_lacks in
+      let fewer = count-fewer (total job) lies lacks lies_misses in
       let whole : run_ids job outcomes budget ≡ filter_below (total job) lies =
       take_all budget (filter_below (total job) lies) (omega (arith, all, many, fewer)) in
       subst (λ (ids : List ℕ). has ids id ≡ true) (sym whole)
-      (filter_below-has (total job) lies id below (count-all (total job) lies lacks lies_lacks (omega (arith, all, many)) id below (ap not absent)))
+      (filter_below-has (total job) lies id below (count-all (total job) lies lacks lies_misses (omega (arith, all, many)) id below (ap not absent)))
 
   -- with one part, the first pending ids are walked
-  whole_part : (budget : ℕ) → job.setting.parts ≡ 1 → job.setting.part ≡ 0 → run_ids job outcomes budget ≡ take budget (lacking_ids job outcomes)
+  whole_part : (budget : ℕ) → job.setting.parts ≡ 1 → job.setting.part ≡ 0 → run_ids job outcomes budget ≡ take budget (pending_ids job outcomes)
   whole_part budget one first =
       ap (λ n. part_ids n job.setting.part job outcomes budget) one
       ∙ ap (λ k. part_ids 1 k job outcomes budget) first
       ∙ only_part job outcomes budget
 
   -- with one part and a budget for all ids, all pending ids are walked
-  pub walks_all : (budget : ℕ) → job.setting.parts ≡ 1 → job.setting.part ≡ 0 → total job ≤ budget → lacking job outcomes ≤ length (run_ids job outcomes budget)
+  pub walks_all : (budget : ℕ) → job.setting.parts ≡ 1 → job.setting.part ≡ 0 → total job ≤ budget → pending job outcomes ≤ length (run_ids job outcomes budget)
   walks_all budget one first enough =
-      omega (arith, enough, ap length (whole_part budget one first), length-take budget (lacking_ids job outcomes), length-filter_below (total job) lacks)
+      omega (arith, enough, ap length (whole_part budget one first), length-take budget (pending_ids job outcomes), length-filter_below (total job) lacks)

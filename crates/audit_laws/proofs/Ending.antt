@@ -9,12 +9,12 @@ use Rattle.audit_model.specs.declared.setting.Setting.{Setting}
 use Rattle.audit_model.specs.Job.{Job}
 use Rattle.audit_model.specs.JobOf.{job_from, job_of}
 use Rattle.audit_model.specs.Parsed.{Parsed}
-use Rattle.audit_model.specs.Run.{has_id, lacking_ids, part_ids, run_ids, total}
+use Rattle.audit_model.specs.Run.{has_id, pending_ids, part_ids, run_ids, total}
 use Rattle.audit_statement.specs.Accepted.{from_bytes, from_job, from_parsed, from_regions, input_by, judged, most_bytes}
 use Rattle.audit_statement.specs.Origin.{origin_if, origin_of, with_origin}
 use Rattle.audit_statement.specs.Regions.{regions_by}
 use Rattle.audit_statement.specs.Causes.{HasBudget}
-use Rattle.audit_statement.specs.Endings.{StartsFrom, is_walking, lacking, leaves_work, to_walk}
+use Rattle.audit_statement.specs.Endings.{StartsFrom, is_walking, pending, leaves_work, to_walk}
 use Rattle.audit_statement.specs.Promise.{KeepsItsPromise}
 use Rattle.audit_statement.specs.Several.{names_plans}
 use Rattle.audit_statement.specs.World.{World}
@@ -44,15 +44,15 @@ judged_from setting bytes p none untold few is made =
 nothing_left : (job : Job) (outcomes : List Outcome) → (job.setting.parts ≡ 1) × (job.setting.part ≡ 0) → total job ≤ job.setting.budget
     → leaves_work job outcomes ≡ false
 nothing_left job outcomes whole enough =
-    let ids : run_ids job outcomes job.setting.budget ≡ take job.setting.budget (lacking_ids job outcomes) =
+    let ids : run_ids job outcomes job.setting.budget ≡ take job.setting.budget (pending_ids job outcomes) =
     ap (λ (n : ℕ). part_ids n job.setting.part job outcomes job.setting.budget) whole.0
     ∙ ap (λ (k : ℕ). part_ids 1 k job outcomes job.setting.budget) whole.1
     ∙ only_part job outcomes job.setting.budget in
-    le-ltb (to_walk job outcomes) (lacking job outcomes)
+    le-ltb (to_walk job outcomes) (pending job outcomes)
     (omega (
       arith,
       ap (λ (xs : List ℕ). length xs) ids,
-      length-take job.setting.budget (lacking_ids job outcomes),
+      length-take job.setting.budget (pending_ids job outcomes),
       enough,
       length-filter_below (total job) (λ id. not (has_id outcomes id)),
     ))
@@ -70,7 +70,7 @@ has_budget job before plain whole enough =
 -- a call that meets its contract ends with status 0 or 3, if its input is valid and nothing failed
 plain_ends : (words : List (List ℕ)) (before after : World) (n m : Stream) (status : ℕ) → KeepsItsPromise words before after n m status
     → EndsPlainly words before after status
-plain_ends words before after n m status k rest bytes run silent told fit none =
+plain_ends words before after n m status k rest bytes run silent observed fit none =
     let setting = fit.job.setting in
     let words_run : setting_of (codes "run" ∷ rest) ≡ Ok setting = subst (λ (ws : List (List ℕ)). setting_of ws ≡ Ok setting) run fit.words_are in
     let said_so = run_words rest setting words_run in
@@ -83,9 +83,9 @@ plain_ends words before after n m status k rest bytes run silent told fit none =
     k.complete (record {
       job = made;
       bytes = bytes;
-      told = record {
+      observed = record {
         words_are = fit.words_are;
-        input = ap (input_by setting.command setting) told ∙ input_is setting.command setting bytes plain.run;
+        input = ap (input_by setting.command setting) observed ∙ input_is setting.command setting bytes plain.run;
       };
       accepted = judged_from setting bytes taken.parsed plain.no_regions plain.untold fit.few_bytes taken.read_so taken.accepted;
       budget = has_budget made before plain whole
@@ -98,5 +98,5 @@ plain_ends words before after n m status k rest bytes run silent told fit none =
 
 -- the law on each call that meets its contract
 pub promised_calls_end_plainly : PromisedCallsEndPlainly
-promised_calls_end_plainly words before after n m status k rest bytes run silent told fit none =
-    plain_ends words before after n m status (k.one (ap names_plans run)) rest bytes run silent told fit none
+promised_calls_end_plainly words before after n m status k rest bytes run silent observed fit none =
+    plain_ends words before after n m status (k.one (ap names_plans run)) rest bytes run silent observed fit none

@@ -3,7 +3,7 @@ use Rattle.std.proofs.Common.{◌≡◌, ◌∙◌, ℕ, zero, suc, ◌<◌, Boo
 use Rattle.std.proofs.lemmas.List.Elements.{All-head, All-tail}
 use Rattle.audit_model.specs.Pair.{HoldsBytes, KeepsOther, Pair, other_stored, stored}
 use Rattle.audit_model.specs.State.{Kept}
-use Rattle.audit_model.specs.Told.{IfBothTold, IfTold}
+use Rattle.audit_model.specs.Observed.{IfBothObserved, IfObserved}
 use Rattle.audit_model.specs.declared.outcome.Outcome.{Outcome}
 use Rattle.audit_model.specs.Job.{Job}
 use Rattle.audit_statement.specs.Checkpoint.{checkpoint, job_digest}
@@ -70,14 +70,14 @@ module _ (job : Job) where
       → Finds before (gives job digest p) bad what after → AreGathered job after.outcomes
   seen_so p bad what before after reached b f = found_so (gives job digest p) bad what before after b (λ os e. held p os reached (given_is_held p os e)) f
 
-  seen_is : (told : Option Pair) (p seen : Pair) → told ≡ Some p → IfTold told (λ x. seen ≡ x) → seen ≡ p
+  seen_is : (observed : Option Pair) (p seen : Pair) → observed ≡ Some p → IfObserved observed (λ x. seen ≡ x) → seen ≡ p
   seen_is None p seen e same = cc
   seen_is (Some x) p seen e same = (let is : x ≡ p = cc in same ∙ is)
 
-  from_seen : (told : Option Pair) (p : Pair) (what : Finding) (before after : Collected) → told ≡ Some p → AreReached job p → AreGathered job before.outcomes
-      → HasSeen job digest told before what after → AreGathered job after.outcomes
-  from_seen told p what before after is reached b s =
-      seen_so s.pair (has_broken job digest s.pair) what before after (subst (AreReached job) (sym (seen_is told p s.pair is s.same)) reached) b s.finds
+  from_seen : (observed : Option Pair) (p : Pair) (what : Finding) (before after : Collected) → observed ≡ Some p → AreReached job p → AreGathered job before.outcomes
+      → HasSeen job digest observed before what after → AreGathered job after.outcomes
+  from_seen observed p what before after is reached b s =
+      seen_so s.pair (has_broken job digest s.pair) what before after (subst (AreReached job) (sym (seen_is observed p s.pair is s.same)) reached) b s.finds
 
   from_found : (folder folder_now : Kept) (p : Pair) (what : Finding) (before after : Collected) → folder.slots ≡ Some p → AreReached job p → AreGathered job before.outcomes
       → IsFound job digest folder folder_now before what after → AreGathered job after.outcomes
@@ -96,10 +96,10 @@ module _ (job : Job) where
       (from_found folder folder_now first.0 what before f.0 first.1 first.2 b f.1) f.2
   from_all folders folders_now found before after all b f = absurd f
 
-  from_begun : (told : Option Pair) (p : Pair) (place : ℕ × ℕ) (own : Finding) (start : Collected) → told ≡ Some p → AreReached job p
-      → HasBegun job digest told place own start → AreGathered job start.outcomes
-  from_begun told p place own start is reached h =
-      seen_so h.pair (has_broken job digest h.pair) own (no_collected (total job)) start (subst (AreReached job) (sym (seen_is told p h.pair is h.same)) reached) nothing_gathered h.finds
+  from_begun : (observed : Option Pair) (p : Pair) (place : ℕ × ℕ) (own : Finding) (start : Collected) → observed ≡ Some p → AreReached job p
+      → HasBegun job digest observed place own start → AreGathered job start.outcomes
+  from_begun observed p place own start is reached h =
+      seen_so h.pair (has_broken job digest h.pair) own (no_collected (total job)) start (subst (AreReached job) (sym (seen_is observed p h.pair is h.same)) reached) nothing_gathered h.finds
 
   -- ---- the save
 
@@ -107,14 +107,14 @@ module _ (job : Job) where
   place_below first second None = omega arith
   place_below first second (Some n) = omega arith
 
-  told_bytes : (slots : Option Pair) (q : Pair) (number : ℕ) (bytes : List ℕ) → slots ≡ Some q → HoldsBytes slots number bytes → stored q number ≡ Some bytes
-  told_bytes None q number bytes e h = cc
-  told_bytes (Some x) q number bytes e h = (let is : x ≡ q = cc in subst (λ (y : Pair). stored y number ≡ Some bytes) is h)
+  observed_bytes : (slots : Option Pair) (q : Pair) (number : ℕ) (bytes : List ℕ) → slots ≡ Some q → HoldsBytes slots number bytes → stored q number ≡ Some bytes
+  observed_bytes None q number bytes e h = cc
+  observed_bytes (Some x) q number bytes e h = (let is : x ≡ q = cc in subst (λ (y : Pair). stored y number ≡ Some bytes) is h)
 
-  told_other : (old new : Option Pair) (p q : Pair) (number : ℕ) → old ≡ Some p → new ≡ Some q → KeepsOther old new number → other_stored q number ≡ other_stored p number
-  told_other old new p q number e f h =
-      subst (λ (x : Option Pair). IfBothTold x (Some q) (λ p q. other_stored q number ≡ other_stored p number)) e
-      (subst (λ (x : Option Pair). IfBothTold old x (λ p q. other_stored q number ≡ other_stored p number)) f h)
+  observed_other : (old new : Option Pair) (p q : Pair) (number : ℕ) → old ≡ Some p → new ≡ Some q → KeepsOther old new number → other_stored q number ≡ other_stored p number
+  observed_other old new p q number e f h =
+      subst (λ (x : Option Pair). IfBothObserved x (Some q) (λ p q. other_stored q number ≡ other_stored p number)) e
+      (subst (λ (x : Option Pair). IfBothObserved old x (λ p q. other_stored q number ≡ other_stored p number)) f h)
 
   beside_so : (number : ℕ) (p q : Pair) → other_stored q number ≡ other_stored p number → IsAfterStop number p.zero_slot p.one_slot q.zero_slot q.one_slot
   beside_so zero p q e = e
@@ -128,8 +128,8 @@ module _ (job : Job) where
     sound = s.sound;
     carried = record {
       slot = below;
-      beside = beside_so place.0 p q (told_other before.slots after.slots p q place.0 was is s.other);
-      ended = told_bytes after.slots q place.0 (checkpoint 2 digest place.1 os) is s.bytes;
+      beside = beside_so place.0 p q (observed_other before.slots after.slots p q place.0 was is s.other);
+      ended = observed_bytes after.slots q place.0 (checkpoint 2 digest place.1 os) is s.bytes;
     };
   }
 
@@ -143,19 +143,19 @@ module _ (job : Job) where
 
 -- the slots after a gathering of reached folders are reached
 pub gatherings_reach : GatheringsReach
-gatherings_reach job saves before after folders folders_now told p q g was is reached all =
+gatherings_reach job saves before after folders folders_now observed p q g was is reached all =
     let below : g.place.0 < 2 =
     subst (λ (x : ℕ × ℕ). x.0 < 2) (sym g.own.place_is)
     (place_below job (slot_of job (job_digest job) g.own.pair.zero_slot) (slot_of job (job_digest job) g.own.pair.one_slot)
     (newest (slot_of job (job_digest job) g.own.pair.zero_slot) (slot_of job (job_digest job) g.own.pair.one_slot))) in
-    saved_if job told.saved g.place g.all.outcomes before after p q below was is reached
-    (from_all job folders folders_now told.folders g.start g.all all (from_begun job before.slots p g.place told.own g.start was reached g.own) g.each)
+    saved_if job observed.saved g.place g.all.outcomes before after p q below was is reached
+    (from_all job folders folders_now observed.folders g.start g.all all (from_begun job before.slots p g.place observed.own g.start was reached g.own) g.each)
     g.saved
 
 -- the slots after a gathering whose save failed or was cut off are reached
 pub cut_gatherings_reach : CutGatheringsReach
-cut_gatherings_reach job told folders folders_now place all p q may sound is carried reached all_reached =
+cut_gatherings_reach job observed folders folders_now place all p q may sound is carried reached all_reached =
     after_gathering p q all reached
     (subst (AreGathered job) may.union
-    (from_all job folders folders_now may.found may.start may.collected all_reached (from_begun job told p place may.own may.start is reached may.begun) may.each))
+    (from_all job folders folders_now may.found may.start may.collected all_reached (from_begun job observed p place may.own may.start is reached may.begun) may.each))
     (record { save = record { slot = place.0; bytes = checkpoint 2 (job_digest job) place.1 all; succeeded = false }; generation = place.1; sound = sound; carried = carried })

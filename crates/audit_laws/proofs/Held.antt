@@ -5,7 +5,7 @@ use Rattle.std.proofs.lemmas.List.{length-map, length-take, map-append}
 use Rattle.std.proofs.lemmas.List.Elements.{All-cons, All-contains_itself, All-head, All-nil, All-tail, Contains-append_left}
 use Rattle.std.proofs.lemmas.List.Sorted.{All-permutation, Contains-permutation, length_permutation}
 use Rattle.audit_model.specs.Pair.{Pair}
-use Rattle.audit_model.specs.Tries.{Try}
+use Rattle.audit_model.specs.Attempts.{Try}
 use Rattle.audit_model.specs.declared.outcome.Outcome.{Outcome}
 use Rattle.audit_model.specs.Job.{Job}
 use Rattle.audit_model.specs.Run.{run_ids}
@@ -183,12 +183,12 @@ module _ (job : Job) (opening : List Outcome) (every : ℕ) (walked : List ℕ) 
 
 -- ---- the saves of a run
 
-module _ (job : Job) (outcomes : List Outcome) (p : Pair) (tries : List Try) (some_every : 1 ≤ job.setting.save_every) (s : AreRunSaves job outcomes p tries) where
-  pub later_hold_more : AllPairs (IsHeldBy job) tries
+module _ (job : Job) (outcomes : List Outcome) (p : Pair) (attempts : List Try) (some_every : 1 ≤ job.setting.save_every) (s : AreRunSaves job outcomes p attempts) where
+  pub later_hold_more : AllPairs (IsHeldBy job) attempts
   later_hold_more =
-      grow job outcomes job.setting.save_every s.walked some_every 1 (length s.walked / job.setting.save_every) false (first_place job p) tries (omega arith) s.exactly.counted s.exactly.each
+      grow job outcomes job.setting.save_every s.walked some_every 1 (length s.walked / job.setting.save_every) false (first_place job p) attempts (omega arith) s.exactly.counted s.exactly.each
 
-  pub as_many_as_due : All (λ t. t.succeeded ≡ true) tries → length tries ≡ count_of_saves job outcomes
+  pub as_many_as_due : All (λ t. t.succeeded ≡ true) attempts → length attempts ≡ count_of_saves job outcomes
   as_many_as_due all =
-      all_counted job outcomes job.setting.save_every s.walked some_every tries all s.exactly.counted
+      all_counted job outcomes job.setting.save_every s.walked some_every attempts all s.exactly.counted
       ∙ ap (λ (n : ℕ). saves_of n job.setting.save_every) (sym (length_permutation s.walked (run_ids job outcomes job.setting.budget) s.all_walked))

@@ -8,7 +8,7 @@ use Rattle.std.proofs.lemmas.List.Elements.{All-append, All-cons, All-contains_i
 use Rattle.std.proofs.lemmas.List.Sorted.{All-permutation, Contains-permutation, IsPermutation-sym}
 use Rattle.std.proofs.lemmas.Option.{same_Some}
 use Rattle.audit_model.specs.Pair.{Pair, Stored}
-use Rattle.audit_model.specs.Tries.{Try}
+use Rattle.audit_model.specs.Attempts.{Try}
 use Rattle.audit_model.specs.declared.fault.CkptFault.{CkptFault}
 use Rattle.audit_model.specs.declared.outcome.Outcome.{Outcome}
 use Rattle.audit_model.specs.declared.place.Place.{Place}
@@ -29,10 +29,10 @@ use Rattle.audit_model.proofs.Fitting as fitting
 use Rattle.audit_statement.specs.Checkpoint.{IsCheckpoint, checkpoint, checkpoint_fault, digest_place, generation_place, job_digest, stated_count}
 use Rattle.audit_statement.specs.Draw.{draw}
 use Rattle.audit_statement.specs.Endings.{StartsFrom, first_place, opening_from, place_of, saves}
-use Rattle.audit_statement.specs.Histories.{AreCarriedOut, AreInTurn, HasFailed, IsNotIntact, KeepsNewest, bytes_at, newest_bytes, stopped_in}
+use Rattle.audit_statement.specs.Histories.{AreCarriedOut, AreInTurn, HasFailed, IsNotValid, KeepsNewest, bytes_at, newest_bytes, stopped_in}
 use Rattle.audit_statement.specs.Chain.{AreSavesWhere, has_walked}
 use Rattle.audit_statement.specs.InOrder.{AreSavesFrom, IsSaveOfIds, last_succeeded_from, next_place, place_after, taken_in}
-use Rattle.audit_statement.specs.Rerun.{AreTriesSoFar}
+use Rattle.audit_statement.specs.Rerun.{AreAttemptsSoFar}
 use Rattle.audit_statement.specs.Slots.{Slot, absent, broken, checkpoint_limit, newest, newest_for, opening_of, other, ours, outcome_in, outcomes_in, outcomes_of_slot, slot_of, slot_of_bytes, slot_of_checkpoint, slot_of_digest, slot_of_ours}
 use Rattle.ckpt_store.specs.Laws.{CheckpointsAreOurs, SavesKeepTheNewest}
 use Rattle.audit_laws.specs.Lost.{EndsAreStops, HoldsAll, IsKeptIn, KeepsOpening, LosesNothing, StopsKeepTheNewest, StopsLoseNothing}
@@ -277,9 +277,9 @@ module _ (job : Job) (opening : List Outcome) (every : ℕ) (walked : List ℕ) 
 -- ---- what the slots hold at the stop
 
 -- a run that is stopped after these saves has them as they are
-same_stopped : (tries : List Try) → stopped_in (length tries) tries ≡ tries
+same_stopped : (attempts : List Try) → stopped_in (length attempts) attempts ≡ attempts
 same_stopped [] = refl
-same_stopped (t ∷ tries) = ap (λ ts. t ∷ ts) (same_stopped tries)
+same_stopped (t ∷ attempts) = ap (λ ts. t ∷ ts) (same_stopped attempts)
 
 -- the newest slot, whose bytes are known, is what these bytes are
 given_by : (job : Job) (q : Pair) (bytes : List ℕ) (generation : ℕ) (saved : List Outcome) (n : Option ℕ)
@@ -302,18 +302,18 @@ holds_all ours_law job q bytes generation saved outcomes is sound fit held = rec
   held = held;
 }
 
-module _ (newest_law : SavesKeepTheNewest) (bare_fits : BareFits) (job : Job) (sound : IsJob job) (p q : Pair) (tries : List Try) where
+module _ (newest_law : SavesKeepTheNewest) (bare_fits : BareFits) (job : Job) (sound : IsJob job) (p q : Pair) (attempts : List Try) where
   abbrev Out : Type 0
-  Out = AreCarriedOut IsNotIntact job (job_digest job) p tries q
+  Out = AreCarriedOut IsNotValid job (job_digest job) p attempts q
 
   abbrev Keeps : Type 0
-  Keeps = KeepsNewest job (job_digest job) p tries q
+  Keeps = KeepsNewest job (job_digest job) p attempts q
 
   few_asks : length job.setting.asks ≤ 4
   few_asks = few_of job job.setting.command job.setting sound.within.setting.command
 
   module _ (outcomes : List Outcome) (opens : opening_from job.setting.resume job p ≡ Some outcomes) (walked : List ℕ)
-      (all_walked : IsPermutation walked (run_ids job outcomes job.setting.budget)) (goes : AreSavesFrom job outcomes job.setting.save_every walked 1 (first_place job p) tries) where
+      (all_walked : IsPermutation walked (run_ids job outcomes job.setting.budget)) (goes : AreSavesFrom job outcomes job.setting.save_every walked 1 (first_place job p) attempts) where
     run_opening_fits : All (Fits job) outcomes
     run_opening_fits = opening_fit job bare_fits job.setting.resume p outcomes opens
 
@@ -324,12 +324,12 @@ module _ (newest_law : SavesKeepTheNewest) (bare_fits : BareFits) (job : Job) (s
 
     keeps_by : Out → Keeps
     keeps_by out =
-        subst (λ (ts : List Try). KeepsNewest job (job_digest job) p ts q) (same_stopped tries)
-        (newest_law job (job_digest job) p q (place_of job p).0 (place_of job p).1 tries (length tries) refl
-        (in_turn job outcomes job.setting.save_every walked few_asks run_opening_fits run_below 1 (first_place job p) tries goes)
-        (subst (λ (ts : List Try). AreCarriedOut IsNotIntact job (job_digest job) p ts q) (sym (same_stopped tries)) out))
+        subst (λ (ts : List Try). KeepsNewest job (job_digest job) p ts q) (same_stopped attempts)
+        (newest_law job (job_digest job) p q (place_of job p).0 (place_of job p).1 attempts (length attempts) refl
+        (in_turn job outcomes job.setting.save_every walked few_asks run_opening_fits run_below 1 (first_place job p) attempts goes)
+        (subst (λ (ts : List Try). AreCarriedOut IsNotValid job (job_digest job) p ts q) (sym (same_stopped attempts)) out))
 
-    saved_by : CheckpointsAreOurs → Keeps → All (λ save. save.succeeded ≡ true → IsKeptIn job q save) tries
+    saved_by : CheckpointsAreOurs → Keeps → All (λ save. save.succeeded ≡ true → IsKeptIn job q save) attempts
     saved_by ours_law (inl none) = λ k d inside done. absurd (true≢false (sym done ∙ none.0 k d inside))
     saved_by ours_law (inr (bytes, latest, is)) =
         let all = held_in job outcomes job.setting.save_every walked few_asks run_opening_fits run_below 1 (first_place job p) latest.earlier latest.later latest.save
@@ -348,21 +348,21 @@ module _ (newest_law : SavesKeepTheNewest) (bare_fits : BareFits) (job : Job) (s
     opened_by : CheckpointsAreOurs → Keeps → KeepsOpening job p q outcomes
     opened_by ours_law (inl none) = inl none.1
     opened_by ours_law (inr (bytes, latest, is)) =
-        let all = opening_held job outcomes job.setting.save_every walked few_asks run_opening_fits run_below 1 (first_place job p) tries goes in
+        let all = opening_held job outcomes job.setting.save_every walked few_asks run_opening_fits run_below 1 (first_place job p) attempts goes in
         let of = at_middle (HoldsOpening job outcomes) latest.earlier latest.later latest.save (subst (All (HoldsOpening job outcomes)) latest.split all) in
         inr (holds_all ours_law job q bytes of.generation of.saved outcomes is
         (subst (λ (b : List ℕ). IsCheckpoint b 2 (job_digest job) of.generation of.saved) latest.same of.sound) of.fit of.held)
 
   -- without an attempt all is as it was
-  untouched : tries ≡ [] → Out → q ≡ p
-  untouched none out = subst (λ (ts : List Try). AreCarriedOut IsNotIntact job (job_digest job) p ts q) none out
+  untouched : attempts ≡ [] → Out → q ≡ p
+  untouched none out = subst (λ (ts : List Try). AreCarriedOut IsNotValid job (job_digest job) p ts q) none out
 
-  pub stop_keeps : AreTriesSoFar job p tries → Out → Keeps
+  pub stop_keeps : AreAttemptsSoFar job p attempts → Out → Keeps
   stop_keeps (inl none) out =
       inl (subst (All HasFailed) (sym none) (All-nil HasFailed), ap (newest_bytes job (job_digest job)) (untouched none out))
   stop_keeps (inr run) out = keeps_by run.0 run.1 run.2.walked run.2.all_walked run.2.first.each out
 
-  pub stop_loses : CheckpointsAreOurs → AreTriesSoFar job p tries → Out → LosesNothing job p q tries
+  pub stop_loses : CheckpointsAreOurs → AreAttemptsSoFar job p attempts → Out → LosesNothing job p q attempts
   stop_loses ours_law (inl none) out = record {
     saved = subst (All (λ (save : Try). save.succeeded ≡ true → IsKeptIn job q save)) (sym none) (All-nil (λ (save : Try). save.succeeded ≡ true → IsKeptIn job q save));
     opened = λ outcomes opens. inl (ap (newest_bytes job (job_digest job)) (untouched none out));
@@ -378,23 +378,23 @@ module _ (newest_law : SavesKeepTheNewest) (bare_fits : BareFits) (job : Job) (s
 
 -- a stop keeps the newest slot, or leaves a newer one
 pub stops_keep_the_newest : SavesKeepTheNewest → BareFits → StopsKeepTheNewest
-stops_keep_the_newest newest_law bare_fits job p q tries sound so_far out = stop_keeps newest_law bare_fits job sound p q tries so_far out
+stops_keep_the_newest newest_law bare_fits job p q attempts sound so_far out = stop_keeps newest_law bare_fits job sound p q attempts so_far out
 
 -- and loses nothing that was saved
 pub stops_lose_nothing : SavesKeepTheNewest → CheckpointsAreOurs → BareFits → StopsLoseNothing
-stops_lose_nothing newest_law ours_law bare_fits job p q tries sound so_far out = stop_loses newest_law bare_fits job sound p q tries ours_law so_far out
+stops_lose_nothing newest_law ours_law bare_fits job p q attempts sound so_far out = stop_loses newest_law bare_fits job sound p q attempts ours_law so_far out
 
 -- ---- a run that ended, cut off anywhere
 
 -- no more saves than without the cut
-stopped_length : (n : ℕ) (tries : List Try) → length (stopped_in n tries) ≤ length tries
+stopped_length : (n : ℕ) (attempts : List Try) → length (stopped_in n attempts) ≤ length attempts
 stopped_length n [] = omega arith
-stopped_length zero (t ∷ tries) = omega arith
-stopped_length (suc n) (t ∷ tries) = let rest = stopped_length n tries in omega (arith, rest)
+stopped_length zero (t ∷ attempts) = omega arith
+stopped_length (suc n) (t ∷ attempts) = let rest = stopped_length n attempts in omega (arith, rest)
 
 -- no more saves than are due
-stopped_few : (k n : ℕ) (whole last : Bool) (tries : List Try) → length tries ≡ k + cond {A = ℕ} (whole && last_succeeded_from last (take k tries)) 0 1
-    → length (stopped_in n tries) ≤ k + cond {A = ℕ} (whole && last_succeeded_from last (take k (stopped_in n tries))) 0 1
+stopped_few : (k n : ℕ) (whole last : Bool) (attempts : List Try) → length attempts ≡ k + cond {A = ℕ} (whole && last_succeeded_from last (take k attempts)) 0 1
+    → length (stopped_in n attempts) ≤ k + cond {A = ℕ} (whole && last_succeeded_from last (take k (stopped_in n attempts))) 0 1
 stopped_few k n whole last [] counted = omega arith
 stopped_few zero n whole last (t ∷ rest) counted = (let fewer = stopped_length n (t ∷ rest) in omega (arith, counted, fewer))
 stopped_few (suc k) zero whole last (t ∷ rest) counted = omega arith
@@ -403,22 +403,22 @@ stopped_few (suc k) (suc n) whole last (t ∷ rest) counted =
 
 module _ (job : Job) (opening : List Outcome) (every : ℕ) (walked : List ℕ) where
   -- the save that is cut off is the same save
-  stopped_each : (n m : ℕ) (place : Place) (tries : List Try) → AreSavesFrom job opening every walked m place tries → AreSavesFrom job opening every walked m place (stopped_in n tries)
+  stopped_each : (n m : ℕ) (place : Place) (attempts : List Try) → AreSavesFrom job opening every walked m place attempts → AreSavesFrom job opening every walked m place (stopped_in n attempts)
   stopped_each n m place [] goes = tt
   stopped_each zero m place (t ∷ rest) goes = (record { slot = goes.0.slot; bytes = goes.0.bytes; sound = goes.0.sound; all = goes.0.all }, tt)
   stopped_each (suc n) m place (t ∷ rest) goes = (goes.0, stopped_each n (suc m) (place_after place t) rest goes.1)
 
 -- known slots determine the opening
-told_by : (resumes : Bool) (job : Job) (slots : Option Pair) (p : Pair) (o : Option (List Outcome)) → slots ≡ Some p → opening_from resumes job p ≡ o → StartsFrom resumes job slots o
-told_by false job slots p o was opens = opens
-told_by true job None p o was opens = cc
-told_by true job (Some x) p o was opens = (let same : x ≡ p = cc in ap (opening_from true job) same ∙ opens)
+observed_by : (resumes : Bool) (job : Job) (slots : Option Pair) (p : Pair) (o : Option (List Outcome)) → slots ≡ Some p → opening_from resumes job p ≡ o → StartsFrom resumes job slots o
+observed_by false job slots p o was opens = opens
+observed_by true job None p o was opens = cc
+observed_by true job (Some x) p o was opens = (let same : x ≡ p = cc in ap (opening_from true job) same ∙ opens)
 
 -- the saves of a run that ended are saves so far, cut off anywhere
-cut_saves : (walks : Bool) (job : Job) (p : Pair) (outcomes : List Outcome) (tries : List Try) (n : ℕ) → opening_from job.setting.resume job p ≡ Some outcomes
-    → AreSavesWhere walks job outcomes p tries → AreTriesSoFar job p (stopped_in n tries)
-cut_saves false job p outcomes tries n opens none = inl (ap (stopped_in n) none)
-cut_saves true job p outcomes tries n opens run =
+cut_saves : (walks : Bool) (job : Job) (p : Pair) (outcomes : List Outcome) (attempts : List Try) (n : ℕ) → opening_from job.setting.resume job p ≡ Some outcomes
+    → AreSavesWhere walks job outcomes p attempts → AreAttemptsSoFar job p (stopped_in n attempts)
+cut_saves false job p outcomes attempts n opens none = inl (ap (stopped_in n) none)
+cut_saves true job p outcomes attempts n opens run =
     let every = job.setting.save_every in
     inr (
       outcomes,
@@ -427,14 +427,14 @@ cut_saves true job p outcomes tries n opens run =
         walked = run.walked;
         all_walked = run.all_walked;
         first = record {
-          each = stopped_each job outcomes every run.walked n 1 (first_place job p) tries run.exactly.each;
-          few = stopped_few (length run.walked / every) n (length run.walked % every == 0) false tries run.exactly.counted;
+          each = stopped_each job outcomes every run.walked n 1 (first_place job p) attempts run.exactly.each;
+          few = stopped_few (length run.walked / every) n (length run.walked % every == 0) false attempts run.exactly.counted;
         };
       },
     )
 
 -- a run that ended is one that was stopped
 pub ends_are_stops : EndsAreStops
-ends_are_stops job before after p status told now t outcomes was opens n =
-    cut_saves (saves job.setting && has_walked status) job p outcomes t.tries n opens
-    (t.exactly outcomes (told_by job.setting.resume job before.keeper.slots p (Some outcomes) was opens))
+ends_are_stops job before after p status observed now t outcomes was opens n =
+    cut_saves (saves job.setting && has_walked status) job p outcomes t.attempts n opens
+    (t.exactly outcomes (observed_by job.setting.resume job before.keeper.slots p (Some outcomes) was opens))

@@ -47,14 +47,14 @@ module _ (words : List (List ℕ)) (before after : Stream) (job : Job) (p : IsPr
   -- the rest of the call changed only the marked parts
   pub left : (out out' : Stream) (k l : Kept) (marks : EndingMarks) → SameUnless marks.wrote out.bytes out'.bytes
       → SameUnless (marks.saved && passes saves (setting_of words)) k.slots l.slots
-      → SameUnless (marks.saved && passes saves (setting_of words)) k.tried l.tried → marks.read_failed ≡ false → SameUnless marks.write_failed out.faults out'.faults
+      → SameUnless (marks.saved && passes saves (setting_of words)) k.attempted l.attempted → marks.read_failed ≡ false → SameUnless marks.write_failed out.faults out'.faults
       → SameUnless marks.load_failed k.load_faults l.load_faults → SameUnless (marks.save_failed && passes saves (setting_of words)) k.save_faults l.save_faults
       → LeavesUntouched words (world before out k) (world after out' l) marks
-  left out out' k l marks wrote slots tried reads writes loaded saved = record {
+  left out out' k l marks wrote slots attempted reads writes loaded saved = record {
     source = source_left;
     out = wrote;
     slots = slots;
-    tried = tried;
+    attempted = attempted;
     read_faults = subst (λ b. SameUnless b before.faults after.faults) (sym reads) (read_count _ before after p.read);
     write_faults = writes;
     load_faults = loaded;
@@ -64,28 +64,28 @@ module _ (words : List (List ℕ)) (before after : Stream) (job : Job) (p : IsPr
 -- ---- runs that do not start
 
 -- a failed load that changes nothing else is an ending of the call
-pub load_fault_ends : (job : Job) (out : Stream) (k l : Kept) → IsTrue (loads job.setting) → l.slots ≡ k.slots → l.tried ≡ k.tried → l.save_faults ≡ k.save_faults
+pub load_fault_ends : (job : Job) (out : Stream) (k l : Kept) → IsTrue (loads job.setting) → l.slots ≡ k.slots → l.attempted ≡ k.attempted → l.save_faults ≡ k.save_faults
     → Rose k.load_faults.all l.load_faults.all → l.load_faults.taken ≡ k.load_faults.taken → Finishes job out out k l ended.LoadFault
-load_fault_ends job out k l loading slots tried saved rose untaken = λ words before after p. record {
+load_fault_ends job out k l loading slots attempted saved rose untaken = λ words before after p. record {
   cause = record { fault = record { job = job; prepared = p; loading = loading; rose = rose }; untaken = untaken };
-  untouched = left words before after job p out out k l _ refl slots tried refl refl tt saved;
+  untouched = left words before after job p out out k l _ refl slots attempted refl refl tt saved;
   line_is = refl;
 }
 
 -- a load that failed because of a lock is an ending of the call
-pub folder_taken_ends : (job : Job) (out : Stream) (k l : Kept) → IsTrue (loads job.setting) → l.slots ≡ k.slots → l.tried ≡ k.tried → l.save_faults ≡ k.save_faults
+pub folder_taken_ends : (job : Job) (out : Stream) (k l : Kept) → IsTrue (loads job.setting) → l.slots ≡ k.slots → l.attempted ≡ k.attempted → l.save_faults ≡ k.save_faults
     → Rose k.load_faults.all l.load_faults.all → Rose k.load_faults.taken l.load_faults.taken → Finishes job out out k l ended.FolderTaken
-folder_taken_ends job out k l loading slots tried saved rose taken = λ words before after p. record {
+folder_taken_ends job out k l loading slots attempted saved rose taken = λ words before after p. record {
   cause = record { fault = record { job = job; prepared = p; loading = loading; rose = rose }; taken = taken };
-  untouched = left words before after job p out out k l _ refl slots tried refl refl tt saved;
+  untouched = left words before after job p out out k l _ refl slots attempted refl refl tt saved;
   line_is = refl;
 }
 
 -- out of memory without any change is an ending of the call
-pub no_memory_ends : (job : Job) (out : Stream) (k l : Kept) → l.slots ≡ k.slots → l.tried ≡ k.tried → l.save_faults ≡ k.save_faults → l.load_faults ≡ k.load_faults
+pub no_memory_ends : (job : Job) (out : Stream) (k l : Kept) → l.slots ≡ k.slots → l.attempted ≡ k.attempted → l.save_faults ≡ k.save_faults → l.load_faults ≡ k.load_faults
     → Finishes job out out k l ended.NoMemory
-no_memory_ends job out k l slots tried saved loaded = λ words before after p. record {
+no_memory_ends job out k l slots attempted saved loaded = λ words before after p. record {
   cause = tt;
-  untouched = left words before after job p out out k l _ refl slots tried refl refl loaded saved;
+  untouched = left words before after job p out out k l _ refl slots attempted refl refl loaded saved;
   line_is = refl;
 }

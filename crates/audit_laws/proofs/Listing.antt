@@ -8,7 +8,7 @@ use Rattle.audit_model.specs.Job.{Job}
 use Rattle.audit_model.specs.Run.{total, has_id, run_ids}
 use Rattle.audit_model.proofs.Filtered.{each_passes, each_rises}
 use Rattle.claim_counter.specs.Walks.{IsTodo}
-use Rattle.audit_laws.proofs.Counting.{lies, lies_lacks}
+use Rattle.audit_laws.proofs.Counting.{lies, lies_misses}
 
 module _ {A : Type 0} (n : ℕ) (xs : List A) where
   inside_both : (k : ℕ) → k < length (take n xs) → (k < n) × (k < length xs)
@@ -31,7 +31,7 @@ run_ids_fit job kept budget = record {
       let less = first_pair budget (filter_below (total job) (lies job kept)) (λ x y. x < y) (each_rises (total job) (lies job kept)) i j d before inside in
       absurd (omega (arith, less, same));
   within = λ k d inside. (passes k d inside).0;
-  absent = λ k d inside. not-true (has_id kept (get_or (run_ids job kept budget) k d)) (lies_lacks job kept _ (passes k d inside).1);
+  absent = λ k d inside. not-true (has_id kept (get_or (run_ids job kept budget) k d)) (lies_misses job kept _ (passes k d inside).1);
 }
   where
     passes : All (λ id. (id < total job) × (lies job kept id ≡ true)) (run_ids job kept budget)

@@ -71,7 +71,7 @@ input_is command setting bytes run = ap (λ (c : Command). input_by c setting (S
 
 -- the facts about a complete call on the arguments of a plain run
 module _ (words : List (List ℕ)) (before after : World) (done : IsDone words before after) (setting : Setting) (bytes : List ℕ)
-    (words_are : setting_of words ≡ Ok setting) (plain : IsPlain setting) (told : before.source.bytes ≡ Some bytes) where
+    (words_are : setting_of words ≡ Ok setting) (plain : IsPlain setting) (observed : before.source.bytes ≡ Some bytes) where
   abbrev job : Job
   job = done.job
 
@@ -79,7 +79,7 @@ module _ (words : List (List ℕ)) (before after : World) (done : IsDone words b
   set = same_setting words job.setting setting done.prepared.accepted.words_are words_are
 
   input : input_by setting.command setting before.source.bytes ≡ Some bytes
-  input = ap (input_by setting.command setting) told ∙ input_is setting.command setting bytes plain.run
+  input = ap (input_by setting.command setting) observed ∙ input_is setting.command setting bytes plain.run
 
   accepted : judged setting bytes ≡ Ok job
   accepted =
@@ -92,7 +92,7 @@ module _ (words : List (List ℕ)) (before after : World) (done : IsDone words b
   the_job : IsTheJob words before job
   the_job = record {
     bytes = bytes;
-    told = record {
+    observed = record {
       words_are = done.prepared.accepted.words_are;
       input = subst (λ (s : Setting). input_by s.command s before.source.bytes ≡ Some bytes) (sym set) input;
     };
@@ -138,19 +138,19 @@ module _ (words : List (List ℕ)) (before after : World) (done : IsDone words b
 -- a call that meets its contract has done what the plain statement says
 pub plain_calls : (words : List (List ℕ)) (before after : World) (n m : Stream) (status : ℕ) → KeepsItsPromise words before after n m status
     → AuditsPlainly words before.source.bytes before.out.bytes after.out.bytes status
-plain_calls words before after n m status k rest bytes old run silent told kept zero =
+plain_calls words before after n m status k rest bytes old run silent observed kept zero =
     let done = done_only words before after k.ends.reason k.ends.cause (sym k.ends.status_is ∙ zero) in
     let setting = done.job.setting in
     let words_are : setting_of words ≡ Ok setting = done.prepared.accepted.words_are in
     let words_run : setting_of (codes "run" ∷ rest) ≡ Ok setting = subst (λ (ws : List (List ℕ)). setting_of ws ≡ Ok setting) run words_are in
     let said_so = run_words rest setting words_run in
     let plain = subst IsPlain said_so.1 (silent_is_plain rest said_so.0 silent) in
-    let j = job words before after done setting bytes words_are plain told in
-    let free = no_rules words before after done setting bytes words_are plain told in
-    let decided = decides words before after done setting bytes words_are plain told in
-    let is = judged_so words before after done setting bytes words_are plain told in
+    let j = job words before after done setting bytes words_are plain observed in
+    let free = no_rules words before after done setting bytes words_are plain observed in
+    let decided = decides words before after done setting bytes words_are plain observed in
+    let is = judged_so words before after done setting bytes words_are plain observed in
     let wrote : Appends before.out.bytes after.out.bytes (thread_report j (draw j.setting.key)) =
-    k.written.one_thread j [] (starts words before after done setting bytes words_are plain told) (none_right j (draw j.setting.key)) zero in
+    k.written.one_thread j [] (starts words before after done setting bytes words_are plain observed) (none_right j (draw j.setting.key)) zero in
     let gives = read_jobs_are_given bytes setting is.parsed is.read_so in
     record {
       root = gives.root;
@@ -171,10 +171,10 @@ plain_calls words before after n m status k rest bytes old run silent told kept 
           (legal_is_valid j _ (k.legal.from_hub j done.prepared.accepted stream i));
       written = grown old before.out.bytes after.out.bytes (plain_report j (is_legal j) (draw j.setting.key)) kept
           (subst (Appends before.out.bytes after.out.bytes)
-          (plain_report_is j free (asks words before after done setting bytes words_are plain told) (is_legal j) decided (draw j.setting.key)) wrote);
+          (plain_report_is j free (asks words before after done setting bytes words_are plain observed) (is_legal j) decided (draw j.setting.key)) wrote);
     }
 
 -- the law on each call that meets its contract
 pub promised_calls_audit_plainly : PromisedCallsAuditPlainly
-promised_calls_audit_plainly words before after n m status k rest bytes old run silent told kept zero =
-    plain_calls words before after n m status (k.one (ap names_plans run)) rest bytes old run silent told kept zero
+promised_calls_audit_plainly words before after n m status k rest bytes old run silent observed kept zero =
+    plain_calls words before after n m status (k.one (ap names_plans run)) rest bytes old run silent observed kept zero

@@ -59,7 +59,7 @@ pub ends_early : (words : List (List ℕ)) (before after : World) (n m : Stream)
     → WritesWhole words before after status → LeavesAlone words before after status → EndsEarly words before after status
 ends_early words before after n m status ends whole left = record {
   written = λ job t some z.
-      let alone = accepted_words_stop_alone words job.setting t.told.words_are some in
+      let alone = accepted_words_stop_alone words job.setting t.observed.words_are some in
       whole.one_thread job [] (starts_empty words before job t alone) (none_right job (draw job.setting.key)) z;
   kept = λ setting e some.
       let alone = accepted_words_stop_alone words setting e some in

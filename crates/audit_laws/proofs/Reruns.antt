@@ -7,7 +7,7 @@ use Rattle.std.specs.Io.KnownBytes.{Appends}
 use Rattle.std.proofs.Math.Path.{fun_ext}
 use Rattle.audit_model.specs.Faults.{Rose}
 use Rattle.audit_model.specs.Pair.{Pair, Stored}
-use Rattle.audit_model.specs.Tries.{Try}
+use Rattle.audit_model.specs.Attempts.{Try}
 use Rattle.audit_model.specs.declared.outcome.Outcome.{Outcome}
 use Rattle.audit_model.specs.declared.outcome.Serial.{Serial}
 use Rattle.audit_model.specs.declared.origin.Origin.{Origin}
@@ -17,25 +17,25 @@ use Rattle.audit_model.specs.Below.{all_below, count_below, map_below}
 use Rattle.audit_model.specs.First.{first_below}
 use Rattle.audit_model.specs.Job.{Job}
 use Rattle.audit_model.specs.Plan.{is_legal}
-use Rattle.audit_model.specs.Run.{IsHonest, bins_fit, fits, steps_of, total}
+use Rattle.audit_model.specs.Run.{IsConsistent, bins_fit, fits, steps_of, total}
 use Rattle.audit_model.specs.Serially.{place_and_ranks, serial_by, serial_of, serial_place, serial_rank}
 use Rattle.audit_model.specs.Step.{next}
 use Rattle.audit_model.specs.Stopping.{stops_by, stops_of}
 use Rattle.audit_model.specs.Trajectory.{Draws, bare, bin_of, four_values, in_tail, no_bins, outcome, outcome_by, outcome_with, plan_seats, plan_value, sequence, value_at, visit, whole}
 use Rattle.audit_statement.specs.Checkpoint.{checkpoint_fault, job_digest, stated_count}
-use Rattle.audit_statement.specs.Slots.{IsHonestSlot, Slot, absent, broken, checkpoint_limit, other, ours, outcome_in, slot_of, slot_of_bytes, slot_of_checkpoint, slot_of_digest, slot_of_ours, IsNotOurs}
+use Rattle.audit_statement.specs.Slots.{IsConsistentSlot, Slot, absent, broken, checkpoint_limit, other, ours, outcome_in, slot_of, slot_of_bytes, slot_of_checkpoint, slot_of_digest, slot_of_ours, IsNotOurs}
 use Rattle.audit_statement.specs.Histories.{AreCarriedOut, stopped_in}
-use Rattle.ckpt_store.specs.Laws.{HonestSlotsOpenRight, RightIsHonest, SavesLeaveHonestSlots, StopsLeaveHonestSlots}
+use Rattle.ckpt_store.specs.Laws.{ConsistentSlotsOpenRight, RightIsConsistent, SavesLeaveConsistentSlots, StopsLeaveConsistentSlots}
 use Rattle.audit_statement.specs.Draw.{draw}
 use Rattle.hex.specs.Hex.{encode_lower}
 use Rattle.audit_statement.specs.Report.{ends_lines, graph_line, line, origin_lines, population_line, report, rule_lines, serial_lines, setting_line, shift_line, stop_line, test_lines, thread_report, title_line, walk_lines}
-use Rattle.audit_statement.specs.Chain.{AreHonestOf, ResumesHonestly, TriesOver}
-use Rattle.audit_model.specs.Told.{IfBothTold, IfTold}
+use Rattle.audit_statement.specs.Chain.{AreConsistentOf, ResumesHonestly, AttemptsOver}
+use Rattle.audit_model.specs.Observed.{IfBothObserved, IfObserved}
 use Rattle.audit_statement.specs.Endings.{WritesReport}
 use Rattle.audit_statement.specs.Headline.{StartsWith, WritesOneThreads}
 use Rattle.audit_statement.specs.Rerun.{FindTheSame, ChainsWriteOneReport, Event, HasWritten, IsEvent, IsLink, IsRunOver, Link, Manner, RerunsAreAlike, WroteOneThreads, asking, job_in, ran, rerun, slots_after, stopped}
 use Rattle.audit_laws.proofs.Halted.{stop_stays}
-use Rattle.audit_laws.proofs.Starting.{opening_told}
+use Rattle.audit_laws.proofs.Starting.{opening_observed}
 use Rattle.audit_laws.proofs.Chained.{rises_or_not}
 use Rattle.audit_laws.proofs.Statuses.{job_is, report_of}
 
@@ -195,9 +195,9 @@ module _ (job : Job) (manner : Manner) where
       ap (λ (v : Visits). serial_with v job draws place (serial_rank again draws place)) visit_same
       ∙ ap (λ (ranks : Ask → ℕ). serial_with (visit job) job draws place ranks) (fun_ext (rank_same draws place))
 
-  told_same : (b : Bool) (draws : Draws) → serial_by b again draws ≡ serial_by b job draws
-  told_same true draws = ap (λ (s : Serial). Some (place_and_ranks s)) (serially_same draws)
-  told_same false draws = refl
+  observed_same : (b : Bool) (draws : Draws) → serial_by b again draws ≡ serial_by b job draws
+  observed_same true draws = ap (λ (s : Serial). Some (place_and_ranks s)) (serially_same draws)
+  observed_same false draws = refl
 
   stops_by_same : (enough : ℕ) (outcomes : List Outcome) → stops_by enough again outcomes ≡ stops_by enough job outcomes
   stops_by_same zero outcomes = refl
@@ -214,7 +214,7 @@ module _ (job : Job) (manner : Manner) where
       ap (λ (stops : List (List ℕ)). report again (sequence again draws) stops (serial_by manner.serial again draws)) (stops_same (sequence again draws))
       ∙ report_same same from (sequence again draws) (stops_of job (sequence again draws)) (serial_by manner.serial again draws)
       ∙ ap (λ (os : List Outcome). report job os (stops_of job os) (serial_by manner.serial again draws)) (sequence_same same draws)
-      ∙ ap (λ (found : Option (ℕ × List ℕ)). report job (sequence job draws) (stops_of job (sequence job draws)) found) (told_same manner.serial draws)
+      ∙ ap (λ (found : Option (ℕ × List ℕ)). report job (sequence job draws) (stops_of job (sequence job draws)) found) (observed_same manner.serial draws)
 
   steps_same : (b : Bool) → steps_of b again ≡ steps_of b job
   steps_same true = refl
@@ -254,23 +254,23 @@ module _ (job : Job) (manner : Manner) where
   found_same draws o (inl e) = inl (e ∙ sym (whole_same draws o.id))
   found_same draws o (inr e) = inr (e ∙ ap bare (sym (whole_same draws o.id)))
 
-  runs_honest : (draws : Draws) (outcomes : List Outcome) → IsHonest job draws outcomes → IsHonest again draws outcomes
-  runs_honest draws outcomes honest = record {
-    apart = honest.apart;
-    below = honest.below;
-    found = λ k d inside. found_same draws (get_or outcomes k d) (honest.found k d inside);
+  runs_consistent : (draws : Draws) (outcomes : List Outcome) → IsConsistent job draws outcomes → IsConsistent again draws outcomes
+  runs_consistent draws outcomes consistent = record {
+    apart = consistent.apart;
+    below = consistent.below;
+    found = λ k d inside. found_same draws (get_or outcomes k d) (consistent.found k d inside);
   }
 
-  honest_slot : (draws : Draws) (s : Slot) → IsHonestSlot job draws s → IsHonestSlot again draws s
-  honest_slot draws absent h = tt
-  honest_slot draws (broken f) h = tt
-  honest_slot draws (other digest generation) h = tt
-  honest_slot draws (ours generation outcomes) h = runs_honest draws outcomes h
+  consistent_slot : (draws : Draws) (s : Slot) → IsConsistentSlot job draws s → IsConsistentSlot again draws s
+  consistent_slot draws absent h = tt
+  consistent_slot draws (broken f) h = tt
+  consistent_slot draws (other digest generation) h = tt
+  consistent_slot draws (ours generation outcomes) h = runs_consistent draws outcomes h
 
-  honest_same : (p : Pair) → AreHonestOf job p → AreHonestOf again p
-  honest_same p h = record {
-    zero_slot = subst (IsHonestSlot again (draw job.setting.key)) (sym (slot_same p.zero_slot)) (honest_slot (draw job.setting.key) _ h.zero_slot);
-    one_slot = subst (IsHonestSlot again (draw job.setting.key)) (sym (slot_same p.one_slot)) (honest_slot (draw job.setting.key) _ h.one_slot);
+  consistent_same : (p : Pair) → AreConsistentOf job p → AreConsistentOf again p
+  consistent_same p h = record {
+    zero_slot = subst (IsConsistentSlot again (draw job.setting.key)) (sym (slot_same p.zero_slot)) (consistent_slot (draw job.setting.key) _ h.zero_slot);
+    one_slot = subst (IsConsistentSlot again (draw job.setting.key)) (sym (slot_same p.one_slot)) (consistent_slot (draw job.setting.key) _ h.one_slot);
   }
 
 -- the law that the manner of a run does not change the outcomes
@@ -280,7 +280,7 @@ reruns_are_alike job manner = record {
   same_whole = whole_same job manner;
   same_fits = fits_same job manner;
   same_serial = serially_same job manner;
-  same_honest = honest_same job manner;
+  same_consistent = consistent_same job manner;
   same_outcome = outcome_same job manner;
   same_sequence = sequence_same job manner;
   same_stops = stops_same job manner;
@@ -322,39 +322,39 @@ back_again : (job : Job) (l : Link) → FindTheSame (job_in job l) job
 back_again job l = reruns_are_alike (job_in job l) (own job job.setting.shift job.setting.serial job.origin)
 
 -- all attempts as they ended
-stopped_after : (tries : List Try) → stopped_in (length tries) tries ≡ tries
+stopped_after : (attempts : List Try) → stopped_in (length attempts) attempts ≡ attempts
 stopped_after [] = refl
-stopped_after (t ∷ tries) = ap (λ (ts : List Try). t ∷ ts) (stopped_after tries)
+stopped_after (t ∷ attempts) = ap (λ (ts : List Try). t ∷ ts) (stopped_after attempts)
 
-module _ (law : SavesLeaveHonestSlots) (job : Job) (p : Pair) (l : Link) (honest : AreHonestOf job p) where
-  honest_here : AreHonestOf (job_in job l) p
-  honest_here = honest_same job l.manner p honest
+module _ (law : SavesLeaveConsistentSlots) (job : Job) (p : Pair) (l : Link) (consistent : AreConsistentOf job p) where
+  consistent_here : AreConsistentOf (job_in job l) p
+  consistent_here = consistent_same job l.manner p consistent
 
   resumes : (o : IsRunOver job p l) → ResumesHonestly (job_in job l) l.before
-  resumes o = λ _. subst (λ (s : Option Pair). IfTold s (AreHonestOf (job_in job l))) (sym o.found) honest_here
+  resumes o = λ _. subst (λ (s : Option Pair). IfObserved s (AreConsistentOf (job_in job l))) (sym o.found) consistent_here
 
-  tries_of : (o : IsRunOver job p l) → TriesOver (job_in job l) l.before l.after p l.status o.told o.now
-  tries_of o = both_told l.before.keeper.tried l.after.keeper.tried o.told o.now (TriesOver (job_in job l) l.before l.after p l.status) o.told_is o.now_is (o.tried (job_in job l) p o.the_job o.found)
+  attempts_of : (o : IsRunOver job p l) → AttemptsOver (job_in job l) l.before l.after p l.status o.observed o.now
+  attempts_of o = both_observed l.before.keeper.attempted l.after.keeper.attempted o.observed o.now (AttemptsOver (job_in job l) l.before l.after p l.status) o.observed_is o.now_is (o.attempted (job_in job l) p o.the_job o.found)
     where
-      both_told : (a b : Option (List Try)) (x y : List Try) (P : List Try → List Try → Type 0) → a ≡ Some x → b ≡ Some y → IfBothTold a b P → P x y
-      both_told a b x y P e f h = subst (λ (s : Option (List Try)). IfBothTold s (Some y) P) e (subst (λ (s : Option (List Try)). IfBothTold a s P) f h)
+      both_observed : (a b : Option (List Try)) (x y : List Try) (P : List Try → List Try → Type 0) → a ≡ Some x → b ≡ Some y → IfBothObserved a b P → P x y
+      both_observed a b x y P e f h = subst (λ (s : Option (List Try)). IfBothObserved s (Some y) P) e (subst (λ (s : Option (List Try)). IfBothObserved a s P) f h)
 
   stays_where : (o : IsRunOver job p l) (n : ℕ) (q : Pair)
-      → AreCarriedOut IsNotOurs (job_in job l) (job_digest (job_in job l)) p (stopped_in n (tries_of o).tries) q → AreHonestOf job q
+      → AreCarriedOut IsNotOurs (job_in job l) (job_digest (job_in job l)) p (stopped_in n (attempts_of o).attempts) q → AreConsistentOf job q
   stays_where o n q out =
-      (back_again job l).same_honest q
-      (law (job_in job l) (draw (job_in job l).setting.key) (job_digest (job_in job l)) p q (tries_of o).tries n ((tries_of o).right (resumes o)) out honest_here)
+      (back_again job l).same_consistent q
+      (law (job_in job l) (draw (job_in job l).setting.key) (job_digest (job_in job l)) p q (attempts_of o).attempts n ((attempts_of o).right (resumes o)) out consistent_here)
 
-  link_stays : IsLink job p l → AreHonestOf job l.slots
+  link_stays : IsLink job p l → AreConsistentOf job l.slots
   link_stays link = by (rises_or_not l.before.keeper.save_faults l.after.keeper.save_faults)
     where
-      by : Rose l.before.keeper.save_faults l.after.keeper.save_faults ⊎ (Rose l.before.keeper.save_faults l.after.keeper.save_faults → ⊥) → AreHonestOf job l.slots
+      by : Rose l.before.keeper.save_faults l.after.keeper.save_faults ⊎ (Rose l.before.keeper.save_faults l.after.keeper.save_faults → ⊥) → AreConsistentOf job l.slots
       by (inl rose) =
-          let t = tries_of link.over in
-          stays_where link.over (length t.tries) l.slots
-          (subst (λ (ts : List Try). AreCarriedOut IsNotOurs (job_in job l) (job_digest (job_in job l)) p ts l.slots) (sym (stopped_after t.tries)) (link.carried rose t))
+          let t = attempts_of link.over in
+          stays_where link.over (length t.attempts) l.slots
+          (subst (λ (ts : List Try). AreCarriedOut IsNotOurs (job_in job l) (job_digest (job_in job l)) p ts l.slots) (sym (stopped_after t.attempts)) (link.carried rose t))
       by (inr calm) =
-          (back_again job l).same_honest l.slots (link.promised.chain.stays (job_in job l) p l.slots link.over.the_job link.over.found link.left honest_here calm)
+          (back_again job l).same_consistent l.slots (link.promised.chain.stays (job_in job l) p l.slots link.over.the_job link.over.found link.left consistent_here calm)
 
   -- a link with status 0 has known initial outcomes
   link_started : IsLink job p l → l.status ≡ 0 → (outcomes : List Outcome) × StartsWith l.words l.before (job_in job l) outcomes
@@ -366,7 +366,7 @@ module _ (law : SavesLeaveHonestSlots) (job : Job) (p : Pair) (l : Link) (honest
         record {
           the_job = link.over.the_job;
           walking = link.walking;
-          opened = opening_told (job_in job l) l.before.keeper.slots p r.outcomes link.over.found r.opened;
+          opened = opening_observed (job_in job l) l.before.keeper.slots p r.outcomes link.over.found r.opened;
         },
       )
 
@@ -384,21 +384,21 @@ module _ (law : SavesLeaveHonestSlots) (job : Job) (p : Pair) (l : Link) (honest
   }
 
 -- each event leaves consistent slots consistent
-pub event_stays : HonestSlotsOpenRight → RightIsHonest → StopsLeaveHonestSlots → SavesLeaveHonestSlots → (job : Job) (p : Pair) (e : Event) → AreHonestOf job p → IsEvent job p e
-    → AreHonestOf job (slots_after e)
-event_stays opens rights stops law job p (ran l) honest is = link_stays law job p l honest is
-event_stays opens rights stops law job p (stopped manner tries q) honest is =
-    (back_from job manner).same_honest q (stop_stays opens rights stops (rerun job manner) p q tries is.so_far is.carried (honest_same job manner p honest))
+pub event_stays : ConsistentSlotsOpenRight → RightIsConsistent → StopsLeaveConsistentSlots → SavesLeaveConsistentSlots → (job : Job) (p : Pair) (e : Event) → AreConsistentOf job p → IsEvent job p e
+    → AreConsistentOf job (slots_after e)
+event_stays opens rights stops law job p (ran l) consistent is = link_stays law job p l consistent is
+event_stays opens rights stops law job p (stopped manner attempts q) consistent is =
+    (back_from job manner).same_consistent q (stop_stays opens rights stops (rerun job manner) p q attempts is.so_far is.carried (consistent_same job manner p consistent))
 
 -- a run from consistent slots that ends well has written one thread's report
-pub event_wrote : SavesLeaveHonestSlots → (job : Job) (p : Pair) (e : Event) → AreHonestOf job p → IsEvent job p e → HasWritten job e
-event_wrote law job p (ran l) honest is = link_wrote law job p l honest is
-event_wrote law job p (stopped manner tries q) honest is = tt
+pub event_wrote : SavesLeaveConsistentSlots → (job : Job) (p : Pair) (e : Event) → AreConsistentOf job p → IsEvent job p e → HasWritten job e
+event_wrote law job p (ran l) consistent is = link_wrote law job p l consistent is
+event_wrote law job p (stopped manner attempts q) consistent is = tt
 
 -- each run of any chain has written one thread's report
-pub chains_write_one_report : HonestSlotsOpenRight → RightIsHonest → StopsLeaveHonestSlots → SavesLeaveHonestSlots → ChainsWriteOneReport
-chains_write_one_report opens rights stops law job p [] honest chain = tt
-chains_write_one_report opens rights stops law job p (e ∷ events) honest chain = (
-  event_wrote law job p e honest chain.0,
-  chains_write_one_report opens rights stops law job (slots_after e) events (event_stays opens rights stops law job p e honest chain.0) chain.1,
+pub chains_write_one_report : ConsistentSlotsOpenRight → RightIsConsistent → StopsLeaveConsistentSlots → SavesLeaveConsistentSlots → ChainsWriteOneReport
+chains_write_one_report opens rights stops law job p [] consistent chain = tt
+chains_write_one_report opens rights stops law job p (e ∷ events) consistent chain = (
+  event_wrote law job p e consistent chain.0,
+  chains_write_one_report opens rights stops law job (slots_after e) events (event_stays opens rights stops law job p e consistent chain.0) chain.1,
 )

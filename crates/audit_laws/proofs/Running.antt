@@ -24,10 +24,10 @@ use Rattle.audit_model.proofs.ListFacts.{find_passes}
 use Rattle.audit_statement.specs.Draw.{draw}
 use Rattle.outcome_book.specs.Booked.{AreApart}
 use Rattle.report.specs.Outcomes.{AreOutcomesOf, AreStopsBy, AreStopsOf, reported, reported_by}
-use Rattle.audit_statement.specs.Endings.{is_walking, leaves_work, lacking, to_walk, full_of}
+use Rattle.audit_statement.specs.Endings.{is_walking, leaves_work, pending, to_walk, full_of}
 use Rattle.audit_laws.specs.Runs.{AcceptedJobsAreRuns, AreAll, IsRunJob}
 use Rattle.claim_counter.specs.Walks.{found}
-use Rattle.audit_laws.proofs.Counting.{few_run_ids, lacking_rest, walks_all}
+use Rattle.audit_laws.proofs.Counting.{few_run_ids, pending_rest, walks_all}
 use Rattle.audit_laws.proofs.Starting.{every_id}
 use Rattle.audit_laws.proofs.Words.{accepted_words_are_even, accepted_words_cover, accepted_words_stop_alone}
 
@@ -85,7 +85,7 @@ one_part job run none = by (cases_order job.setting.parts 1)
 pub leaves_none : (job : Job) (outcomes : List Outcome) → IsRunJob job → job.setting.save_every ≡ 0 → leaves_work job outcomes ≡ false
 leaves_none job outcomes run none =
     let whole = one_part job run none in
-    le-ltb (to_walk job outcomes) (lacking job outcomes) (walks_all job outcomes job.setting.budget whole.0 whole.1 (run.covered none))
+    le-ltb (to_walk job outcomes) (pending job outcomes) (walks_all job outcomes job.setting.budget whole.0 whole.1 (run.covered none))
 
 -- ---- plausible outcomes
 
@@ -166,8 +166,8 @@ are_all job run opening kept todo sorted same start ids within fullness moved ri
     let here : IsPermutation sorted (opening ++ map (found job) todo) = subst (λ os. IsPermutation sorted (os ++ map (found job) todo)) same moved in
     let counted : length sorted ≡ length opening + length (run_ids job opening job.setting.budget) =
     omega (arith, length_permutation sorted (opening ++ map (found job) todo) here, length-append opening (map (found job) todo), length-map todo (found job), ap length ids) in
-    let rest : lacking job opening + length opening ≡ total job = lacking_rest job opening (rising_apart opening start.rising) (all_below_total job opening start.fit) in
-    let few : length (run_ids job opening job.setting.budget) ≤ lacking job opening = few_run_ids job opening job.setting.budget in
+    let rest : pending job opening + length opening ≡ total job = pending_rest job opening (rising_apart opening start.rising) (all_below_total job opening start.fit) in
+    let few : length (run_ids job opening job.setting.budget) ≤ pending job opening = few_run_ids job opening job.setting.budget in
     let most = (run_setting job run).few in
     record {
       full = fullness job.setting.budget (ids ∙ ap (λ os. run_ids job os job.setting.budget) (sym same)) ∙ ap (λ os. full job (draw job.setting.key) os job.setting.budget) same;
@@ -183,16 +183,16 @@ are_all job run opening kept todo sorted same start ids within fullness moved ri
 
 module _ (job : Job) (opening outcomes : List Outcome) (all : AreAll job opening outcomes) where
   -- the pending and the initial outcomes add up to the total
-  rest_is : lacking job opening + length opening ≡ total job
-  rest_is = lacking_rest job opening (rising_apart opening all.start.rising) (all_below_total job opening all.start.fit)
+  rest_is : pending job opening + length opening ≡ total job
+  rest_is = pending_rest job opening (rising_apart opening all.start.rising) (all_below_total job opening all.start.fit)
 
   -- with fewer outcomes than trajectories, some pending id was not walked
   pub short_leaves : length outcomes < total job → leaves_work job opening ≡ true
-  short_leaves short = lt-ltb (to_walk job opening) (lacking job opening) (omega (arith, short, all.count, rest_is))
+  short_leaves short = lt-ltb (to_walk job opening) (pending job opening) (omega (arith, short, all.count, rest_is))
 
   -- with an outcome for each trajectory, all pending ids were walked
   pub whole_leaves : total job ≤ length outcomes → leaves_work job opening ≡ false
-  whole_leaves whole = le-ltb (to_walk job opening) (lacking job opening) (omega (arith, whole, all.count, rest_is))
+  whole_leaves whole = le-ltb (to_walk job opening) (pending job opening) (omega (arith, whole, all.count, rest_is))
 
 -- the outcome of an id, initial or found, has this id
 pub kept_id : (job : Job) (opening : List Outcome) (id : ℕ) → (outcome_from job (draw job.setting.key) opening id).id ≡ id

@@ -6,7 +6,7 @@ use Rattle.audit_model.specs.Pair.{Pair}
 use Rattle.audit_model.specs.declared.outcome.Outcome.{Outcome}
 use Rattle.audit_model.specs.Job.{Job}
 use Rattle.ckpt_store.specs.Fitting.{AreFit}
-use Rattle.audit_statement.specs.Endings.{IsOpening, StartsFrom, TellsOpening, saves, leaves_work, lacking, to_walk, Saw, opening_from}
+use Rattle.audit_statement.specs.Endings.{IsOpening, StartsFrom, TellsOpening, saves, leaves_work, pending, to_walk, Saw, opening_from}
 use Rattle.audit_laws.specs.Runs.{IsRunJob}
 use Rattle.audit_model.specs.State.{Kept}
 use Rattle.audit_model.specs.Graph.{has}
@@ -45,33 +45,33 @@ saw_any None P each = record { pair = record { zero_slot = None; one_slot = None
 saw_any (Some p) P each = record { pair = p; same = refl; holds = each p }
 
 -- initial outcomes by the known slots are those by the slots that were seen
-by_seen : (resumes : Bool) (job : Job) (slots : Option Pair) (told seen : Option (List Outcome)) → StartsFrom resumes job slots told
-    → Saw slots (λ p. opening_from resumes job p ≡ seen) → told ≡ seen
-by_seen false job slots told seen e saw = sym e ∙ saw.holds
-by_seen true job None told seen e saw = absurd e
-by_seen true job (Some p) told seen e saw = sym e ∙ subst (λ q. opening_from true job q ≡ seen) saw.same saw.holds
+by_seen : (resumes : Bool) (job : Job) (slots : Option Pair) (observed seen : Option (List Outcome)) → StartsFrom resumes job slots observed
+    → Saw slots (λ p. opening_from resumes job p ≡ seen) → observed ≡ seen
+by_seen false job slots observed seen e saw = sym e ∙ saw.holds
+by_seen true job None observed seen e saw = absurd e
+by_seen true job (Some p) observed seen e saw = sym e ∙ subst (λ q. opening_from true job q ≡ seen) saw.same saw.holds
 
 -- the initial outcomes are the known ones
-pub opening_known : (job : Job) (slots : Option Pair) (told : Option (List Outcome)) (outcomes : List Outcome) → TellsOpening job slots told → IsOpening job slots outcomes
-    → told ≡ Some outcomes
-opening_known job slots told outcomes e o = by_seen job.setting.resume job slots told (Some outcomes) e o.seen
+pub opening_known : (job : Job) (slots : Option Pair) (observed : Option (List Outcome)) (outcomes : List Outcome) → TellsOpening job slots observed → IsOpening job slots outcomes
+    → observed ≡ Some outcomes
+opening_known job slots observed outcomes e o = by_seen job.setting.resume job slots observed (Some outcomes) e o.seen
 
 -- slots without valid initial outcomes are known as such
-pub undefined_known : (job : Job) (slots : Option Pair) (told : Option (List Outcome)) (P : Pair → Type 0) → TellsOpening job slots told
-    → Saw slots (λ p. (opening_from job.setting.resume job p ≡ None) × P p) → told ≡ None
-undefined_known job slots told P e saw = by_seen job.setting.resume job slots told None e (record { pair = saw.pair; same = saw.same; holds = saw.holds.0 })
+pub undefined_known : (job : Job) (slots : Option Pair) (observed : Option (List Outcome)) (P : Pair → Type 0) → TellsOpening job slots observed
+    → Saw slots (λ p. (opening_from job.setting.resume job p ≡ None) × P p) → observed ≡ None
+undefined_known job slots observed P e saw = by_seen job.setting.resume job slots observed None e (record { pair = saw.pair; same = saw.same; holds = saw.holds.0 })
 
 -- if the slots are known, so are the initial outcomes from the slots that were seen
-by_told : (resumes : Bool) (job : Job) (slots : Option Pair) (p : Pair) (o : Option (List Outcome)) → slots ≡ Some p
+by_observed : (resumes : Bool) (job : Job) (slots : Option Pair) (p : Pair) (o : Option (List Outcome)) → slots ≡ Some p
     → Saw slots (λ p. opening_from resumes job p ≡ o) → StartsFrom resumes job slots o
-by_told false job slots p o was saw = saw.holds
-by_told true job None p o was saw = cc
-by_told true job (Some q) p o was saw = subst (λ r. opening_from true job r ≡ o) saw.same saw.holds
+by_observed false job slots p o was saw = saw.holds
+by_observed true job None p o was saw = cc
+by_observed true job (Some q) p o was saw = subst (λ r. opening_from true job r ≡ o) saw.same saw.holds
 
 -- if the slots are known, the initial outcomes are
-pub opening_told : (job : Job) (slots : Option Pair) (p : Pair) (outcomes : List Outcome) → slots ≡ Some p → IsOpening job slots outcomes
+pub opening_observed : (job : Job) (slots : Option Pair) (p : Pair) (outcomes : List Outcome) → slots ≡ Some p → IsOpening job slots outcomes
     → TellsOpening job slots (Some outcomes)
-opening_told job slots p outcomes was o = by_told job.setting.resume job slots p (Some outcomes) was o.seen
+opening_observed job slots p outcomes was o = by_observed job.setting.resume job slots p (Some outcomes) was o.seen
 
 -- a run that does not resume starts without outcomes
 pub fresh_opening : (job : Job) (slots : Option Pair) → job.setting.resume ≡ false → IsOpening job slots []
@@ -99,8 +99,8 @@ pub every_id : (job : Job) (outcomes : List Outcome) → leaves_work job outcome
     → (has_id outcomes id || has (run_ids job outcomes job.setting.budget) id) ≡ true
 every_id job outcomes none id below =
     or_else (has_id outcomes id) (has (run_ids job outcomes job.setting.budget) id)
-    (walks_each job outcomes job.setting.budget (ltb-false (to_walk job outcomes) (lacking job outcomes) none) id below)
+    (walks_each job outcomes job.setting.budget (ltb-false (to_walk job outcomes) (pending job outcomes) none) id below)
 
 -- keepers with four equal parts are equal
-pub same_kept : (k l : Kept) → l.slots ≡ k.slots → l.tried ≡ k.tried → l.load_faults ≡ k.load_faults → l.save_faults ≡ k.save_faults → l ≡ k
-same_kept k l slots tried loads saves i = record { slots = slots i; tried = tried i; load_faults = loads i; save_faults = saves i }
+pub same_kept : (k l : Kept) → l.slots ≡ k.slots → l.attempted ≡ k.attempted → l.load_faults ≡ k.load_faults → l.save_faults ≡ k.save_faults → l ≡ k
+same_kept k l slots attempted loads saves i = record { slots = slots i; attempted = attempted i; load_faults = loads i; save_faults = saves i }

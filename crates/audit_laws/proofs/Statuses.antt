@@ -12,7 +12,7 @@ use Rattle.audit_model.proofs.Results.{err_is_err, ok_is_no_err}
 use Rattle.audit_statement.specs.Note.{Ending, bad_words, too_many_bytes, bad_graph, bad_regions, bad_table, bad_plan, bad_plan_named, no_memory, read_fault, write_fault, load_fault, folder_taken, stopped, damaged, other_job, save_fault}
 use Rattle.audit_statement.specs.Words.{setting_of}
 use Rattle.audit_statement.specs.Accepted.{IsAccepted, IsRefused, judged}
-use Rattle.audit_statement.specs.Causes.{IsTold, IsTheJob, LeavesWork, LacksOpening, HasCauses}
+use Rattle.audit_statement.specs.Causes.{IsObserved, IsTheJob, LeavesWork, MissesOpening, HasCauses}
 use Rattle.audit_statement.specs.Status.{status_of}
 use Rattle.audit_statement.specs.Endings.{Cause, EndsFor, LeavesUntouched, marks_of, IsDone, IsReadFault, IsWriteFault, IsLoadFault, IsSaveFault, IsStopped, IsPrepared, IsOpening, IsSlotsFault, WritesReport, WritesText, WritesOrStops, TellsOpening, leaves_work, is_walking}
 use Rattle.audit_model.specs.State.{LoadFaults, Stream}
@@ -22,13 +22,13 @@ use Rattle.audit_laws.proofs.Starting.{opening_known, undefined_known}
 
 -- a refused input has no job
 pub refused_is_err : (words : List (List ℕ)) (before : World) (setting : Setting) (bytes : List ℕ) (ending : Ending)
-    → IsTold words before setting bytes → IsRefused words before.source.bytes ending → IsErr (judged setting bytes)
-refused_is_err words before setting bytes ending told refused = err_is_err _ ending (refused_at words before setting bytes ending told refused)
+    → IsObserved words before setting bytes → IsRefused words before.source.bytes ending → IsErr (judged setting bytes)
+refused_is_err words before setting bytes ending observed refused = err_is_err _ ending (refused_at words before setting bytes ending observed refused)
 
 -- an accepted input has a job
 pub accepted_is_no_err : (words : List (List ℕ)) (before : World) (setting : Setting) (bytes : List ℕ) (job : Job)
-    → IsTold words before setting bytes → IsAccepted words before.source.bytes job → IsErr (judged setting bytes) → ⊥
-accepted_is_no_err words before setting bytes job told accepted = ok_is_no_err _ job (accepted_at words before setting bytes job told accepted)
+    → IsObserved words before setting bytes → IsAccepted words before.source.bytes job → IsErr (judged setting bytes) → ⊥
+accepted_is_no_err words before setting bytes job observed accepted = ok_is_no_err _ job (accepted_at words before setting bytes job observed accepted)
 
 module _ (words : List (List ℕ)) (before after : World) where
   pub one_only : (r : Option Ending) → Cause words before after r → status_of r ≡ 1 → IsErr (setting_of words)
@@ -54,19 +54,19 @@ module _ (words : List (List ℕ)) (before after : World) where
   one (Some (other_job a b)) c h = absurd (ok_is_no_err _ _ c.prepared.accepted.words_are h)
   one (Some save_fault) c h = absurd (ok_is_no_err _ _ c.prepared.accepted.words_are h)
 
-  module _ (setting : Setting) (bytes : List ℕ) (told : IsTold words before setting bytes) where
+  module _ (setting : Setting) (bytes : List ℕ) (observed : IsObserved words before setting bytes) where
     pub two_only : (r : Option Ending) → Cause words before after r → status_of r ≡ 2 → IsErr (judged setting bytes)
-    two_only (Some too_many_bytes) c s = refused_is_err words before setting bytes _ told c.refused
-    two_only (Some (bad_graph f)) c s = refused_is_err words before setting bytes _ told c
-    two_only (Some (bad_regions column f)) c s = refused_is_err words before setting bytes _ told c
+    two_only (Some too_many_bytes) c s = refused_is_err words before setting bytes _ observed c.refused
+    two_only (Some (bad_graph f)) c s = refused_is_err words before setting bytes _ observed c
+    two_only (Some (bad_regions column f)) c s = refused_is_err words before setting bytes _ observed c
     two_only (Some (bad_table f)) c s = absurd c
     two_only (Some (bad_plan_named name f)) c s = absurd c
-    two_only (Some (bad_plan f)) c s = refused_is_err words before setting bytes _ told c
+    two_only (Some (bad_plan f)) c s = refused_is_err words before setting bytes _ observed c
     two_only r c s = absurd (omega arith)
 
     pub two : (r : Option Ending) → Cause words before after r → IsErr (judged setting bytes) → (status_of r ≡ 2) ⊎ (status_of r ≡ 3) ⊎ (status_of r ≡ 4)
-    two None c h = absurd (accepted_is_no_err words before setting bytes _ told c.prepared.accepted h)
-    two (Some (bad_words f)) c h = absurd (ok_is_no_err _ _ told.words_are (err_is_err _ f c))
+    two None c h = absurd (accepted_is_no_err words before setting bytes _ observed c.prepared.accepted h)
+    two (Some (bad_words f)) c h = absurd (ok_is_no_err _ _ observed.words_are (err_is_err _ f c))
     two (Some too_many_bytes) c h = inl refl
     two (Some (bad_graph f)) c h = inl refl
     two (Some (bad_regions column f)) c h = inl refl
@@ -75,13 +75,13 @@ module _ (words : List (List ℕ)) (before after : World) where
     two (Some (bad_plan f)) c h = inl refl
     two (Some no_memory) c h = inr (inl refl)
     two (Some read_fault) c h = inr (inr refl)
-    two (Some write_fault) c h = absurd (accepted_is_no_err words before setting bytes _ told c.prepared.accepted h)
-    two (Some load_fault) c h = absurd (accepted_is_no_err words before setting bytes _ told c.fault.prepared.accepted h)
-    two (Some folder_taken) c h = absurd (accepted_is_no_err words before setting bytes _ told c.fault.prepared.accepted h)
-    two (Some (stopped done all)) c h = absurd (accepted_is_no_err words before setting bytes _ told c.prepared.accepted h)
-    two (Some (damaged a b)) c h = absurd (accepted_is_no_err words before setting bytes _ told c.prepared.accepted h)
-    two (Some (other_job a b)) c h = absurd (accepted_is_no_err words before setting bytes _ told c.prepared.accepted h)
-    two (Some save_fault) c h = absurd (accepted_is_no_err words before setting bytes _ told c.prepared.accepted h)
+    two (Some write_fault) c h = absurd (accepted_is_no_err words before setting bytes _ observed c.prepared.accepted h)
+    two (Some load_fault) c h = absurd (accepted_is_no_err words before setting bytes _ observed c.fault.prepared.accepted h)
+    two (Some folder_taken) c h = absurd (accepted_is_no_err words before setting bytes _ observed c.fault.prepared.accepted h)
+    two (Some (stopped done all)) c h = absurd (accepted_is_no_err words before setting bytes _ observed c.prepared.accepted h)
+    two (Some (damaged a b)) c h = absurd (accepted_is_no_err words before setting bytes _ observed c.prepared.accepted h)
+    two (Some (other_job a b)) c h = absurd (accepted_is_no_err words before setting bytes _ observed c.prepared.accepted h)
+    two (Some save_fault) c h = absurd (accepted_is_no_err words before setting bytes _ observed c.prepared.accepted h)
 
   pub four_only : (r : Option Ending) → Cause words before after r → status_of r ≡ 4 → IsReadFault words before after
   four_only (Some read_fault) c s = c
@@ -152,13 +152,13 @@ module _ (words : List (List ℕ)) (before after : World) where
 
   -- the call's job is the known one
   pub job_is : (job other : Job) → IsTheJob words before job → IsPrepared words before.source after.source other → other ≡ job
-  job_is job other t p = same_job words before job other t.bytes t.told t.accepted p.accepted
+  job_is job other t p = same_job words before job other t.bytes t.observed t.accepted p.accepted
 
   pub refused_not : (job : Job) (ending : Ending) → IsTheJob words before job → IsRefused words before.source.bytes ending → ⊥
-  refused_not job ending t r = not_refused words before job t.bytes ending t.told t.accepted r
+  refused_not job ending t r = not_refused words before job t.bytes ending t.observed t.accepted r
 
   pub words_not : (job : Job) (f : WordFault) → IsTheJob words before job → setting_of words ≡ Err f → ⊥
-  words_not job f t e = ok_is_no_err _ _ t.told.words_are (err_is_err _ f e)
+  words_not job f t e = ok_is_no_err _ _ t.observed.words_are (err_is_err _ f e)
 
   pub text_report : (command : Command) (whole : Bool) (job : Job) → IsTrue (is_walking command) → WritesText command whole job before after → WritesReport whole job before after
   text_report Check whole job w t = cc
@@ -171,9 +171,9 @@ module _ (words : List (List ℕ)) (before after : World) where
   report_of whole job other w same t =
       text_report job.setting.command whole job w (subst (λ (j : Job). WritesText j.setting.command whole j before after) same t)
 
-  pub opening_is : (job : Job) (told : Option (List Outcome)) (outcomes : List Outcome) → TellsOpening job before.keeper.slots told
-      → IsOpening job before.keeper.slots outcomes → told ≡ Some outcomes
-  opening_is job told outcomes e o = opening_known job before.keeper.slots told outcomes e o
+  pub opening_is : (job : Job) (observed : Option (List Outcome)) (outcomes : List Outcome) → TellsOpening job before.keeper.slots observed
+      → IsOpening job before.keeper.slots outcomes → observed ≡ Some outcomes
+  opening_is job observed outcomes e o = opening_known job before.keeper.slots observed outcomes e o
 
   pub report_leaves_none : (whole : Bool) (l : LeavesWork words before) → WritesReport whole l.job before after → ⊥
   report_leaves_none whole l r =
@@ -182,14 +182,14 @@ module _ (words : List (List ℕ)) (before after : World) where
       let none : leaves_work l.job r.outcomes ≡ false = r.nothing_left in
       cc
 
-  pub undefined_not : (l : LacksOpening words before) (outcomes : List Outcome) → IsOpening l.job before.keeper.slots outcomes → ⊥
+  pub undefined_not : (l : MissesOpening words before) (outcomes : List Outcome) → IsOpening l.job before.keeper.slots outcomes → ⊥
   undefined_not l outcomes o = let e : None ≡ Some outcomes = opening_is l.job None outcomes l.undefined o in cc
 
   pub slots_fault_opens : (job : Job) (outcomes : List Outcome) (found : Job → Pair → Type 0) (s : IsSlotsFault words before after found) → s.job ≡ job
       → TellsOpening job before.keeper.slots (Some outcomes) → ⊥
   slots_fault_opens job outcomes found s same e =
-      let told : TellsOpening s.job before.keeper.slots (Some outcomes) = subst (λ (j : Job). TellsOpening j before.keeper.slots (Some outcomes)) (sym same) e in
-      let none : Some outcomes ≡ None = undefined_known s.job before.keeper.slots (Some outcomes) (found s.job) told s.seen in
+      let observed : TellsOpening s.job before.keeper.slots (Some outcomes) = subst (λ (j : Job). TellsOpening j before.keeper.slots (Some outcomes)) (sym same) e in
+      let none : Some outcomes ≡ None = undefined_known s.job before.keeper.slots (Some outcomes) (found s.job) observed s.seen in
       cc
 
   pub seven : (r : Option Ending) → Cause words before after r → LeavesWork words before → status_of r ≢ 3 → status_of r ≢ 4 → status_of r ≢ 6 → status_of r ≢ 9 → status_of r ≡ 7
@@ -215,14 +215,14 @@ module _ (words : List (List ℕ)) (before after : World) where
   pub opening_at : (job other : Job) (outcomes : List Outcome) → other ≡ job → IsOpening other before.keeper.slots outcomes → IsOpening job before.keeper.slots outcomes
   opening_at job other outcomes same o = subst (λ (j : Job). IsOpening j before.keeper.slots outcomes) same o
 
-  pub saved_opening : (whole : Bool) (l : LacksOpening words before) (other : Job) → other ≡ l.job → WritesOrStops whole other before after → ⊥
+  pub saved_opening : (whole : Bool) (l : MissesOpening words before) (other : Job) → other ≡ l.job → WritesOrStops whole other before after → ⊥
   saved_opening true l other same w = undefined_not l w.outcomes (opening_at l.job other w.outcomes same w.opened)
   saved_opening false l other same w = undefined_not l w.outcomes (opening_at l.job other w.outcomes same w.opened)
 
-  pub report_opening : (whole : Bool) (l : LacksOpening words before) → WritesReport whole l.job before after → ⊥
+  pub report_opening : (whole : Bool) (l : MissesOpening words before) → WritesReport whole l.job before after → ⊥
   report_opening whole l w = undefined_not l w.outcomes w.opened
 
-  pub eight : (r : Option Ending) → Cause words before after r → LacksOpening words before → status_of r ≢ 3 → status_of r ≢ 4 → status_of r ≢ 6 → status_of r ≡ 8
+  pub eight : (r : Option Ending) → Cause words before after r → MissesOpening words before → status_of r ≢ 3 → status_of r ≢ 4 → status_of r ≢ 6 → status_of r ≡ 8
   eight None c l h3 h4 h6 = absurd (report_opening true l (report_of true l.job c.job l.walking (job_is l.job c.job l.the_job c.prepared) c.written))
   eight (Some (bad_words f)) c l h3 h4 h6 = absurd (words_not l.job f l.the_job c)
   eight (Some too_many_bytes) c l h3 h4 h6 = absurd (refused_not l.job _ l.the_job c.refused)
@@ -245,8 +245,8 @@ module _ (words : List (List ℕ)) (before after : World) where
   causes_at r c u = record {
     one_only = one_only r c;
     one = one r c;
-    two_only = λ setting bytes told. two_only setting bytes told r c;
-    two = λ setting bytes told. two setting bytes told r c;
+    two_only = λ setting bytes observed. two_only setting bytes observed r c;
+    two = λ setting bytes observed. two setting bytes observed r c;
     four_only = four_only r c;
     four = four r u;
     five_only = five_only r c;

@@ -3,6 +3,7 @@ use Rattle.std.proofs.Common.{◌≡◌, ℕ, ◌<◌, Bool, not, cond, List, []
 use Rattle.std.specs.Prelude.{◌==◌, slice_index}
 use Rattle.serde_json.specs.Data.{Data}
 use Rattle.audit_model.specs.declared.outcome.Counts.{Counts}
+use Rattle.audit_model.specs.Below.{map_below}
 use Rattle.audit_model.specs.Graph.{Graph, IsIn, adjacent}
 use Rattle.audit_model.specs.Job.{Job}
 use Rattle.audit_model.specs.JobOf.{job_from, job_of, job_or, plan_fault}

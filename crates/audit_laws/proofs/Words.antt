@@ -15,7 +15,7 @@ use Rattle.audit_model.proofs.Options.{option_or_none, option_map_none}
 use Rattle.audit_statement.specs.Words.{NameAndValue, pairs, text_of, number_of, number_named, is_number, as_run, covers_walks, divides_draws, stops_alone, is_good, is_yes, is_yes_or_no, names_of, command_of, of_command, fault_of, setting_for, setting_or, setting_of}
 use Rattle.std.specs.Fmt.{digits}
 use Rattle.audit_words.specs.Judged.{fault_of_pairs}
-use Rattle.audit_words.proofs.Unnamed.{good_budget, good_save, plans_lack, serial_is, stop_is, trace_lacks_tests}
+use Rattle.audit_words.proofs.Unnamed.{good_budget, good_save, plans_lack, serial_is, stop_is, trace_misses_tests}
 use Rattle.audit_statement.specs.Endings.{is_walking}
 use Rattle.audit_laws.specs.Runs.{StopsAlone}
 
@@ -215,7 +215,7 @@ even_by Check words setting built faultless same asked =
     let check : false ≡ setting.serial = ap (λ (s : Setting). s.serial) same in cc
 even_by Trace words setting built faultless same asked =
     let none : bytes_eq (text_of Check words Serial) (codes "yes") ≡ false =
-    ap (λ (t : List ℕ). bytes_eq t (codes "yes")) (serial_is Trace words (option_or_none _ _ faultless).0 (trace_lacks_tests words)) in
+    ap (λ (t : List ℕ). bytes_eq t (codes "yes")) (serial_is Trace words (option_or_none _ _ faultless).0 (trace_misses_tests words)) in
     let asks : bytes_eq (text_of Check words Serial) (codes "yes") ≡ setting.serial = ap (λ (s : Setting). s.serial) same in cc
 even_by Plans words setting built faultless same asked =
     subst (λ (s : Setting). is_power_of_two (s.steps + 1) ≡ true) same (even_words Plans words faultless refl (ap (λ (s : Setting). s.serial) same ∙ asked))
@@ -254,7 +254,7 @@ alone_words command words walking good some =
 -- no test of a trace stops early
 no_stop : (words : List NameAndValue) → fault_of_pairs Trace words ≡ None → unwrap_or (number_of (text_of Check words Stop)) 0 ≡ 0
 unfolding digits
-no_stop words faultless = ap (λ (t : List ℕ). unwrap_or (number_of t) 0) (stop_is Trace words faultless (trace_lacks_tests words))
+no_stop words faultless = ap (λ (t : List ℕ). unwrap_or (number_of t) 0) (stop_is Trace words faultless (trace_misses_tests words))
 
 -- accepted arguments with early stopping give a setting that runs alone
 alone_by : (command : Command) (words : List NameAndValue) (setting : Setting) → IsBuilt command → fault_of command words ≡ None → setting_for command words ≡ setting

@@ -4,15 +4,15 @@ use Rattle.std.specs.Prelude.{◌≡◌, ℕ, Bool, false, List, Option, Some}
 use Rattle.std.specs.List.{All}
 use Rattle.audit_model.specs.Pair.{Pair}
 use Rattle.audit_model.specs.State.{Kept}
-use Rattle.audit_model.specs.Tries.{Try, try_of}
+use Rattle.audit_model.specs.Attempts.{Try, try_of}
 use Rattle.audit_model.specs.declared.outcome.Outcome.{Outcome}
 use Rattle.audit_model.specs.Job.{Job}
 use Rattle.audit_statement.specs.Checkpoint.{IsCheckpoint, checkpoint, job_digest}
 use Rattle.audit_statement.specs.Slots.{newest, opening_of, slot_of, IsNotOurs}
 use Rattle.audit_statement.specs.Histories.{IsCarriedOut}
-use Rattle.audit_statement.specs.Chain.{AreHonestOf}
+use Rattle.audit_statement.specs.Chain.{AreConsistentOf}
 use Rattle.audit_statement.specs.Rerun.{AllHaveWritten, Event, IsChain, IsEvent, slots_after}
-use Rattle.ckpt_store.specs.declared.told.Told.{Told}
+use Rattle.ckpt_store.specs.declared.gather_result.GatherResult.{GatherResult}
 use Rattle.ckpt_store.specs.Whole.{IsGathering, MayBeSaved}
 use Rattle.outcome_book.specs.Union.{IsUnion}
 
@@ -35,7 +35,7 @@ mutual
   -- slots reached from empty or consistent ones by runs of any part of the job, ended or stopped anywhere, and by
   -- gatherings, ended or stopped anywhere
   pub data AreReached (job : Job) : Pair → Type 0 where
-    begun : (p : Pair) → AreHonestOf job p → AreReached job p
+    begun : (p : Pair) → AreConsistentOf job p → AreReached job p
     after_run : (p : Pair) (e : Event) → AreReached job p → IsEvent job p e → AreReached job (slots_after e)
     after_gathering : (p q : Pair) (outcomes : List Outcome) → AreReached job p → AreGathered job outcomes → IsSavedOver job outcomes p q → AreReached job q
 
@@ -48,7 +48,7 @@ mutual
 -- chain from them that ended with status 0, or with status 9 and nothing pending, has written one thread's report.
 abbrev pub GatheredRunsWriteOneReport : Type 0
 GatheredRunsWriteOneReport = (job : Job) (p : Pair) → AreReached job p
-    → AreHonestOf job p × ((events : List Event) → IsChain job p events → AllHaveWritten job events)
+    → AreConsistentOf job p × ((events : List Event) → IsChain job p events → AllHaveWritten job events)
 
 -- the slots of each folder are known, and were reached
 abbrev pub AreAllReached : Job → List Kept → Type 0
@@ -56,13 +56,13 @@ AreAllReached job folders = All (λ (k : Kept). (p : Pair) × (k.slots ≡ Some 
 
 -- The slots after one gathering of reached folders into reached slots are reached, whatever its findings.
 abbrev pub GatheringsReach : Type 0
-GatheringsReach = (job : Job) (saves : Bool) (before after : Kept) (folders folders_now : List Kept) (told : Told) (p q : Pair)
-    → IsGathering job (job_digest job) saves before after folders folders_now told → before.slots ≡ Some p → after.slots ≡ Some q
+GatheringsReach = (job : Job) (saves : Bool) (before after : Kept) (folders folders_now : List Kept) (observed : GatherResult) (p q : Pair)
+    → IsGathering job (job_digest job) saves before after folders folders_now observed → before.slots ≡ Some p → after.slots ≡ Some q
     → AreReached job p → AreAllReached job folders → AreReached job q
 
 -- The slots after a gathering whose save failed or was cut off are reached. The only save that a gathering may attempt
 -- is that of the union at its place.
 abbrev pub CutGatheringsReach : Type 0
-CutGatheringsReach = (job : Job) (told : Option Pair) (folders folders_now : List Kept) (place : ℕ × ℕ) (all : List Outcome) (p q : Pair)
-    → MayBeSaved job (job_digest job) told folders folders_now place all → IsCheckpoint (checkpoint 2 (job_digest job) place.1 all) 2 (job_digest job) place.1 all → told ≡ Some p
+CutGatheringsReach = (job : Job) (observed : Option Pair) (folders folders_now : List Kept) (place : ℕ × ℕ) (all : List Outcome) (p q : Pair)
+    → MayBeSaved job (job_digest job) observed folders folders_now place all → IsCheckpoint (checkpoint 2 (job_digest job) place.1 all) 2 (job_digest job) place.1 all → observed ≡ Some p
     → IsCarriedOut IsNotOurs job (job_digest job) p q (try_of place.0 (checkpoint 2 (job_digest job) place.1 all) false) → AreReached job p → AreAllReached job folders → AreReached job q

@@ -161,8 +161,8 @@ job_of_two setting = record {
 }
 
 -- the job of two units, read by these columns and this column of regions, with an origin
-abbrev pub told_job : Columns → List ℕ → Job
-told_job columns region = record (job_of_two (record (run_of 5000 1 8 0 1000 []) { columns = columns; region = region; source = true })) {
+abbrev pub observed_job : Columns → List ℕ → Job
+observed_job columns region = record (job_of_two (record (run_of 5000 1 8 0 1000 []) { columns = columns; region = region; source = true })) {
   origin = Some (record { sha256 = replicate 32 171; bytes = 7 });
 }
 

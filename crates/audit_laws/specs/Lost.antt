@@ -2,15 +2,15 @@
 use Rattle.std.specs.Prelude.{◌≡◌, ◌⊎◌, ℕ, true, List, Some}
 use Rattle.std.specs.List.{All, Contains}
 use Rattle.audit_model.specs.Pair.{Pair}
-use Rattle.audit_model.specs.Tries.{Try}
+use Rattle.audit_model.specs.Attempts.{Try}
 use Rattle.audit_model.specs.declared.outcome.Outcome.{Outcome}
 use Rattle.audit_model.specs.Job.{Job}
 use Rattle.audit_model.specs.JobOf.{IsJob}
 use Rattle.audit_statement.specs.Checkpoint.{IsCheckpoint, job_digest}
-use Rattle.audit_statement.specs.Histories.{AreCarriedOut, IsNotIntact, KeepsNewest, newest_bytes, stopped_in}
-use Rattle.audit_statement.specs.Chain.{TriesOver}
+use Rattle.audit_statement.specs.Histories.{AreCarriedOut, IsNotValid, KeepsNewest, newest_bytes, stopped_in}
+use Rattle.audit_statement.specs.Chain.{AttemptsOver}
 use Rattle.audit_statement.specs.Endings.{opening_from}
-use Rattle.audit_statement.specs.Rerun.{AreTriesSoFar}
+use Rattle.audit_statement.specs.Rerun.{AreAttemptsSoFar}
 use Rattle.audit_statement.specs.World.{World}
 use Rattle.audit_laws.specs.Gathered.{Hold}
 
@@ -38,8 +38,8 @@ KeepsOpening job p q opening = (newest_bytes job (job_digest job) q ≡ newest_b
 
 -- These save attempts led from the first slots to the second ones. The newest slot now holds all that each attempt
 -- saved that succeeded, and all outcomes with which the run started.
-pub record LosesNothing (job : Job) (p q : Pair) (tries : List Try) : Type 0 where
-  pub saved : All (λ save. save.succeeded ≡ true → IsKeptIn job q save) tries
+pub record LosesNothing (job : Job) (p q : Pair) (attempts : List Try) : Type 0 where
+  pub saved : All (λ save. save.succeeded ≡ true → IsKeptIn job q save) attempts
   pub opened : (outcomes : List Outcome) → opening_from job.setting.resume job p ≡ Some outcomes → KeepsOpening job p q outcomes
 
 -- At any moment of a run, the save attempts so far have kept the newest slot of before or have left a newer one: the
@@ -47,16 +47,16 @@ pub record LosesNothing (job : Job) (p q : Pair) (tries : List Try) : Type 0 whe
 -- off, and the run need not be one that returns. Of a save that failed or was cut off, the keeper alone is asked that
 -- it left what was there, the first bytes of the save or all of them, or no intact checkpoint.
 abbrev pub StopsKeepTheNewest : Type 0
-StopsKeepTheNewest = (job : Job) (p q : Pair) (tries : List Try) → IsJob job → AreTriesSoFar job p tries → AreCarriedOut IsNotIntact job (job_digest job) p tries q
-    → KeepsNewest job (job_digest job) p tries q
+StopsKeepTheNewest = (job : Job) (p q : Pair) (attempts : List Try) → IsJob job → AreAttemptsSoFar job p attempts → AreCarriedOut IsNotValid job (job_digest job) p attempts q
+    → KeepsNewest job (job_digest job) p attempts q
 
 -- At any such moment the newest slot keeps what each save held that succeeded, and what the run opened with.
 abbrev pub StopsLoseNothing : Type 0
-StopsLoseNothing = (job : Job) (p q : Pair) (tries : List Try) → IsJob job → AreTriesSoFar job p tries → AreCarriedOut IsNotIntact job (job_digest job) p tries q
-    → LosesNothing job p q tries
+StopsLoseNothing = (job : Job) (p q : Pair) (attempts : List Try) → IsJob job → AreAttemptsSoFar job p attempts → AreCarriedOut IsNotValid job (job_digest job) p attempts q
+    → LosesNothing job p q attempts
 
 -- The save attempts of a run that returned, all of them or cut off within any of them, are attempts so far of a run. So
 -- what holds of these also holds of runs that returned.
 abbrev pub EndsAreStops : Type 0
-EndsAreStops = (job : Job) (before after : World) (p : Pair) (status : ℕ) (told now : List Try) (t : TriesOver job before after p status told now) (outcomes : List Outcome)
-    → before.keeper.slots ≡ Some p → opening_from job.setting.resume job p ≡ Some outcomes → (n : ℕ) → AreTriesSoFar job p (stopped_in n t.tries)
+EndsAreStops = (job : Job) (before after : World) (p : Pair) (status : ℕ) (observed now : List Try) (t : AttemptsOver job before after p status observed now) (outcomes : List Outcome)
+    → before.keeper.slots ≡ Some p → opening_from job.setting.resume job p ≡ Some outcomes → (n : ℕ) → AreAttemptsSoFar job p (stopped_in n t.attempts)

@@ -7,10 +7,10 @@ ghost use Rattle.audit_statement.specs.Along.{TracesEndAsFound};
 ghost use Rattle.audit_statement.specs.Rerun.{ChainsWriteOneReport, RerunsAreAlike};
 
 use audit_model::laws::bare_outcomes_fit;
-use ckpt_store::gathered_laws::honest_slots_give_honest_outcomes;
+use ckpt_store::gathered_laws::consistent_slots_give_consistent_outcomes;
 use ckpt_store::laws::{
-    a_stop_in_a_save_leaves_honest_slots, checkpoints_are_ours, honest_slots_open_right,
-    right_outcomes_are_honest, saves_keep_the_newest, saves_leave_honest_slots,
+    a_stop_in_a_save_leaves_consistent_slots, checkpoints_are_ours, consistent_slots_open_right,
+    right_outcomes_are_consistent, saves_keep_the_newest, saves_leave_consistent_slots,
 };
 use outcome_book::union_laws::unions_are_right;
 
@@ -19,8 +19,8 @@ use outcome_book::union_laws::unions_are_right;
 pub fn ended_calls_keep_their_promise()
     ensures { EndedCallsKeepTheirPromise }
 {
-    honest_slots_open_right();
-    right_outcomes_are_honest();
+    consistent_slots_open_right();
+    right_outcomes_are_consistent();
 }
 
 /// States that the manner of a run changes nothing of the job's digest, of what its trajectories find, and of its
@@ -66,10 +66,10 @@ pub fn ends_are_stops()
 pub fn chains_write_one_report()
     ensures { ChainsWriteOneReport }
 {
-    honest_slots_open_right();
-    right_outcomes_are_honest();
-    a_stop_in_a_save_leaves_honest_slots();
-    saves_leave_honest_slots();
+    consistent_slots_open_right();
+    right_outcomes_are_consistent();
+    a_stop_in_a_save_leaves_consistent_slots();
+    saves_leave_consistent_slots();
 }
 
 /// States that this also holds over any number of machines and folders. The slots of each folder come from consistent
@@ -79,12 +79,12 @@ pub fn chains_write_one_report()
 pub fn gathered_runs_write_one_report()
     ensures { GatheredRunsWriteOneReport }
 {
-    honest_slots_open_right();
-    right_outcomes_are_honest();
-    honest_slots_give_honest_outcomes();
+    consistent_slots_open_right();
+    right_outcomes_are_consistent();
+    consistent_slots_give_consistent_outcomes();
     unions_are_right();
-    saves_leave_honest_slots();
-    a_stop_in_a_save_leaves_honest_slots();
+    saves_leave_consistent_slots();
+    a_stop_in_a_save_leaves_consistent_slots();
 }
 
 /// States that the slots that one call of `ckpt_store::whole::gather` leaves were reached, if they were before and all

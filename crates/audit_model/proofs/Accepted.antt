@@ -8,7 +8,7 @@ use Rattle.std.proofs.lemmas.Nat.{mul-le, div-add-mod', le-div}
 use Rattle.audit_model.specs.Below.{above_all}
 use Rattle.audit_model.specs.First.{first_some, first_below}
 use Rattle.audit_model.specs.Job.{Job, total_population}
-use Rattle.audit_model.specs.JobOf.{lacks_votes, is_unbalanced, is_parted, cuts_too_many, is_oversplit, votes_fault, bounds_fault, path_fault, cut_fault, split_fault, splits_fault, split_regions_fault, group_fault, out_of_bounds, disconnected, oversplit, plan_fault}
+use Rattle.audit_model.specs.JobOf.{has_no_votes, is_unbalanced, is_parted, cuts_too_many, is_oversplit, votes_fault, bounds_fault, path_fault, cut_fault, split_fault, splits_fault, split_regions_fault, group_fault, out_of_bounds, disconnected, oversplit, plan_fault}
 use Rattle.audit_model.specs.declared.fault.PlanFault.{PlanFault}
 use Rattle.audit_model.specs.declared.fault.PlanFault.TheVariants.{NoVotes, TooManyCut, TooManySplits, TooManySplitRegions, TooFewMajorities}
 use Rattle.audit_model.specs.Meets.{majorities, split_of, split_regions, splits_in_all}
@@ -86,10 +86,10 @@ no_fault_parts job h =
 -- without a fault, there are votes if needed, and the start plan is legal
 pub accepted_is_legal : (job : Job) → length job.start ≡ job.graph.units
     → ((u : ℕ) → u < job.graph.units → slice_index job.start u < job.districts)
-    → plan_fault job ≡ None → (lacks_votes job ≡ false) × IsLegal job job.start
+    → plan_fault job ≡ None → (has_no_votes job ≡ false) × IsLegal job job.start
 accepted_is_legal job complete in_range h =
     let parts = no_fault_parts job h in (
-      cond_some_none (lacks_votes job) NoVotes parts.0,
+      cond_some_none (has_no_votes job) NoVotes parts.0,
       record {
         complete = complete;
         in_range = in_range;
@@ -121,11 +121,11 @@ accepted_is_legal job complete in_range h =
     )
 
 -- with votes if needed and a legal start plan, there is no fault
-pub legal_is_accepted : (job : Job) → lacks_votes job ≡ false → IsLegal job job.start → plan_fault job ≡ None
+pub legal_is_accepted : (job : Job) → has_no_votes job ≡ false → IsLegal job job.start → plan_fault job ≡ None
 unfolding after_cut after_regions after_splits
 legal_is_accepted job votes legal =
     ap (λ o. option_or o (first_some (bounds_fault job ∷ path_fault job ∷ cut_fault job ∷ after_cut job)))
-    (cond-false (lacks_votes job) (Some NoVotes) None votes)
+    (cond-false (has_no_votes job) (Some NoVotes) None votes)
     ∙ ap (λ o. option_or (option_map (out_of_bounds job) o) (first_some (path_fault job ∷ cut_fault job ∷ after_cut job)))
     (none_first_below job.districts (is_unbalanced job) (λ d l. not_from_true (is_balanced job (district_sum job.counts.population job.start d))
     (balanced_passes job (district_sum job.counts.population job.start d) (legal.balanced d l))))

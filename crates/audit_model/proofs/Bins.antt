@@ -7,7 +7,7 @@ use Rattle.std.proofs.lemmas.List.Elements.{All-filter, All-map, filter_passes}
 use Rattle.std.proofs.lemmas.List.Kept.{AllPairs-cons, AllPairs-filter}
 use Rattle.audit_model.specs.declared.outcome.Outcome.{Outcome}
 use Rattle.audit_model.specs.Job.{Job}
-use Rattle.audit_model.specs.Run.{IsHonest, IsRight, bins_fit, fits, is_bare, taken_up, total}
+use Rattle.audit_model.specs.Run.{IsConsistent, IsRight, bins_fit, fits, is_bare, taken_up, total}
 use Rattle.audit_model.specs.Trajectory.{Draws, bare, outcome, outcome_by, outcome_with, whole}
 
 -- without its histogram, an outcome is the one found if none is asked for
@@ -33,7 +33,7 @@ AllPairs-map R f (x ∷ xs) h = AllPairs-cons R (f x) (map f xs)
     (All-map (R (f x)) f xs (λ k d l. h zero (suc k) d (omega arith) (omega arith)))
     (AllPairs-map R f xs (λ i j d l m. h (suc i) (suc j) d (omega arith) (omega arith)))
 
-module _ (job : Job) (draws : Draws) (outcomes : List Outcome) (honest : IsHonest job draws outcomes) where
+module _ (job : Job) (draws : Draws) (outcomes : List Outcome) (consistent : IsConsistent job draws outcomes) where
   IsFound : Outcome → Type 0
   IsFound o = (o ≡ whole job draws o.id) ⊎ (o ≡ bare (whole job draws o.id))
 
@@ -67,19 +67,19 @@ module _ (job : Job) (draws : Draws) (outcomes : List Outcome) (honest : IsHones
   right_by : (shift : Bool) → job.setting.shift ≡ shift → IsRight job draws (taken_up shift job.setting.walks outcomes)
   unfolding IsFound test
   right_by true asked = record {
-    apart = AllPairs-filter (λ a b. a.id ≡ b.id → ⊥) test outcomes honest.apart;
-    below = All-filter test (λ o. o.id < total job) outcomes honest.below;
-    found = λ k d l. asked_whole asked _ (All-filter test IsFound outcomes honest.found k d l) (filter_passes test outcomes k d l);
+    apart = AllPairs-filter (λ a b. a.id ≡ b.id → ⊥) test outcomes consistent.apart;
+    below = All-filter test (λ o. o.id < total job) outcomes consistent.below;
+    found = λ k d l. asked_whole asked _ (All-filter test IsFound outcomes consistent.found k d l) (filter_passes test outcomes k d l);
   }
   right_by false asked = record {
-    apart = AllPairs-map (λ a b. a.id ≡ b.id → ⊥) bare outcomes honest.apart;
-    below = All-map (λ o. o.id < total job) bare outcomes honest.below;
-    found = All-map (λ o. o ≡ outcome job draws o.id) bare outcomes (λ k d l. asked_bare asked (get_or outcomes k d) (honest.found k d l));
+    apart = AllPairs-map (λ a b. a.id ≡ b.id → ⊥) bare outcomes consistent.apart;
+    below = All-map (λ o. o.id < total job) bare outcomes consistent.below;
+    found = All-map (λ o. o ≡ outcome job draws o.id) bare outcomes (λ k d l. asked_bare asked (get_or outcomes k d) (consistent.found k d l));
   }
 
   -- the outcomes from which a run resumes are what its trajectories find
-  pub honest_are_right : IsRight job draws (taken_up job.setting.shift job.setting.walks outcomes)
-  honest_are_right = right_by job.setting.shift refl
+  pub consistent_are_right : IsRight job draws (taken_up job.setting.shift job.setting.walks outcomes)
+  consistent_are_right = right_by job.setting.shift refl
 
 -- ---- a plausible outcome is plausible without its histogram
 

@@ -9,7 +9,7 @@ use Rattle.audit_model.specs.Apart.{AllApart}
 use Rattle.audit_model.specs.Below.{filter_below}
 use Rattle.audit_model.specs.Graph.{has}
 use Rattle.audit_model.specs.Job.{Job}
-use Rattle.audit_model.specs.Run.{has_id, is_in_part, lacking_ids, part_ids, total}
+use Rattle.audit_model.specs.Run.{has_id, is_in_part, pending_ids, part_ids, total}
 use Rattle.audit_model.proofs.Bools.{and_true, same_bool}
 use Rattle.audit_model.proofs.Below.{filter_below_same, length-filter_below}
 use Rattle.audit_model.proofs.Connected.{filter_below-has, has-filter_below}
@@ -27,7 +27,7 @@ module _ (parts part : ℕ) (job : Job) (opening : List Outcome) where
   lies : ℕ → Bool
   lies id = lacks id && (id % parts == part)
 
-  pub each_in_its_part : (id : ℕ) → has (part_ids parts part job opening (total job)) id ≡ (has (lacking_ids job opening) id && is_in_part parts part id)
+  pub each_in_its_part : (id : ℕ) → has (part_ids parts part job opening (total job)) id ≡ (has (pending_ids job opening) id && is_in_part parts part id)
   unfolding lies lacks
   each_in_its_part id =
       enough (total job) lies id
@@ -54,7 +54,7 @@ module _ (parts part : ℕ) (job : Job) (opening : List Outcome) where
   once_in_its_part budget = apart-take budget (filter_below (total job) lies) (apart-filter_below (total job) lies)
 
 -- the single part of an undivided run has all missing ids
-pub only_part : (job : Job) (opening : List Outcome) (budget : ℕ) → part_ids 1 0 job opening budget ≡ take budget (lacking_ids job opening)
+pub only_part : (job : Job) (opening : List Outcome) (budget : ℕ) → part_ids 1 0 job opening budget ≡ take budget (pending_ids job opening)
 only_part job opening budget =
     ap (take budget) (filter_below_same (total job) (λ id. not (has_id opening id) && (id % 1 == 0)) (λ id. not (has_id opening id))
     (λ k l. and_true (not (has_id opening k)) (k % 1 == 0) (eq-eqb (k % 1) 0 (mod-one k))))

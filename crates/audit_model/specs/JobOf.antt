@@ -35,8 +35,8 @@ parted_unit job d = unwrap_or
     (first_below job.graph.units (λ u. in_district job.start d u && not (has (reached job.graph (in_district job.start d) (least_unit job d)) u))) 0
 
 -- the efficiency gap is asked for, and there are no votes
-abbrev pub lacks_votes : Job → Bool
-lacks_votes job = list_any (λ ask. is_gap ask.score) job.setting.asks && (total_votes job == 0)
+abbrev pub has_no_votes : Job → Bool
+has_no_votes job = list_any (λ ask. is_gap ask.score) job.setting.asks && (total_votes job == 0)
 
 -- a district's population is outside the bounds
 abbrev pub is_unbalanced : Job → ℕ → Bool
@@ -56,7 +56,7 @@ is_oversplit job region = nat_lt job.setting.max_split (split_of job.regions job
 
 -- each fault, at its least district or region
 abbrev pub votes_fault : Job → Option PlanFault
-votes_fault job = cond (lacks_votes job) (Some NoVotes) None
+votes_fault job = cond (has_no_votes job) (Some NoVotes) None
 
 abbrev pub out_of_bounds : Job → ℕ → PlanFault
 out_of_bounds job d = OutOfBounds d (district_sum job.counts.population job.start d) (least_population job) (greatest_population job)
@@ -132,5 +132,5 @@ job_with job start labels = job_or (restarted job start labels) (plan_fault (res
 -- all is within the limits, there are votes if the efficiency gap is asked for, and the start plan is legal
 pub record IsJob (job : Job) : Type 0 where
   pub within : IsWithinLimits job
-  pub votes : IsFalse (lacks_votes job)
+  pub votes : IsFalse (has_no_votes job)
   pub legal : IsLegal job job.start

@@ -33,6 +33,6 @@ pub mod Step
 pub mod Stopping
 pub mod Test
 pub mod Times
-pub mod Told
+pub mod Observed
 pub mod Trajectory
-pub mod Tries
+pub mod Attempts

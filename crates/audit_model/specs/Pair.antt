@@ -1,6 +1,6 @@
 -- The two slots of a keeper, if it is observable, and the effect of a load and a save.
 use Rattle.std.specs.Prelude.{◌≡◌, ℕ, zero, suc, Bool, true, false, List, Option, Some, None}
-use Rattle.audit_model.specs.Told.{IfTold, IfBothTold}
+use Rattle.audit_model.specs.Observed.{IfObserved, IfBothObserved}
 
 -- a slot is absent, or a list of bytes
 abbrev pub Stored : Type 0
@@ -23,11 +23,11 @@ other_stored p (suc n) = p.zero_slot
 
 -- whatever a save returns, the other slot is unchanged
 abbrev pub KeepsOther : Option Pair → Option Pair → ℕ → Type 0
-KeepsOther old new slot = IfBothTold old new (λ p q. other_stored q slot ≡ other_stored p slot)
+KeepsOther old new slot = IfBothObserved old new (λ p q. other_stored q slot ≡ other_stored p slot)
 
 -- the slot holds exactly these bytes
 abbrev pub HoldsBytes : Option Pair → ℕ → List ℕ → Type 0
-HoldsBytes slots slot bytes = IfTold slots (λ q. stored q slot ≡ Some bytes)
+HoldsBytes slots slot bytes = IfObserved slots (λ q. stored q slot ≡ Some bytes)
 
 -- the bytes, if the slot is present
 abbrev pub stored_if : Bool → List ℕ → Stored

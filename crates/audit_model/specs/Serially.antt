@@ -51,5 +51,5 @@ abbrev pub serial_by : Bool → Job → Draws → Option (ℕ × List ℕ)
 serial_by true job draws = Some (place_and_ranks (serial_of job draws))
 serial_by false job draws = None
 
-abbrev pub serial_told : Job → Draws → Option (ℕ × List ℕ)
-serial_told job draws = serial_by job.setting.serial job draws
+abbrev pub serial_observed : Job → Draws → Option (ℕ × List ℕ)
+serial_observed job draws = serial_by job.setting.serial job draws

@@ -4,7 +4,7 @@ ghost use Rattle.std.specs.Prelude.{◌||◌, ◌≡◌, None, true, false, [], 
 ghost use Rattle.audit_model.specs.Apart.{AllApart};
 ghost use Rattle.audit_model.specs.Graph.{Graph, IsIn, count_edges, has};
 ghost use Rattle.audit_model.specs.Job.{Job, rules, total_population};
-ghost use Rattle.audit_model.specs.JobOf.{lacks_votes, plan_fault};
+ghost use Rattle.audit_model.specs.JobOf.{has_no_votes, plan_fault};
 ghost use Rattle.audit_model.specs.Least.{IsLeast};
 ghost use Rattle.audit_model.specs.Limits.{IsWithinLimits, most_districts, most_edges, most_regions, most_splits};
 ghost use Rattle.audit_model.specs.Local.{IsLocal, IsSimple, MayLeave};
@@ -16,7 +16,7 @@ ghost use Rattle.audit_model.specs.Path.{HasPath, IsConnected, is_connected, rea
 ghost use Rattle.audit_model.specs.District.{in_district};
 ghost use Rattle.audit_model.specs.Plan.{cut_edges, IsBalanced, IsLegal, is_legal, least_population, greatest_population};
 ghost use Rattle.audit_model.specs.declared.outcome.Outcome.{Outcome};
-ghost use Rattle.audit_model.specs.Run.{total, has_id, is_in_part, lacking_ids, part_ids, run_ids, full, fits, taken_up, IsHonest, IsRight};
+ghost use Rattle.audit_model.specs.Run.{total, has_id, is_in_part, pending_ids, part_ids, run_ids, full, fits, taken_up, IsConsistent, IsRight};
 ghost use Rattle.audit_model.specs.Step.{next, ways, mirrored};
 ghost use Rattle.audit_model.specs.declared.setting.Tail.{Tail};
 ghost use Rattle.audit_model.specs.Stopping.{count_in_tail, stop};
@@ -84,8 +84,8 @@ pub fn bare_outcomes_have_no_bins()
 
 /// Shows that a run resumes rightly: from outcomes of the job's trajectories, with their histograms
 /// or without, it takes what the trajectories find.
-pub fn honest_runs_go_on_rightly()
-    ensures { (job : Job) (draws : Draws) (outcomes : List Outcome) → IsHonest job draws outcomes →
+pub fn consistent_runs_go_on_rightly()
+    ensures { (job : Job) (draws : Draws) (outcomes : List Outcome) → IsConsistent job draws outcomes →
         IsRight job draws (taken_up job.setting.shift job.setting.walks outcomes) }
 {}
 
@@ -130,7 +130,7 @@ pub fn bounds_are_two_numbers()
 /// Shows that a start plan is refused only if votes are missing or it is not legal.
 pub fn accepted_plans_are_legal()
     ensures { (job : Job) → length job.start ≡ job.graph.units → ((u : ℕ) → u < job.graph.units → slice_index job.start u < job.districts) →
-        (plan_fault job ≡ None) ↔ (IsFalse (lacks_votes job) × IsLegal job job.start) }
+        (plan_fault job ≡ None) ↔ (IsFalse (has_no_votes job) × IsLegal job job.start) }
 {}
 
 /// Shows that a district stays connected without a unit whose neighbors in it are connected among
@@ -154,11 +154,11 @@ pub fn resumed_runs_add_up()
 /// one takes all. Each id has one remainder, so all parts together take each id once.
 pub fn parts_make_the_whole()
     ensures each { (parts part : ℕ) (job : Job) (opening : List Outcome) (id : ℕ) →
-        has (part_ids parts part job opening (total job)) id ≡ (has (lacking_ids job opening) id && is_in_part parts part id) }
+        has (part_ids parts part job opening (total job)) id ≡ (has (pending_ids job opening) id && is_in_part parts part id) }
     ensures within { (parts part : ℕ) (job : Job) (opening : List Outcome) (budget id : ℕ) → IsTrue (has (part_ids parts part job opening budget) id) →
         (id < total job) × (IsFalse (has_id opening id) × (id % parts ≡ part)) }
     ensures once { (parts part : ℕ) (job : Job) (opening : List Outcome) (budget : ℕ) → AllApart (part_ids parts part job opening budget) }
-    ensures one { (job : Job) (opening : List Outcome) (budget : ℕ) → part_ids 1 0 job opening budget ≡ take budget (lacking_ids job opening) }
+    ensures one { (job : Job) (opening : List Outcome) (budget : ℕ) → part_ids 1 0 job opening budget ≡ take budget (pending_ids job opening) }
 {}
 
 /// Shows that once enough values are in the tail, later values do not change where an

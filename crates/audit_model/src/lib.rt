@@ -24,7 +24,8 @@ pub use fault::{
     WordFault,
 };
 pub use laws::{
-    bare_outcomes_have_no_bins, honest_runs_go_on_rightly, visits_stay_legal, ways_are_symmetric,
+    bare_outcomes_have_no_bins, consistent_runs_go_on_rightly, visits_stay_legal,
+    ways_are_symmetric,
 };
 pub use lists::{AskList, LabelList, NumList, UnitList};
 pub use memory::Memory;

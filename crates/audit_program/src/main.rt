@@ -7,7 +7,7 @@ mod this_build;
 use crate::this_build::THIS_BUILD;
 use audit_io::file_keeper::FileKeeper;
 use audit_io::gate::FreeGate;
-use audit_io::patient::Patient;
+use audit_io::retry_on_would_block::RetryOnWouldBlock;
 use audit_io::std_adapters::{ReadSource, WriteSink};
 use audit_run::Runtime;
 use audit_run::plain::audit_plainly;
@@ -43,9 +43,9 @@ fn main(rt: HostRuntime) -> ExitCode {
             };
         }
     };
-    let mut graph = ReadSource::new(Patient::of_reader(rt.stdin(), &rt));
-    let mut out = WriteSink::new(Patient::of_writer(rt.stdout(), &rt));
-    let mut note = WriteSink::new(Patient::of_writer(rt.stderr(), &rt));
+    let mut graph = ReadSource::new(RetryOnWouldBlock::of_reader(rt.stdin(), &rt));
+    let mut out = WriteSink::new(RetryOnWouldBlock::of_writer(rt.stdout(), &rt));
+    let mut note = WriteSink::new(RetryOnWouldBlock::of_writer(rt.stderr(), &rt));
     let gate = FreeGate::new();
     let lent = Runtime {
         threads: &rt,

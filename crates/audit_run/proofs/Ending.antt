@@ -20,4 +20,4 @@ pub ends_for : (words : List (List ℕ)) (before after : World) (n m : Stream) (
     → RunsTo words before after why → status ≡ status_of (ending_of why) → TellsWhy (columns_kept why) n m (ending_of why)
     → EndsFor words before after n m status
 ends_for words before after n m status why r s t =
-    record { reason = ending_of why; status_is = s; cause = r.cause; untouched = r.untouched; told = tells_same _ _ n m (ending_of why) r.line_is t }
+    record { reason = ending_of why; status_is = s; cause = r.cause; untouched = r.untouched; observed = tells_same _ _ n m (ending_of why) r.line_is t }

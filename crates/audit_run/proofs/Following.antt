@@ -10,10 +10,10 @@ use Rattle.audit_statement.specs.Jobs.{Jobs}
 use Rattle.audit_statement.specs.Report.{plans_text}
 use Rattle.audit_statement.specs.Words.{setting_of}
 use Rattle.audit_statement.specs.Endings.{AppendsPart}
-use Rattle.audit_statement.specs.Several.{ArePlansCutOff, ArePlansDone, ArePlansRefused, AreTheJobs, AreToldPlans, IsPlansReadFault, KeepsPlansPromise, PlansCause, PlansCauses, PlansEnd, PlansLeave, VisitLegally, plans_judged, plans_marks}
+use Rattle.audit_statement.specs.Several.{ArePlansCutOff, ArePlansDone, ArePlansRefused, AreTheJobs, AreObservedPlans, IsPlansReadFault, KeepsPlansPromise, PlansCause, PlansCauses, PlansEnd, PlansLeave, VisitLegally, plans_judged, plans_marks}
 use Rattle.audit_statement.specs.Status.{status_of}
 use Rattle.audit_model.specs.State.{Stream}
-use Rattle.audit_model.specs.Told.{IfTold}
+use Rattle.audit_model.specs.Observed.{IfObserved}
 use Rattle.audit_statement.specs.World.{World}
 use Rattle.audit_laws.proofs.Telling.{known_at, same_setting}
 
@@ -29,16 +29,16 @@ is_error (Err y) x e = refl
 
 module _ (words : List (List ℕ)) (before after : World) where
   -- the known bytes are those that were read
-  told_judged : (setting : Setting) (bytes : List ℕ) → AreToldPlans words before setting bytes → (other : Setting) (read : List ℕ) → setting_of words ≡ Ok other
-      → IfTold before.source.bytes (λ input. input ≡ read) → plans_judged setting bytes ≡ plans_judged other read
-  told_judged setting bytes told other read accepted given =
-      let same : setting ≡ other = same_setting words setting other told.words_are accepted in
-      let is : bytes ≡ read = known_at before.source.bytes bytes (λ b. b ≡ read) told.input given in
+  observed_judged : (setting : Setting) (bytes : List ℕ) → AreObservedPlans words before setting bytes → (other : Setting) (read : List ℕ) → setting_of words ≡ Ok other
+      → IfObserved before.source.bytes (λ input. input ≡ read) → plans_judged setting bytes ≡ plans_judged other read
+  observed_judged setting bytes observed other read accepted given =
+      let same : setting ≡ other = same_setting words setting other observed.words_are accepted in
+      let is : bytes ≡ read = known_at before.source.bytes bytes (λ b. b ≡ read) observed.input given in
       ap (λ (s : Setting). plans_judged s bytes) same ∙ ap (plans_judged other) is
 
-  told_refused : (ending : Ending) → ArePlansRefused words before.source.bytes ending → (setting : Setting) (bytes : List ℕ) → AreToldPlans words before setting bytes
+  observed_refused : (ending : Ending) → ArePlansRefused words before.source.bytes ending → (setting : Setting) (bytes : List ℕ) → AreObservedPlans words before setting bytes
       → plans_judged setting bytes ≡ Err ending
-  told_refused ending r setting bytes told = told_judged setting bytes told r.setting r.bytes r.input.words_are r.input.given ∙ r.judged_so
+  observed_refused ending r setting bytes observed = observed_judged setting bytes observed r.setting r.bytes r.input.words_are r.input.given ∙ r.judged_so
 
   same_faults : (x y : ℕ) → y ≡ x → x < y → ⊥
   same_faults x y e l = absurd (omega (arith, e, l))
@@ -55,14 +55,14 @@ module _ (words : List (List ℕ)) (before after : World) where
     few = omega arith;
     one_only = λ one. cc;
     one = λ bad. absurd (is_no_error (setting_of words) r.setting r.input.words_are bad);
-    two_only = λ setting bytes told two. is_error (plans_judged setting bytes) ending (told_refused ending r setting bytes told);
-    two = λ setting bytes told bad. inl refl;
+    two_only = λ setting bytes observed two. is_error (plans_judged setting bytes) ending (observed_refused ending r setting bytes observed);
+    two = λ setting bytes observed bad. inl refl;
     four_only = λ four. cc;
     four = λ l. absurd (same_faults before.source.faults after.source.faults left.read_faults l);
     five_only = λ five. cc;
     five = λ l. absurd (same_faults before.out.faults after.out.faults left.write_faults l);
     complete = λ setting jobs are reads writes.
-        absurd (is_no_error (plans_judged setting are.bytes) jobs are.accepted (is_error (plans_judged setting are.bytes) ending (told_refused ending r setting are.bytes are.told)));
+        absurd (is_no_error (plans_judged setting are.bytes) jobs are.accepted (is_error (plans_judged setting are.bytes) ending (observed_refused ending r setting are.bytes are.observed)));
     kept = left.keeper;
   }
 
@@ -77,13 +77,13 @@ module _ (words : List (List ℕ)) (before after : World) where
     few = omega arith;
     one_only = λ one. is_error (setting_of words) f e;
     one = λ bad. inl refl;
-    two_only = λ setting bytes told two. cc;
-    two = λ setting bytes told bad. absurd (not_both (setting_of words) setting f told.words_are e);
+    two_only = λ setting bytes observed two. cc;
+    two = λ setting bytes observed bad. absurd (not_both (setting_of words) setting f observed.words_are e);
     four_only = λ four. cc;
     four = λ l. absurd (same_faults before.source.faults after.source.faults left.read_faults l);
     five_only = λ five. cc;
     five = λ l. absurd (same_faults before.out.faults after.out.faults left.write_faults l);
-    complete = λ setting jobs are reads writes. absurd (not_both (setting_of words) setting f are.told.words_are e);
+    complete = λ setting jobs are reads writes. absurd (not_both (setting_of words) setting f are.observed.words_are e);
     kept = left.keeper;
   }
     where
@@ -100,8 +100,8 @@ module _ (words : List (List ℕ)) (before after : World) where
     few = omega arith;
     one_only = λ one. cc;
     one = λ bad. inr refl;
-    two_only = λ setting bytes told two. cc;
-    two = λ setting bytes told bad. inr (inl refl);
+    two_only = λ setting bytes observed two. cc;
+    two = λ setting bytes observed bad. inr (inl refl);
     four_only = λ four. cc;
     four = λ l. absurd (same_faults before.source.faults after.source.faults left.read_faults l);
     five_only = λ five. cc;
@@ -121,8 +121,8 @@ module _ (words : List (List ℕ)) (before after : World) where
     few = omega arith;
     one_only = λ one. cc;
     one = λ bad. absurd (is_no_error (setting_of words) r.setting r.words_are bad);
-    two_only = λ setting bytes told two. cc;
-    two = λ setting bytes told bad. inr (inr refl);
+    two_only = λ setting bytes observed two. cc;
+    two = λ setting bytes observed bad. inr (inr refl);
     four_only = λ four. r.rose;
     four = λ l. refl;
     five_only = λ five. cc;
@@ -132,11 +132,11 @@ module _ (words : List (List ℕ)) (before after : World) where
   }
 
   -- the known jobs are those that were accepted
-  same_jobs : (s : Setting) (jobs : Jobs) (read : List ℕ) → setting_of words ≡ Ok s → IfTold before.source.bytes (λ input. input ≡ read) → plans_judged s read ≡ Ok jobs
+  same_jobs : (s : Setting) (jobs : Jobs) (read : List ℕ) → setting_of words ≡ Ok s → IfObserved before.source.bytes (λ input. input ≡ read) → plans_judged s read ≡ Ok jobs
       → (setting : Setting) (others : Jobs) → AreTheJobs words before setting others → (s ≡ setting) × (jobs ≡ others)
   same_jobs s jobs read accepted given judged setting others are =
-      let same : s ≡ setting = same_setting words s setting accepted are.told.words_are in
-      let ok : plans_judged setting are.bytes ≡ Ok jobs = told_judged setting are.bytes are.told s read accepted given ∙ judged in
+      let same : s ≡ setting = same_setting words s setting accepted are.observed.words_are in
+      let ok : plans_judged setting are.bytes ≡ Ok jobs = observed_judged setting are.bytes are.observed s read accepted given ∙ judged in
       let both : Ok jobs ≡ Ok others = sym ok ∙ are.accepted in
       (same, let e : jobs ≡ others = cc in e)
 
@@ -156,9 +156,9 @@ module _ (words : List (List ℕ)) (before after : World) where
     few = omega arith;
     one_only = λ one. cc;
     one = λ bad. absurd (is_no_error (setting_of words) d.setting d.prepared.input.words_are bad);
-    two_only = λ setting bytes told two. cc;
-    two = λ setting bytes told bad.
-        absurd (is_no_error (plans_judged setting bytes) d.jobs (told_judged setting bytes told d.setting d.prepared.bytes d.prepared.input.words_are d.prepared.input.given ∙ d.prepared.judged_so) bad);
+    two_only = λ setting bytes observed two. cc;
+    two = λ setting bytes observed bad.
+        absurd (is_no_error (plans_judged setting bytes) d.jobs (observed_judged setting bytes observed d.setting d.prepared.bytes d.prepared.input.words_are d.prepared.input.given ∙ d.prepared.judged_so) bad);
     four_only = λ four. cc;
     four = λ l. absurd (same_faults before.source.faults after.source.faults left.read_faults l);
     five_only = λ five. cc;
@@ -183,9 +183,9 @@ module _ (words : List (List ℕ)) (before after : World) where
     few = omega arith;
     one_only = λ one. cc;
     one = λ bad. absurd (is_no_error (setting_of words) d.setting d.prepared.input.words_are bad);
-    two_only = λ setting bytes told two. cc;
-    two = λ setting bytes told bad.
-        absurd (is_no_error (plans_judged setting bytes) d.jobs (told_judged setting bytes told d.setting d.prepared.bytes d.prepared.input.words_are d.prepared.input.given ∙ d.prepared.judged_so) bad);
+    two_only = λ setting bytes observed two. cc;
+    two = λ setting bytes observed bad.
+        absurd (is_no_error (plans_judged setting bytes) d.jobs (observed_judged setting bytes observed d.setting d.prepared.bytes d.prepared.input.words_are d.prepared.input.given ∙ d.prepared.judged_so) bad);
     four_only = λ four. cc;
     four = λ l. absurd (same_faults before.source.faults after.source.faults left.read_faults l);
     five_only = λ five. d.rose;

@@ -9,21 +9,21 @@ use Rattle.report.specs.declared.ended.Ended.{Ended}
 use Rattle.audit_input.specs.declared.opening.Target.{Target}
 use Rattle.audit_input.specs.declared.opening.Opening.{Opening}
 use Rattle.audit_input.specs.Opening.{IsOpened, IsTargetFor, IsTarget}
-use Rattle.audit_walks.specs.Ready.{IsStartOf}
+use Rattle.audit_walks.specs.RunBuffers.{IsStartOf}
 use Rattle.audit_laws.specs.Calls.{Finishes}
 use Rattle.audit_model.specs.State.{Kept, Stream}
 
 -- without a place to save, the run saves nothing
-pub no_target_told : (b : Bool) (job : Job) (slots : Option Pair) (o : Option Target) → o ≡ None → IsTarget b job slots o → b ≡ false
-no_target_told false job slots o e is = refl
-no_target_told true job slots None e is = absurd is
-no_target_told true job slots (Some t) e is = cc
+pub no_target_observed : (b : Bool) (job : Job) (slots : Option Pair) (o : Option Target) → o ≡ None → IsTarget b job slots o → b ≡ false
+no_target_observed false job slots o e is = refl
+no_target_observed true job slots None e is = absurd is
+no_target_observed true job slots (Some t) e is = cc
 
 -- with a place to save, the run saves there
-pub target_told : (b : Bool) (job : Job) (slots : Option Pair) (o : Option Target) (t : Target) → o ≡ Some t → IsTarget b job slots o → (b ≡ true) × IsTargetFor job slots t
-target_told b job slots None t e is = cc
-target_told false job slots (Some x) t e is = absurd is
-target_told true job slots (Some x) t e is = let same : x ≡ t = cc in (refl, subst (λ (y : Target). IsTargetFor job slots y) same is)
+pub target_observed : (b : Bool) (job : Job) (slots : Option Pair) (o : Option Target) (t : Target) → o ≡ Some t → IsTarget b job slots o → (b ≡ true) × IsTargetFor job slots t
+target_observed b job slots None t e is = cc
+target_observed false job slots (Some x) t e is = absurd is
+target_observed true job slots (Some x) t e is = let same : x ≡ t = cc in (refl, subst (λ (y : Target). IsTargetFor job slots y) same is)
 
 -- a run from the keeper before a look is one from the keeper after it, if the look changed nothing
 pub goes_on : (job : Job) (out later : Stream) (k l m : Kept) (why : Ended) → l ≡ k → Finishes job out later l m why → Finishes job out later k m why

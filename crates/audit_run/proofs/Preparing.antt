@@ -26,7 +26,7 @@ use Rattle.audit_statement.specs.Endings.{AddsLine, TellsWhy}
 use Rattle.audit_statement.specs.Several.{ArePlansRefused, PlansEnd, PlansLeave, from_jobs, plans_judged}
 use Rattle.audit_statement.specs.Status.{line_of, status_of}
 use Rattle.audit_model.specs.State.{Kept, Stream}
-use Rattle.audit_model.specs.Told.{IfTold}
+use Rattle.audit_model.specs.Observed.{IfObserved}
 use Rattle.audit_statement.specs.World.{World, world}
 use Rattle.audit_run.specs.Stages.{AreReadyFor, ArePlansReady, IsRefusedSo, PlansRefused, PlansRunTo, plans_ended, read_ended}
 use Rattle.audit_saving.specs.Plans.{ReportsPlans}
@@ -44,7 +44,7 @@ judged_many : (setting : Setting) (bytes : List ℕ) → most_bytes < length byt
 unfolding plans_judged
 judged_many setting bytes many = rw (lt-ltb most_bytes (length bytes) many) refl
 
-module _ (setting : Setting) (before after : Stream) (bytes : List ℕ) (given : IfTold before.bytes (λ left. left ≡ bytes)) (few : length bytes ≤ most_bytes) (faults : after.faults ≡ before.faults) where
+module _ (setting : Setting) (before after : Stream) (bytes : List ℕ) (given : IfObserved before.bytes (λ left. left ≡ bytes)) (few : length bytes ≤ most_bytes) (faults : after.faults ≡ before.faults) where
   pub jobs_ready : (named : List Named) → IsAtEnd after.bytes → AreShared setting named → jobs_reading setting bytes ≡ Ok (jobs_of named) → AreReadyFor setting before after named
   jobs_ready named ended shared e = record {
     bytes = bytes;
@@ -185,4 +185,4 @@ tells_same a b n m (Some ending) e t = subst (λ (line : List ℕ). AddsLine n m
 pub plans_end : (words : List (List ℕ)) (before after : World) (n m : Stream) (status : ℕ) (why : Ended) → PlansRunTo words before after why → status ≡ status_of (ending_of why)
     → TellsWhy (columns_kept why) n m (ending_of why) → PlansEnd words before after n m status
 plans_end words before after n m status why r s t =
-    record { reason = ending_of why; status_is = s; cause = r.cause; untouched = r.untouched; told = tells_same _ _ n m (ending_of why) r.line_is t }
+    record { reason = ending_of why; status_is = s; cause = r.cause; untouched = r.untouched; observed = tells_same _ _ n m (ending_of why) r.line_is t }

@@ -16,10 +16,10 @@ never h = absurd (omega arith)
 pub surely : QuestionsWereRefused → (build : Build) (words : List (List ℕ)) (graph graph' : List ℕ) (keeper keeper' : SureSlots) (n m : Stream) (status : ℕ)
     → AnswersOrAudits build words (sure_world graph keeper) (sure_world graph' keeper') n m status → EachEndsSurely words (sure_world graph keeper) status
 surely refused build words graph graph' keeper keeper' n m status kept = record {
-  one = λ single may. ((kept.audits (accepted_ask_nothing refused words may.job.setting may.told.words_are)).one single).complete (record {
+  one = λ single may. ((kept.audits (accepted_ask_nothing refused words may.job.setting may.observed.words_are)).one single).complete (record {
     job = may.job;
     bytes = may.bytes;
-    told = may.told;
+    observed = may.observed;
     accepted = may.accepted;
     budget = may.budget;
     reads = never;
@@ -27,5 +27,5 @@ surely refused build words graph graph' keeper keeper' n m status kept = record 
     loads = never;
     saves = never;
   });
-  several = λ many may. ((kept.audits (accepted_ask_nothing refused words may.setting may.the_jobs.told.words_are)).several many).causes.complete may.setting may.jobs may.the_jobs never never;
+  several = λ many may. ((kept.audits (accepted_ask_nothing refused words may.setting may.the_jobs.observed.words_are)).several many).causes.complete may.setting may.jobs may.the_jobs never never;
 }

@@ -53,7 +53,7 @@ module _ (job : Job) (trace : job.setting.command ≡ Trace) (out out' : Stream)
     };
     untouched = left words before after job p out out' k k _ tt
         (saved_left words before after job p k.slots k.slots (same_always (saves job.setting) k.slots))
-        (saved_left words before after job p k.tried k.tried (same_always (saves job.setting) k.tried)) refl faults refl refl;
+        (saved_left words before after job p k.attempted k.attempted (same_always (saves job.setting) k.attempted)) refl faults refl refl;
     line_is = refl;
   }
 
@@ -69,7 +69,7 @@ module _ (job : Job) (trace : job.setting.command ≡ Trace) (out out' : Stream)
     };
     untouched = left words before after job p out out' k k _ tt
         (saved_left words before after job p k.slots k.slots (same_always (saves job.setting) k.slots))
-        (saved_left words before after job p k.tried k.tried (same_always (saves job.setting) k.tried)) refl tt refl
+        (saved_left words before after job p k.attempted k.attempted (same_always (saves job.setting) k.attempted)) refl tt refl
         (saved_left words before after job p k.save_faults k.save_faults (same_always (saves job.setting) k.save_faults));
     line_is = refl;
   }

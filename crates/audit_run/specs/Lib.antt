@@ -1,3 +1,3 @@
 pub mod Alike
-pub mod Benches
+pub mod JudgeSets
 pub mod Stages

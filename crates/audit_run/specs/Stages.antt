@@ -19,7 +19,7 @@ use Rattle.audit_statement.specs.Accepted.{columns_of}
 use Rattle.audit_statement.specs.Several.{ArePrepared, PlansCause, PlansLeave, plans_judged, plans_marks}
 use Rattle.audit_statement.specs.Status.{line_of}
 use Rattle.audit_model.specs.State.{Stream}
-use Rattle.audit_model.specs.Told.{IfTold}
+use Rattle.audit_model.specs.Observed.{IfObserved}
 use Rattle.audit_statement.specs.World.{World}
 
 -- the ending of a call with this setting after a refusal
@@ -40,7 +40,7 @@ read_ended read.Memory = ended.NoMemory
 -- all bytes were read and accepted as the jobs of these plans
 pub record AreReadyFor (setting : Setting) (before after : Stream) (named : List Named) : Type 0 where
   pub bytes : List ℕ
-  pub given : IfTold before.bytes (λ left. left ≡ bytes)
+  pub given : IfObserved before.bytes (λ left. left ≡ bytes)
   pub judged_so : plans_judged setting bytes ≡ Ok (jobs_of named)
   pub shared : AreShared setting named
   pub at_end : IsAtEnd after.bytes
@@ -49,7 +49,7 @@ pub record AreReadyFor (setting : Setting) (before after : Stream) (named : List
 -- all bytes were read and are refused for this reason
 pub record IsRefusedSo (setting : Setting) (before after : Stream) (ending : Ending) : Type 0 where
   pub bytes : List ℕ
-  pub given : IfTold before.bytes (λ left. left ≡ bytes)
+  pub given : IfObserved before.bytes (λ left. left ≡ bytes)
   pub judged_so : plans_judged setting bytes ≡ Err ending
   pub faults : after.faults ≡ before.faults
 

@@ -2,12 +2,12 @@
 //!
 //! `audit` passes the command on several plans to `several`, and every other to `single`. For one plan, `single` makes
 //! the job, writes the text of a check or does the rest of a run (`run`), and writes the diagnostic. For several,
-//! `plan_jobs` makes the jobs, `benches` their constraints, and `plan_reports` allocates all memory, then walks and
+//! `plan_jobs` makes the jobs, `judge_sets` their constraints, and `plan_reports` allocates all memory, then walks and
 //! reports one plan after the other. `plain` and `sure` are the same call with stronger contracts for special cases.
 #![tactic(auto)]
 
 pub mod audit;
-pub mod benches;
+pub mod judge_sets;
 pub mod plain;
 pub mod plan_jobs;
 pub mod plan_reports;

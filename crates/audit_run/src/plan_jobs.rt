@@ -6,7 +6,7 @@ ghost use Rattle.audit_model.specs.Limits.{IsSetting};
 ghost use Rattle.audit_run.specs.Stages.{AreReadyFor, ArePlansReady, PlansRefused, PlansRunTo, plans_ended, read_ended};
 ghost use Rattle.audit_statement.specs.Accepted.{most_bytes};
 ghost use Rattle.audit_model.specs.State.{Kept, Stream};
-ghost use Rattle.audit_model.specs.Told.{IfTold};
+ghost use Rattle.audit_model.specs.Observed.{IfObserved};
 ghost use Rattle.audit_statement.specs.World.{world};
 ghost use Rattle.audit_words.specs.Spoken.{spoken};
 
@@ -74,7 +74,7 @@ fn read_end(end: ReadEnd) -> Ended
 fn judge_plans(alloc: Global, setting: Setting, bytes: &[u8]) -> Result<Vec<Named>, Ended>
     requires few { length bytes.now ≤ most_bytes }
     requires within { IsSetting setting }
-    ensures { (before after : Stream) → IfTold before.bytes (λ left. left ≡ bytes.now) → after.faults ≡ before.faults
+    ensures { (before after : Stream) → IfObserved before.bytes (λ left. left ≡ bytes.now) → after.faults ≡ before.faults
         → MatchResult result (λ plans. IsAtEnd after.bytes → AreReadyFor setting before after plans.items) (λ why. PlansRefused setting before after why) }
 {
     match read_jobs(alloc, &setting, bytes) {

@@ -6,7 +6,7 @@ ghost use Rattle.plan_csv.specs.Named.{jobs_of};
 ghost use Rattle.audit_run.specs.Alike.{MayRunTogether};
 ghost use Rattle.audit_saving.specs.Plans.{ReportsPlans};
 
-use crate::benches::{cut_benches, ruled_benches};
+use crate::judge_sets::{cut_judge_sets, ruled_judge_sets};
 use audit_io::gate::Gate;
 use audit_io::sink::Sink;
 use audit_model::outcome::SumsView;
@@ -40,14 +40,14 @@ fn report_cut<R: Threads + Sync, K: Sink, G: Gate + Sync>(
     let rules = first.rules();
     let max_cut = rules.max_cut;
     let workers = first.setting().workers;
-    match cut_benches(
+    match cut_judge_sets(
         rt.alloc,
         move |sums: &SumsView| sums.cut <= max_cut,
         rules,
         workers + 1,
         plans.as_slice(),
     ) {
-        Ok(benches) => report_plans(rt, plans, benches, out),
+        Ok(judge_sets) => report_plans(rt, plans, judge_sets, out),
         Err(_) => Ended::NoMemory,
     }
 }
@@ -66,7 +66,7 @@ fn report_ruled<R: Threads + Sync, K: Sink, G: Gate + Sync>(
     let cut_limit = rules.max_cut;
     let split_limit = rules.max_split;
     let workers = first.setting().workers;
-    match ruled_benches(
+    match ruled_judge_sets(
         rt.alloc,
         move |sums: &SumsView| sums.cut <= cut_limit,
         move |width: u32| width <= split_limit,
@@ -74,7 +74,7 @@ fn report_ruled<R: Threads + Sync, K: Sink, G: Gate + Sync>(
         workers + 1,
         plans.as_slice(),
     ) {
-        Ok(benches) => report_plans(rt, plans, benches, out),
+        Ok(judge_sets) => report_plans(rt, plans, judge_sets, out),
         Err(_) => Ended::NoMemory,
     }
 }

@@ -7,17 +7,17 @@ ghost use Rattle.audit_statement.specs.Due.{LetsSavesOf};
 ghost use Rattle.audit_laws.specs.Calls.{Finishes};
 ghost use Rattle.audit_laws.specs.Runs.{IsRunJob};
 ghost use Rattle.audit_input.specs.Opening.{IsOpened};
-ghost use Rattle.audit_walks.specs.Means.{IsBench};
-ghost use Rattle.audit_walks.specs.Ready.{IsStartOf};
+ghost use Rattle.audit_walks.specs.Resources.{IsJudgeSet};
+ghost use Rattle.audit_walks.specs.RunBuffers.{IsStartOf};
 
 use audit_input::opening::{Opening, open};
 use audit_io::gate::Gate;
 use audit_io::keeper::Keeper;
 use audit_io::sink::Sink;
 use audit_model::outcome::{Outcome, SumsView};
-use audit_saving::saving::{finish_saved, make_saved_means};
+use audit_saving::saving::{finish_saved, make_saved_resources};
 use audit_walks::judges::guards;
-use audit_walks::means::make_means;
+use audit_walks::resources::make_resources;
 use audit_walks::walking::finish_unsaved;
 use claim_counter::runtime::Runtime;
 use flip_guard::judge::Judge;
@@ -37,11 +37,11 @@ fn run_unsaved<R: Threads + Sync, K: Sink, J: Judge + Send, G: Gate + Sync>(
 ) -> Ended
     requires start { IsStartOf job.now outcomes.now }
     requires unsaved { saves job.now.setting ≡ false }
-    requires judges { IsBench J.judging job.now judges }
+    requires judges { IsJudgeSet J.judging job.now judges }
     ensures { (k : Kept) → IsOpening job.now k.slots outcomes.now → Finishes job.now (K.state out.old) (K.state out.new) k k result }
 {
-    match make_means(rt.alloc, job, outcomes, judges) {
-        Ok(means) => finish_unsaved(rt, job, means, out).ended(),
+    match make_resources(rt.alloc, job, outcomes, judges) {
+        Ok(resources) => finish_unsaved(rt, job, resources, out).ended(),
         Err(_) => Ended::NoMemory,
     }
 }
@@ -62,7 +62,7 @@ fn finish_judged<
     keeper: C,
 ) -> (Ended, C)
     requires opened { IsOpened job.now (C.state keeper).slots opening }
-    requires judges { IsBench J.judging job.now judges }
+    requires judges { IsJudgeSet J.judging job.now judges }
     requires lets { LetsSavesOf C.lets job.now (C.state keeper) }
     ensures { Finishes job.now (K.state out.old) (K.state out.new)
         (C.state keeper) (C.state result.1) result.0 }
@@ -73,8 +73,14 @@ fn finish_judged<
             run_unsaved(rt, job, outcomes.as_slice(), judges, out),
             keeper,
         ),
-        Some(target) => match make_saved_means(rt.alloc, job, outcomes.as_slice(), target, judges) {
-            Ok(means) => finish_saved(rt, job, means, out, keeper),
+        Some(target) => match make_saved_resources(
+            rt.alloc,
+            job,
+            outcomes.as_slice(),
+            target,
+            judges,
+        ) {
+            Ok(resources) => finish_saved(rt, job, resources, out, keeper),
             Err(_) => (Ended::NoMemory, keeper),
         },
     }

@@ -8,7 +8,7 @@ use Rattle.std.proofs.lemmas.List.Sorted.{IsPermutation-append_right, IsPermutat
 use Rattle.audit_io.specs.declared.source.Failed.{Failed}
 use Rattle.audit_model.specs.Pair.{Pair, Stored, stored}
 use Rattle.audit_model.specs.State.{Kept, LoadFaults}
-use Rattle.audit_model.specs.Tries.{Try, tried_all}
+use Rattle.audit_model.specs.Attempts.{Try, attempted_all}
 use Rattle.audit_model.specs.declared.outcome.Outcome.{Outcome}
 use Rattle.audit_model.specs.Job.{Job}
 use Rattle.audit_model.specs.Run.{fits, has_id, run_ids, total, by_id}
@@ -21,13 +21,13 @@ use Rattle.audit_model.specs.declared.place.Place.{Place}
 use Rattle.ckpt_store.specs.Fitting.{AreFit}
 use Rattle.audit_statement.specs.Histories.{AreInTurn}
 use Rattle.ckpt_store.specs.Laws.{CheckpointsAreOurs}
-use Rattle.tally_desk.specs.Holding as crew
+use Rattle.tally_desk.specs.Holding as pool
 use Rattle.audit_statement.specs.InOrder.{AreSavesOf, failed_of, moved, saves_of}
-use Rattle.tally_desk.specs.Ran.{HasRun, IsRunTry, KeepsSome}
+use Rattle.tally_desk.specs.RunResult.{HasRun, IsRunTry, KeepsSome}
 use Rattle.audit_statement.specs.Draw.{draw}
 use Rattle.tally_desk.specs.declared.entry.Entry.{Entry}
 use Rattle.tally_desk.specs.Entries.{posted_id, ids_of}
-use Rattle.audit_model.specs.Told.{IfBothTold, IfTold}
+use Rattle.audit_model.specs.Observed.{IfBothObserved, IfObserved}
 use Rattle.tally_desk.specs.Homes.{IsSaveOf, booked}
 use Rattle.tally_desk.specs.InTurn.{IsPartSave}
 use Rattle.tally_desk.specs.InTurn as desk
@@ -35,7 +35,7 @@ use Rattle.tally_desk.specs.Parts.{IsPlan, Parts}
 use Rattle.tally_desk.proofs.Booking.{booked_fit, by_id_fit}
 use Rattle.tally_desk.proofs.Todo.{todo_lacked, todo_within}
 use Rattle.tally_desk.proofs.Slotting.{moved_generation}
-use Rattle.audit_statement.specs.Endings.{HoldsPart, IsNewest, IsOpeningOrFound, IsPartly, IsTryOf, KeepsASlot, SavesInTurn, SavesInTurnAt, TriesOf, TriesTold, count_of_saves, first_place, full_of, last_place, place_of}
+use Rattle.audit_statement.specs.Endings.{HoldsPart, IsNewest, IsOpeningOrFound, IsPartly, IsTryOf, KeepsASlot, SavesInTurn, SavesInTurnAt, AttemptsOf, AttemptsObserved, count_of_saves, first_place, full_of, last_place, place_of}
 use Rattle.audit_laws.specs.Runs.{AreAll, IsRunJob}
 use Rattle.audit_walks.specs.Ending.{SavesLast}
 use Rattle.claim_counter.proofs.Completing.{AreMapped, by_id-full}
@@ -44,7 +44,7 @@ use Rattle.audit_laws.proofs.Running.{are_all, rising_apart}
 use Rattle.audit_saving.proofs.Saved.{newest_below, place_is_beside}
 
 -- a relation between slots follows from a property of the first, if they are known
-known_map : (a b : Option Pair) (R : Pair → Type 0) (P Q : Pair → Pair → Type 0) → IfTold a R → ((p q : Pair) → R p → P p q → Q p q) → IfBothTold a b P → IfBothTold a b Q
+known_map : (a b : Option Pair) (R : Pair → Type 0) (P Q : Pair → Pair → Type 0) → IfObserved a R → ((p q : Pair) → R p → P p q → Q p q) → IfBothObserved a b P → IfBothObserved a b Q
 known_map None b R P Q r f h = tt
 known_map (Some p) None R P Q r f h = h
 known_map (Some p) (Some q) R P Q r f h = f p q r h
@@ -55,9 +55,9 @@ on_ok (Ok done) f a = f a
 on_ok (Err failed) f a = tt
 
 -- more attempts are appended
-tried_some : (told : List Try) (tries : List Try) → tried_all (Some told) tries ≡ Some (told ++ tries)
-tried_some told [] = ap (λ (ts : List Try). Some ts) (sym (append-nil told))
-tried_some told (t ∷ tries) = tried_some (told ++ t ∷ []) tries ∙ ap (λ (ts : List Try). Some ts) (append_assoc told (t ∷ []) tries)
+attempted_some : (observed : List Try) (attempts : List Try) → attempted_all (Some observed) attempts ≡ Some (observed ++ attempts)
+attempted_some observed [] = ap (λ (ts : List Try). Some ts) (sym (append-nil observed))
+attempted_some observed (t ∷ attempts) = attempted_some (observed ++ t ∷ []) attempts ∙ ap (λ (ts : List Try). Some ts) (append_assoc observed (t ∷ []) attempts)
 
 -- a number with a positive count is in the list
 contains_at : (x : ℕ) (xs : List ℕ) → 0 < times x xs → Contains xs x
@@ -66,7 +66,7 @@ contains_at x xs some_here =
     subst (λ (ys : List ℕ). Contains ys x) (sym cut.2) (Contains-append_right cut.0 (x ∷ cut.1) x (Contains-get_or (x ∷ cut.1) 0 x (omega arith)))
 
 module _ (parts : Parts) (plan : IsPlan parts) (todo_is : parts.todo ≡ run_ids parts.job parts.opening parts.job.setting.budget) (every_is : parts.save_every ≡ parts.job.setting.save_every)
-    (ours_law : CheckpointsAreOurs) (hold : crew.SavesHoldParts) where
+    (ours_law : CheckpointsAreOurs) (hold : pool.SavesHoldParts) where
   abbrev job : Job
   job = parts.job
 
@@ -91,7 +91,7 @@ module _ (parts : Parts) (plan : IsPlan parts) (todo_is : parts.todo ≡ run_ids
     is_found o is,
   )
 
-  holds_part : (count : ℕ) (saved : List Outcome) → crew.HoldsOpeningAndPart parts count saved → HoldsPart job opening count saved
+  holds_part : (count : ℕ) (saved : List Outcome) → pool.HoldsOpeningAndPart parts count saved → HoldsPart job opening count saved
   holds_part count saved h = record { each = λ k d inside. of_desk _ (h.each k d inside); opening_kept = h.opening_kept; counted = h.counted }
 
   part_fits : (part : List Entry) → ((id : ℕ) → times id (ids_of part) ≤ times id parts.todo) → IsTrue (list_all (fits job) (saved_of part))
@@ -109,7 +109,7 @@ module _ (parts : Parts) (plan : IsPlan parts) (todo_is : parts.todo ≡ run_ids
     bytes_are = s.saved.bytes;
     sound = s.saved.sound;
     slot_is = read_as generation s.part slot s.of_todo s.saved;
-    holds = holds_part count (saved_of s.part) (subst (λ (n : ℕ). crew.HoldsOpeningAndPart parts n (saved_of s.part)) s.counted (hold parts s.part plan s.of_todo));
+    holds = holds_part count (saved_of s.part) (subst (λ (n : ℕ). pool.HoldsOpeningAndPart parts n (saved_of s.part)) s.counted (hold parts s.part plan s.of_todo));
   }
 
   -- ---- a slot is unchanged
@@ -178,40 +178,40 @@ module _ (parts : Parts) (plan : IsPlan parts) (todo_is : parts.todo ≡ run_ids
     holds = holds_part (length s.part) (saved_of s.part) (hold parts s.part plan s.of_todo);
   }
 
-  module _ (right : crew.RunTriesAreRight) (tries : List Try) (turn : AreInTurn job (job_digest job) parts.place.slot parts.place.generation tries) (each : All (IsRunTry parts) tries)
-      (posted : List Entry) (all : IsPermutation (ids_of posted) parts.todo) (in_order : AreSavesOf job opening parts.save_every parts.place (ids_of posted) tries)
-      (faults_now : ℕ) (covered : min (parts.keeper.save_faults + failed_of tries) (2 ^ 64 - 1) ≤ faults_now) where
-    exactly : (p : Pair) → IsAt p → AreSavesOf job opening job.setting.save_every (first_place job p) (ids_of posted) tries
+  module _ (right : pool.RunAttemptsAreRight) (attempts : List Try) (turn : AreInTurn job (job_digest job) parts.place.slot parts.place.generation attempts) (each : All (IsRunTry parts) attempts)
+      (posted : List Entry) (all : IsPermutation (ids_of posted) parts.todo) (in_order : AreSavesOf job opening parts.save_every parts.place (ids_of posted) attempts)
+      (faults_now : ℕ) (covered : min (parts.keeper.save_faults + failed_of attempts) (2 ^ 64 - 1) ≤ faults_now) where
+    exactly : (p : Pair) → IsAt p → AreSavesOf job opening job.setting.save_every (first_place job p) (ids_of posted) attempts
     exactly p at =
-        subst (λ (x : ℕ × Place). AreSavesOf job opening x.0 x.1 (ids_of posted) tries) (λ i. (every_is i, record { slot = (at i).0; generation = (at i).1 })) in_order
+        subst (λ (x : ℕ × Place). AreSavesOf job opening x.0 x.1 (ids_of posted) attempts) (λ i. (every_is i, record { slot = (at i).0; generation = (at i).1 })) in_order
 
-    tries_of : (p : Pair) → IsAt p → (told now : List Try) → now ≡ told ++ tries → TriesOf job opening p parts.keeper.save_faults faults_now told now
-    tries_of p at told now is = record {
-      tries = tries;
+    attempts_of : (p : Pair) → IsAt p → (observed now : List Try) → now ≡ observed ++ attempts → AttemptsOf job opening p parts.keeper.save_faults faults_now observed now
+    attempts_of p at observed now is = record {
+      attempts = attempts;
       appended = is;
-      in_turn = subst (λ (x : ℕ × ℕ). AreInTurn job (job_digest job) x.0 x.1 tries) at turn;
+      in_turn = subst (λ (x : ℕ × ℕ). AreInTurn job (job_digest job) x.0 x.1 attempts) at turn;
       each = λ k d inside. of_try _ (each k d inside);
       exact = record { walked = ids_of posted; all_walked = subst (IsPermutation (ids_of posted)) todo_is all; exactly = exactly p at };
       covered = covered;
       right = λ opening_right k d inside. right parts _ plan opening_right (each k d inside);
     }
 
-    tries_by : (p : Pair) → IsAt p → (a b : Option (List Try)) → b ≡ tried_all a tries → IfBothTold a b (TriesOf job opening p parts.keeper.save_faults faults_now)
-    tries_by p at None b is = tt
-    tries_by p at (Some told) None is = none_not (sym (tried_some told tries) ∙ sym is)
+    attempts_by : (p : Pair) → IsAt p → (a b : Option (List Try)) → b ≡ attempted_all a attempts → IfBothObserved a b (AttemptsOf job opening p parts.keeper.save_faults faults_now)
+    attempts_by p at None b is = tt
+    attempts_by p at (Some observed) None is = none_not (sym (attempted_some observed attempts) ∙ sym is)
       where
-        none_not : ◌≡◌ {A = Option (List Try)} (Some (told ++ tries)) None → ⊥
+        none_not : ◌≡◌ {A = Option (List Try)} (Some (observed ++ attempts)) None → ⊥
         none_not h = cc
-    tries_by p at (Some told) (Some now) is = tries_of p at told now (same_list (is ∙ tried_some told tries))
+    attempts_by p at (Some observed) (Some now) is = attempts_of p at observed now (same_list (is ∙ attempted_some observed attempts))
       where
-        same_list : ◌≡◌ {A = Option (List Try)} (Some now) (Some (told ++ tries)) → now ≡ told ++ tries
+        same_list : ◌≡◌ {A = Option (List Try)} (Some now) (Some (observed ++ attempts)) → now ≡ observed ++ attempts
         same_list h = cc
 
-    tries_told : (slots slots_now : Option Pair) (a b : Option (List Try)) (loads loads_now : LoadFaults) → IfTold slots IsAt → b ≡ tried_all a tries
-        → TriesTold job opening (record { slots = slots; tried = a; load_faults = loads; save_faults = parts.keeper.save_faults })
-        (record { slots = slots_now; tried = b; load_faults = loads_now; save_faults = faults_now })
-    tries_told None slots_now a b loads loads_now at is = tt
-    tries_told (Some p) slots_now a b loads loads_now at is = tries_by p at a b is
+    attempts_observed : (slots slots_now : Option Pair) (a b : Option (List Try)) (loads loads_now : LoadFaults) → IfObserved slots IsAt → b ≡ attempted_all a attempts
+        → AttemptsObserved job opening (record { slots = slots; attempted = a; load_faults = loads; save_faults = parts.keeper.save_faults })
+        (record { slots = slots_now; attempted = b; load_faults = loads_now; save_faults = faults_now })
+    attempts_observed None slots_now a b loads loads_now at is = tt
+    attempts_observed (Some p) slots_now a b loads loads_now at is = attempts_by p at a b is
 
 -- ---- the whole result
 
@@ -235,8 +235,8 @@ module _ (parts : Parts) (keeper_now : Kept) (sorted : List Outcome) (result : R
       ∙ by_id-full mapped parts.job parts.opening (booked parts h.posted) parts.todo budget (rising_apart parts.opening fit.rising) absent ids moved_all)
       (IsPermutation-trans sorted (booked parts h.posted) _ (IsPermutation-sym (booked parts h.posted) sorted h.sorted_all) moved_all) h.rising
 
-  pub saves_last : CheckpointsAreOurs → crew.SavesHoldParts → crew.RunTriesAreRight → parts.save_every ≡ parts.job.setting.save_every
-      → IfTold parts.keeper.slots (λ p. (parts.place.slot, parts.place.generation) ≡ place_of parts.job p) → sorted ≡ full_of parts.job parts.opening
+  pub saves_last : CheckpointsAreOurs → pool.SavesHoldParts → pool.RunAttemptsAreRight → parts.save_every ≡ parts.job.setting.save_every
+      → IfObserved parts.keeper.slots (λ p. (parts.place.slot, parts.place.generation) ≡ place_of parts.job p) → sorted ≡ full_of parts.job parts.opening
       → SavesLast parts.job parts.opening parts.keeper keeper_now result
   saves_last ours_law hold right every_is placed whole =
       let turns = on_ok result
@@ -249,12 +249,12 @@ module _ (parts : Parts) (keeper_now : Kept) (sorted : List Outcome) (result : R
         newest_is = on_ok result (newest_known parts.keeper.slots keeper_now.slots placed) turns;
         cause = h.cause;
         loads = h.loads;
-        tried = tries_told parts h.plan todo_is every_is ours_law hold right h.tries h.are_tries.in_turn h.are_tries.each h.posted h.all h.in_order keeper_now.save_faults h.covered
-            parts.keeper.slots keeper_now.slots parts.keeper.tried keeper_now.tried parts.keeper.load_faults keeper_now.load_faults placed h.tried;
+        attempted = attempts_observed parts h.plan todo_is every_is ours_law hold right h.attempts h.are_attempts.in_turn h.are_attempts.each h.posted h.all h.in_order keeper_now.save_faults h.covered
+            parts.keeper.slots keeper_now.slots parts.keeper.attempted keeper_now.attempted parts.keeper.load_faults keeper_now.load_faults placed h.attempted;
       }
     where
-      newest_known : (a b : Option Pair) → IfTold a (λ p. (parts.place.slot, parts.place.generation) ≡ place_of parts.job p) → IfBothTold a b (SavesInTurn parts.job parts.opening)
-          → IfBothTold a b (λ p q. IsNewest parts.job (full_of parts.job parts.opening) q)
+      newest_known : (a b : Option Pair) → IfObserved a (λ p. (parts.place.slot, parts.place.generation) ≡ place_of parts.job p) → IfBothObserved a b (SavesInTurn parts.job parts.opening)
+          → IfBothObserved a b (λ p q. IsNewest parts.job (full_of parts.job parts.opening) q)
       newest_known None b at s = tt
       newest_known (Some p) None at s = s
       newest_known (Some p) (Some q) at s = newest_in parts h.plan todo_is every_is ours_law hold p q at s

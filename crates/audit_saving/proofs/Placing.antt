@@ -1,6 +1,6 @@
 -- The place of a run's saves.
 use Rattle.std.proofs.Common.{◌≡◌, ℕ, zero, suc, ◌≤◌, Bool, true, false, Option, Some, None, refl, sym, arith}
-use Rattle.audit_model.specs.Told.{IfTold}
+use Rattle.audit_model.specs.Observed.{IfObserved}
 use Rattle.audit_model.specs.Pair.{Pair}
 use Rattle.audit_model.specs.Job.{Job}
 use Rattle.audit_input.specs.declared.opening.Target.{Target}
@@ -23,21 +23,21 @@ saves_every job is = by job.setting.save_every refl
     by (suc n) e = omega arith
 
 -- the place of the first save, if the slots are known
-pub place_told_for : (job : Job) (slots : Option Pair) (t : Target) → IsTargetFor job slots t → IfTold slots (λ p. place_of job p ≡ (t.place.slot, t.place.generation))
-place_told_for job None t placed = tt
-place_told_for job (Some p) t placed = sym placed.told
+pub place_observed_for : (job : Job) (slots : Option Pair) (t : Target) → IsTargetFor job slots t → IfObserved slots (λ p. place_of job p ≡ (t.place.slot, t.place.generation))
+place_observed_for job None t placed = tt
+place_observed_for job (Some p) t placed = sym placed.observed
 
 -- the first save of the run goes to the target's place
 pub first_place_for : (job : Job) (slots : Option Pair) (t : Target) → IsTargetFor job slots t → IsFirstPlace job slots t.place
-first_place_for job slots t placed = record { slot = placed.slot_below; generation = placed.generation_below; told = by slots placed.told }
+first_place_for job slots t placed = record { slot = placed.slot_below; generation = placed.generation_below; observed = by slots placed.observed }
   where
-    by : (slots : Option Pair) → IfTold slots (λ p. (t.place.slot, t.place.generation) ≡ place_of job p) → IfTold slots (λ p. t.place ≡ first_place job p)
-    by None told = tt
-    by (Some p) told = λ i. record { slot = (told i).0; generation = (told i).1 }
+    by : (slots : Option Pair) → IfObserved slots (λ p. (t.place.slot, t.place.generation) ≡ place_of job p) → IfObserved slots (λ p. t.place ≡ first_place job p)
+    by None observed = tt
+    by (Some p) observed = λ i. record { slot = (observed i).0; generation = (observed i).1 }
 
 -- the place matches the known slots
-pub placed_known : (job : Job) (slots : Option Pair) (t : Target) → IsTargetFor job slots t → IfTold slots (λ p. (t.place.slot, t.place.generation) ≡ place_of job p)
-placed_known job slots t placed = placed.told
+pub placed_known : (job : Job) (slots : Option Pair) (t : Target) → IsTargetFor job slots t → IfObserved slots (λ p. (t.place.slot, t.place.generation) ≡ place_of job p)
+placed_known job slots t placed = placed.observed
 
 -- in a run that saves, no test stops early
 pub saved_plain : (job : Job) → IsRunJob job → saves job.setting ≡ true → job.setting.stop ≡ 0

@@ -8,7 +8,7 @@ use Rattle.audit_model.specs.declared.outcome.Outcome.{Outcome}
 use Rattle.audit_model.specs.Job.{Job}
 use Rattle.audit_model.specs.Below.{map_below}
 use Rattle.audit_model.specs.Run.{total}
-use Rattle.audit_model.specs.Serially.{serial_told}
+use Rattle.audit_model.specs.Serially.{serial_observed}
 use Rattle.audit_model.specs.Trajectory.{Draws, outcome, sequence}
 use Rattle.audit_model.proofs.Resumed.{full_is_sequence}
 use Rattle.audit_statement.specs.Draw.{draw}
@@ -21,7 +21,7 @@ use Rattle.audit_laws.specs.Runs.{AreAll}
 use Rattle.audit_laws.proofs.Running.{leaves_none}
 use Rattle.audit_laws.proofs.Starting.{every_id, none_right}
 use Rattle.audit_walks.specs.declared.found.Found.{Found}
-use Rattle.audit_walks.specs.Found.{HasFound, TellsAll, listed_in, told_in}
+use Rattle.audit_walks.specs.Found.{HasFound, TellsAll, listed_in, observed_in}
 use Rattle.audit_walks.proofs.Telling.{length-listed}
 use Rattle.audit_saving.specs.Plans.{RunsAlone}
 
@@ -85,9 +85,9 @@ module _ (job : Job) (by : RunsAlone job) where
       all.full ∙ whole
 
   -- the number of outcomes is the number of trajectories
-  all_told : (outcomes : List Outcome) → AreAll job [] outcomes → total job ≤ length outcomes
+  all_observed : (outcomes : List Outcome) → AreAll job [] outcomes → total job ≤ length outcomes
   unfolding sequence
-  all_told outcomes all = omega (arith, ap length (all_are_one outcomes all), length-below (total job) (outcome job (draw job.setting.key)))
+  all_observed outcomes all = omega (arith, ap length (all_are_one outcomes all), length-below (total job) (outcome job (draw job.setting.key)))
 
   -- no outcome of the report is missing
   pub none_short : (f : Found) → HasFound job [] f → reported job ≤ f.listed
@@ -96,11 +96,11 @@ module _ (job : Job) (by : RunsAlone job) where
       by_order : (f.listed < reported job) ⊎ (reported job ≤ f.listed) → reported job ≤ f.listed
       by_order (inl less) =
           let left = has.short less in
-          absurd (omega (arith, less, left.due, length-listed f has.tellable.enough, all_told (listed_in f) left.all))
+          absurd (omega (arith, less, left.due, length-listed f has.tellable.enough, all_observed (listed_in f) left.all))
       by_order (inr enough) = enough
 
   -- the report on the outcomes is the report of one thread
-  pub thread_told : (f : Found) → TellsAll job [] f → report job (listed_in f) (told_in f) (serial_told job (draw job.setting.key)) ≡ thread_report job (draw job.setting.key)
+  pub thread_observed : (f : Found) → TellsAll job [] f → report job (listed_in f) (observed_in f) (serial_observed job (draw job.setting.key)) ≡ thread_report job (draw job.setting.key)
   unfolding thread_report
-  thread_told f tells =
+  thread_observed f tells =
       tells.same ∙ ap (λ (os : List Outcome). full_report job (draw job.setting.key) os) (all_are_one tells.outcomes tells.all)

@@ -15,7 +15,7 @@ use Rattle.report.specs.declared.ended.Ended.{Ended}
 use Rattle.report.specs.declared.ended.Ended.TheVariants as ended
 use Rattle.audit_statement.specs.Endings.{AppendsPart}
 use Rattle.audit_laws.specs.Runs.{IsRunJob}
-use Rattle.audit_walks.specs.Means.{IsBench, IsMeansFor}
+use Rattle.audit_walks.specs.Resources.{IsJudgeSet, IsResourcesFor}
 use Rattle.audit_saving.specs.declared.plans.PlanWalk.{PlanWalk}
 use Rattle.audit_saving.specs.Paired.{ArePaired}
 
@@ -34,15 +34,15 @@ abbrev pub walk_pair : {J : Type 0} → PlanWalk J → List ℕ × Job
 walk_pair w = pair_of w.plan
 
 -- each plan has its own constraints
-abbrev pub AreBenches : {J A : Type 0} → (J → Judging) → List Named → List (Vec J A) → Type 0
-AreBenches by named benches = ArePaired (λ n judges. IsBench by n.job judges) named benches
+abbrev pub AreJudgeSets : {J A : Type 0} → (J → Judging) → List Named → List (Vec J A) → Type 0
+AreJudgeSets by named judge_sets = ArePaired (λ n judges. IsJudgeSet by n.job judges) named judge_sets
 
 module _ {J : Type 0} where
   -- a plan that runs alone, and the resources to walk it
   pub record IsWalkOf (w : PlanWalk J) : Type 0 where
     pub run : RunsAlone w.plan.job
-    pub means : IsMeansFor w.plan.job w.means
-    pub fresh : w.means.ready.book.outcomes ≡ []
+    pub resources : IsResourcesFor w.plan.job w.resources
+    pub fresh : w.resources.ready.book.outcomes ≡ []
 
   -- resources for each of these jobs, in order
   pub record AreWalksFor (jobs : Jobs) (walks : List (PlanWalk J)) : Type 0 where

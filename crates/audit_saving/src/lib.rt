@@ -8,4 +8,4 @@ pub mod plans;
 pub mod saving;
 
 pub use plans::report_plans;
-pub use saving::{SavedMeans, finish_saved, make_saved_means};
+pub use saving::{SavedResources, finish_saved, make_saved_resources};

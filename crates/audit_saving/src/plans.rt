@@ -5,8 +5,8 @@ ghost use Rattle.report.specs.Said.{WritesAllOf};
 ghost use Rattle.audit_statement.specs.Draw.{draw};
 ghost use Rattle.plan_csv.specs.Named.{jobs_of, pair_of};
 ghost use Rattle.audit_statement.specs.Report.{plan_text, plans_text, thread_report};
-ghost use Rattle.audit_walks.specs.Means.{IsBench, IsMeansFor};
-ghost use Rattle.audit_saving.specs.Plans.{AreBenches, AreWalksFor, IsWalkOf, ReportsPlans, RunsAlone, plan_title, walk_pair};
+ghost use Rattle.audit_walks.specs.Resources.{IsJudgeSet, IsResourcesFor};
+ghost use Rattle.audit_saving.specs.Plans.{AreJudgeSets, AreWalksFor, IsWalkOf, ReportsPlans, RunsAlone, plan_title, walk_pair};
 
 use audit_io::gate::Gate;
 use audit_io::sink::Sink;
@@ -14,7 +14,7 @@ use audit_io::source::Failed;
 use audit_model::buffers::Bytes;
 use audit_model::memory::Memory;
 use audit_walks::ending::text_of;
-use audit_walks::means::{Means, make_means};
+use audit_walks::resources::{Resources, make_resources};
 use audit_walks::walking::walk;
 use claim_counter::runtime::Runtime;
 use flip_guard::judge::Judge;
@@ -29,18 +29,18 @@ use std::thread::Threads;
 #[derive(Drop)]
 pub struct PlanWalk<J: Judge> {
     pub plan: Named,
-    pub means: Means<J>,
+    pub resources: Resources<J>,
 }
 
 // Makes the resources of one plan. `judges` has a constraint for each worker and one for the serial test.
 fn make_walk<J: Judge>(alloc: Global, plan: Named, judges: Vec<J>) -> Result<PlanWalk<J>, Memory>
     requires run { RunsAlone plan.job }
-    requires judges { IsBench J.judging plan.job judges }
+    requires judges { IsJudgeSet J.judging plan.job judges }
     ensures walk { IfOk result (λ w. IsWalkOf w) }
     ensures pair { IfOk result (λ w. walk_pair w ≡ pair_of plan) }
 {
-    match make_means(alloc, &plan.job, &[], judges) {
-        Ok(means) => Ok(PlanWalk { plan, means }),
+    match make_resources(alloc, &plan.job, &[], judges) {
+        Ok(resources) => Ok(PlanWalk { plan, resources }),
         Err(_) => {
             drop(plan);
             Err(Memory)
@@ -55,7 +55,7 @@ fn make_walks<J: Judge>(
     mut judges: Vec<Vec<J>>,
 ) -> Result<Vec<PlanWalk<J>>, Memory>
     requires plans { All (λ n. RunsAlone n.job) plans.items }
-    requires judges { AreBenches J.judging plans.items judges.items }
+    requires judges { AreJudgeSets J.judging plans.items judges.items }
     ensures { IfOk result (λ w. AreWalksFor (jobs_of plans.items) w.items) }
 {
     let mut walks = Vec::new(alloc);
@@ -83,18 +83,18 @@ fn write_title<K: Sink>(out: &mut K, name: &str) -> Result<(), Failed>
 fn walk_plan<R: Threads + Sync, J: Judge + Send, G: Gate + Sync>(
     rt: &Runtime<'_, R, G>,
     job: &Job,
-    means: Means<J>,
+    resources: Resources<J>,
 ) -> Bytes
     requires run { RunsAlone job.now }
-    requires means { IsMeansFor job.now means }
-    requires fresh { means.ready.book.outcomes ≡ [] }
+    requires resources { IsResourcesFor job.now resources }
+    requires fresh { resources.ready.book.outcomes ≡ [] }
     ensures { result.items ≡ thread_report job.now (draw job.now.setting.key) }
 {
-    let Means {
+    let Resources {
         ready,
         workers,
         tester,
-    } = means;
+    } = resources;
     let found = walk(rt, job, ready, workers);
     text_of(job, found, tester)
 }
@@ -117,8 +117,8 @@ fn report_plan<R: Threads + Sync, K: Sink, J: Judge + Send, G: Gate + Sync>(
     requires { IsWalkOf walk }
     ensures { WritesAllOf (K.state out.old) (K.state out.new) (plan_text (draw walk.plan.job.setting.key) (walk_pair walk)) result }
 {
-    let PlanWalk { plan, means } = walk;
-    let text = walk_plan(rt, &plan.job, means);
+    let PlanWalk { plan, resources } = walk;
+    let text = walk_plan(rt, &plan.job, resources);
     let written = write_plan(out, plan.name.as_str(), text.as_slice());
     drop(plan);
     written
@@ -152,7 +152,7 @@ pub fn report_plans<R: Threads + Sync, K: Sink, J: Judge + Send, G: Gate + Sync>
     out: &mut K,
 ) -> Ended
     requires plans { All (λ n. RunsAlone n.job) plans.items }
-    requires judges { AreBenches J.judging plans.items judges.items }
+    requires judges { AreJudgeSets J.judging plans.items judges.items }
     ensures { (key : List ℕ) → All (λ n. n.job.setting.key ≡ key) plans.items → ReportsPlans key (jobs_of plans.items) (K.state out.old) (K.state out.new) result }
 {
     match make_walks(rt.alloc, plans, judges) {

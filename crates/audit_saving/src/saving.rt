@@ -7,11 +7,11 @@ ghost use Rattle.audit_statement.specs.Endings.{IsOpening, saves};
 ghost use Rattle.audit_statement.specs.Due.{LetsSavesOf};
 ghost use Rattle.audit_laws.specs.Calls.{Finishes};
 ghost use Rattle.audit_input.specs.Opening.{IsTargetFor};
-ghost use Rattle.audit_walks.specs.Means.{IsBench};
-ghost use Rattle.audit_walks.specs.Ready.{IsReadyFor, IsStartOf};
+ghost use Rattle.audit_walks.specs.Resources.{IsJudgeSet};
+ghost use Rattle.audit_walks.specs.RunBuffers.{AreBuffersFor, IsStartOf};
 ghost use Rattle.audit_walks.specs.Serially.{IsTester};
-ghost use Rattle.audit_saving.specs.Saving.{IsSavedMeansFor};
-ghost use Rattle.tally_desk.specs.Crews.{IsDeskCrew};
+ghost use Rattle.audit_saving.specs.Saving.{IsSavedResourcesFor};
+ghost use Rattle.tally_desk.specs.Pools.{IsDeskPool};
 
 use audit_input::opening::Target;
 use audit_io::gate::Gate;
@@ -22,7 +22,7 @@ use audit_model::memory::Memory;
 use audit_model::outcome::Outcome;
 use audit_walks::ending::end_run;
 use audit_walks::found::Found;
-use audit_walks::ready::{Ready, make_ready};
+use audit_walks::ready::{RunBuffers, make_buffers};
 use audit_walks::serially::make_tester;
 use ckpt_store::laws::checkpoints_are_ours;
 use claim_counter::runtime::Runtime;
@@ -33,76 +33,76 @@ use report::ended::Ended;
 use std::alloc::Global;
 use std::sync::Wait;
 use std::thread::Threads;
-use tally_desk::crew::Crew as DeskCrew;
-use tally_desk::handing::{DeskPlan, Outset, Refused};
-use tally_desk::ran::{Ran, run_over};
-use tally_desk::run_laws::{run_tries_are_right, saves_hold_parts};
+use tally_desk::handing::{DeskPlan, InitialState, Refused};
+use tally_desk::pool::DeskPool;
+use tally_desk::ran::{RunResult, run_over};
+use tally_desk::run_laws::{run_attempts_are_right, saves_hold_parts};
 use walker::walker::Walker;
 
 /// The resources of a run that saves: the initial state, the place of the first save, the workers and a checkpoint
 /// buffer. The walker of the serial test is there if the test was requested.
 #[derive(Drop)]
-pub struct SavedMeans<J: Judge> {
-    pub ready: Ready,
+pub struct SavedResources<J: Judge> {
+    pub ready: RunBuffers,
     pub target: Target,
-    pub crew: DeskCrew<J>,
+    pub pool: DeskPool<J>,
     pub room: Bytes,
     pub tester: Option<Walker<J>>,
 }
 
 // Makes the initial state of a run, and a buffer for the checkpoint of all outcomes.
-fn make_rooms(alloc: Global, job: &Job, outcomes: &[Outcome]) -> Result<(Ready, Bytes), Memory>
+fn make_rooms(alloc: Global, job: &Job, outcomes: &[Outcome]) -> Result<(RunBuffers, Bytes), Memory>
     requires { IsStartOf job.now outcomes.now }
-    ensures ready { IfOk result (λ r. IsReadyFor job.now r.0) }
+    ensures ready { IfOk result (λ r. AreBuffersFor job.now r.0) }
     ensures outcomes { IfOk result (λ r. r.0.book.outcomes ≡ outcomes.now) }
     ensures room { IfOk result (λ r. 84 + 80 * total job.now ≤ length r.1.items + r.1.spare) }
 {
     let room = Bytes::with_room(alloc, 84 + 80 * job.total() as usize)?;
-    match make_ready(alloc, job, outcomes) {
+    match make_buffers(alloc, job, outcomes) {
         Ok(ready) => Ok((ready, room)),
         Err(_) => Err(Memory),
     }
 }
 
 // Makes a worker for each constraint but the last, and the walker of the serial test with the last.
-fn hire<J: Judge>(
+fn make_walkers<J: Judge>(
     alloc: Global,
     job: &Job,
     mut judges: Vec<J>,
-) -> Result<(DeskCrew<J>, Option<Walker<J>>), Memory>
-    requires { IsBench J.judging job.now judges }
-    ensures crew { IfOk result (λ w. IsDeskCrew job.now job.now.setting.workers w.0) }
+) -> Result<(DeskPool<J>, Option<Walker<J>>), Memory>
+    requires { IsJudgeSet J.judging job.now judges }
+    ensures pool { IfOk result (λ w. IsDeskPool job.now job.now.setting.workers w.0) }
     ensures tester { IfOk result (λ w. IsTester job.now w.1) }
 {
     let Some(judge) = judges.pop() else {
         unreachable!()
     };
-    let crew = tally_desk::crew::recruit(alloc, job, judges)?;
+    let pool = tally_desk::pool::make_pool(alloc, job, judges)?;
     let tester = make_tester(alloc, job, judge)?;
-    Ok((crew, tester))
+    Ok((pool, tester))
 }
 
 /// Makes the resources of a run that starts with these outcomes and saves at `target`. `judges` has a constraint for
 /// each worker and one for the serial test. The only error is out of memory.
-pub fn make_saved_means<J: Judge>(
+pub fn make_saved_resources<J: Judge>(
     alloc: Global,
     job: &Job,
     outcomes: &[Outcome],
     target: Target,
     judges: Vec<J>,
-) -> Result<SavedMeans<J>, Memory>
+) -> Result<SavedResources<J>, Memory>
     requires start { IsStartOf job.now outcomes.now }
-    requires judges { IsBench J.judging job.now judges }
-    ensures means { IfOk result (IsSavedMeansFor job.now) }
+    requires judges { IsJudgeSet J.judging job.now judges }
+    ensures resources { IfOk result (IsSavedResourcesFor job.now) }
     ensures outcomes { IfOk result (λ m. m.ready.book.outcomes ≡ outcomes.now) }
     ensures target { IfOk result (λ m. m.target ≡ target) }
 {
     let (ready, room) = make_rooms(alloc, job, outcomes)?;
-    let (crew, tester) = hire(alloc, job, judges)?;
-    Ok(SavedMeans {
+    let (pool, tester) = make_walkers(alloc, job, judges)?;
+    Ok(SavedResources {
         ready,
         target,
-        crew,
+        pool,
         room,
         tester,
     })
@@ -116,28 +116,34 @@ pub fn finish_saved<
     C: Keeper + Send,
     J: Judge + Send,
     G: Gate + Sync,
->(rt: &Runtime<'_, R, G>, job: &Job, means: SavedMeans<J>, out: &mut K, keeper: C) -> (Ended, C)
+>(
+    rt: &Runtime<'_, R, G>,
+    job: &Job,
+    resources: SavedResources<J>,
+    out: &mut K,
+    keeper: C,
+) -> (Ended, C)
     requires saved { saves job.now.setting ≡ true }
-    requires placed { IsTargetFor job.now (C.state keeper).slots means.target }
-    requires opened { IsOpening job.now (C.state keeper).slots means.ready.book.outcomes }
-    requires means { IsSavedMeansFor job.now means }
+    requires placed { IsTargetFor job.now (C.state keeper).slots resources.target }
+    requires opened { IsOpening job.now (C.state keeper).slots resources.ready.book.outcomes }
+    requires resources { IsSavedResourcesFor job.now resources }
     requires lets { LetsSavesOf C.lets job.now (C.state keeper) }
     ensures { Finishes job.now (K.state out.old) (K.state out.new)
         (C.state keeper) (C.state result.1) result.0 }
 {
     // Called for their contracts: save attempts are correct and belong to the job, and the outcomes by id are complete.
-    run_tries_are_right();
+    run_attempts_are_right();
     saves_hold_parts();
     checkpoints_are_ours();
     outcomes_by_id_are_mapped();
-    let SavedMeans {
+    let SavedResources {
         ready,
         target,
-        crew,
+        pool,
         mut room,
         tester,
-    } = means;
-    let Ready {
+    } = resources;
+    let RunBuffers {
         book,
         todo,
         mut sorted,
@@ -149,15 +155,15 @@ pub fn finish_saved<
         save_every: job.setting().save_every,
         place: target.place,
     };
-    let outset = Outset {
+    let initial_state = InitialState {
         plan,
         todo,
         book,
         keeper,
     };
-    match run_over(rt, job, outset, crew, &mut sorted, &mut room) {
+    match run_over(rt, job, initial_state, pool, &mut sorted, &mut room) {
         Ok(ran) => {
-            let Ran { keeper, saved } = ran;
+            let RunResult { keeper, saved } = ran;
             let found = Found::all(sorted, text);
             let finished = end_run(job, found, tester, saved, out);
             (finished.ended(), keeper)

@@ -18,7 +18,7 @@ use Rattle.audit_statement.specs.Note.{Ending, too_many_bytes, bad_graph, bad_re
 use Rattle.audit_statement.specs.Reading.{reading}
 use Rattle.audit_statement.specs.Regions.{regions_by}
 use Rattle.audit_statement.specs.Words.{setting_of}
-use Rattle.audit_model.specs.Told.{IfTold}
+use Rattle.audit_model.specs.Observed.{IfObserved}
 
 -- the maximum number of bytes of a graph
 abbrev pub most_bytes : ℕ
@@ -65,7 +65,7 @@ judged setting bytes = from_bytes setting bytes (nat_lt most_bytes (length bytes
 pub record IsAccepted (words : List (List ℕ)) (left : Option (List ℕ)) (job : Job) : Type 0 where
   pub words_are : setting_of words ≡ Ok job.setting
   pub bytes : List ℕ
-  pub given : IfTold (input_of job.setting left) (λ input. input ≡ bytes)
+  pub given : IfObserved (input_of job.setting left) (λ input. input ≡ bytes)
   pub judged_so : judged job.setting bytes ≡ Ok job
 
 -- the arguments are accepted, and the graph or its plan is refused with this ending
@@ -73,7 +73,7 @@ pub record IsRefused (words : List (List ℕ)) (left : Option (List ℕ)) (endin
   pub setting : Setting
   pub words_are : setting_of words ≡ Ok setting
   pub bytes : List ℕ
-  pub given : IfTold (input_of setting left) (λ input. input ≡ bytes)
+  pub given : IfObserved (input_of setting left) (λ input. input ≡ bytes)
   pub judged_so : judged setting bytes ≡ Err ending
 
 -- empty texts in place of columns

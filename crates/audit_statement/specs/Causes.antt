@@ -10,7 +10,7 @@ use Rattle.audit_statement.specs.Endings.{is_walking, TellsOpening, leaves_work,
 use Rattle.audit_statement.specs.World.{World}
 
 -- the arguments are accepted, and the bytes of the graph are observable
-pub record IsTold (words : List (List ℕ)) (before : World) (setting : Setting) (bytes : List ℕ) : Type 0 where
+pub record IsObserved (words : List (List ℕ)) (before : World) (setting : Setting) (bytes : List ℕ) : Type 0 where
   pub words_are : setting_of words ≡ Ok setting
   pub input : input_of setting before.source.bytes ≡ Some bytes
 
@@ -23,7 +23,7 @@ HasBudget true job before = (o : List Outcome) × TellsOpening job before.keeper
 pub record MayEndWell (words : List (List ℕ)) (before after : World) : Type 0 where
   pub job : Job
   pub bytes : List ℕ
-  pub told : IsTold words before job.setting bytes
+  pub observed : IsObserved words before job.setting bytes
   pub accepted : judged job.setting bytes ≡ Ok job
   pub budget : HasBudget (is_walking job.setting.command) job before
   pub reads : Rose before.source.faults after.source.faults → ⊥
@@ -38,7 +38,7 @@ IsComplete words before after status = MayEndWell words before after → (status
 -- the job of the arguments and of the observable bytes
 pub record IsTheJob (words : List (List ℕ)) (before : World) (job : Job) : Type 0 where
   pub bytes : List ℕ
-  pub told : IsTold words before job.setting bytes
+  pub observed : IsObserved words before job.setting bytes
   pub accepted : judged job.setting bytes ≡ Ok job
 
 -- a walking command finds initial outcomes, and walks fewer ids than are missing
@@ -51,7 +51,7 @@ pub record LeavesWork (words : List (List ℕ)) (before : World) : Type 0 where
   pub left : IsTrue (leaves_work job outcomes)
 
 -- a walking command is asked to resume, and the slots do not say how
-pub record LacksOpening (words : List (List ℕ)) (before : World) : Type 0 where
+pub record MissesOpening (words : List (List ℕ)) (before : World) : Type 0 where
   pub job : Job
   pub the_job : IsTheJob words before job
   pub walking : IsTrue (is_walking job.setting.command)
@@ -61,8 +61,8 @@ pub record LacksOpening (words : List (List ℕ)) (before : World) : Type 0 wher
 pub record HasCauses (words : List (List ℕ)) (before after : World) (status : ℕ) : Type 0 where
   pub one_only : status ≡ 1 → IsErr (setting_of words)
   pub one : IsErr (setting_of words) → (status ≡ 1) ⊎ (status ≡ 3)
-  pub two_only : (setting : Setting) (bytes : List ℕ) → IsTold words before setting bytes → status ≡ 2 → IsErr (judged setting bytes)
-  pub two : (setting : Setting) (bytes : List ℕ) → IsTold words before setting bytes → IsErr (judged setting bytes)
+  pub two_only : (setting : Setting) (bytes : List ℕ) → IsObserved words before setting bytes → status ≡ 2 → IsErr (judged setting bytes)
+  pub two : (setting : Setting) (bytes : List ℕ) → IsObserved words before setting bytes → IsErr (judged setting bytes)
       → (status ≡ 2) ⊎ (status ≡ 3) ⊎ (status ≡ 4)
   pub four_only : status ≡ 4 → IsReadFault words before after
   pub four : before.source.faults < after.source.faults → status ≡ 4
@@ -76,4 +76,4 @@ pub record HasCauses (words : List (List ℕ)) (before after : World) (status : 
   pub seven_only : status ≡ 7 → (done : ℕ) × ((all : ℕ) × IsStopped words before after done all)
   pub seven : LeavesWork words before → status ≢ 3 → status ≢ 4 → status ≢ 6 → status ≢ 9 → status ≡ 7
   pub eight_only : status ≡ 8 → IsSlotsFault words before after (λ job p. ⊤)
-  pub eight : LacksOpening words before → status ≢ 3 → status ≢ 4 → status ≢ 6 → status ≡ 8
+  pub eight : MissesOpening words before → status ≢ 3 → status ≢ 4 → status ≢ 6 → status ≡ 8

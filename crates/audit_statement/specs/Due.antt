@@ -4,8 +4,8 @@
 use Rattle.std.specs.Prelude.{◌≡◌, ℕ, ◌<◌, IsTrue, List, [], ◌∷◌, ◌++◌, Option}
 use Rattle.audit_model.specs.Pair.{Pair}
 use Rattle.audit_model.specs.State.{Kept}
-use Rattle.audit_model.specs.Told.{IfTold}
-use Rattle.audit_model.specs.Tries.{Try, tried_all}
+use Rattle.audit_model.specs.Observed.{IfObserved}
+use Rattle.audit_model.specs.Attempts.{Try, attempted_all}
 use Rattle.audit_model.specs.declared.outcome.Outcome.{Outcome}
 use Rattle.audit_model.specs.declared.place.Place.{Place}
 use Rattle.audit_model.specs.Job.{Job}
@@ -28,19 +28,19 @@ LetsCheckpoint lets k digest slot generation outcomes =
 -- In a run over these ids, the keeper permits each save that is due next. `told` are the save attempts before the run.
 -- A save is due next if the attempts since, followed by it, are saves so far.
 abbrev pub LetsRun : Lets → Option (List Try) → Job → List Outcome → ℕ → Place → List ℕ → Type 0
-LetsRun lets told job opening every place ids =
-    (k : Kept) (tries : List Try) (t : Try) → k.tried ≡ tried_all told tries → AreSavesSoFar job opening every place ids (tries ++ t ∷ []) → lets k t.slot t.bytes
+LetsRun lets observed job opening every place ids =
+    (k : Kept) (attempts : List Try) (t : Try) → k.attempted ≡ attempted_all observed attempts → AreSavesSoFar job opening every place ids (attempts ++ t ∷ []) → lets k t.slot t.bytes
 
 -- the place of a run's first save, if the slots that it finds are observable
 pub record IsFirstPlace (job : Job) (slots : Option Pair) (place : Place) : Type 0 where
   pub slot : place.slot < 2
   pub generation : place.generation < 3
-  pub told : IfTold slots (λ p. place ≡ first_place job p)
+  pub observed : IfObserved slots (λ p. place ≡ first_place job p)
 
 -- for a run of the job that finds the keeper in this state, it permits the run's saves
 abbrev pub LetsSavesOf : Lets → Job → Kept → Type 0
 LetsSavesOf lets job before = (opening : List Outcome) (place : Place) → IsTrue (saves job.setting) → IsOpening job before.slots opening → IsFirstPlace job before.slots place
-    → LetsRun lets before.tried job opening job.setting.save_every place (run_ids job opening job.setting.budget)
+    → LetsRun lets before.attempted job opening job.setting.save_every place (run_ids job opening job.setting.budget)
 
 -- The keeper permits the due saves of the run that the arguments and the source give, one after another. The slots at
 -- its start determine its initial outcomes and the first place. Each save is the checkpoint of the initial outcomes and

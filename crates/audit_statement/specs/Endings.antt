@@ -11,7 +11,7 @@ use Rattle.audit_model.specs.declared.setting.Setting.{Setting}
 use Rattle.audit_model.specs.Job.{Job}
 use Rattle.audit_model.specs.JobOf.{IsJob}
 use Rattle.audit_model.specs.Apart.{AllApart}
-use Rattle.audit_model.specs.Run.{total, has_id, lacking_ids, run_ids, full, fits, IsRight}
+use Rattle.audit_model.specs.Run.{total, has_id, pending_ids, run_ids, full, fits, IsRight}
 use Rattle.audit_model.specs.Trajectory.{outcome}
 use Rattle.audit_statement.specs.Checkpoint.{IsCheckpoint, checkpoint, job_digest}
 use Rattle.audit_model.specs.declared.place.Place.{Place}
@@ -25,11 +25,11 @@ use Rattle.audit_statement.specs.Slots.{Slot, other, ours, slot_of, opening, new
 use Rattle.audit_statement.specs.Words.{setting_of}
 use Rattle.audit_model.specs.Faults.{Rose}
 use Rattle.audit_model.specs.Pair.{Pair, stored}
-use Rattle.audit_model.specs.Tries.{Try}
+use Rattle.audit_model.specs.Attempts.{Try}
 use Rattle.audit_statement.specs.Accepted.{IsAccepted, IsRefused, columns_of, most_bytes}
 use Rattle.audit_statement.specs.Status.{status_of}
 use Rattle.audit_model.specs.State.{Kept, Stream}
-use Rattle.audit_model.specs.Told.{IfTold, IfBothTold}
+use Rattle.audit_model.specs.Observed.{IfObserved, IfBothObserved}
 use Rattle.audit_statement.specs.World.{World}
 
 -- ---- the features that the arguments ask for
@@ -68,7 +68,7 @@ passes test (Err f) = false
 -- some slots were seen, the keeper's if it is observable, and this holds of them
 pub record Saw (slots : Option Pair) (P : Pair → Type 0) : Type 0 where
   pub pair : Pair
-  pub same : IfTold slots (λ p. pair ≡ p)
+  pub same : IfObserved slots (λ p. pair ≡ p)
   pub holds : P pair
 
 -- the initial outcomes of a run that finds these slots, if it may start; none unless it resumes
@@ -93,8 +93,8 @@ pub record IsOpening (job : Job) (slots : Option Pair) (outcomes : List Outcome)
   pub fitting : IsTrue (list_all (fits job) outcomes)
 
 -- the number of ids missing in the initial outcomes
-abbrev pub lacking : Job → List Outcome → ℕ
-lacking job outcomes = length (lacking_ids job outcomes)
+abbrev pub pending : Job → List Outcome → ℕ
+pending job outcomes = length (pending_ids job outcomes)
 
 -- the number of ids that the run walks: missing ones of its part, up to its budget
 abbrev pub to_walk : Job → List Outcome → ℕ
@@ -102,7 +102,7 @@ to_walk job outcomes = length (run_ids job outcomes job.setting.budget)
 
 -- the run walks fewer ids than are missing
 abbrev pub leaves_work : Job → List Outcome → Bool
-leaves_work job outcomes = nat_lt (to_walk job outcomes) (lacking job outcomes)
+leaves_work job outcomes = nat_lt (to_walk job outcomes) (pending job outcomes)
 
 -- the initial outcomes, and those of the ids that the run takes
 abbrev pub full_of : Job → List Outcome → List Outcome
@@ -234,36 +234,36 @@ pub record IsTryOf (job : Job) (outcomes : List Outcome) (t : Try) : Type 0 wher
 -- in in this order, each once. A save was attempted after every `save_every` ids, and one of all at the end unless the
 -- last one was of all and succeeded. The first went to the place of these slots, each later one to the place after the
 -- last success.
-pub record AreRunSaves (job : Job) (outcomes : List Outcome) (p : Pair) (tries : List Try) : Type 0 where
+pub record AreRunSaves (job : Job) (outcomes : List Outcome) (p : Pair) (attempts : List Try) : Type 0 where
   pub walked : List ℕ
   pub all_walked : IsPermutation walked (run_ids job outcomes job.setting.budget)
-  pub exactly : AreSavesOf job outcomes job.setting.save_every (first_place job p) walked tries
+  pub exactly : AreSavesOf job outcomes job.setting.save_every (first_place job p) walked attempts
 
 -- The save attempts of a run over these slots, with their success. They are all that the keeper was asked for since,
 -- and exactly those of such a run. Each is a checkpoint of the job. The keeper's count covers the failures. If the
 -- initial outcomes are right, so are the saves.
-pub record TriesOf (job : Job) (outcomes : List Outcome) (p : Pair) (faults faults_now : ℕ) (told now : List Try) : Type 0 where
-  pub tries : List Try
-  pub appended : now ≡ told ++ tries
-  pub in_turn : AreInTurn job (job_digest job) (place_of job p).0 (place_of job p).1 tries
-  pub each : All (IsTryOf job outcomes) tries
-  pub exact : AreRunSaves job outcomes p tries
-  pub covered : min (faults + failed_of tries) (2 ^ 64 - 1) ≤ faults_now
-  pub right : IsRight job (draw job.setting.key) outcomes → All (λ t. IsRightSave job (draw job.setting.key) (job_digest job) t.bytes) tries
+pub record AttemptsOf (job : Job) (outcomes : List Outcome) (p : Pair) (faults faults_now : ℕ) (observed now : List Try) : Type 0 where
+  pub attempts : List Try
+  pub appended : now ≡ observed ++ attempts
+  pub in_turn : AreInTurn job (job_digest job) (place_of job p).0 (place_of job p).1 attempts
+  pub each : All (IsTryOf job outcomes) attempts
+  pub exact : AreRunSaves job outcomes p attempts
+  pub covered : min (faults + failed_of attempts) (2 ^ 64 - 1) ≤ faults_now
+  pub right : IsRight job (draw job.setting.key) outcomes → All (λ t. IsRightSave job (draw job.setting.key) (job_digest job) t.bytes) attempts
 
 -- the save attempts of a run that saves, if its keeper is observable
-abbrev pub TriesTold : Job → List Outcome → Kept → Kept → Type 0
-TriesTold job outcomes before after = IfTold before.slots (λ p. IfBothTold before.tried after.tried (TriesOf job outcomes p before.save_faults after.save_faults))
+abbrev pub AttemptsObserved : Job → List Outcome → Kept → Kept → Type 0
+AttemptsObserved job outcomes before after = IfObserved before.slots (λ p. IfBothObserved before.attempted after.attempted (AttemptsOf job outcomes p before.save_faults after.save_faults))
 
 -- The slots after a run that saves, and its save attempts. If every save was made, they were made in turn, and the
 -- newest slot is the checkpoint of the initial outcomes and of all that was walked.
 pub record SavesAll (made : Type 0) (job : Job) (before after : World) : Type 0 where
   pub outcomes : List Outcome
   pub opened : IsOpening job before.keeper.slots outcomes
-  pub kept : IfBothTold before.keeper.slots after.keeper.slots (KeepsASlot job outcomes)
-  pub in_turn : made → IfBothTold before.keeper.slots after.keeper.slots (SavesInTurn job outcomes)
-  pub newest_is : made → IfBothTold before.keeper.slots after.keeper.slots (λ p q. IsNewest job (full_of job outcomes) q)
-  pub tried : TriesTold job outcomes before.keeper after.keeper
+  pub kept : IfBothObserved before.keeper.slots after.keeper.slots (KeepsASlot job outcomes)
+  pub in_turn : made → IfBothObserved before.keeper.slots after.keeper.slots (SavesInTurn job outcomes)
+  pub newest_is : made → IfBothObserved before.keeper.slots after.keeper.slots (λ p q. IsNewest job (full_of job outcomes) q)
+  pub attempted : AttemptsObserved job outcomes before.keeper after.keeper
 
 -- a run that does not save leaves the slots unchanged
 abbrev pub SavesWhere : Bool → Type 0 → Job → World → World → Type 0
@@ -278,7 +278,7 @@ NoSaveFailed before after = Rose before.keeper.save_faults after.keeper.save_fau
 
 -- one byte more than the limit was read, if the source is read and observable
 abbrev pub TakesTooMany : Bool → Option (List ℕ) → Option (List ℕ) → Type 0
-TakesTooMany true before after = IfBothTold before after (λ left rest. length left ≡ suc (most_bytes + length rest))
+TakesTooMany true before after = IfBothObserved before after (λ left rest. length left ≡ suc (most_bytes + length rest))
 TakesTooMany false before after = ⊤
 
 -- the bytes are more than the limit, and the source was read no further than that
@@ -370,8 +370,8 @@ pub record IsSaveFault (words : List (List ℕ)) (before after : World) : Type 0
   pub written : WritesOrStops whole job before after
   pub outcomes : List Outcome
   pub opened : IsOpening job before.keeper.slots outcomes
-  pub kept : IfBothTold before.keeper.slots after.keeper.slots (KeepsASlot job outcomes)
-  pub tried : TriesTold job outcomes before.keeper after.keeper
+  pub kept : IfBothObserved before.keeper.slots after.keeper.slots (KeepsASlot job outcomes)
+  pub attempted : AttemptsObserved job outcomes before.keeper after.keeper
   pub rose : Rose before.keeper.save_faults after.keeper.save_faults
 
 -- the cause of an ending
@@ -441,7 +441,7 @@ pub record LeavesUntouched (words : List (List ℕ)) (before after : World) (mar
   pub source : SameUnless (passes (λ s. is_reading s.command) (setting_of words)) before.source after.source
   pub out : SameUnless marks.wrote before.out.bytes after.out.bytes
   pub slots : SameUnless (marks.saved && passes saves (setting_of words)) before.keeper.slots after.keeper.slots
-  pub tried : SameUnless (marks.saved && passes saves (setting_of words)) before.keeper.tried after.keeper.tried
+  pub attempted : SameUnless (marks.saved && passes saves (setting_of words)) before.keeper.attempted after.keeper.attempted
   pub read_faults : SameUnless marks.read_failed before.source.faults after.source.faults
   pub write_faults : SameUnless marks.write_failed before.out.faults after.out.faults
   pub load_faults : SameUnless marks.load_failed before.keeper.load_faults after.keeper.load_faults
@@ -467,4 +467,4 @@ pub record EndsFor (words : List (List ℕ)) (before after : World) (note_before
   pub status_is : status ≡ status_of reason
   pub cause : Cause words before after reason
   pub untouched : LeavesUntouched words before after (marks_of reason)
-  pub told : TellsWhy (columns_of words) note_before note_after reason
+  pub observed : TellsWhy (columns_of words) note_before note_after reason

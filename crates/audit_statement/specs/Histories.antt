@@ -2,7 +2,7 @@
 use Rattle.std.specs.Prelude.{◌≡◌, ℕ, ◌+◌, ◌-◌, ◌%◌, ◌<◌, ◌⊎◌, zero, suc, Bool, true, false, cond, IsTrue, List, [], ◌∷◌, ◌++◌, take, ⊤, Option, Some, None}
 use Rattle.std.specs.List.{All, list_all}
 use Rattle.audit_model.specs.Pair.{Pair, Stored, stored}
-use Rattle.audit_model.specs.Tries.{Try}
+use Rattle.audit_model.specs.Attempts.{Try}
 use Rattle.audit_model.specs.declared.outcome.Outcome.{Outcome}
 use Rattle.audit_model.specs.Job.{Job}
 use Rattle.audit_model.specs.Run.{IsRight, fits}
@@ -34,8 +34,8 @@ AreCarriedOut Other job digest p (c ∷ rest) q = (m : Pair) × IsCarriedOut Oth
 -- the first n attempts as they ended, and the next one interrupted: the attempts of a stopped run
 abbrev pub stopped_in : ℕ → List Try → List Try
 stopped_in n [] = []
-stopped_in zero (t ∷ tries) = record t { succeeded = false } ∷ []
-stopped_in (suc n) (t ∷ tries) = t ∷ stopped_in n tries
+stopped_in zero (t ∷ attempts) = record t { succeeded = false } ∷ []
+stopped_in (suc n) (t ∷ attempts) = t ∷ stopped_in n attempts
 
 -- ---- consistent slots
 
@@ -51,8 +51,8 @@ pub record IsRightSave (job : Job) (draws : Draws) (digest bytes : List ℕ) : T
 -- ---- the newest slot
 
 -- the slot is not valid
-abbrev pub IsNotIntact : Slot → Type 0
-IsNotIntact slot = generation_of slot ≡ None
+abbrev pub IsNotValid : Slot → Type 0
+IsNotValid slot = generation_of slot ≡ None
 
 -- the bytes of the newest slot
 abbrev pub bytes_at : Pair → Option ℕ → Stored

@@ -1,6 +1,6 @@
 -- The exact save attempts of a run, by the order in which the outcomes of its ids were taken in.
 use Rattle.std.specs.Prelude.{◌≡◌, ℕ, suc, ◌+◌, ◌*◌, ◌/◌, ◌%◌, ◌≤◌, ◌==◌, ◌&&◌, Bool, false, cond, List, [], ◌∷◌, ◌++◌, length, map, take, ⊤, IsPermutation, zero, ◌-◌, ◌||◌, not, count_by}
-use Rattle.audit_model.specs.Tries.{Try}
+use Rattle.audit_model.specs.Attempts.{Try}
 use Rattle.audit_model.specs.declared.outcome.Outcome.{Outcome}
 use Rattle.audit_model.specs.Job.{Job}
 use Rattle.audit_model.specs.Run.{total, by_id}
@@ -24,7 +24,7 @@ saves_of posts every = posts / every + cond {A = ℕ} ((posts == 0) || not (post
 
 -- the number of failed attempts
 abbrev pub failed_of : List Try → ℕ
-failed_of tries = count_by (λ t. not t.succeeded) tries
+failed_of attempts = count_by (λ t. not t.succeeded) attempts
 
 -- the initial outcomes and those of the trajectories of these ids, by rising id
 abbrev pub taken_in : Job → List Outcome → List ℕ → List Outcome
@@ -52,31 +52,31 @@ AreSavesFrom job opening every walked n place (t ∷ rest) =
 -- the last of the attempts succeeded
 abbrev pub last_succeeded_from : Bool → List Try → Bool
 last_succeeded_from last [] = last
-last_succeeded_from last (t ∷ tries) = last_succeeded_from t.succeeded tries
+last_succeeded_from last (t ∷ attempts) = last_succeeded_from t.succeeded attempts
 
 -- the last of all attempts succeeded, if there are any
 abbrev pub last_succeeded : List Try → Bool
-last_succeeded tries = last_succeeded_from false tries
+last_succeeded attempts = last_succeeded_from false attempts
 
 -- the number of attempts: one per `every` ids, and one more of all ids unless the last of these was of all and
 -- succeeded
-abbrev pub count_of_tries : ℕ → ℕ → List Try → ℕ
-count_of_tries every ids tries =
-    ids / every + cond {A = ℕ} ((ids % every == 0) && last_succeeded (take (ids / every) tries)) 0 1
+abbrev pub count_of_attempts : ℕ → ℕ → List Try → ℕ
+count_of_attempts every ids attempts =
+    ids / every + cond {A = ℕ} ((ids % every == 0) && last_succeeded (take (ids / every) attempts)) 0 1
 
 -- exactly the save attempts of a run that started with these outcomes and this place and took in these ids in this
 -- order
-pub record AreSavesOf (job : Job) (opening : List Outcome) (every : ℕ) (place : Place) (walked : List ℕ) (tries : List Try) : Type 0 where
-  pub each : AreSavesFrom job opening every walked 1 place tries
-  pub counted : length tries ≡ count_of_tries every (length walked) tries
+pub record AreSavesOf (job : Job) (opening : List Outcome) (every : ℕ) (place : Place) (walked : List ℕ) (attempts : List Try) : Type 0 where
+  pub each : AreSavesFrom job opening every walked 1 place attempts
+  pub counted : length attempts ≡ count_of_attempts every (length walked) attempts
 
 -- the first of these attempts, or all of them
-pub record AreFirstSavesOf (job : Job) (opening : List Outcome) (every : ℕ) (place : Place) (walked : List ℕ) (tries : List Try) : Type 0 where
-  pub each : AreSavesFrom job opening every walked 1 place tries
-  pub few : length tries ≤ count_of_tries every (length walked) tries
+pub record AreFirstSavesOf (job : Job) (opening : List Outcome) (every : ℕ) (place : Place) (walked : List ℕ) (attempts : List Try) : Type 0 where
+  pub each : AreSavesFrom job opening every walked 1 place attempts
+  pub few : length attempts ≤ count_of_attempts every (length walked) attempts
 
 -- the save attempts so far of a run that takes in these ids, each once, in any order
-pub record AreSavesSoFar (job : Job) (opening : List Outcome) (every : ℕ) (place : Place) (ids : List ℕ) (tries : List Try) : Type 0 where
+pub record AreSavesSoFar (job : Job) (opening : List Outcome) (every : ℕ) (place : Place) (ids : List ℕ) (attempts : List Try) : Type 0 where
   pub walked : List ℕ
   pub all_walked : IsPermutation walked ids
-  pub first : AreFirstSavesOf job opening every place walked tries
+  pub first : AreFirstSavesOf job opening every place walked attempts

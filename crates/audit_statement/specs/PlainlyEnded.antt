@@ -15,7 +15,7 @@ use Rattle.audit_statement.specs.Words.{setting_of}
 use Rattle.std.specs.List.{All}
 use Rattle.serde_json.specs.Find.{get}
 use Rattle.audit_model.specs.Graph.{count_edges}
-use Rattle.audit_model.specs.JobOf.{lacks_votes}
+use Rattle.audit_model.specs.JobOf.{has_no_votes}
 use Rattle.audit_model.specs.Limits.{most_districts, most_edges, most_people, most_units}
 
 -- the value at the key, if any, is a Boolean
@@ -34,7 +34,7 @@ pub record IsAllowed (root : Data) (job : Job) : Type 0 where
   pub population : All (λ n. n ≤ most_people) job.counts.population
   pub first : All (λ n. n ≤ most_people) job.counts.first
   pub second : All (λ n. n ≤ most_people) job.counts.second
-  pub votes : IsFalse (lacks_votes job)
+  pub votes : IsFalse (has_no_votes job)
 
 -- the arguments are accepted, and the bytes are JSON within the limits that gives a job of their setting with a valid
 -- start plan

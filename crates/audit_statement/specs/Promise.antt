@@ -4,7 +4,7 @@
 -- `tried` follow from it and from the laws on slots. `legal` follows from what is accepted.
 use Rattle.std.specs.Prelude.{ℕ, List}
 use Rattle.audit_statement.specs.Causes.{HasCauses, IsComplete}
-use Rattle.audit_statement.specs.Chain.{StaysHonest, TriedRightly}
+use Rattle.audit_statement.specs.Chain.{StaysConsistent, AttemptedRightly}
 use Rattle.audit_statement.specs.Early.{EndsEarly}
 use Rattle.audit_statement.specs.Endings.{EndsFor}
 use Rattle.audit_statement.specs.Headline.{WritesWhole}
@@ -21,8 +21,8 @@ pub record KeepsItsPromise (words : List (List ℕ)) (before after : World) (not
   pub written : WritesWhole words before after status
   pub early : EndsEarly words before after status
   pub legal : VisitsLegal words before.source.bytes
-  pub chain : StaysHonest words before after status
-  pub tried : TriedRightly words before after status
+  pub chain : StaysConsistent words before after status
+  pub attempted : AttemptedRightly words before after status
   pub ends : EndsFor words before after note_before note_after status
   pub causes : HasCauses words before after status
   pub complete : IsComplete words before after status

@@ -13,7 +13,7 @@ use Rattle.audit_model.specs.Job.{Job, total_population, total_votes}
 use Rattle.audit_model.specs.Meets.{region_count, majorities, frozen_count}
 use Rattle.audit_model.specs.Plan.{least_population, greatest_population}
 use Rattle.audit_model.specs.Score.{denominator}
-use Rattle.audit_model.specs.Serially.{serial_told}
+use Rattle.audit_model.specs.Serially.{serial_observed}
 use Rattle.audit_model.specs.Stopping.{placed_asks, stops_of}
 use Rattle.audit_model.specs.Test.{bound, p_value}
 use Rattle.audit_model.specs.Trajectory.{Draws, plan_value, rank, sequence, tally, value_at}
@@ -219,7 +219,7 @@ report job outcomes stops serial =
 
 -- the report on all outcomes, with their stops and the serial test
 abbrev pub full_report : Job → Draws → List Outcome → List ℕ
-full_report job draws outcomes = report job outcomes (stops_of job outcomes) (serial_told job draws)
+full_report job draws outcomes = report job outcomes (stops_of job outcomes) (serial_observed job draws)
 
 -- the report of one thread that walks each trajectory once
 unfoldable pub thread_report : Job → Draws → List ℕ

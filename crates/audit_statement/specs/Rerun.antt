@@ -3,7 +3,7 @@ use Rattle.std.specs.Prelude.{◌≡◌, ◌⊎◌, ℕ, Bool, IsTrue, IsFalse, 
 use Rattle.std.specs.Io.KnownBytes.{Appends}
 use Rattle.audit_model.specs.Faults.{Rose}
 use Rattle.audit_model.specs.Pair.{Pair}
-use Rattle.audit_model.specs.Tries.{Try}
+use Rattle.audit_model.specs.Attempts.{Try}
 use Rattle.audit_model.specs.declared.origin.Origin.{Origin}
 use Rattle.audit_model.specs.declared.outcome.Outcome.{Outcome}
 use Rattle.audit_model.specs.declared.setting.Command.{Command}
@@ -18,7 +18,7 @@ use Rattle.audit_statement.specs.Slots.{IsNotOurs}
 use Rattle.audit_statement.specs.Draw.{draw}
 use Rattle.audit_statement.specs.Report.{report, thread_report}
 use Rattle.audit_statement.specs.Causes.{IsTheJob}
-use Rattle.audit_statement.specs.Chain.{AreHonestOf, TriedRightly, TriesOver}
+use Rattle.audit_statement.specs.Chain.{AreConsistentOf, AttemptedRightly, AttemptsOver}
 use Rattle.audit_statement.specs.Endings.{first_place, is_walking, leaves_work, opening_from}
 use Rattle.audit_statement.specs.InOrder.{AreSavesSoFar}
 use Rattle.audit_statement.specs.Headline.{StartsWith}
@@ -76,7 +76,7 @@ pub record FindTheSame (job other : Job) : Type 0 where
   pub same_whole : (draws : Draws) (id : ℕ) → whole other draws id ≡ whole job draws id
   pub same_fits : (o : Outcome) → fits other o ≡ fits job o
   pub same_serial : (draws : Draws) → serial_of other draws ≡ serial_of job draws
-  pub same_honest : (p : Pair) → AreHonestOf job p → AreHonestOf other p
+  pub same_consistent : (p : Pair) → AreConsistentOf job p → AreConsistentOf other p
   pub same_outcome : other.setting.shift ≡ job.setting.shift → (draws : Draws) (id : ℕ) → outcome other draws id ≡ outcome job draws id
   pub same_sequence : other.setting.shift ≡ job.setting.shift → (draws : Draws) → sequence other draws ≡ sequence job draws
   pub same_stops : (outcomes : List Outcome) → stops_of other outcomes ≡ stops_of job outcomes
@@ -107,13 +107,13 @@ job_in job l = rerun job l.manner
 
 -- a run of the job over these slots with an observable keeper, whose save attempts are as the top call promises
 pub record IsRunOver (job : Job) (p : Pair) (l : Link) : Type 0 where
-  pub tried : TriedRightly l.words l.before l.after l.status
+  pub attempted : AttemptedRightly l.words l.before l.after l.status
   pub the_job : IsTheJob l.words l.before (job_in job l)
   pub found : l.before.keeper.slots ≡ Some p
-  pub told : List Try
-  pub told_is : l.before.keeper.tried ≡ Some told
+  pub observed : List Try
+  pub observed_is : l.before.keeper.attempted ≡ Some observed
   pub now : List Try
-  pub now_is : l.after.keeper.tried ≡ Some now
+  pub now_is : l.after.keeper.attempted ≡ Some now
 
 -- The run ended with all that the top call promises, and its command walks. If a save failed, each success left its
 -- bytes, and each failure left what was there, a prefix, or no checkpoint of the job. This is required of the keeper
@@ -123,21 +123,21 @@ pub record IsLink (job : Job) (p : Pair) (l : Link) : Type 0 where
   pub promised : KeepsItsPromise l.words l.before l.after l.note_before l.note_after l.status
   pub walking : IsTrue (is_walking l.manner.command)
   pub left : l.after.keeper.slots ≡ Some l.slots
-  pub carried : Rose l.before.keeper.save_faults l.after.keeper.save_faults → (t : TriesOver (job_in job l) l.before l.after p l.status over.told over.now)
-      → AreCarriedOut IsNotOurs (job_in job l) (job_digest (job_in job l)) p t.tries l.slots
+  pub carried : Rose l.before.keeper.save_faults l.after.keeper.save_faults → (t : AttemptsOver (job_in job l) l.before l.after p l.status over.observed over.now)
+      → AreCarriedOut IsNotOurs (job_in job l) (job_digest (job_in job l)) p t.attempts l.slots
 
 -- the save attempts of a run of the job over these slots at some moment (Due): none, or those so far of a run from
 -- these slots
-abbrev pub AreTriesSoFar : Job → Pair → List Try → Type 0
-AreTriesSoFar job p tries =
-    (tries ≡ []) ⊎ ((outcomes : List Outcome) × (opening_from job.setting.resume job p ≡ Some outcomes)
-    × AreSavesSoFar job outcomes job.setting.save_every (first_place job p) (run_ids job outcomes job.setting.budget) tries)
+abbrev pub AreAttemptsSoFar : Job → Pair → List Try → Type 0
+AreAttemptsSoFar job p attempts =
+    (attempts ≡ []) ⊎ ((outcomes : List Outcome) × (opening_from job.setting.resume job p ≡ Some outcomes)
+    × AreSavesSoFar job outcomes job.setting.save_every (first_place job p) (run_ids job outcomes job.setting.budget) attempts)
 
 -- The run was stopped, or never ended. It had attempted these saves, the last of them perhaps interrupted, and they
 -- left these slots. This is required of the keeper alone; the run need not be one that ends.
-pub record IsStop (job : Job) (p : Pair) (manner : Manner) (tries : List Try) (q : Pair) : Type 0 where
-  pub so_far : AreTriesSoFar (rerun job manner) p tries
-  pub carried : AreCarriedOut IsNotOurs (rerun job manner) (job_digest (rerun job manner)) p tries q
+pub record IsStop (job : Job) (p : Pair) (manner : Manner) (attempts : List Try) (q : Pair) : Type 0 where
+  pub so_far : AreAttemptsSoFar (rerun job manner) p attempts
+  pub carried : AreCarriedOut IsNotOurs (rerun job manner) (job_digest (rerun job manner)) p attempts q
 
 -- a run that ended, or one that was stopped after these save attempts and left these slots
 pub data Event : Type 0 where
@@ -147,12 +147,12 @@ pub data Event : Type 0 where
 -- the slots that it left
 abbrev pub slots_after : Event → Pair
 slots_after (ran l) = l.slots
-slots_after (stopped manner tries q) = q
+slots_after (stopped manner attempts q) = q
 
 -- it is a run of the job over these slots, ended or not
 abbrev pub IsEvent : Job → Pair → Event → Type 0
 IsEvent job p (ran l) = IsLink job p l
-IsEvent job p (stopped manner tries q) = IsStop job p manner tries q
+IsEvent job p (stopped manner attempts q) = IsStop job p manner attempts q
 
 -- runs of the job, of any of its parts, one after another, each over the slots that the one before left
 abbrev pub IsChain : Job → Pair → List Event → Type 0
@@ -173,7 +173,7 @@ pub record WroteWhereDue (job : Job) (l : Link) : Type 0 where
 -- an ended run has written its report, if it was due
 abbrev pub HasWritten : Job → Event → Type 0
 HasWritten job (ran l) = WroteWhereDue job l
-HasWritten job (stopped manner tries q) = ⊤
+HasWritten job (stopped manner attempts q) = ⊤
 
 -- all have
 abbrev pub AllHaveWritten : Job → List Event → Type 0
@@ -183,4 +183,4 @@ AllHaveWritten job (e ∷ events) = HasWritten job e × AllHaveWritten job event
 -- From consistent slots, each run of a chain writes the report of one thread if it ends with status 0, or with 9 and
 -- no work left. Empty slots and those of version 1 are consistent.
 abbrev pub ChainsWriteOneReport : Type 0
-ChainsWriteOneReport = (job : Job) (p : Pair) (events : List Event) → AreHonestOf job p → IsChain job p events → AllHaveWritten job events
+ChainsWriteOneReport = (job : Job) (p : Pair) (events : List Event) → AreConsistentOf job p → IsChain job p events → AllHaveWritten job events

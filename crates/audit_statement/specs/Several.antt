@@ -19,7 +19,7 @@ use Rattle.audit_statement.specs.Accepted.{columns_of, most_bytes}
 use Rattle.audit_statement.specs.Endings.{AppendsPart, SameUnless, TakesTooMany, TellsWhy}
 use Rattle.audit_statement.specs.Status.{status_of}
 use Rattle.audit_model.specs.State.{Stream}
-use Rattle.audit_model.specs.Told.{IfTold}
+use Rattle.audit_model.specs.Observed.{IfObserved}
 use Rattle.audit_statement.specs.World.{World}
 
 -- the command is the one for several plans
@@ -55,7 +55,7 @@ plans_judged setting bytes = from_size setting bytes (nat_lt most_bytes (length 
 -- the arguments are accepted as this setting; if the source is observable, its bytes are these
 pub record HasPlansInput (words : List (List ℕ)) (left : Option (List ℕ)) (setting : Setting) (bytes : List ℕ) : Type 0 where
   pub words_are : setting_of words ≡ Ok setting
-  pub given : IfTold left (λ input. input ≡ bytes)
+  pub given : IfObserved left (λ input. input ≡ bytes)
 
 -- all was accepted as these jobs, and the source was read to its end
 pub record ArePrepared (words : List (List ℕ)) (before after : Stream) (setting : Setting) (jobs : Jobs) : Type 0 where
@@ -161,19 +161,19 @@ pub record PlansEnd (words : List (List ℕ)) (before after : World) (note_befor
   pub status_is : status ≡ status_of reason
   pub cause : PlansCause words before after reason
   pub untouched : PlansLeave before after (plans_marks reason)
-  pub told : TellsWhy (columns_of words) note_before note_after reason
+  pub observed : TellsWhy (columns_of words) note_before note_after reason
 
 -- ---- consequences
 
 -- the arguments are accepted, and the bytes are observable
-pub record AreToldPlans (words : List (List ℕ)) (before : World) (setting : Setting) (bytes : List ℕ) : Type 0 where
+pub record AreObservedPlans (words : List (List ℕ)) (before : World) (setting : Setting) (bytes : List ℕ) : Type 0 where
   pub words_are : setting_of words ≡ Ok setting
   pub input : before.source.bytes ≡ Some bytes
 
 -- and all is accepted as these jobs
 pub record AreTheJobs (words : List (List ℕ)) (before : World) (setting : Setting) (jobs : Jobs) : Type 0 where
   pub bytes : List ℕ
-  pub told : AreToldPlans words before setting bytes
+  pub observed : AreObservedPlans words before setting bytes
   pub accepted : plans_judged setting bytes ≡ Ok jobs
 
 -- With status 0 exactly the reports that the plans would get alone were written, one after another, with status 5 a
@@ -191,8 +191,8 @@ pub record PlansCauses (words : List (List ℕ)) (before after : World) (status 
   pub few : status ≤ 5
   pub one_only : status ≡ 1 → IsErr (setting_of words)
   pub one : IsErr (setting_of words) → (status ≡ 1) ⊎ (status ≡ 3)
-  pub two_only : (setting : Setting) (bytes : List ℕ) → AreToldPlans words before setting bytes → status ≡ 2 → IsErr (plans_judged setting bytes)
-  pub two : (setting : Setting) (bytes : List ℕ) → AreToldPlans words before setting bytes → IsErr (plans_judged setting bytes)
+  pub two_only : (setting : Setting) (bytes : List ℕ) → AreObservedPlans words before setting bytes → status ≡ 2 → IsErr (plans_judged setting bytes)
+  pub two : (setting : Setting) (bytes : List ℕ) → AreObservedPlans words before setting bytes → IsErr (plans_judged setting bytes)
       → (status ≡ 2) ⊎ (status ≡ 3) ⊎ (status ≡ 4)
   pub four_only : status ≡ 4 → Rose before.source.faults after.source.faults
   pub four : before.source.faults < after.source.faults → status ≡ 4

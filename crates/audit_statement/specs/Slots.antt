@@ -9,7 +9,7 @@ use Rattle.audit_model.specs.declared.setting.Setting.{Setting}
 use Rattle.audit_model.specs.Below.{map_below}
 use Rattle.audit_model.specs.First.{first_below}
 use Rattle.audit_model.specs.Job.{Job}
-use Rattle.audit_model.specs.Run.{IsHonest, fits, taken_up}
+use Rattle.audit_model.specs.Run.{IsConsistent, fits, taken_up}
 use Rattle.audit_model.specs.Trajectory.{Draws, no_bins}
 use Rattle.audit_statement.specs.Checkpoint.{number_at, has_bins, outcome_start, stated_version, stated_count, checkpoint_fault, generation_place, digest_place}
 use Rattle.audit_model.specs.Limits.{most_saved_bytes}
@@ -133,11 +133,11 @@ opening false setting first second = Some []
 opening true setting first second = option_map (taken_up setting.shift setting.walks) (opening_of first second (newest first second))
 
 -- the outcomes of the job in the slot were found by its trajectories, with histograms or without
-abbrev pub IsHonestSlot : Job → Draws → Slot → Type 0
-IsHonestSlot job draws absent = Unit {0}
-IsHonestSlot job draws (broken f) = Unit {0}
-IsHonestSlot job draws (other digest generation) = Unit {0}
-IsHonestSlot job draws (ours generation outcomes) = IsHonest job draws outcomes
+abbrev pub IsConsistentSlot : Job → Draws → Slot → Type 0
+IsConsistentSlot job draws absent = Unit {0}
+IsConsistentSlot job draws (broken f) = Unit {0}
+IsConsistentSlot job draws (other digest generation) = Unit {0}
+IsConsistentSlot job draws (ours generation outcomes) = IsConsistent job draws outcomes
 
 -- after a stop within a save, the other slot is unchanged
 abbrev pub IsAfterStop : ℕ → Option (List ℕ) → Option (List ℕ) → Option (List ℕ) → Option (List ℕ) → Type 0
@@ -160,6 +160,6 @@ IsNotOurs (other digest generation) = Unit {0}
 IsNotOurs (ours generation outcomes) = ⊥
 
 -- both stored slots are consistent for the job
-pub record AreHonest (job : Job) (draws : Draws) (digest : List ℕ) (p : Pair) : Type 0 where
-  pub zero_slot : IsHonestSlot job draws (slot_of job digest p.zero_slot)
-  pub one_slot : IsHonestSlot job draws (slot_of job digest p.one_slot)
+pub record AreConsistent (job : Job) (draws : Draws) (digest : List ℕ) (p : Pair) : Type 0 where
+  pub zero_slot : IsConsistentSlot job draws (slot_of job digest p.zero_slot)
+  pub one_slot : IsConsistentSlot job draws (slot_of job digest p.one_slot)

@@ -4,7 +4,7 @@ use Rattle.audit_model.specs.declared.setting.Setting.{Setting}
 use Rattle.audit_model.specs.Job.{Job}
 use Rattle.audit_model.specs.State.{SureSlots}
 use Rattle.audit_statement.specs.Accepted.{judged}
-use Rattle.audit_statement.specs.Causes.{HasBudget, IsTold}
+use Rattle.audit_statement.specs.Causes.{HasBudget, IsObserved}
 use Rattle.audit_statement.specs.Endings.{is_walking}
 use Rattle.audit_statement.specs.Several.{AreTheJobs, names_plans}
 use Rattle.audit_statement.specs.Jobs.{Jobs}
@@ -15,7 +15,7 @@ abbrev pub sure_world : List ℕ → SureSlots → World
 sure_world graph keeper = record {
   source = record { bytes = Some graph; faults = 0 };
   out = record { bytes = None; faults = 0 };
-  keeper = record { slots = Some keeper.slots; tried = Some keeper.tried; load_faults = record { all = 0; taken = 0 }; save_faults = 0 };
+  keeper = record { slots = Some keeper.slots; attempted = Some keeper.attempted; load_faults = record { all = 0; taken = 0 }; save_faults = 0 };
 }
 
 -- arguments, graph and plan are accepted; a walking command finds initial outcomes, and has the budget for all missing
@@ -23,7 +23,7 @@ sure_world graph keeper = record {
 pub record MayBegin (words : List (List ℕ)) (before : World) : Type 0 where
   pub job : Job
   pub bytes : List ℕ
-  pub told : IsTold words before job.setting bytes
+  pub observed : IsObserved words before job.setting bytes
   pub accepted : judged job.setting bytes ≡ Ok job
   pub budget : HasBudget (is_walking job.setting.command) job before
 

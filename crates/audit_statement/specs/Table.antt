@@ -141,8 +141,8 @@ module _ (ids : List Label) (header : List (List ℕ)) (entries : List (List (Li
   too_many = cond (nat_lt 16 plan_count) (Some (fault.TooManyPlans plan_count)) None
 
   -- the header names no plan
-  abbrev pub lacks_header : Option TableFault
-  lacks_header = cond (nat_lt (length header) 2) (Some fault.NoHeader) None
+  abbrev pub misses_header : Option TableFault
+  misses_header = cond (nat_lt (length header) 2) (Some fault.NoHeader) None
 
   -- the first plan without a usable name
   abbrev pub bad_name : Option TableFault
@@ -151,7 +151,7 @@ module _ (ids : List Label) (header : List (List ℕ)) (entries : List (List (Li
   -- the first fault, in their order
   abbrev pub refusal : Option TableFault
   refusal = first_some (
-      unreadable ∷ lacks_header ∷ too_many ∷ bad_name ∷ shared_id ∷ unknown_id ∷ repeated_unit ∷ missing_unit ∷ refused_count ∷ [])
+      unreadable ∷ misses_header ∷ too_many ∷ bad_name ∷ shared_id ∷ unknown_id ∷ repeated_unit ∷ missing_unit ∷ refused_count ∷ [])
 
 -- ---- the whole reading
 

@@ -210,9 +210,9 @@ module _ (job : Job) (run : IsRunJob job) (some : 1 ≤ job.setting.stop) where
   })
 
   -- the stops are in the form that a report needs
-  pub stops_told : (stops : List (List ℕ)) → length job.setting.asks ≤ length stops → AreParts job.setting.ends (length job.setting.asks) stops
+  pub stops_observed : (stops : List (List ℕ)) → length job.setting.asks ≤ length stops → AreParts job.setting.ends (length job.setting.asks) stops
       → AreStopsOf job (take (length job.setting.asks) stops)
-  stops_told stops enough parts = by job.setting.stop some
+  stops_observed stops enough parts = by job.setting.stop some
     where
       by : (h : ℕ) → 1 ≤ h → AreStopsBy h job (take (length job.setting.asks) stops)
       by zero few = absurd (omega (arith, few))

@@ -52,14 +52,14 @@ module _ (job : Job) (run : IsRunJob job) (opening outcomes : List Outcome) (all
   -- the slots after the last save, in the terms of the definition of endings
   saves_all : (before after : Stream) (made : Type 0) (result : Result (Unit {0}) Failed) → (made → result ≡ Ok tt) → SavesLast job opening k l result
       → SavesAll made job (world before out k) (world after out' l)
-  saves_all before after made (Ok done) e s = record { outcomes = opening; opened = opened; kept = s.kept; in_turn = λ _. s.in_turn; newest_is = λ _. s.newest_is; tried = s.tried }
+  saves_all before after made (Ok done) e s = record { outcomes = opening; opened = opened; kept = s.kept; in_turn = λ _. s.in_turn; newest_is = λ _. s.newest_is; attempted = s.attempted }
   saves_all before after made (Err failed) e s = record {
     outcomes = opening;
     opened = opened;
     kept = s.kept;
     in_turn = λ m. absurd (not_made (e m));
     newest_is = λ m. absurd (not_made (e m));
-    tried = s.tried;
+    attempted = s.attempted;
   }
     where
       not_made : ◌≡◌ {A = Result (Unit {0}) Failed} (Err failed) (Ok tt) → ⊥
@@ -75,9 +75,9 @@ module _ (job : Job) (run : IsRunJob job) (opening outcomes : List Outcome) (all
   slots_left false result s = ap (λ (x : Kept). x.slots) s.0
   slots_left true result s = tt
 
-  tried_left : (b : Bool) (result : Result (Unit {0}) Failed) → SavedBy b job opening k l result → SameUnless b k.tried l.tried
-  tried_left false result s = ap (λ (x : Kept). x.tried) s.0
-  tried_left true result s = tt
+  attempted_left : (b : Bool) (result : Result (Unit {0}) Failed) → SavedBy b job opening k l result → SameUnless b k.attempted l.attempted
+  attempted_left false result s = ap (λ (x : Kept). x.attempted) s.0
+  attempted_left true result s = tt
 
   loads_left : (b : Bool) (result : Result (Unit {0}) Failed) → SavedBy b job opening k l result → l.load_faults ≡ k.load_faults
   loads_left false result s = ap (λ (x : Kept). x.load_faults) s.0
@@ -112,7 +112,7 @@ module _ (job : Job) (run : IsRunJob job) (opening outcomes : List Outcome) (all
       saved = saves_where before after ⊤ (saves job.setting) (Ok tt) (λ _. refl) s;
     };
     untouched = left words before after job p out out' k l _ tt (saved_left words before after job p _ _ (slots_left (saves job.setting) (Ok tt) s))
-        (saved_left words before after job p _ _ (tried_left (saves job.setting) (Ok tt) s)) refl writes
+        (saved_left words before after job p _ _ (attempted_left (saves job.setting) (Ok tt) s)) refl writes
         (loads_left (saves job.setting) (Ok tt) s) (passed_count (saves job.setting) s);
     line_is = refl;
   }
@@ -129,7 +129,7 @@ module _ (job : Job) (run : IsRunJob job) (opening outcomes : List Outcome) (all
       rose = writes;
     };
     untouched = left words before after job p out out' k l _ tt (saved_left words before after job p _ _ (slots_left (saves job.setting) result s))
-        (saved_left words before after job p _ _ (tried_left (saves job.setting) result s)) refl tt
+        (saved_left words before after job p _ _ (attempted_left (saves job.setting) result s)) refl tt
         (loads_left (saves job.setting) result s) (saved_left words before after job p _ _ (count_left (saves job.setting) result s));
     line_is = refl;
   }
@@ -150,11 +150,11 @@ module _ (job : Job) (run : IsRunJob job) (opening outcomes : List Outcome) (all
           outcomes = opening;
           opened = opened;
           kept = last.kept;
-          tried = last.tried;
+          attempted = last.attempted;
           rose = last.cause.failed;
         };
         untouched = left words before after job p out out' k l _ tt (saved_left words before after job p _ _ (slots_left (saves job.setting) (Err f) s))
-            (saved_left words before after job p _ _ (tried_left (saves job.setting) (Err f) s)) refl writes
+            (saved_left words before after job p _ _ (attempted_left (saves job.setting) (Err f) s)) refl writes
             (loads_left (saves job.setting) (Err f) s) (saved_left words before after job p _ _ (count_left (saves job.setting) (Err f) s));
         line_is = refl;
       }
@@ -197,7 +197,7 @@ module _ (job : Job) (run : IsRunJob job) (opening outcomes : List Outcome) (all
         };
         untouched = left words before after job p out out k l _ refl
             (saved_left words before after job p _ _ (slots_left job run opening outcomes all out out k l opened (saves job.setting) (Ok tt) s))
-            (saved_left words before after job p _ _ (tried_left job run opening outcomes all out out k l opened (saves job.setting) (Ok tt) s)) refl refl
+            (saved_left words before after job p _ _ (attempted_left job run opening outcomes all out out k l opened (saves job.setting) (Ok tt) s)) refl refl
             (loads_left job run opening outcomes all out out k l opened (saves job.setting) (Ok tt) s) (passed_count job run opening outcomes all out out k l opened (saves job.setting) s);
         line_is = refl;
       }
@@ -216,12 +216,12 @@ module _ (job : Job) (run : IsRunJob job) (opening outcomes : List Outcome) (all
           outcomes = opening;
           opened = opened;
           kept = last.kept;
-          tried = last.tried;
+          attempted = last.attempted;
           rose = last.cause.failed;
         };
         untouched = left words before after job p out out k l _ tt
             (saved_left words before after job p _ _ (slots_left job run opening outcomes all out out k l opened (saves job.setting) (Err f) s))
-            (saved_left words before after job p _ _ (tried_left job run opening outcomes all out out k l opened (saves job.setting) (Err f) s)) refl refl
+            (saved_left words before after job p _ _ (attempted_left job run opening outcomes all out out k l opened (saves job.setting) (Err f) s)) refl refl
             (loads_left job run opening outcomes all out out k l opened (saves job.setting) (Err f) s)
             (saved_left words before after job p _ _ (count_left job run opening outcomes all out out k l opened (saves job.setting) (Err f) s));
         line_is = refl;

@@ -10,8 +10,8 @@ use Rattle.report.specs.declared.ended.Ended.TheVariants as ended
 use Rattle.audit_walks.specs.declared.ending.Finished.{Finished}
 use Rattle.audit_walks.specs.declared.ending.Finished.TheVariants as finished
 use Rattle.audit_model.specs.State.{Kept}
-use Rattle.audit_model.specs.Told.{IfBothTold}
-use Rattle.audit_statement.specs.Endings.{IsNewest, KeepsASlot, SavesInTurn, TriesTold, full_of}
+use Rattle.audit_model.specs.Observed.{IfBothObserved}
+use Rattle.audit_statement.specs.Endings.{IsNewest, KeepsASlot, SavesInTurn, AttemptsObserved, full_of}
 
 -- the end of a run that leaves trajectories pending
 abbrev pub stopped_by : ℕ → ℕ → Result (Unit {0}) Failed → Finished
@@ -33,12 +33,12 @@ ended_as finished.SaveFault = ended.SaveFault
 
 -- checkpoints were saved in turn, the last of all outcomes, unless a save failed
 pub record SavesLast (job : Job) (opening : List Outcome) (before after : Kept) (result : Result (Unit {0}) Failed) : Type 0 where
-  pub kept : IfBothTold before.slots after.slots (KeepsASlot job opening)
-  pub in_turn : OnOk result (IfBothTold before.slots after.slots (SavesInTurn job opening))
-  pub newest_is : OnOk result (IfBothTold before.slots after.slots (λ p q. IsNewest job (full_of job opening) q))
+  pub kept : IfBothObserved before.slots after.slots (KeepsASlot job opening)
+  pub in_turn : OnOk result (IfBothObserved before.slots after.slots (SavesInTurn job opening))
+  pub newest_is : OnOk result (IfBothObserved before.slots after.slots (λ p q. IsNewest job (full_of job opening) q))
   pub cause : HasCause before.save_faults after.save_faults result
   pub loads : after.load_faults ≡ before.load_faults
-  pub tried : TriesTold job opening before after
+  pub attempted : AttemptsObserved job opening before after
 
 -- the run saves nothing, or it saved everything that was due
 abbrev pub SavedBy : Bool → Job → List Outcome → Kept → Kept → Result (Unit {0}) Failed → Type 0

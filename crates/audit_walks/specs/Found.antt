@@ -3,30 +3,30 @@ use Rattle.std.specs.Prelude.{◌≡◌, ℕ, ◌<◌, ◌≤◌, List, [], leng
 use Rattle.audit_model.specs.declared.outcome.Outcome.{Outcome}
 use Rattle.audit_model.specs.Job.{Job}
 use Rattle.audit_model.specs.Run.{total}
-use Rattle.audit_model.specs.Serially.{serial_told}
+use Rattle.audit_model.specs.Serially.{serial_observed}
 use Rattle.audit_statement.specs.Draw.{draw}
 use Rattle.audit_statement.specs.Report.{full_report, report}
 use Rattle.report.specs.Outcomes.{AreOutcomesOf, AreStopsOf, reported}
 use Rattle.audit_laws.specs.Runs.{AreAll, IsRunJob}
 use Rattle.audit_walks.specs.declared.found.Found.{Found}
-use Rattle.audit_walks.specs.Ready.{HasReportRoom}
+use Rattle.audit_walks.specs.RunBuffers.{HasReportRoom}
 
 -- the outcomes that the report covers
 abbrev pub listed_in : Found → List Outcome
 listed_in f = take f.listed f.sorted.items
 
 -- the stops that the report covers
-abbrev pub told_in : Found → List (List ℕ)
-told_in f = take f.told f.stops
+abbrev pub observed_in : Found → List (List ℕ)
+observed_in f = take f.observed f.stops
 
 -- The report can be made. The covered outcomes and stops exist, and the buffer is empty and large enough. The outcomes
 -- are those of the job as soon as none is missing.
 pub record IsTellable (job : Job) (f : Found) : Type 0 where
   pub run : IsRunJob job
   pub enough : f.listed ≤ length f.sorted.items
-  pub enough_stops : f.told ≤ length f.stops
+  pub enough_stops : f.observed ≤ length f.stops
   pub outcomes : reported job ≤ f.listed → AreOutcomesOf job (listed_in f)
-  pub stops : AreStopsOf job (told_in f)
+  pub stops : AreStopsOf job (observed_in f)
   pub blank : f.text.items ≡ []
   pub report_room : HasReportRoom job f.text.spare
 
@@ -35,7 +35,7 @@ pub record TellsAll (job : Job) (opening : List Outcome) (f : Found) : Type 0 wh
   pub outcomes : List Outcome
   pub all : AreAll job opening outcomes
   pub whole : total job ≤ length outcomes
-  pub same : report job (listed_in f) (told_in f) (serial_told job (draw job.setting.key)) ≡ full_report job (draw job.setting.key) outcomes
+  pub same : report job (listed_in f) (observed_in f) (serial_observed job (draw job.setting.key)) ≡ full_report job (draw job.setting.key) outcomes
 
 -- all outcomes of such a run are there, and some of the job's trajectories are pending
 pub record LeavesSome (job : Job) (opening : List Outcome) (f : Found) : Type 0 where

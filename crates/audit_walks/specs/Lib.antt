@@ -1,6 +1,6 @@
 pub mod Ending
 pub mod Found
 pub mod Guards
-pub mod Means
-pub mod Ready
+pub mod Resources
+pub mod RunBuffers
 pub mod Serially

@@ -2,13 +2,13 @@
 
 ghost use Rattle.std.specs.Prelude.{◌≡◌, ◌≤◌, List};
 ghost use Rattle.audit_model.specs.declared.outcome.Outcome as model;
-ghost use Rattle.audit_model.specs.Serially.{serial_told};
+ghost use Rattle.audit_model.specs.Serially.{serial_observed};
 ghost use Rattle.audit_statement.specs.Draw.{draw};
 ghost use Rattle.audit_statement.specs.Report.{report};
 ghost use Rattle.report.specs.Outcomes.{reported};
 ghost use Rattle.audit_statement.specs.Endings.{IsOpening, saves};
 ghost use Rattle.audit_walks.specs.Ending.{SavedBy, ended_as, ended_by, stopped_by};
-ghost use Rattle.audit_walks.specs.Found.{HasFound, IsTellable, listed_in, told_in};
+ghost use Rattle.audit_walks.specs.Found.{HasFound, IsTellable, listed_in, observed_in};
 ghost use Rattle.audit_walks.specs.Serially.{IsTester};
 ghost use Rattle.audit_laws.specs.Calls.{Finishes};
 ghost use Rattle.audit_model.specs.State.{Kept};
@@ -88,17 +88,17 @@ pub fn text_of<J: Judge>(job: &Job, found: Found, tester: Option<Walker<J>>) -> 
     requires tellable { IsTellable job.now found }
     requires whole { reported job.now ≤ found.listed }
     requires tester { IsTester job.now tester }
-    ensures { result.items ≡ report job.now (listed_in found) (told_in found) (serial_told job.now (draw job.now.setting.key)) }
+    ensures { result.items ≡ report job.now (listed_in found) (observed_in found) (serial_observed job.now (draw job.now.setting.key)) }
 {
     let Found {
         sorted,
         listed,
         stops,
-        told,
+        observed,
         mut text,
     } = found;
     let outcomes = first_outcomes(sorted.as_slice(), listed);
-    let places = first_stops(&stops, told);
+    let places = first_stops(&stops, observed);
     let serial = test_serially(job, tester);
     report::text(job, outcomes, places, serial, &mut text);
     text

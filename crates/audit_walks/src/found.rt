@@ -14,7 +14,7 @@ pub struct Found {
     pub listed: usize,
     pub stops: [[u32; 3]; 4],
     /// The number of stops that the report covers.
-    pub told: usize,
+    pub observed: usize,
     /// The buffer for the report.
     pub text: Bytes,
 }
@@ -24,7 +24,7 @@ impl Found {
     pub fn all(sorted: OutcomeList, text: Bytes) -> Found
         ensures sorted { result.sorted ≡ sorted }
         ensures listed { result.listed ≡ length sorted.items }
-        ensures told { result.told ≡ 0 }
+        ensures observed { result.observed ≡ 0 }
         ensures text { result.text ≡ text }
     {
         let listed = sorted.len();
@@ -32,7 +32,7 @@ impl Found {
             sorted,
             listed,
             stops: [[0; 3]; 4],
-            told: 0,
+            observed: 0,
             text,
         }
     }

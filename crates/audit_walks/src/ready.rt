@@ -2,7 +2,7 @@
 
 ghost use Rattle.std.specs.Prelude.{◌≡◌, ◌<◌, IfOk};
 ghost use Rattle.audit_model.specs.Run.{total};
-ghost use Rattle.audit_walks.specs.Ready.{IsReadyFor, IsStartOf};
+ghost use Rattle.audit_walks.specs.RunBuffers.{AreBuffersFor, IsStartOf};
 
 use crate::todo::todo_of;
 use audit_model::buffers::{Bytes, OutcomeList};
@@ -17,7 +17,7 @@ use std::alloc::Global;
 /// The initial state of a run: a book of the initial outcomes, the ids to walk, and buffers for the outcomes by rising
 /// id and for the report.
 #[derive(Drop)]
-pub struct Ready {
+pub struct RunBuffers {
     pub book: Book,
     pub todo: UnitList,
     pub sorted: OutcomeList,
@@ -38,9 +38,9 @@ fn book_of(alloc: Global, job: &Job, outcomes: &[Outcome]) -> Result<Book, Memor
 }
 
 /// Makes the initial state of a run that starts with these outcomes. The only error is out of memory.
-pub fn make_ready(alloc: Global, job: &Job, outcomes: &[Outcome]) -> Result<Ready, Memory>
+pub fn make_buffers(alloc: Global, job: &Job, outcomes: &[Outcome]) -> Result<RunBuffers, Memory>
     requires { IsStartOf job.now outcomes.now }
-    ensures ready { IfOk result (IsReadyFor job.now) }
+    ensures ready { IfOk result (AreBuffersFor job.now) }
     ensures outcomes { IfOk result (λ r. r.book.outcomes ≡ outcomes.now) }
 {
     let book = book_of(alloc, job, outcomes)?;
@@ -48,7 +48,7 @@ pub fn make_ready(alloc: Global, job: &Job, outcomes: &[Outcome]) -> Result<Read
     let sorted = OutcomeList::with_room(alloc, job.total() as usize)?;
     let mut text = Bytes::new(alloc);
     report::reserve(alloc, job, &mut text)?;
-    Ok(Ready {
+    Ok(RunBuffers {
         book,
         todo,
         sorted,

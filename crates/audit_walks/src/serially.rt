@@ -1,7 +1,7 @@
 //! The serial test of a run.
 
 ghost use Rattle.std.specs.Prelude.{◌≡◌, IfOk};
-ghost use Rattle.audit_model.specs.Serially.{serial_told};
+ghost use Rattle.audit_model.specs.Serially.{serial_observed};
 ghost use Rattle.audit_statement.specs.Draw.{draw};
 ghost use Rattle.report.specs.Outcomes.{IsSerialOf};
 ghost use Rattle.flip_kernel.specs.Judged.{IsJudgeFor};
@@ -35,7 +35,7 @@ pub fn make_tester<J: Judge>(
 pub fn test_serially<J: Judge>(job: &Job, tester: Option<Walker<J>>) -> Option<(u32, [u64; 4])>
     requires run { IsRunJob job.now }
     requires tester { IsTester job.now tester }
-    ensures found { result ≡ serial_told job.now (draw job.now.setting.key) }
+    ensures found { result ≡ serial_observed job.now (draw job.now.setting.key) }
     ensures within { IsSerialOf job.now result }
 {
     match tester {

@@ -6,21 +6,21 @@ ghost use Rattle.audit_laws.specs.Calls.{Finishes};
 ghost use Rattle.audit_model.specs.State.{Kept};
 ghost use Rattle.audit_walks.specs.Ending.{ended_as};
 ghost use Rattle.audit_walks.specs.Found.{HasFound};
-ghost use Rattle.audit_walks.specs.Means.{AreWorkersFor, AreWorkersForAll, AreWorkersForStops, IsMeansFor};
-ghost use Rattle.audit_walks.specs.Ready.{IsReadyFor};
+ghost use Rattle.audit_walks.specs.Resources.{AreWorkersFor, AreWorkersForAll, AreWorkersForStops, IsResourcesFor};
+ghost use Rattle.audit_walks.specs.RunBuffers.{AreBuffersFor};
 
 use crate::ending::{Finished, end_run};
 use crate::found::Found;
-use crate::means::{Means, Workers};
-use crate::ready::Ready;
+use crate::ready::RunBuffers;
+use crate::resources::{Resources, Workers};
 use audit_io::gate::Gate;
 use audit_io::sink::Sink;
-use claim_counter::crew::Crew;
+use claim_counter::pool::WorkerPool;
 use claim_counter::runtime::Runtime;
 use claim_counter::walking::walk_run;
 use flip_guard::judge::Judge;
 use plan_core::job::Job;
-use sequential_test::crew::StoppingCrew;
+use sequential_test::pool::StoppingPool;
 use sequential_test::walking::walk_to_stops;
 use std::thread::Threads;
 
@@ -28,20 +28,20 @@ use std::thread::Threads;
 fn walk_all<R: Threads + Sync, J: Judge + Send, G: Gate + Sync>(
     rt: &Runtime<'_, R, G>,
     job: &Job,
-    ready: Ready,
-    crew: Crew<J>,
+    ready: RunBuffers,
+    pool: WorkerPool<J>,
 ) -> Found
-    requires ready { IsReadyFor job.now ready }
-    requires workers { AreWorkersForAll job.now (length ready.todo) crew }
+    requires ready { AreBuffersFor job.now ready }
+    requires workers { AreWorkersForAll job.now (length ready.todo) pool }
     ensures { HasFound job.now ready.book.outcomes result }
 {
-    let Ready {
+    let RunBuffers {
         mut book,
         todo,
         mut sorted,
         text,
     } = ready;
-    walk_run(rt, job, todo.as_slice(), crew, &mut book, &mut sorted);
+    walk_run(rt, job, todo.as_slice(), pool, &mut book, &mut sorted);
     Found::all(sorted, text)
 }
 
@@ -49,26 +49,26 @@ fn walk_all<R: Threads + Sync, J: Judge + Send, G: Gate + Sync>(
 fn walk_early<R: Threads + Sync, J: Judge + Send, G: Gate + Sync>(
     rt: &Runtime<'_, R, G>,
     job: &Job,
-    ready: Ready,
-    crew: StoppingCrew<J>,
+    ready: RunBuffers,
+    pool: StoppingPool<J>,
 ) -> Found
-    requires ready { IsReadyFor job.now ready }
-    requires workers { AreWorkersForStops job.now crew }
+    requires ready { AreBuffersFor job.now ready }
+    requires workers { AreWorkersForStops job.now pool }
     ensures { HasFound job.now ready.book.outcomes result }
 {
-    let Ready {
+    let RunBuffers {
         mut book,
         todo,
         mut sorted,
         text,
     } = ready;
-    let stops = walk_to_stops(rt, job, todo.as_slice(), crew, &mut book, &mut sorted);
+    let stops = walk_to_stops(rt, job, todo.as_slice(), pool, &mut book, &mut sorted);
     let setting = job.setting();
     Found {
         sorted,
         listed: setting.walks as usize,
         stops,
-        told: setting.asks.len(),
+        observed: setting.asks.len(),
         text,
     }
 }
@@ -77,16 +77,16 @@ fn walk_early<R: Threads + Sync, J: Judge + Send, G: Gate + Sync>(
 pub fn walk<R: Threads + Sync, J: Judge + Send, G: Gate + Sync>(
     rt: &Runtime<'_, R, G>,
     job: &Job,
-    ready: Ready,
+    ready: RunBuffers,
     workers: Workers<J>,
 ) -> Found
-    requires ready { IsReadyFor job.now ready }
+    requires ready { AreBuffersFor job.now ready }
     requires workers { AreWorkersFor job.now (length ready.todo) workers }
     ensures { HasFound job.now ready.book.outcomes result }
 {
     match workers {
-        Workers::All(crew) => walk_all(rt, job, ready, crew),
-        Workers::Early(crew) => walk_early(rt, job, ready, crew),
+        Workers::All(pool) => walk_all(rt, job, ready, pool),
+        Workers::Early(pool) => walk_early(rt, job, ready, pool),
     }
 }
 
@@ -94,18 +94,18 @@ pub fn walk<R: Threads + Sync, J: Judge + Send, G: Gate + Sync>(
 pub fn finish_unsaved<R: Threads + Sync, K: Sink, J: Judge + Send, G: Gate + Sync>(
     rt: &Runtime<'_, R, G>,
     job: &Job,
-    means: Means<J>,
+    resources: Resources<J>,
     out: &mut K,
 ) -> Finished
     requires unsaved { saves job.now.setting ≡ false }
-    requires means { IsMeansFor job.now means }
-    ensures { (k : Kept) → IsOpening job.now k.slots means.ready.book.outcomes → Finishes job.now (K.state out.old) (K.state out.new) k k (ended_as result) }
+    requires resources { IsResourcesFor job.now resources }
+    ensures { (k : Kept) → IsOpening job.now k.slots resources.ready.book.outcomes → Finishes job.now (K.state out.old) (K.state out.new) k k (ended_as result) }
 {
-    let Means {
+    let Resources {
         ready,
         workers,
         tester,
-    } = means;
+    } = resources;
     let found = walk(rt, job, ready, workers);
     end_run(job, found, tester, Ok(()), out)
 }

@@ -12,7 +12,7 @@ use Rattle.audit_model.specs.declared.setting.Command.{Command}
 use Rattle.audit_model.proofs.Options.{some_from}
 use Rattle.audit_statement.specs.Words.{NameAndValue, all_different, are_asks, ask_of, asks_of, command_of, has_majority_group, has_share_group, has_split, has_split_regions, has_splits, is_good, is_number, names_of, number_named, number_of, parts_between, text_of}
 use Rattle.audit_words.specs.Judged.{AreGood, AreGoodLimits, AreReadable, fault_of_pairs, fault_of_values}
-use Rattle.audit_words.proofs.Unnamed.{good_budget, good_part, good_parts, good_resume, good_save, good_serial, good_shift, good_stop, good_workers, plans_lack, trace_lacks, trace_lacks_tests}
+use Rattle.audit_words.proofs.Unnamed.{good_budget, good_part, good_parts, good_resume, good_save, good_serial, good_shift, good_stop, good_workers, plans_lack, trace_misses, trace_misses_tests}
 use Rattle.audit_words.proofs.Asking.{filter_map-ask_of}
 
 -- a number within bounds
@@ -174,8 +174,8 @@ AreReadable-good word Plans words spells faultless h =
     )
 AreReadable-good word Trace words spells faultless h =
     let good = find-all (is_good Trace words) (names_of Trace) h in
-    let lacks = trace_lacks words in
-    let lacks_tests = trace_lacks_tests words in (
+    let lacks = trace_misses words in
+    let misses_tests = trace_misses_tests words in (
       record {
         slack = good 4 (omega arith);
         key = good 5 (omega arith);
@@ -184,14 +184,14 @@ AreReadable-good word Trace words spells faultless h =
         ends = good 8 (omega arith);
         hub_steps = good 9 (omega arith);
         ask = good 10 (omega arith);
-        workers = good_workers Trace words faultless lacks_tests;
+        workers = good_workers Trace words faultless misses_tests;
         budget = good_budget Trace words faultless lacks (good 8 (omega arith));
         save = good_save Trace words faultless lacks;
         resume = good_resume Trace words faultless lacks;
         max_cut = good 11 (omega arith);
-        shift = good_shift Trace words faultless lacks_tests;
-        stop = good_stop Trace words faultless lacks_tests;
-        serial = good_serial Trace words faultless lacks_tests;
+        shift = good_shift Trace words faultless misses_tests;
+        stop = good_stop Trace words faultless misses_tests;
+        serial = good_serial Trace words faultless misses_tests;
         parts = good_parts Trace words faultless lacks;
         part = good_part Trace words faultless lacks;
       },

@@ -8,7 +8,7 @@ use Rattle.audit_model.specs.declared.setting.Command.{Command}
 use Rattle.audit_model.specs.declared.setting.Command.TheVariants.{Check, Run, Make, Plans, Trace}
 use Rattle.audit_statement.specs.Words.{NameAndValue, is_good, names_of}
 use Rattle.audit_words.specs.Judged.{RestsOnGood, fault_of_pairs}
-use Rattle.audit_words.proofs.Unnamed.{good_save, plans_lack, trace_lacks}
+use Rattle.audit_words.proofs.Unnamed.{good_save, plans_lack, trace_misses}
 
 -- no name of the second kind stands before one of the first
 abbrev leads : (Name → Bool) → (Name → Bool) → List Name → Bool
@@ -153,7 +153,7 @@ saved_by Check words k inside faultless below on = saved_before Check words (nam
 saved_by Run words k inside faultless below on = saved_before Run words (names_of Run) k inside below (is_ordered Run) refl on
 saved_by Make words k inside faultless below on = saved_before Make words (names_of Make) k inside below (is_ordered Make) refl on
 saved_by Plans words k inside faultless below on = good_save Plans words faultless (plans_lack words)
-saved_by Trace words k inside faultless below on = good_save Trace words faultless (trace_lacks words)
+saved_by Trace words k inside faultless below on = good_save Trace words faultless (trace_misses words)
 
 -- after valid values, a name depends on valid ones
 pub RestsOnGood-behind : (command : Command) (words : List NameAndValue) (k : ℕ) → k < length (names_of command) → fault_of_pairs command words ≡ None

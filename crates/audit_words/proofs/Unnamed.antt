@@ -42,10 +42,10 @@ of_tests Serial = true
 of_tests _ = false
 
 -- a command takes none of the names of a kind
-abbrev pub Lacks : Command → List NameAndValue → (Name → Bool) → Type 0
-Lacks command words kind = (name : Name) → kind name ≡ true → name_of command words (name_text name) ≡ None
+abbrev pub Misses : Command → List NameAndValue → (Name → Bool) → Type 0
+Misses command words kind = (name : Name) → kind name ≡ true → name_of command words (name_text name) ≡ None
 
-pub plans_lack : (words : List NameAndValue) → Lacks Plans words of_saving
+pub plans_lack : (words : List NameAndValue) → Misses Plans words of_saving
 plans_lack words Save h = refl
 plans_lack words Resume h = refl
 plans_lack words Budget h = refl
@@ -53,20 +53,20 @@ plans_lack words Parts h = refl
 plans_lack words Part h = refl
 plans_lack words _ h = absurd (false≢true h)
 
-pub trace_lacks : (words : List NameAndValue) → Lacks Trace words of_saving
-trace_lacks words Save h = refl
-trace_lacks words Resume h = refl
-trace_lacks words Budget h = refl
-trace_lacks words Parts h = refl
-trace_lacks words Part h = refl
-trace_lacks words _ h = absurd (false≢true h)
+pub trace_misses : (words : List NameAndValue) → Misses Trace words of_saving
+trace_misses words Save h = refl
+trace_misses words Resume h = refl
+trace_misses words Budget h = refl
+trace_misses words Parts h = refl
+trace_misses words Part h = refl
+trace_misses words _ h = absurd (false≢true h)
 
-pub trace_lacks_tests : (words : List NameAndValue) → Lacks Trace words of_tests
-trace_lacks_tests words Workers h = refl
-trace_lacks_tests words Shift h = refl
-trace_lacks_tests words Stop h = refl
-trace_lacks_tests words Serial h = refl
-trace_lacks_tests words _ h = absurd (false≢true h)
+pub trace_misses_tests : (words : List NameAndValue) → Misses Trace words of_tests
+trace_misses_tests words Workers h = refl
+trace_misses_tests words Shift h = refl
+trace_misses_tests words Stop h = refl
+trace_misses_tests words Serial h = refl
+trace_misses_tests words _ h = absurd (false≢true h)
 
 module _ (command : Command) (words : List NameAndValue) (faultless : fault_of_pairs command words ≡ None) where
   -- a word that spells no name stands in no pair
@@ -87,7 +87,7 @@ module _ (command : Command) (words : List NameAndValue) (faultless : fault_of_p
       ap (λ (found : Option NameAndValue). unwrap_or (option_or (option_and_then (λ pair. pair.1) found) (default_of name)) [])
       (no_such (name_text name) words (not_there (name_text name) unnamed))
 
-module _ (command : Command) (words : List NameAndValue) (faultless : fault_of_pairs command words ≡ None) (lacks : Lacks command words of_saving) where
+module _ (command : Command) (words : List NameAndValue) (faultless : fault_of_pairs command words ≡ None) (lacks : Misses command words of_saving) where
   pub save_is : text_of Check words Save ≡ codes "0"
   save_is = defaulted command words faultless Save (lacks Save refl)
 
@@ -135,7 +135,7 @@ module _ (command : Command) (words : List NameAndValue) (faultless : fault_of_p
           (subst (λ (save : List ℕ). (is_number 0 100000 (codes "100000") && (not (is_number 0 0 save) || nat_le n (unwrap_or (number_of (codes "100000")) 0))) ≡ true) (sym save_is) few)
 
 -- the workers and other tests of a trace have their defaults
-module _ (command : Command) (words : List NameAndValue) (faultless : fault_of_pairs command words ≡ None) (lacks : Lacks command words of_tests) where
+module _ (command : Command) (words : List NameAndValue) (faultless : fault_of_pairs command words ≡ None) (lacks : Misses command words of_tests) where
   pub good_workers : is_good Check words Workers ≡ true
   unfolding digits
   good_workers = ap (is_number 1 32) (defaulted command words faultless Workers (lacks Workers refl))

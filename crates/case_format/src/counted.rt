@@ -28,7 +28,7 @@ pub enum Watch {
 
 /// A gate that counts the announced ids.
 pub struct CountingGate {
-    told: Arc<AtomicU64, Global>,
+    observed: Arc<AtomicU64, Global>,
     watch: Watch,
 }
 
@@ -36,7 +36,7 @@ pub struct CountingGate {
 impl Drop for CountingGate {
     fn drop(self) {
         let CountingGate {
-            told: _told,
+            observed: _observed,
             watch: _watch,
         } = self;
     }
@@ -45,8 +45,8 @@ impl Drop for CountingGate {
 impl CountingGate {
     /// Makes a gate with a count of 0.
     pub fn new(alloc: Global, watch: Watch) -> Result<CountingGate, AllocError> {
-        let told = Arc::new(alloc, AtomicU64::new(0))?;
-        Ok(CountingGate { told, watch })
+        let observed = Arc::new(alloc, AtomicU64::new(0))?;
+        Ok(CountingGate { observed, watch })
     }
 
     /// Returns the gate's work besides counting.
@@ -55,8 +55,8 @@ impl CountingGate {
     }
 
     /// Returns the number of announced ids.
-    pub fn told(&self) -> u64 {
-        self.told.load(Ordering::SeqCst)
+    pub fn observed(&self) -> u64 {
+        self.observed.load(Ordering::SeqCst)
     }
 
     /// Makes a keeper that compares each save with this count.
@@ -64,10 +64,10 @@ impl CountingGate {
     where
         K: Drop,
     {
-        let told = Arc::try_clone(&self.told)?;
+        let observed = Arc::try_clone(&self.observed)?;
         Ok(CountedKeeper {
             inner,
-            told,
+            observed,
             saves: Saves { all: 0, early: 0 },
         })
     }
@@ -75,7 +75,7 @@ impl CountingGate {
 
 impl Gate for CountingGate {
     fn before(&self, id: u32) {
-        self.told.fetch_add(1, Ordering::SeqCst);
+        self.observed.fetch_add(1, Ordering::SeqCst);
         match &self.watch {
             Watch::Nothing => {}
             Watch::Noting(gate) => gate.before(id),
@@ -95,7 +95,7 @@ pub struct Saves {
 /// A keeper that counts saves. In a run that saves with each post, it also counts early saves.
 pub struct CountedKeeper<K> {
     inner: K,
-    told: Arc<AtomicU64, Global>,
+    observed: Arc<AtomicU64, Global>,
     saves: Saves,
 }
 
@@ -107,7 +107,7 @@ impl<K: Drop> Drop for CountedKeeper<K> {
     fn drop(self) {
         let CountedKeeper {
             inner: _inner,
-            told: _told,
+            observed: _observed,
             saves: _,
         } = self;
     }
@@ -123,7 +123,7 @@ impl<K> CountedKeeper<K> {
     pub fn into_inner(self) -> K {
         let CountedKeeper {
             inner,
-            told: _told,
+            observed: _observed,
             saves: _,
         } = self;
         inner
@@ -134,7 +134,7 @@ impl<K> CountedKeeper<K> {
         ensures { self.new.inner ≡ self.old.inner }
     {
         self.saves.all = self.saves.all.wrapping_add(1);
-        if self.told.load(Ordering::SeqCst) < self.saves.all {
+        if self.observed.load(Ordering::SeqCst) < self.saves.all {
             self.saves.early = self.saves.early.wrapping_add(1);
         }
     }

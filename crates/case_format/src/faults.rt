@@ -5,9 +5,9 @@
 //! the graph and the arguments of the audit follow. The first such call fails in the first run, the second in the
 //! second, and so on, until a run ends with status 0 or 7.
 
-use crate::given::{Given, Origin, Watched};
-use crate::held::{Held, saves_failing};
+use crate::run_setup::{Given, GraphSource, Watched};
 use crate::said::Said;
+use crate::slot_setup::{Held, saves_failing};
 use crate::streams::{number, word};
 use std::str::SplitWhitespace;
 use std::test::Fail;
@@ -48,7 +48,7 @@ fn failing_call(setup: &Setup<'_>, calls: &str, run: u64) -> u64 {
 
 fn given_in<'a>(setup: &Setup<'a>, run: u64) -> Given<'a> {
     Given {
-        graph: Origin::File(setup.file),
+        graph: GraphSource::File(setup.file),
         most_read: setup.most,
         failing_read: failing_call(setup, "reads", run),
         room: ROOM,
@@ -68,6 +68,6 @@ pub fn said_in<'a>(setup: &Setup<'a>, run: u64) -> Said<'a> {
         },
         saves: saves_failing(failing_call(setup, "saves", run)),
         given: given_in(setup, run),
-        is_told: true,
+        is_observed: true,
     }
 }

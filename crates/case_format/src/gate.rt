@@ -50,7 +50,7 @@ impl NotingGate {
     }
 
     /// Returns true if this id was announced. Ids from 64 on are not noted.
-    pub fn was_told(&self, id: u32) -> bool {
+    pub fn was_observed(&self, id: u32) -> bool {
         id < NOTED && self.ids.load(Ordering::SeqCst) & (1 << id) != 0
     }
 

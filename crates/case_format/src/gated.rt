@@ -4,9 +4,9 @@
 
 use crate::counted::Saves;
 use crate::crowd::CrowdGate;
-use crate::given::{Given, Origin, READ, Watched};
-use crate::held::{ABSENT, UNSTOPPED};
+use crate::run_setup::{Given, GraphSource, READ, Watched};
 use crate::said::Said;
+use crate::slot_setup::{ABSENT, UNSTOPPED};
 use crate::streams::word;
 use crate::timed::TimedGate;
 use std::io;
@@ -15,7 +15,7 @@ use std::str::SplitWhitespace;
 /// Parses a line for a run at such a gate.
 pub fn said_of<'a>(parts: &mut SplitWhitespace<'a>, watched: Watched) -> Said<'a> {
     let given = Given {
-        graph: Origin::File(word(parts)),
+        graph: GraphSource::File(word(parts)),
         most_read: READ,
         failing_read: 0,
         room: 4000,
@@ -27,22 +27,22 @@ pub fn said_of<'a>(parts: &mut SplitWhitespace<'a>, watched: Watched) -> Said<'a
         held: ABSENT,
         saves: UNSTOPPED,
         given,
-        is_told: false,
+        is_observed: false,
     }
 }
 
 /// Prints the status, the number of announced ids, and the number of callers let go before three had begun.
 pub fn show_crowd(rt: &HostRuntime, status: u8, gate: &CrowdGate) -> io::Result<()> {
-    let told = gate.begun();
+    let observed = gate.begun();
     let given_up = gate.given_up();
-    println!(rt; "status {status} told {told} given up {given_up}")
+    println!(rt; "status {status} told {observed} given up {given_up}")
 }
 
 /// Prints the result of a run that saves with each post: its status, the number of announced ids, and the numbers of
 /// saves and of early saves.
-pub fn show_counted(rt: &HostRuntime, status: u8, told: u64, saves: Saves) -> io::Result<()> {
+pub fn show_counted(rt: &HostRuntime, status: u8, observed: u64, saves: Saves) -> io::Result<()> {
     println!(rt;
-        "status {status} told {told} saves {} early {}",
+        "status {status} told {observed} saves {} early {}",
         saves.all, saves.early
     )
 }
@@ -50,7 +50,7 @@ pub fn show_counted(rt: &HostRuntime, status: u8, told: u64, saves: Saves) -> io
 /// Prints the result of a run of one long walk: its status, the number of announced ids, and whether the first came in
 /// the first half of the time.
 pub fn show_timed(rt: &HostRuntime, status: u8, gate: &TimedGate) -> io::Result<()> {
-    let early = gate.was_told_early();
-    let told = gate.told();
-    println!(rt; "status {status} told {told} in the first half {early}")
+    let early = gate.was_observed_early();
+    let observed = gate.observed();
+    println!(rt; "status {status} told {observed} in the first half {early}")
 }

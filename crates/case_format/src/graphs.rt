@@ -1,20 +1,20 @@
 //! Checks of graphs, one for each line of a file. After its name a line has the whole text of a graph, or `hex` and its
 //! bytes in hexadecimal digits.
 
-use crate::given::{Given, Origin, READ, WRITE, Watched};
-use crate::held::{ABSENT, UNSTOPPED};
+use crate::run_setup::{Given, GraphSource, READ, WRITE, Watched};
 use crate::said::Said;
+use crate::slot_setup::{ABSENT, UNSTOPPED};
 use crate::streams::word;
 
 /// The arguments of each check.
 pub const WORDS: &str = "check --pop pop --first a --second b --district d --slack 1000";
 
-fn graph_of(line: &str) -> Origin<'_> {
+fn graph_of(line: &str) -> GraphSource<'_> {
     let mut parts = line.split_whitespace();
     if word(&mut parts) == "hex" {
-        Origin::Hex(word(&mut parts))
+        GraphSource::Hex(word(&mut parts))
     } else {
-        Origin::Text(line)
+        GraphSource::Text(line)
     }
 }
 
@@ -33,6 +33,6 @@ pub fn said_of(line: &str) -> Said<'_> {
         held: ABSENT,
         saves: UNSTOPPED,
         given,
-        is_told: false,
+        is_observed: false,
     }
 }

@@ -11,9 +11,9 @@
 //! In place of the number of a save, `2/40` is a stop within the second save that leaves 40 of its bytes. No later save
 //! changes anything.
 
-use crate::given::{Given, Origin, READ, WRITE, Watched};
-use crate::held::{Held, Saves, saves_failing};
+use crate::run_setup::{Given, GraphSource, READ, WRITE, Watched};
 use crate::said::Said;
+use crate::slot_setup::{Held, Saves, saves_failing};
 use crate::streams::{number, word};
 use std::num::ParseIntError;
 use std::str::SplitWhitespace;
@@ -57,7 +57,7 @@ pub fn said_of<'a>(parts: &mut SplitWhitespace<'a>) -> Result<Said<'a>, Fail> {
     let saves = saves_of(word(parts))?;
     let room = number(parts)? as usize;
     let given = Given {
-        graph: Origin::File(word(parts)),
+        graph: GraphSource::File(word(parts)),
         most_read: READ,
         failing_read: 0,
         room,
@@ -69,6 +69,6 @@ pub fn said_of<'a>(parts: &mut SplitWhitespace<'a>) -> Result<Said<'a>, Fail> {
         held,
         saves,
         given,
-        is_told: true,
+        is_observed: true,
     })
 }

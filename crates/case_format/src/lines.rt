@@ -2,13 +2,13 @@
 
 use crate::counted::RunKeeper;
 use crate::faults::{PAST_RUNS, said_in, setup_of};
-use crate::given::{Watched, case_of};
 use crate::graphs::WORDS;
-use crate::held::{absent, keeper_of};
 use crate::names::begin_line;
+use crate::run_setup::{Watched, case_of};
 use crate::runs::Case;
 use crate::said::Said;
 use crate::shown::show_run;
+use crate::slot_setup::{absent, keeper_of};
 use crate::streams::text_of;
 use crate::{gated, graphs, keeping, plain};
 use audit_io::mem_keeper::MemKeeper;
@@ -70,7 +70,7 @@ fn run_case<A: Fn(&mut Case, RunKeeper) -> (u8, RunKeeper)>(
     let (status, keeper) = audit(case, keeper);
     let saves = keeper.saves();
     drop(replace(left, keeper.into_inner().into_inner()));
-    show_run(rt, status, said.is_told, case, saves, left)?;
+    show_run(rt, status, said.is_observed, case, saves, left)?;
     Ok(status)
 }
 

@@ -4,9 +4,9 @@
 //! comes the number of trajectories that have to begin before the first one may walk, 0 for a gate that holds nobody
 //! and is not shown. The file of the graph and the arguments of the audit follow.
 
-use crate::given::{Given, Origin, READ, WRITE, Watched};
-use crate::held::{ABSENT, UNSTOPPED};
+use crate::run_setup::{Given, GraphSource, READ, WRITE, Watched};
 use crate::said::Said;
+use crate::slot_setup::{ABSENT, UNSTOPPED};
 use crate::streams::{number, word};
 use std::str::SplitWhitespace;
 use std::test::Fail;
@@ -17,7 +17,7 @@ pub fn said_of<'a>(parts: &mut SplitWhitespace<'a>) -> Result<Said<'a>, Fail> {
     let room = number(parts)? as usize;
     let wanted = number(parts)?;
     let given = Given {
-        graph: Origin::File(word(parts)),
+        graph: GraphSource::File(word(parts)),
         most_read: READ,
         failing_read,
         room,
@@ -29,6 +29,6 @@ pub fn said_of<'a>(parts: &mut SplitWhitespace<'a>) -> Result<Said<'a>, Fail> {
         held: ABSENT,
         saves: UNSTOPPED,
         given,
-        is_told: false,
+        is_observed: false,
     })
 }

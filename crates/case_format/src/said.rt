@@ -1,7 +1,7 @@
 //! The setup of a run, which a line gives besides the arguments.
 
-use crate::given::Given;
-use crate::held::{Held, Saves};
+use crate::run_setup::Given;
+use crate::slot_setup::{Held, Saves};
 
 /// The slots before the run, the failing saves, the other inputs, and a flag that prints the gate and both slots in any
 /// case.
@@ -10,5 +10,5 @@ pub struct Said<'a> {
     pub held: Held<'a>,
     pub saves: Saves,
     pub given: Given<'a>,
-    pub is_told: bool,
+    pub is_observed: bool,
 }

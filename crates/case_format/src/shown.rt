@@ -12,42 +12,47 @@ use std::io;
 pub fn show_run(
     rt: &HostRuntime,
     status: u8,
-    is_told: bool,
+    is_observed: bool,
     case: &Case,
     saves: Saves,
     left: &MemKeeper,
 ) -> io::Result<()> {
     match case.gate.watch() {
-        Watch::Noting(gate) => show_noted(rt, status, is_told, gate, case, left),
+        Watch::Noting(gate) => show_noted(rt, status, is_observed, gate, case, left),
         Watch::Crowd(gate) => show_crowd(rt, status, gate),
         Watch::Timed(gate) => show_timed(rt, status, gate),
-        Watch::Nothing => show_counted(rt, status, case.gate.told(), saves),
+        Watch::Nothing => show_counted(rt, status, case.gate.observed(), saves),
     }
 }
 
-// Prints the status and both outputs of a run. With `is_told` it also prints the announced ids and both slots. The ids
+// Prints the status and both outputs of a run. With `is_observed` it also prints the announced ids and both slots. The ids
 // are printed too if the gate is shown.
 fn show_noted(
     rt: &HostRuntime,
     status: u8,
-    is_told: bool,
+    is_observed: bool,
     gate: &NotingGate,
     case: &Case,
     left: &MemKeeper,
 ) -> io::Result<()> {
-    show_end(rt, status, is_told || gate.is_shown(), gate)?;
+    show_end(rt, status, is_observed || gate.is_shown(), gate)?;
     show_texts(rt, case)?;
-    if is_told {
+    if is_observed {
         return show_slots(rt, left);
     }
     Ok(())
 }
 
-/// Prints the status, and with `is_told` the announced ids.
-pub fn show_end(rt: &HostRuntime, status: u8, is_told: bool, gate: &NotingGate) -> io::Result<()> {
+/// Prints the status, and with `is_observed` the announced ids.
+pub fn show_end(
+    rt: &HostRuntime,
+    status: u8,
+    is_observed: bool,
+    gate: &NotingGate,
+) -> io::Result<()> {
     println!(rt; "status {status}")?;
-    if is_told {
-        return show_told(rt, gate);
+    if is_observed {
+        return show_observed(rt, gate);
     }
     Ok(())
 }
@@ -58,7 +63,7 @@ fn show_texts(rt: &HostRuntime, case: &Case) -> io::Result<()> {
 }
 
 // Prints whether the gate saw enough others begin, the number of announced ids, and the ids in rising order.
-fn show_told(rt: &HostRuntime, gate: &NotingGate) -> io::Result<()> {
+fn show_observed(rt: &HostRuntime, gate: &NotingGate) -> io::Result<()> {
     if gate.has_seen() {
         rt.print("held, ")?;
     }
@@ -75,7 +80,7 @@ fn show_ids(rt: &HostRuntime, gate: &NotingGate) -> io::Result<()> {
 }
 
 fn show_id(rt: &HostRuntime, gate: &NotingGate, id: u32) -> io::Result<()> {
-    if gate.was_told(id) {
+    if gate.was_observed(id) {
         return print!(rt; " {id}");
     }
     Ok(())

@@ -4,8 +4,8 @@
 //! the arguments of the audit. The output is dropped.
 
 use crate::gate::NotingGate;
-use crate::given::note_of;
 use crate::names::begin_line;
+use crate::run_setup::note_of;
 use crate::runs::SureCase;
 use crate::shown::show_end;
 use crate::slots::slot_of;

@@ -10,7 +10,7 @@ use std::time::Instant;
 pub struct TimedGate {
     rt: HostRuntime,
     start: Instant,
-    told: AtomicU64,
+    observed: AtomicU64,
     first: AtomicU64,
 }
 
@@ -21,14 +21,14 @@ impl TimedGate {
         Ok(TimedGate {
             rt,
             start,
-            told: AtomicU64::new(0),
+            observed: AtomicU64::new(0),
             first: AtomicU64::new(u64::MAX),
         })
     }
 
     /// Returns the number of announced ids.
-    pub fn told(&self) -> u64 {
-        self.told.load(Ordering::SeqCst)
+    pub fn observed(&self) -> u64 {
+        self.observed.load(Ordering::SeqCst)
     }
 
     // Returns the microseconds since the gate was made, if the clock works.
@@ -38,7 +38,7 @@ impl TimedGate {
     }
 
     /// Returns true if the first id came in the first half of the time since the gate was made.
-    pub fn was_told_early(&self) -> bool {
+    pub fn was_observed_early(&self) -> bool {
         match self.passed() {
             Some(passed) => self.first.load(Ordering::SeqCst) < passed / 2,
             None => false,
@@ -48,7 +48,7 @@ impl TimedGate {
 
 impl Gate for TimedGate {
     fn before(&self, _id: u32) {
-        self.told.fetch_add(1, Ordering::SeqCst);
+        self.observed.fetch_add(1, Ordering::SeqCst);
         if let Some(passed) = self.passed() {
             self.first.fetch_min(passed, Ordering::SeqCst);
         }

@@ -115,27 +115,27 @@ fn count(times: &mut [u32], number: usize) {
 }
 
 // Makes a pass for each seat.
-fn recruit(alloc: Global, claims: &Claims, mut pass: Pass) -> Result<Vec<Drawer>, Memory>
+fn make_pool(alloc: Global, claims: &Claims, mut pass: Pass) -> Result<Vec<Drawer>, Memory>
     requires pass { BelongsTo claims.now pass }
     requires before_end { (own pass).ended ≡ false }
-    ensures { IfOk result (λ crew. All (λ d. BelongsTo claims.now d.pass × ((own d.pass).ended ≡ false)) crew.items) }
+    ensures { IfOk result (λ pool. All (λ d. BelongsTo claims.now d.pass × ((own d.pass).ended ≡ false)) pool.items) }
 {
-    let mut crew = Vec::new(alloc);
+    let mut pool = Vec::new(alloc);
     while pass.spare() > 0 {
-        crew.push(Drawer::new(alloc, claims.split(&mut pass))?)?;
+        pool.push(Drawer::new(alloc, claims.split(&mut pass))?)?;
     }
-    crew.push(Drawer::new(alloc, pass)?)?;
-    Ok(crew)
+    pool.push(Drawer::new(alloc, pass)?)?;
+    Ok(pool)
 }
 
 // Lets each pass draw in its own thread, if one can be started.
-fn draw_each<R: Threads + Sync>(rt: &R, claims: &Claims, crew: &mut [Drawer])
-    requires { All (λ d. BelongsTo claims.now d.pass × ((own d.pass).ended ≡ false)) crew.old }
+fn draw_each<R: Threads + Sync>(rt: &R, claims: &Claims, pool: &mut [Drawer])
+    requires { All (λ d. BelongsTo claims.now d.pass × ((own d.pass).ended ≡ false)) pool.old }
 {
-    let threads = crew.len().max(1);
+    let threads = pool.len().max(1);
     thread::for_each_mut(
         rt,
-        crew,
+        pool,
         threads,
         &|_, drawer: &mut Drawer|
             requires { BelongsTo claims.now drawer.now.pass × ((own drawer.now.pass).ended ≡ false) }
@@ -144,9 +144,9 @@ fn draw_each<R: Threads + Sync>(rt: &R, claims: &Claims, crew: &mut [Drawer])
 }
 
 // Returns the number of times that all passes together drew the number.
-fn times_of(crew: &[Drawer], number: usize) -> u32 {
+fn times_of(pool: &[Drawer], number: usize) -> u32 {
     let mut all = 0u32;
-    for drawer in crew.iter() {
+    for drawer in pool.iter() {
         if let Some(times) = drawer.times.get(number) {
             all = all.wrapping_add(*times);
         }
@@ -155,9 +155,9 @@ fn times_of(crew: &[Drawer], number: usize) -> u32 {
 }
 
 // Returns the number of numbers drawn exactly once by all passes together.
-fn drawn_once(crew: &[Drawer]) -> usize {
+fn drawn_once(pool: &[Drawer]) -> usize {
     (0..LIMIT as usize)
-        .filter(|number| times_of(crew, *number) == 1)
+        .filter(|number| times_of(pool, *number) == 1)
         .count()
 }
 
@@ -171,9 +171,9 @@ fn draw_from<R: Threads + Sync>(
     requires pass { BelongsTo claims.now pass }
     requires before_end { (own pass).ended ≡ false }
 {
-    let mut crew = recruit(alloc, claims, pass)?;
-    draw_each(rt, claims, crew.as_mut_slice());
-    Ok((crew.len(), drawn_once(crew.as_slice())))
+    let mut pool = make_pool(alloc, claims, pass)?;
+    draw_each(rt, claims, pool.as_mut_slice());
+    Ok((pool.len(), drawn_once(pool.as_slice())))
 }
 
 // Lets passes for these seats draw. Returns their number, and the number of numbers drawn exactly once.

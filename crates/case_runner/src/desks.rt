@@ -9,7 +9,7 @@ ghost use Rattle.ckpt_store.specs.Places.{IsPlace};
 ghost use Rattle.claim_counter.specs.Walks.{IsWithin};
 ghost use Rattle.audit_statement.specs.Checkpoint as definition;
 ghost use Rattle.flip_kernel.specs.Judged.{IsJudgeFor};
-ghost use Rattle.tally_desk.specs.Crews.{IsWalker, WalksAtDesk};
+ghost use Rattle.tally_desk.specs.Pools.{IsWalker, WalksAtDesk};
 ghost use Rattle.tally_desk.specs.Founded.{parts_of};
 ghost use Rattle.tally_desk.specs.Parts.{IsPlaceFor, MayFound};
 ghost use Rattle.tally_desk.specs.Passes.{IsFirstPass};
@@ -35,7 +35,7 @@ use std::alloc::{AllocError, Global};
 use std::sync::Wait;
 use std::{fs, io};
 use tally_desk::desk::Desk;
-use tally_desk::handing::{DeskPlan, Kept, Outset};
+use tally_desk::handing::{DeskPlan, InitialState, Kept};
 use tally_desk::laws::posts_stay_whole;
 use tally_desk::pass::DeskPass;
 use walker::walker::Walker;
@@ -154,21 +154,21 @@ fn ids_of(alloc: Global, job: &Job) -> Result<(Book, UnitList), Memory>
 }
 
 // Makes the initial state of a desk.
-fn outset_of<C: Keeper + Drop>(
+fn initial_state_of<C: Keeper + Drop>(
     alloc: Global,
     job: &Job,
     mut keeper: C,
     every: u32,
-) -> Option<Outset<C>>
+) -> Option<InitialState<C>>
     requires every { 1 ≤ every }
-    ensures outset { IfSome result (λ o. MayFound job.now (C.state o.keeper).slots o.plan o.todo o.book) }
+    ensures initial_state { IfSome result (λ o. MayFound job.now (C.state o.keeper).slots o.plan o.todo o.book) }
     ensures within { IfSome result (λ o. IsWithin job.now o.todo) }
 {
     let Some(plan) = plan_of(alloc, job, &mut keeper, every) else {
         return None;
     };
     match ids_of(alloc, job) {
-        Ok((book, todo)) => Some(Outset {
+        Ok((book, todo)) => Some(InitialState {
             plan,
             todo,
             book,
@@ -182,17 +182,17 @@ fn outset_of<C: Keeper + Drop>(
 fn open<C: Keeper + Drop>(
     alloc: Global,
     job: &Job,
-    outset: Outset<C>,
+    initial_state: InitialState<C>,
 ) -> Option<(Desk<C>, DeskPass)>
     requires lets { (kept : KeeperState) (slot : ℕ) (bytes : List ℕ) → C.lets kept slot bytes }
-    requires outset { MayFound job.now (C.state outset.keeper).slots outset.plan outset.todo outset.book }
-    requires within { IsWithin job.now outset.todo }
+    requires initial_state { MayFound job.now (C.state initial_state.keeper).slots initial_state.plan initial_state.todo initial_state.book }
+    requires within { IsWithin job.now initial_state.todo }
     requires no_ends { job.now.setting.ends ≡ 0 }
     ensures shared { IfSome result (λ d. WalksAtDesk job.now (parts_of C.state d.0.table.shared.key) []) }
     ensures pass { IfSome result (λ d. IsFirstPass d.0.table.shared.table_id (parts_of C.state d.0.table.shared.key) d.1) }
     ensures two { IfSome result (λ d. (parts_of C.state d.0.table.shared.key).seats ≡ 2) }
 {
-    match Desk::new(alloc, job, outset, 2) {
+    match Desk::new(alloc, job, initial_state, 2) {
         Ok(made) => Some(made),
         Err(_) => None,
     }
@@ -212,8 +212,8 @@ fn open_with<C: Keeper + Drop>(
     ensures pass { IfSome result (λ d. IsFirstPass d.0.table.shared.table_id (parts_of C.state d.0.table.shared.key) d.1) }
     ensures two { IfSome result (λ d. (parts_of C.state d.0.table.shared.key).seats ≡ 2) }
 {
-    match outset_of(alloc, job, keeper, every) {
-        Some(outset) => open(alloc, job, outset),
+    match initial_state_of(alloc, job, keeper, every) {
+        Some(initial_state) => open(alloc, job, initial_state),
         None => None,
     }
 }
@@ -390,9 +390,9 @@ pub fn show_desks<R: Wait>(rt: &HostRuntime, waiting: &R) -> io::Result<()> {
     let text = fs::read(rt, "cycle.json")?;
     match job_of(rt.alloc(), text.as_slice()) {
         Ok(job) => {
-            let told = show_each(rt, waiting, &job);
+            let observed = show_each(rt, waiting, &job);
             drop(job);
-            told
+            observed
         }
         Err(_) => rt.println("no job"),
     }

@@ -49,9 +49,9 @@ fn show_judged<J: Judge>(rt: &HostRuntime, job: &Job, judge: J) -> io::Result<()
 {
     match State::new(rt.alloc(), job, judge) {
         Ok(mut state) => {
-            let told = show_state(rt, job, &mut state);
+            let observed = show_state(rt, job, &mut state);
             drop(state);
-            told
+            observed
         }
         Err(_) => rt.println("memory"),
     }

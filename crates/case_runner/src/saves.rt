@@ -28,16 +28,31 @@ fn show_process(rt: &HostRuntime, first: u8, second: u8, third: u8) -> io::Resul
     show_save(rt, third, &mut known)
 }
 
-/// Prints the order in which saves write and store: in a folder without slots, in one with both, and in one whose first
-/// slot is gone.
-pub fn show_saves(rt: &HostRuntime) -> io::Result<()> {
+// Saves in a folder without slots.
+fn show_empty(rt: &HostRuntime) -> io::Result<()> {
     begin_case(rt, "saves_in_an_empty_folder")?;
     fs::remove_file(rt, "audit-0.ckpt")?;
     fs::remove_file(rt, "audit-1.ckpt")?;
-    show_process(rt, 0, 1, 0)?;
+    show_process(rt, 0, 1, 0)
+}
+
+// Saves in a folder with both slots.
+fn show_full(rt: &HostRuntime) -> io::Result<()> {
     begin_case(rt, "saves_over_both_slots")?;
-    show_process(rt, 1, 0, 1)?;
+    show_process(rt, 1, 0, 1)
+}
+
+// Saves in a folder whose first slot is gone.
+fn show_second_alone(rt: &HostRuntime) -> io::Result<()> {
     begin_case(rt, "saves_without_the_first_slot")?;
     fs::remove_file(rt, "audit-0.ckpt")?;
     show_process(rt, 0, 1, 0)
+}
+
+/// Prints the order in which saves write and store: in a folder without slots, in one with both,
+/// and in one whose first slot is gone.
+pub fn show_saves(rt: &HostRuntime) -> io::Result<()> {
+    show_empty(rt)?;
+    show_full(rt)?;
+    show_second_alone(rt)
 }

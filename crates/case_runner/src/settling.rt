@@ -89,9 +89,9 @@ pub fn show_ends(rt: &HostRuntime) -> io::Result<()> {
     let text = fs::read(rt, "four_in_a_row.json")?;
     match job_of(rt.alloc(), text.as_slice()) {
         Ok(job) => {
-            let told = show_job(rt, &job);
+            let observed = show_job(rt, &job);
             drop(job);
-            told
+            observed
         }
         Err(_) => rt.println("no job"),
     }

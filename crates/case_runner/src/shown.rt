@@ -47,9 +47,9 @@ fn show_made(rt: &HostRuntime, job: &Job, shown: Shown) -> io::Result<()> {
 pub fn show_job(rt: &HostRuntime, job: Result<Job, PlanFault>, shown: Shown) -> io::Result<()> {
     match job {
         Ok(job) => {
-            let told = show_made(rt, &job, shown);
+            let observed = show_made(rt, &job, shown);
             drop(job);
-            told
+            observed
         }
         Err(fault) => show_fault(rt, &fault),
     }

@@ -10,7 +10,7 @@ ghost use Rattle.ckpt_format.specs.Written.{AppendsBytes, bytes_by, head_bytes, 
 ghost use Rattle.audit_model.specs.Limits.{most_trajectories};
 
 use crate::ahead::Ahead;
-use crate::piece::Piece;
+use crate::piece::OutcomeBytes;
 use audit_model::buffers::Bytes;
 use audit_model::outcome::Outcome;
 use sha2::{Digest, Sha256};
@@ -105,7 +105,7 @@ pub(crate) fn append_head(
     requires { outcomes_place ≤ out.old.spare }
     ensures { AppendsBytes out.old out.new (head_bytes version digest.now generation count) }
 {
-    let mut piece = Piece::new();
+    let mut piece = OutcomeBytes::new();
     piece.append(&MAGIC);
     append_u32(&mut piece, version);
     piece.append(digest);
@@ -130,7 +130,7 @@ pub(crate) fn append_outcome(out: &mut Bytes, with_bins: bool, outcome: &Outcome
     ensures bytes { AppendsBytes out.old out.new (bytes_by with_bins outcome.now) }
     ensures sound { IsOutcome outcome.now }
 {
-    let mut piece = Piece::new();
+    let mut piece = OutcomeBytes::new();
     append_u32(&mut piece, outcome.id);
     append_u64(&mut piece, outcome.moved);
     append_values(&mut piece, &outcome.values);
@@ -138,7 +138,7 @@ pub(crate) fn append_outcome(out: &mut Bytes, with_bins: bool, outcome: &Outcome
     append(out, piece.as_slice());
 }
 
-fn append_bins(piece: &mut Piece, with_bins: bool, bins: &[u32; 9])
+fn append_bins(piece: &mut OutcomeBytes, with_bins: bool, bins: &[u32; 9])
     requires { IsTrue with_bins → 36 ≤ piece.old.spare }
     ensures bytes { AppendsBytes piece.old piece.new (bin_bytes with_bins bins.now) }
     ensures sound { AllByRecursion (λ n. n < 2 ^ 32) bins.now }
@@ -148,7 +148,7 @@ fn append_bins(piece: &mut Piece, with_bins: bool, bins: &[u32; 9])
     }
 }
 
-fn append_numbers(piece: &mut Piece, numbers: &[u32])
+fn append_numbers(piece: &mut OutcomeBytes, numbers: &[u32])
     requires { 4 * length numbers.now ≤ piece.old.spare }
     ensures { AppendsBytes piece.old piece.new (flat_map (to_be_bytes w32) numbers.now) }
 {
@@ -157,7 +157,7 @@ fn append_numbers(piece: &mut Piece, numbers: &[u32])
     }
 }
 
-fn append_values(piece: &mut Piece, values: &[i64])
+fn append_values(piece: &mut OutcomeBytes, values: &[i64])
     requires { 8 * length values.now ≤ piece.old.spare }
     ensures bytes { AppendsBytes piece.old piece.new (flat_map (λ v. to_be_bytes w64 (cast_unsigned w64 v)) values.now) }
     ensures sound { AllByRecursion (FitsSigned w64) values.now }
@@ -167,21 +167,21 @@ fn append_values(piece: &mut Piece, values: &[i64])
     }
 }
 
-fn append_u32(piece: &mut Piece, number: u32)
+fn append_u32(piece: &mut OutcomeBytes, number: u32)
     requires { 4 ≤ piece.old.spare }
     ensures { AppendsBytes piece.old piece.new (to_be_bytes w32 number) }
 {
     piece.append(&number.to_be_bytes());
 }
 
-fn append_u64(piece: &mut Piece, number: u64)
+fn append_u64(piece: &mut OutcomeBytes, number: u64)
     requires { 8 ≤ piece.old.spare }
     ensures { AppendsBytes piece.old piece.new (to_be_bytes w64 number) }
 {
     piece.append(&number.to_be_bytes());
 }
 
-fn append_i64(piece: &mut Piece, number: i64)
+fn append_i64(piece: &mut OutcomeBytes, number: i64)
     requires { 8 ≤ piece.old.spare }
     ensures { AppendsBytes piece.old piece.new (to_be_bytes w64 (cast_unsigned w64 number)) }
 {

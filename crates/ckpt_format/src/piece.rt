@@ -7,12 +7,12 @@ use std::marker::Model;
 
 /// A buffer of up to 80 bytes, the size of the largest outcome.
 #[derive(Drop)]
-pub(crate) struct Piece {
+pub(crate) struct OutcomeBytes {
     bytes: [u8; 80],
     len: usize,
 }
 
-impl Model for Piece {
+impl Model for OutcomeBytes {
     ghost use Rattle.audit_model.specs.Room.{RoomyBytes, roomy_code};
     ghost use Rattle.std.specs.Coded.{coded_ℕ};
     ghost use Rattle.std.specs.Prelude.{◌-◌, ◌≤◌, take};
@@ -26,11 +26,11 @@ impl Model for Piece {
     ghost invariant = { λ p. p.len ≤ 80 };
 }
 
-impl Piece {
-    pub fn new() -> Piece
+impl OutcomeBytes {
+    pub fn new() -> OutcomeBytes
         ensures { result ≡ record { items = []; spare = 80 } }
     {
-        Piece {
+        OutcomeBytes {
             bytes: [0; 80],
             len: 0,
         }

@@ -22,7 +22,7 @@ found_more job digest (k ∷ folders) (l ∷ folders_now) folder folder_now befo
 
 -- ---- folders not looked at yet are unchanged
 
-module _ {F : Type 0} (told : F → Kept) (now first : List F) (place : ℕ) (long : length now ≡ length first) (l : place < length now) (rest : drop place now ≡ drop place first) (d : F) where
+module _ {F : Type 0} (observed : F → Kept) (now first : List F) (place : ℕ) (long : length now ≡ length first) (l : place < length now) (rest : drop place now ≡ drop place first) (d : F) where
   both : get_or now place d ∷ drop (suc place) now ≡ get_or first place d ∷ drop (suc place) first
   both = sym (drop-cons now place d l) ∙ rest ∙ drop-cons first place d (omega (arith, long, l))
 
@@ -38,13 +38,13 @@ module _ {F : Type 0} (told : F → Kept) (now first : List F) (place : ℕ) (lo
   pub rest_next : (new : F) → drop (place + 1) (set now place new) ≡ drop (place + 1) first
   rest_next new = drop-set-lt (place + 1) now place new (omega arith) ∙ ap (λ n. drop n now) one_more ∙ behind ∙ ap (λ n. drop n first) (sym one_more)
 
-  pub taken_next : map told (take (place + 1) first) ≡ map told (take place first) ++ told (get_or now place d) ∷ []
+  pub taken_next : map observed (take (place + 1) first) ≡ map observed (take place first) ++ observed (get_or now place d) ∷ []
   taken_next =
-      ap (λ n. map told (take n first)) one_more
-      ∙ ap (map told) (take-suc first place d (omega (arith, long, l)))
-      ∙ map-append told (take place first) (get_or first place d ∷ [])
-      ∙ ap (λ x. map told (take place first) ++ told x ∷ []) (sym here)
+      ap (λ n. map observed (take n first)) one_more
+      ∙ ap (map observed) (take-suc first place d (omega (arith, long, l)))
+      ∙ map-append observed (take place first) (get_or first place d ∷ [])
+      ∙ ap (λ x. map observed (take place first) ++ observed x ∷ []) (sym here)
 
   -- the folder just looked at has its new state
-  pub left_next : (new : F) → map told (take (place + 1) (set now place new)) ≡ map told (take place now) ++ told new ∷ []
-  left_next new = ap (map told) (take_more_set now place new l) ∙ map-append told (take place now) (new ∷ [])
+  pub left_next : (new : F) → map observed (take (place + 1) (set now place new)) ≡ map observed (take place now) ++ observed new ∷ []
+  left_next new = ap (map observed) (take_more_set now place new l) ∙ map-append observed (take place now) (new ∷ [])

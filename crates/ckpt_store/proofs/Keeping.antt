@@ -6,13 +6,13 @@ use Rattle.std.proofs.lemmas.Bool.{cases_lt}
 use Rattle.std.proofs.lemmas.List.{take_all}
 use Rattle.std.proofs.lemmas.List.Elements.{All-cons, All-nil}
 use Rattle.audit_model.specs.Pair.{Pair, Stored, stored}
-use Rattle.audit_model.specs.Tries.{Try}
+use Rattle.audit_model.specs.Attempts.{Try}
 use Rattle.audit_model.specs.declared.outcome.Outcome.{Outcome}
 use Rattle.audit_model.specs.Job.{Job}
 use Rattle.audit_model.specs.Run.{fits}
 use Rattle.audit_statement.specs.Checkpoint.{IsCheckpoint, checkpoint}
 use Rattle.audit_statement.specs.Slots.{IsAfterStop, Slot, generation_after, generation_of, newest_of, place_beside, slot_at, slot_of, newest_for, place_for}
-use Rattle.audit_statement.specs.Histories.{AreCarriedOut, AreInTurn, HasFailed, IsCarriedOut, IsEnded, IsLatest, IsNotIntact, IsSaveAt, KeepsNewest, bytes_at, newest_bytes, stopped_in}
+use Rattle.audit_statement.specs.Histories.{AreCarriedOut, AreInTurn, HasFailed, IsCarriedOut, IsEnded, IsLatest, IsNotValid, IsSaveAt, KeepsNewest, bytes_at, newest_bytes, stopped_in}
 use Rattle.ckpt_store.specs.Laws.{SavesKeepTheNewest, IsSavedAs}
 use Rattle.ckpt_store.proofs.Prefixes.{cut_is_broken}
 use Rattle.ckpt_store.proofs.Turns.{place_by_generations, place_of, saved_slots_are_newest}
@@ -179,7 +179,7 @@ module _ (job : Job) (digest : List ℕ) where
       | inr long ↦ inr (inr (whole_step (is ∙ ap (λ (xs : List ℕ). Some xs) (take_all n bytes long))))
     ]
 
-    failed_step : IsEnded IsNotIntact job digest false (stored p number) bytes (stored m number) → Steps base p m bytes
+    failed_step : IsEnded IsNotValid job digest false (stored p number) bytes (stored m number) → Steps base p m bytes
     failed_step (inl same) = inl (ap newest (both_same p m number below beside same))
     failed_step (inr (inl first)) = first_step first.0 first.1
     failed_step (inr (inr none)) = inr (inl (spoiled_step none))
@@ -201,22 +201,22 @@ module _ (job : Job) (digest : List ℕ) where
   after_saved base p m after c rest wrote same step (inl (failed, inr is)) = inr (wrote, this_latest c rest wrote failed same, is ∙ step)
 
   -- the effect of a save at the place, by its success
-  ended_at : (number : ℕ) (p m : Pair) (c : Try) (wrote : List ℕ) → c.slot ≡ number → c.bytes ≡ wrote → IsCarriedOut IsNotIntact job digest p m c
-      → IsEnded IsNotIntact job digest c.succeeded (stored p number) wrote (stored m number)
+  ended_at : (number : ℕ) (p m : Pair) (c : Try) (wrote : List ℕ) → c.slot ≡ number → c.bytes ≡ wrote → IsCarriedOut IsNotValid job digest p m c
+      → IsEnded IsNotValid job digest c.succeeded (stored p number) wrote (stored m number)
   ended_at number p m c wrote slot same out =
-      subst (λ (q : ℕ × List ℕ). IsEnded IsNotIntact job digest c.succeeded (stored p q.0) q.1 (stored m q.0)) (λ k. (slot k, same k)) out.ended
+      subst (λ (q : ℕ × List ℕ). IsEnded IsNotValid job digest c.succeeded (stored p q.0) q.1 (stored m q.0)) (λ k. (slot k, same k)) out.ended
 
-  beside_at : (number : ℕ) (p m : Pair) (c : Try) → c.slot ≡ number → IsCarriedOut IsNotIntact job digest p m c → stored m (1 - number) ≡ stored p (1 - number)
+  beside_at : (number : ℕ) (p m : Pair) (c : Try) → c.slot ≡ number → IsCarriedOut IsNotValid job digest p m c → stored m (1 - number) ≡ stored p (1 - number)
   beside_at number p m c slot out = subst (λ (n : ℕ). stored m (1 - n) ≡ stored p (1 - n)) slot (beside_stop c.slot p m out.slot out.beside)
 
   module _ (base p m after : Pair) (number generation : ℕ) (c : Try) (rest : List Try) (s : Stands base p number generation) (save : IsSaveAt job digest number generation c)
-      (out : IsCarriedOut IsNotIntact job digest p m c) where
+      (out : IsCarriedOut IsNotValid job digest p m c) where
     goes_beside : stored m (1 - number) ≡ stored p (1 - number)
     goes_beside = beside_at number p m c save.slot out
 
-    goes : (b : Bool) → c.succeeded ≡ b → IsEnded IsNotIntact job digest b (stored p number) (checkpoint save.version digest generation save.outcomes) (stored m number)
+    goes : (b : Bool) → c.succeeded ≡ b → IsEnded IsNotValid job digest b (stored p number) (checkpoint save.version digest generation save.outcomes) (stored m number)
     goes b is =
-        subst (λ (x : Bool). IsEnded IsNotIntact job digest x (stored p number) (checkpoint save.version digest generation save.outcomes) (stored m number)) is
+        subst (λ (x : Bool). IsEnded IsNotValid job digest x (stored p number) (checkpoint save.version digest generation save.outcomes) (stored m number)) is
         (ended_at number p m c (checkpoint save.version digest generation save.outcomes) save.slot save.bytes out)
 
     one : (b : Bool) → c.succeeded ≡ b → AreInTurn job digest (cond b (1 - number) number) (cond b ((generation + 1) % 3) generation) rest
@@ -235,7 +235,7 @@ module _ (job : Job) (digest : List ℕ) where
         (keeps (record { at = next; beside = refl }) turn)
 
   keep : (carried : List Try) (base p after : Pair) (number generation : ℕ) → Stands base p number generation → AreInTurn job digest number generation carried
-      → AreCarriedOut IsNotIntact job digest p carried after → Ends base p carried after
+      → AreCarriedOut IsNotValid job digest p carried after → Ends base p carried after
   keep [] base p after number generation s turn out = inl (All-nil HasFailed, inl (ap newest out))
   keep (c ∷ rest) base p after number generation s turn out =
       one base p out.0 after number generation c rest s turn.0 out.1 c.succeeded refl turn.1
@@ -248,8 +248,8 @@ module _ (job : Job) (digest : List ℕ) where
   ended_keep before after carried (inr late) = inr late
 
 -- a front of saves in turn is in turn
-stopped_in_turn : (job : Job) (digest : List ℕ) (n : ℕ) (tries : List Try) (number generation : ℕ) → AreInTurn job digest number generation tries
-    → AreInTurn job digest number generation (stopped_in n tries)
+stopped_in_turn : (job : Job) (digest : List ℕ) (n : ℕ) (attempts : List Try) (number generation : ℕ) → AreInTurn job digest number generation attempts
+    → AreInTurn job digest number generation (stopped_in n attempts)
 stopped_in_turn job digest n [] number generation turn = tt
 stopped_in_turn job digest zero (t ∷ rest) number generation turn =
     (record { slot = turn.0.slot; version = turn.0.version; outcomes = turn.0.outcomes; bytes = turn.0.bytes; sound = turn.0.sound; fit = turn.0.fit }, tt)
@@ -258,7 +258,7 @@ stopped_in_turn job digest (suc n) (t ∷ rest) number generation turn =
 
 -- the law on saves in turn
 pub saves_keep_the_newest : SavesKeepTheNewest
-saves_keep_the_newest job digest before after number generation tries n at turn out =
-    ended_keep job digest before after (stopped_in n tries)
-    (keep job digest (stopped_in n tries) before before after number generation (record { at = at; beside = refl })
-    (stopped_in_turn job digest n tries number generation turn) out)
+saves_keep_the_newest job digest before after number generation attempts n at turn out =
+    ended_keep job digest before after (stopped_in n attempts)
+    (keep job digest (stopped_in n attempts) before before after number generation (record { at = at; beside = refl })
+    (stopped_in_turn job digest n attempts number generation turn) out)

@@ -6,7 +6,7 @@ mod Rising
 mod Untouched
 pub mod Fits
 pub mod Found
-pub mod Honest
+pub mod Consistent
 pub mod Judged
 pub mod Keeping
 pub mod Ours

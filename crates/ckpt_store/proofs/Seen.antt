@@ -3,7 +3,7 @@ use Rattle.std.proofs.Common.{◌≡◌, ℕ, ◌+◌, ◌<◌, List, length, Op
 use Rattle.std.specs.Prelude.{Err, IfOk, replicate}
 use Rattle.std.proofs.lemmas.Bool.{lt-ltb}
 use Rattle.std.proofs.lemmas.List.{length-replicate}
-use Rattle.audit_model.specs.Told.{IfTold}
+use Rattle.audit_model.specs.Observed.{IfObserved}
 use Rattle.audit_io.specs.Loads.{Loads, LoadsWithin}
 use Rattle.audit_model.specs.Pair.{Pair, stored}
 use Rattle.audit_io.specs.declared.keeper.LoadError.{LoadError}
@@ -24,23 +24,23 @@ too_long job digest bytes n is long =
     ap (λ m. broken (TooLong m)) is ∙ sym (ap (slot_of_bytes job digest bytes) (lt-ltb checkpoint_limit (length bytes) (omega (arith, is, long))))
 
 -- a slot that was too long to load is seen as broken for that reason
-pub unloaded_seen : (job : Job) (digest : List ℕ) (told : Option Pair) (number : ℕ) (room : List ℕ) (e : LoadError)
-    → IfTold told (λ p. Loads (stored p number) checkpoint_limit room (Err e)) → LoadsWithin checkpoint_limit room (Err e)
-    → IfOk (unloaded e) (SawSlot job digest told number)
-unloaded_seen job digest told number room load.Failed h within = tt
-unloaded_seen job digest told number room load.Taken h within = tt
-unloaded_seen job digest told number room load.Memory h within = tt
+pub unloaded_seen : (job : Job) (digest : List ℕ) (observed : Option Pair) (number : ℕ) (room : List ℕ) (e : LoadError)
+    → IfObserved observed (λ p. Loads (stored p number) checkpoint_limit room (Err e)) → LoadsWithin checkpoint_limit room (Err e)
+    → IfOk (unloaded e) (SawSlot job digest observed number)
+unloaded_seen job digest observed number room load.Failed h within = tt
+unloaded_seen job digest observed number room load.Taken h within = tt
+unloaded_seen job digest observed number room load.Memory h within = tt
 unloaded_seen job digest None number room (load.Long n) h within =
     let some_bytes = longer n in record { bytes = Some some_bytes.0; same = tt; is = too_long job digest some_bytes.0 n within.0 some_bytes.1 }
 unloaded_seen job digest (Some p) number room (load.Long n) h within =
     record { bytes = Some h.0; same = sym h.1; is = too_long job digest h.0 n within.0 (omega (arith, h.2, within.0)) }
 
 -- both slots, one after the other
-pub both_seen : (job : Job) (digest : List ℕ) (told later : Option Pair) (zero one : Slot) → later ≡ told
-    → SawSlot job digest told 0 zero → SawSlot job digest later 1 one → SawSlots job digest told (record { zero = zero; one = one })
-both_seen job digest told later zero one is first second = by told first (subst (λ t. SawSlot job digest t 1 one) is second)
+pub both_seen : (job : Job) (digest : List ℕ) (observed later : Option Pair) (zero one : Slot) → later ≡ observed
+    → SawSlot job digest observed 0 zero → SawSlot job digest later 1 one → SawSlots job digest observed (record { zero = zero; one = one })
+both_seen job digest observed later zero one is first second = by observed first (subst (λ t. SawSlot job digest t 1 one) is second)
   where
-    by : (told : Option Pair) → SawSlot job digest told 0 zero → SawSlot job digest told 1 one → SawSlots job digest told (record { zero = zero; one = one })
+    by : (observed : Option Pair) → SawSlot job digest observed 0 zero → SawSlot job digest observed 1 one → SawSlots job digest observed (record { zero = zero; one = one })
     by None a b = record { pair = record { zero_slot = a.bytes; one_slot = b.bytes }; same = tt; are = record { zero = a.is; one = b.is } }
     by (Some p) a b = record {
       pair = record { zero_slot = a.bytes; one_slot = b.bytes };

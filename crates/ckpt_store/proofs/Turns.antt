@@ -4,7 +4,7 @@ use Rattle.std.specs.Prelude.{◌==◌, IsTrue}
 use Rattle.std.specs.List.{list_all}
 use Rattle.std.proofs.lemmas.Bool.{cond-false, cond-true, eq-eqb, ne_eqb}
 use Rattle.std.proofs.lemmas.Nat.{mod_below}
-use Rattle.audit_model.specs.Told.{IfTold}
+use Rattle.audit_model.specs.Observed.{IfObserved}
 use Rattle.audit_model.specs.Pair.{HoldsBytes, Pair, Stored, other_stored, stored}
 use Rattle.audit_model.specs.declared.outcome.Outcome.{Outcome}
 use Rattle.audit_model.specs.Job.{Job}
@@ -140,8 +140,8 @@ newest_beside job digest (suc n) generation after l is =
     }
 
 -- the slots after a save that did not fail, if they are known
-pub newest_where_told : (bytes : List ℕ) (version : ℕ) (digest : List ℕ) (number generation : ℕ) (outcomes : List Outcome) (told : Option Pair) → number < 2
-    → IsCheckpoint bytes version digest generation outcomes → HoldsBytes told number bytes → IfTold told (IsNewestForFitJobs digest number generation outcomes)
-newest_where_told bytes version digest number generation outcomes None l is holds = tt
-newest_where_told bytes version digest number generation outcomes (Some after) l is holds =
+pub newest_where_observed : (bytes : List ℕ) (version : ℕ) (digest : List ℕ) (number generation : ℕ) (outcomes : List Outcome) (observed : Option Pair) → number < 2
+    → IsCheckpoint bytes version digest generation outcomes → HoldsBytes observed number bytes → IfObserved observed (IsNewestForFitJobs digest number generation outcomes)
+newest_where_observed bytes version digest number generation outcomes None l is holds = tt
+newest_where_observed bytes version digest number generation outcomes (Some after) l is holds =
     λ job fit. newest_beside job digest number generation after l (ap generation_of (slot_of_saved job bytes version digest generation outcomes (stored after number) is fit holds))

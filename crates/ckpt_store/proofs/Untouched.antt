@@ -3,18 +3,18 @@ use Rattle.std.proofs.Common.{◌≡◌, ◌∙◌, Bool, List, ℕ, true, false
 use Rattle.audit_model.specs.Faults.{Rose}
 use Rattle.audit_model.specs.Pair.{Pair, KeepsOther}
 use Rattle.audit_model.specs.State.{Kept}
-use Rattle.audit_model.specs.Tries.{Try, tried_too}
+use Rattle.audit_model.specs.Attempts.{Try, attempted_too}
 use Rattle.audit_model.specs.declared.outcome.Outcome.{Outcome}
 use Rattle.audit_model.specs.Job.{Job}
 use Rattle.audit_statement.specs.Checkpoint.{checkpoint}
-use Rattle.ckpt_store.specs.declared.told.Ungathered.{Ungathered}
-use Rattle.ckpt_store.specs.declared.told.Ungathered.TheVariants as ungathered
+use Rattle.ckpt_store.specs.declared.gather_result.Ungathered.{Ungathered}
+use Rattle.ckpt_store.specs.declared.gather_result.Ungathered.TheVariants as ungathered
 use Rattle.audit_statement.specs.Due.{Lets}
 use Rattle.ckpt_store.specs.Whole.{HasBegun, HasFailed, IsUnsaved, IsUnsavedUnion, IsUntouched, LetsGathering, MayBeSaved}
 
 -- two looks in a row leave the keeper untouched
 more : (before between after : Kept) → IsUntouched before between → IsUntouched between after → IsUntouched before after
-more before between after h k = record { slots = k.slots ∙ h.slots; tried = k.tried ∙ h.tried; saves = k.saves ∙ h.saves }
+more before between after h k = record { slots = k.slots ∙ h.slots; attempted = k.attempted ∙ h.attempted; saves = k.saves ∙ h.saves }
 
 -- the effect of a failure after a look
 of_one : (P Q : Type 0) → (P → Q) → (before between after : Kept) (why : Ungathered) → IsUntouched before between → between.load_faults ≡ before.load_faults
@@ -34,20 +34,20 @@ failed_from : (digest : List ℕ) (place : ℕ × ℕ) (outcomes : List Outcome)
 failed_from digest place outcomes before between after h u = record {
   sound = u.sound;
   other = subst (λ (o : Option Pair). KeepsOther o after.slots place.0) h.slots u.other;
-  tried = u.tried ∙ (λ i. tried_too (h.tried i) place.0 (checkpoint 2 digest place.1 outcomes) false);
+  attempted = u.attempted ∙ (λ i. attempted_too (h.attempted i) place.0 (checkpoint 2 digest place.1 outcomes) false);
   rose = subst (λ n. Rose n after.save_faults) h.saves u.rose;
 }
 
 -- a union that may be saved may be saved for equal slots
-pub may_from : (job : Job) (digest : List ℕ) (told other : Option Pair) (folders folders_now : List Kept) (place : ℕ × ℕ) (all : List Outcome) → told ≡ other
-    → MayBeSaved job digest told folders folders_now place all → MayBeSaved job digest other folders folders_now place all
-may_from job digest told other folders folders_now place all same may = subst (λ (o : Option Pair). MayBeSaved job digest o folders folders_now place all) same may
+pub may_from : (job : Job) (digest : List ℕ) (observed other : Option Pair) (folders folders_now : List Kept) (place : ℕ × ℕ) (all : List Outcome) → observed ≡ other
+    → MayBeSaved job digest observed folders folders_now place all → MayBeSaved job digest other folders folders_now place all
+may_from job digest observed other folders folders_now place all same may = subst (λ (o : Option Pair). MayBeSaved job digest o folders folders_now place all) same may
 
 -- a failed save after a look, in terms of the keeper before the look
 pub unsaved_from : {A : Type 0} (job : Job) (digest : List ℕ) (saves : Bool) (folders folders_now : List Kept) (before between after : Kept) (r : Result A Ungathered)
     → IsUntouched before between → between.load_faults ≡ before.load_faults
     → IfErr r (IsUnsaved (HasFailed job digest saves between after folders folders_now) between after) → IfErr r (IsUnsaved (HasFailed job digest saves before after folders folders_now) before after)
-unsaved_from job digest saves folders folders_now before between after (Ok told) h loads k = k
+unsaved_from job digest saves folders folders_now before between after (Ok observed) h loads k = k
 unsaved_from job digest saves folders folders_now before between after (Err why) h loads k =
     of_one (HasFailed job digest saves between after folders folders_now) (HasFailed job digest saves before after folders folders_now)
     (λ f. record {

@@ -5,7 +5,7 @@ use Rattle.std.specs.List.{list_all}
 use Rattle.audit_model.specs.Faults.{Rose}
 use Rattle.audit_model.specs.Pair.{Pair}
 use Rattle.audit_model.specs.State.{Kept}
-use Rattle.audit_model.specs.Told.{IfTold}
+use Rattle.audit_model.specs.Observed.{IfObserved}
 use Rattle.audit_model.specs.declared.outcome.Outcome.{Outcome}
 use Rattle.audit_model.specs.Job.{Job}
 use Rattle.audit_model.specs.Run.{has_id}
@@ -39,9 +39,9 @@ Finds before damaged bad finding.Damaged after = after ≡ passed_over before
 Finds before given bad what after = ⊥
 
 -- two slots were seen, the known ones if the keeper is observable, and this is the finding in them
-pub record HasSeen (job : Job) (digest : List ℕ) (told : Option Pair) (before : Collected) (what : Finding) (after : Collected) : Type 0 where
+pub record HasSeen (job : Job) (digest : List ℕ) (observed : Option Pair) (before : Collected) (what : Finding) (after : Collected) : Type 0 where
   pub pair : Pair
-  pub same : IfTold told (λ p. pair ≡ p)
+  pub same : IfObserved observed (λ p. pair ≡ p)
   pub finds : Finds before (gives job digest pair) (has_broken job digest pair) what after
 
 -- A folder is unread only if a load of its keeper failed, whose count rose. It is taken exactly if the keeper reports a

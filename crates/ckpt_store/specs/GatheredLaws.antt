@@ -6,17 +6,17 @@ use Rattle.std.specs.List.{list_all}
 use Rattle.audit_model.specs.Pair.{Pair, stored}
 use Rattle.audit_model.specs.declared.outcome.Outcome.{Outcome}
 use Rattle.audit_model.specs.Job.{Job}
-use Rattle.audit_model.specs.Run.{IsHonest, fits}
+use Rattle.audit_model.specs.Run.{IsConsistent, fits}
 use Rattle.audit_model.specs.Trajectory.{Draws}
 use Rattle.audit_statement.specs.Checkpoint.{IsCheckpoint, checkpoint}
-use Rattle.audit_statement.specs.Slots.{IsAfterStop, IsHonestSlot, Slot, newest, opening_of, AreHonest}
+use Rattle.audit_statement.specs.Slots.{IsAfterStop, IsConsistentSlot, Slot, newest, opening_of, AreConsistent}
 use Rattle.outcome_book.specs.Union.{IsUnion}
 
 -- if both slots are consistent, the outcomes that the newest holds of the job are
-abbrev pub HonestSlotsGiveHonestOutcomes : Type 0
-HonestSlotsGiveHonestOutcomes = (job : Job) (draws : Draws) (first second : Slot) (outcomes : List Outcome)
-    → IsHonestSlot job draws first → IsHonestSlot job draws second → opening_of first second (newest first second) ≡ Some outcomes
-    → IsHonest job draws outcomes
+abbrev pub ConsistentSlotsGiveConsistentOutcomes : Type 0
+ConsistentSlotsGiveConsistentOutcomes = (job : Job) (draws : Draws) (first second : Slot) (outcomes : List Outcome)
+    → IsConsistentSlot job draws first → IsConsistentSlot job draws second → opening_of first second (newest first second) ≡ Some outcomes
+    → IsConsistent job draws outcomes
 
 -- one slot was written: the checkpoint of the union of the gathered outcomes and those of a folder, all plausible for
 -- the job
@@ -28,7 +28,7 @@ pub record IsGathered (job : Job) (digest : List ℕ) (gathered held both : List
   pub beside : IsAfterStop number before.zero_slot before.one_slot after.zero_slot after.one_slot
 
 -- saving consistent outcomes over consistent slots leaves consistent slots
-abbrev pub GatheredSlotsAreHonest : Type 0
-GatheredSlotsAreHonest = (job : Job) (draws : Draws) (digest : List ℕ) (gathered held both : List Outcome) (before after : Pair) (number generation : ℕ)
-    → IsHonest job draws gathered → IsHonest job draws held → IsGathered job digest gathered held both before after number generation
-    → AreHonest job draws digest before → AreHonest job draws digest after
+abbrev pub GatheredSlotsAreConsistent : Type 0
+GatheredSlotsAreConsistent = (job : Job) (draws : Draws) (digest : List ℕ) (gathered held both : List Outcome) (before after : Pair) (number generation : ℕ)
+    → IsConsistent job draws gathered → IsConsistent job draws held → IsGathered job digest gathered held both before after number generation
+    → AreConsistent job draws digest before → AreConsistent job draws digest after

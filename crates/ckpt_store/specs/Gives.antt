@@ -5,8 +5,8 @@ use Rattle.audit_model.specs.Pair.{Pair}
 use Rattle.audit_model.specs.declared.outcome.Outcome.{Outcome}
 use Rattle.audit_model.specs.Job.{Job}
 use Rattle.audit_statement.specs.Slots.{Slot, absent, broken, other, ours, newest, slot_at, slot_of}
-use Rattle.ckpt_store.specs.declared.given.Given.{Given}
-use Rattle.ckpt_store.specs.declared.given.Given.TheVariants as given
+use Rattle.ckpt_store.specs.declared.folder_content.FolderContent.{FolderContent}
+use Rattle.ckpt_store.specs.declared.folder_content.FolderContent.TheVariants as given
 
 -- The outcomes of the newest slot, which belongs to the job, or the reason why there are none. Either both slots are
 -- empty, or the newest is another job's, or no slot is valid and one is not empty.
@@ -45,7 +45,7 @@ is_broken (ours generation found) = false
 abbrev pub has_broken : Job → List ℕ → Pair → Bool
 has_broken job digest p = is_broken (slot_of job digest p.zero_slot) || is_broken (slot_of job digest p.one_slot)
 
-abbrev pub given_view : Given → Gives
+abbrev pub given_view : FolderContent → Gives
 given_view (given.Outcomes list) = outcomes list.items
 given_view given.Nothing = nothing
 given_view given.OtherJob = other_job

@@ -2,28 +2,28 @@
 -- Source: this project. A job's digest is not looked at: a checkpoint of any job is whole.
 use Rattle.std.specs.Prelude.{◌≡◌, ◌⊎◌, ℕ, ◌<◌, ◌≤◌, List, length, Option, Some, None}
 use Rattle.audit_model.specs.Pair.{Pair, stored}
-use Rattle.audit_model.specs.Told.{IfTold}
+use Rattle.audit_model.specs.Observed.{IfObserved}
 use Rattle.audit_model.specs.declared.fault.CkptFault.TheVariants.{TooLong}
 use Rattle.audit_statement.specs.Checkpoint.{IsCheckpoint, checkpoint_fault}
 use Rattle.audit_statement.specs.Slots.{checkpoint_limit, newest_of}
 use Rattle.audit_model.specs.declared.fault.CkptFault.{CkptFault}
-use Rattle.ckpt_store.specs.declared.held.Held.{Held}
-use Rattle.ckpt_store.specs.declared.held.Held.TheVariants as held
-use Rattle.ckpt_store.specs.declared.held.Loaded.{Loaded}
-use Rattle.ckpt_store.specs.declared.held.Loaded.TheVariants as loaded
+use Rattle.ckpt_store.specs.declared.slot_content.SlotContent.{SlotContent}
+use Rattle.ckpt_store.specs.declared.slot_content.SlotContent.TheVariants as held
+use Rattle.ckpt_store.specs.declared.slot_content.Loaded.{Loaded}
+use Rattle.ckpt_store.specs.declared.slot_content.Loaded.TheVariants as loaded
 
 -- the bytes are no checkpoint for this reason: they are too many, or this is their first fault
 abbrev pub IsFault : List ℕ → CkptFault → Type 0
 IsFault bytes fault = ((checkpoint_limit < length bytes) × (fault ≡ TooLong checkpoint_limit)) ⊎ ((length bytes ≤ checkpoint_limit) × (checkpoint_fault bytes ≡ Some fault))
 
 -- the contents of a slot with these bytes
-abbrev pub Holds : List ℕ → Held → Type 0
+abbrev pub Holds : List ℕ → SlotContent → Type 0
 Holds bytes held.Absent = ⊥
 Holds bytes (held.Broken fault) = IsFault bytes fault
 Holds bytes (held.Whole c) = (length bytes ≤ checkpoint_limit) × IsCheckpoint bytes c.version c.digest c.generation c.outcomes.items
 
 -- the contents of a slot, whose file may not exist
-abbrev pub HoldsStored : Option (List ℕ) → Held → Type 0
+abbrev pub HoldsStored : Option (List ℕ) → SlotContent → Type 0
 HoldsStored None h = h ≡ held.Absent
 HoldsStored (Some bytes) h = Holds bytes h
 
@@ -34,17 +34,17 @@ IsLoadedFrom loaded.Long slot = (bytes : List ℕ) × (slot ≡ Some bytes) × (
 IsLoadedFrom (loaded.Bytes bytes) slot = (slot ≡ Some bytes.items) × (length bytes.items ≤ checkpoint_limit)
 
 -- the slot had some contents, the known ones if the keeper is observable, and this was loaded from them
-pub record HasLoaded (told : Option Pair) (number : ℕ) (what : Loaded) : Type 0 where
+pub record HasLoaded (observed : Option Pair) (number : ℕ) (what : Loaded) : Type 0 where
   pub slot : Option (List ℕ)
-  pub same : IfTold told (λ p. slot ≡ stored p number)
+  pub same : IfObserved observed (λ p. slot ≡ stored p number)
   pub is : IsLoadedFrom what slot
 
 -- the generation of a valid slot
-abbrev pub generation_in : Held → Option ℕ
+abbrev pub generation_in : SlotContent → Option ℕ
 generation_in held.Absent = None
 generation_in (held.Broken fault) = None
 generation_in (held.Whole c) = Some c.generation
 
 -- the number of the newest of both slots
-abbrev pub newest_in : Held → Held → Option ℕ
+abbrev pub newest_in : SlotContent → SlotContent → Option ℕ
 newest_in first second = newest_of (generation_in first) (generation_in second)

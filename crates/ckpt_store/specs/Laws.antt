@@ -4,12 +4,12 @@ use Rattle.std.specs.List.{All, list_all}
 use Rattle.audit_model.specs.Pair.{Pair, other_stored, stored}
 use Rattle.audit_model.specs.declared.outcome.Outcome.{Outcome}
 use Rattle.audit_model.specs.Job.{Job}
-use Rattle.audit_model.specs.Run.{IsHonest, IsRight, fits}
+use Rattle.audit_model.specs.Run.{IsConsistent, IsRight, fits}
 use Rattle.audit_model.specs.Trajectory.{Draws}
 use Rattle.audit_statement.specs.Checkpoint.{IsCheckpoint, checkpoint}
-use Rattle.audit_statement.specs.Slots.{IsAfterStop, IsHonestSlot, Slot, absent, broken, generation_of, newest, opening, other, ours, save_place, slot_of, AreHonest, IsNotOurs, newest_for, place_for}
-use Rattle.audit_statement.specs.Histories.{AreCarriedOut, AreInTurn, IsNotIntact, IsRightSave, KeepsNewest, stopped_in}
-use Rattle.audit_model.specs.Tries.{Try}
+use Rattle.audit_statement.specs.Slots.{IsAfterStop, IsConsistentSlot, Slot, absent, broken, generation_of, newest, opening, other, ours, save_place, slot_of, AreConsistent, IsNotOurs, newest_for, place_for}
+use Rattle.audit_statement.specs.Histories.{AreCarriedOut, AreInTurn, IsNotValid, IsRightSave, KeepsNewest, stopped_in}
+use Rattle.audit_model.specs.Attempts.{Try}
 
 -- ---- the newest slot
 
@@ -76,32 +76,32 @@ IsNewestForFitJobs digest number generation outcomes after = (job : Job) → IsT
 -- ---- consistent slots
 
 -- the outcomes of the job's trajectories are consistent
-abbrev pub RightIsHonest : Type 0
-RightIsHonest = (job : Job) (draws : Draws) (outcomes : List Outcome) → IsRight job draws outcomes → IsHonest job draws outcomes
+abbrev pub RightIsConsistent : Type 0
+RightIsConsistent = (job : Job) (draws : Draws) (outcomes : List Outcome) → IsRight job draws outcomes → IsConsistent job draws outcomes
 
 -- outcomes from consistent slots with which a run may start are those of the job's trajectories
-abbrev pub HonestSlotsOpenRight : Type 0
-HonestSlotsOpenRight = (job : Job) (draws : Draws) (first second : Slot) (outcomes : List Outcome)
-    → IsHonestSlot job draws first → IsHonestSlot job draws second → opening true job.setting first second ≡ Some outcomes
+abbrev pub ConsistentSlotsOpenRight : Type 0
+ConsistentSlotsOpenRight = (job : Job) (draws : Draws) (first second : Slot) (outcomes : List Outcome)
+    → IsConsistentSlot job draws first → IsConsistentSlot job draws second → opening true job.setting first second ≡ Some outcomes
     → IsRight job draws outcomes
 
 -- a stop within a save leaves consistent slots if its slot is unchanged, does not belong to the job, or is consistent
-abbrev pub StopsLeaveHonestSlots : Type 0
-StopsLeaveHonestSlots = (job : Job) (draws : Draws) (digest : List ℕ) (before after : Pair) (number : ℕ)
+abbrev pub StopsLeaveConsistentSlots : Type 0
+StopsLeaveConsistentSlots = (job : Job) (draws : Draws) (digest : List ℕ) (before after : Pair) (number : ℕ)
     → IsAfterStop number before.zero_slot before.one_slot after.zero_slot after.one_slot
     → (stored after number ≡ stored before number) ⊎ IsNotOurs (slot_of job digest (stored after number))
-    ⊎ IsHonestSlot job draws (slot_of job digest (stored after number))
-    → AreHonest job draws digest before → AreHonest job draws digest after
+    ⊎ IsConsistentSlot job draws (slot_of job digest (stored after number))
+    → AreConsistent job draws digest before → AreConsistent job draws digest after
 
 -- correct saves leave consistent slots consistent, wherever each failed and wherever the run was stopped
-abbrev pub SavesLeaveHonestSlots : Type 0
-SavesLeaveHonestSlots = (job : Job) (draws : Draws) (digest : List ℕ) (before after : Pair) (tries : List Try) (n : ℕ)
-    → All (λ t. IsRightSave job draws digest t.bytes) tries → AreCarriedOut IsNotOurs job digest before (stopped_in n tries) after
-    → AreHonest job draws digest before → AreHonest job draws digest after
+abbrev pub SavesLeaveConsistentSlots : Type 0
+SavesLeaveConsistentSlots = (job : Job) (draws : Draws) (digest : List ℕ) (before after : Pair) (attempts : List Try) (n : ℕ)
+    → All (λ t. IsRightSave job draws digest t.bytes) attempts → AreCarriedOut IsNotOurs job digest before (stopped_in n attempts) after
+    → AreConsistent job draws digest before → AreConsistent job draws digest after
 
 -- saves in turn keep the newest slot from before or make a newer one, wherever each failed and wherever the run was
 -- stopped
 abbrev pub SavesKeepTheNewest : Type 0
-SavesKeepTheNewest = (job : Job) (digest : List ℕ) (before after : Pair) (number generation : ℕ) (tries : List Try) (n : ℕ)
-    → place_for job digest before ≡ (number, generation) → AreInTurn job digest number generation tries
-    → AreCarriedOut IsNotIntact job digest before (stopped_in n tries) after → KeepsNewest job digest before (stopped_in n tries) after
+SavesKeepTheNewest = (job : Job) (digest : List ℕ) (before after : Pair) (number generation : ℕ) (attempts : List Try) (n : ℕ)
+    → place_for job digest before ≡ (number, generation) → AreInTurn job digest number generation attempts
+    → AreCarriedOut IsNotValid job digest before (stopped_in n attempts) after → KeepsNewest job digest before (stopped_in n attempts) after

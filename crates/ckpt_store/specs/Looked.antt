@@ -2,7 +2,7 @@
 use Rattle.std.specs.Prelude.{◌≡◌, ℕ, List, Option, Result, Ok, Err}
 use Rattle.audit_model.specs.Faults.{Counts, Rose}
 use Rattle.audit_model.specs.State.{LoadFaults}
-use Rattle.audit_model.specs.Told.{IfTold}
+use Rattle.audit_model.specs.Observed.{IfObserved}
 use Rattle.audit_model.specs.Pair.{Pair, Stored, stored}
 use Rattle.audit_io.specs.declared.keeper.LoadError.{LoadError}
 use Rattle.audit_io.specs.declared.keeper.LoadError.TheVariants as load
@@ -23,16 +23,16 @@ pub record AreSlots (job : Job) (digest : List ℕ) (p : Pair) (slots : Slots) :
 
 -- a slot as it was seen: its stored bytes, which are the known ones if the keeper is observable, and their state for
 -- the job
-pub record SawSlot (job : Job) (digest : List ℕ) (told : Option Pair) (number : ℕ) (slot : Slot) : Type 0 where
+pub record SawSlot (job : Job) (digest : List ℕ) (observed : Option Pair) (number : ℕ) (slot : Slot) : Type 0 where
   pub bytes : Stored
-  pub same : IfTold told (λ p. bytes ≡ stored p number)
+  pub same : IfObserved observed (λ p. bytes ≡ stored p number)
   pub is : slot_view slot ≡ slot_of job digest bytes
 
 -- both slots as they were seen: the stored pair, which is the known one if the keeper is observable, and its states for
 -- the job
-pub record SawSlots (job : Job) (digest : List ℕ) (told : Option Pair) (slots : Slots) : Type 0 where
+pub record SawSlots (job : Job) (digest : List ℕ) (observed : Option Pair) (slots : Slots) : Type 0 where
   pub pair : Pair
-  pub same : IfTold told (λ p. pair ≡ p)
+  pub same : IfObserved observed (λ p. pair ≡ p)
   pub are : AreSlots job digest pair slots
 
 -- a slot is broken because of its bytes, never because memory ran out

@@ -8,27 +8,27 @@ use Rattle.ckpt_format.specs.declared.decode.Checkpoint.{Checkpoint}
 use Rattle.ckpt_store.specs.declared.slots.StoreFault.{StoreFault}
 use Rattle.ckpt_store.specs.declared.slots.StoreFault.TheVariants.{Damaged, OtherJob}
 use Rattle.ckpt_store.specs.declared.progress.Progress.{Progress}
-use Rattle.ckpt_store.specs.declared.progress.Progress.TheVariants as told
+use Rattle.ckpt_store.specs.declared.progress.Progress.TheVariants as observed
 
 -- the progress from the newest slot
 abbrev pub progress_by : Result (Option Checkpoint) StoreFault → Progress
-progress_by (Ok None) = told.Done 0
-progress_by (Ok (Some c)) = told.Done (length c.outcomes.items)
-progress_by (Err (Damaged s)) = told.Damaged
-progress_by (Err (OtherJob found wanted)) = told.OtherJob
+progress_by (Ok None) = observed.Done 0
+progress_by (Ok (Some c)) = observed.Done (length c.outcomes.items)
+progress_by (Err (Damaged s)) = observed.Damaged
+progress_by (Err (OtherJob found wanted)) = observed.OtherJob
 
 -- the progress from the slot that is the newest
 abbrev pub progress_in : slots.Slot → Progress
-progress_in slots.absent = told.Done 0
-progress_in (slots.broken fault) = told.Done 0
-progress_in (slots.other digest generation) = told.OtherJob
-progress_in (slots.ours generation outcomes) = told.Done (length outcomes)
+progress_in slots.absent = observed.Done 0
+progress_in (slots.broken fault) = observed.Done 0
+progress_in (slots.other digest generation) = observed.OtherJob
+progress_in (slots.ours generation outcomes) = observed.Done (length outcomes)
 
 -- the progress if no slot is valid
 abbrev pub progress_without : slots.Slot → slots.Slot → Progress
-progress_without slots.absent slots.absent = told.Done 0
-progress_without slots.absent second = told.Damaged
-progress_without first second = told.Damaged
+progress_without slots.absent slots.absent = observed.Done 0
+progress_without slots.absent second = observed.Damaged
+progress_without first second = observed.Damaged
 
 abbrev pub progress_at : slots.Slot → slots.Slot → Option ℕ → Progress
 progress_at first second (Some n) = progress_in (slots.slot_at first second n)

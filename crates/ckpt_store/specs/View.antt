@@ -44,8 +44,8 @@ opened (slot.Other found generation) wanted = Err (OtherJob found wanted)
 opened (slot.Ours checkpoint) wanted = Ok (Some checkpoint)
 
 -- the answer for slots of which none is valid
-abbrev pub without_intact : Slots → Result (Option Checkpoint) StoreFault
-without_intact slots = cond (is_absent slots.zero && is_absent slots.one) (Ok None) (Err (Damaged slots))
+abbrev pub without_valid : Slots → Result (Option Checkpoint) StoreFault
+without_valid slots = cond (is_absent slots.zero && is_absent slots.one) (Ok None) (Err (Damaged slots))
 
 abbrev pub numbered : Slots → ℕ → Slot
 numbered slots zero = slots.zero
@@ -53,7 +53,7 @@ numbered slots (suc n) = slots.one
 
 abbrev pub answer_at : Slots → List ℕ → Option ℕ → Result (Option Checkpoint) StoreFault
 answer_at slots wanted (Some n) = opened (numbered slots n) wanted
-answer_at slots wanted None = without_intact slots
+answer_at slots wanted None = without_valid slots
 
 -- the answer of the slots: the checkpoint of the newest, nothing if both are empty, or damaged if none is valid
 abbrev pub newest_answer : Slots → List ℕ → Result (Option Checkpoint) StoreFault

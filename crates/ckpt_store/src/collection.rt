@@ -11,8 +11,8 @@ ghost use Rattle.ckpt_store.specs.Gives.{given_view};
 ghost use Rattle.outcome_book.specs.Union.{AgreesWith, AreAgreed, AreById, IsFirstDifference, IsUnion};
 
 use crate::finding::Finding;
+use crate::folder_content::FolderContent;
 use crate::gather::add;
-use crate::given::Given;
 use audit_model::buffers::OutcomeList;
 use audit_model::lists::PlainList;
 use audit_model::memory::Memory;
@@ -61,7 +61,7 @@ impl Collection {
         &mut self,
         alloc: Global,
         job: &Job,
-        given: Given,
+        given: FolderContent,
         beside: bool,
     ) -> Result<Finding, Memory>
         requires total { self.old.total ≡ total job.now }
@@ -72,16 +72,16 @@ impl Collection {
         ensures finds { IfOk result (λ found. Finds self.old (given_view given) beside found self.new) }
     {
         match given {
-            Given::Outcomes(list) => self.add_list(alloc, job, list, beside),
-            Given::Nothing => {
+            FolderContent::Outcomes(list) => self.add_list(alloc, job, list, beside),
+            FolderContent::Nothing => {
                 self.pass_over(alloc)?;
                 Ok(Finding::Nothing)
             }
-            Given::OtherJob => {
+            FolderContent::OtherJob => {
                 self.pass_over(alloc)?;
                 Ok(Finding::OtherJob)
             }
-            Given::Damaged => {
+            FolderContent::Damaged => {
                 self.pass_over(alloc)?;
                 Ok(Finding::Damaged)
             }
@@ -110,7 +110,7 @@ impl Collection {
         requires covered { IsCovered self.old }
         ensures total { IfOk result (λ _. self.new.total ≡ self.old.total) }
         ensures covered { IfOk result (λ _. IsCovered self.new) }
-        ensures finds { IfOk result (λ what. Finds self.old (given_view (Given.Outcomes found)) beside what self.new) }
+        ensures finds { IfOk result (λ what. Finds self.old (given_view (FolderContent.Outcomes found)) beside what self.new) }
     {
         match add(&mut self.gathering, job, found.as_slice()) {
             Ok(new) => {

@@ -6,7 +6,7 @@ ghost use Rattle.ckpt_store.specs.Collected.{IsCovered};
 ghost use Rattle.ckpt_store.specs.Findings.{IsFound, is_added, is_start};
 
 use crate::collection::Collection;
-use crate::given::{given_by, has_broken};
+use crate::folder_content::{given_by, has_broken};
 use crate::look::{LookFault, look};
 use audit_io::keeper::Keeper;
 use audit_model::buffers::Bytes;

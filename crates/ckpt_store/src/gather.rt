@@ -9,8 +9,8 @@ ghost use Rattle.audit_statement.specs.Due.{LetsCheckpoint};
 ghost use Rattle.ckpt_store.specs.Whole.{IsSavedUnion, IsUnsaved, IsUnsavedUnion};
 ghost use Rattle.outcome_book.specs.Union.{AreAgreed, AreById, IsFirstDifference, IsUnion};
 
+use crate::gather_result::Ungathered;
 use crate::save::save;
-use crate::told::Ungathered;
 use audit_io::keeper::Keeper;
 use audit_model::buffers::Bytes;
 use audit_model::outcome::Outcome;

@@ -1,8 +1,8 @@
 //! Laws of a keeper's slots, each the contract of an empty function.
 
-ghost use Rattle.ckpt_store.specs.Laws.{SavesKeepTheNewest, SavesLeaveHonestSlots, CheckpointsAreOurs, HonestSlotsOpenRight, RightIsHonest, SavedSlotsAreNewest, SlotsAreWhatTheyAre, StopsLeaveHonestSlots, WrittenSlotsAreNewest};
+ghost use Rattle.ckpt_store.specs.Laws.{SavesKeepTheNewest, SavesLeaveConsistentSlots, CheckpointsAreOurs, ConsistentSlotsOpenRight, RightIsConsistent, SavedSlotsAreNewest, SlotsAreWhatTheyAre, StopsLeaveConsistentSlots, WrittenSlotsAreNewest};
 
-use audit_model::laws::{bare_outcomes_have_no_bins, honest_runs_go_on_rightly};
+use audit_model::laws::{bare_outcomes_have_no_bins, consistent_runs_go_on_rightly};
 use ckpt_format::laws::{checkpoints_are_read, faultless_bytes_are_checkpoints};
 
 /// Shows that a checkpoint belongs to the job if it has the job's digest and its outcomes are all plausible for the
@@ -33,31 +33,31 @@ pub fn saved_slots_are_newest()
 {}
 
 /// Shows that the outcomes of a job's trajectories are consistent, with or without a histogram.
-pub fn right_outcomes_are_honest()
-    ensures { RightIsHonest }
+pub fn right_outcomes_are_consistent()
+    ensures { RightIsConsistent }
 {
     bare_outcomes_have_no_bins();
 }
 
 /// Shows that outcomes from consistent slots with which a run may start are those of the job's trajectories.
-pub fn honest_slots_open_right()
-    ensures { HonestSlotsOpenRight }
+pub fn consistent_slots_open_right()
+    ensures { ConsistentSlotsOpenRight }
 {
-    honest_runs_go_on_rightly();
+    consistent_runs_go_on_rightly();
 }
 
 /// Shows that a stop within a save leaves consistent slots if its slot is unchanged, does not belong to the job, or is
 /// consistent.
-pub fn a_stop_in_a_save_leaves_honest_slots()
-    ensures { StopsLeaveHonestSlots }
+pub fn a_stop_in_a_save_leaves_consistent_slots()
+    ensures { StopsLeaveConsistentSlots }
 {}
 
 /// Shows that correct saves leave consistent slots consistent, however many were made and wherever each failed or was
 /// stopped.
-pub fn saves_leave_honest_slots()
-    ensures { SavesLeaveHonestSlots }
+pub fn saves_leave_consistent_slots()
+    ensures { SavesLeaveConsistentSlots }
 {
-    right_outcomes_are_honest();
+    right_outcomes_are_consistent();
 }
 
 /// Shows that saves in turn keep the newest slot from before or make a newer one, wherever each failed or was stopped.

@@ -4,24 +4,24 @@
 pub mod collection;
 pub mod finding;
 mod fitting;
+pub mod folder_content;
 pub mod gather;
+pub mod gather_result;
 pub mod gathered_laws;
-pub mod given;
-pub mod held;
 pub mod judge;
 pub mod laws;
 pub mod look;
 pub mod progress;
 pub mod save;
+pub mod slot_content;
 pub mod slots;
-pub mod told;
 pub mod whole;
 
 pub use audit_model::place::Place;
 pub use judge::judge_bytes;
 pub use laws::{
-    checkpoints_are_ours, honest_slots_open_right, right_outcomes_are_honest,
-    saved_slots_are_newest, saves_keep_the_newest, saves_leave_honest_slots,
+    checkpoints_are_ours, consistent_slots_open_right, right_outcomes_are_consistent,
+    saved_slots_are_newest, saves_keep_the_newest, saves_leave_consistent_slots,
 };
 pub use look::LookFault;
 pub use slots::{Slot, Slots, StoreFault};

@@ -60,7 +60,7 @@ pub fn look<C: Keeper>(
     ensures slots { (C.state keeper.new).slots ≡ (C.state keeper.old).slots }
     ensures cause { HasLookCause (C.state keeper.old).load_faults (C.state keeper.new).load_faults result }
     ensures saves { (C.state keeper.new).save_faults ≡ (C.state keeper.old).save_faults }
-    ensures tried { (C.state keeper.new).tried ≡ (C.state keeper.old).tried }
+    ensures attempted { (C.state keeper.new).attempted ≡ (C.state keeper.old).attempted }
 {
     let zero = look_at(alloc, keeper, 0, job, digest, room)?;
     let one = look_at(alloc, keeper, 1, job, digest, room)?;
@@ -83,7 +83,7 @@ fn look_at<C: Keeper>(
     ensures slots { (C.state keeper.new).slots ≡ (C.state keeper.old).slots }
     ensures cause { HasLookCause (C.state keeper.old).load_faults (C.state keeper.new).load_faults result }
     ensures saves { (C.state keeper.new).save_faults ≡ (C.state keeper.old).save_faults }
-    ensures tried { (C.state keeper.new).tried ≡ (C.state keeper.old).tried }
+    ensures attempted { (C.state keeper.new).attempted ≡ (C.state keeper.old).attempted }
 {
     match keeper.load(slot, LIMIT, room) {
         Ok(found) => judge_loaded(alloc, job, digest, found, room.as_slice()),

@@ -6,8 +6,8 @@ ghost use Rattle.ckpt_store.specs.Holding.{IsLoadedFrom};
 ghost use Rattle.ckpt_store.specs.View.{slot_view};
 ghost use Rattle.ckpt_store.specs.Progress as definition;
 
-use crate::held::{LIMIT, Loaded};
 use crate::judge::judge_bytes;
+use crate::slot_content::{LIMIT, Loaded};
 use crate::slots::{Slot, Slots, StoreFault};
 use audit_model::fault::CkptFault;
 use audit_model::memory::Memory;

@@ -2,7 +2,7 @@
 
 ghost use Rattle.std.specs.Prelude.{◌≡◌, ◌<◌, Some, None, MatchResult};
 ghost use Rattle.audit_statement.specs.Slots as definition;
-ghost use Rattle.ckpt_store.specs.View.{held_seen, newest_answer, newest_seen, is_absent, opened, outcomes_held, place_seen, slot_view, without_intact};
+ghost use Rattle.ckpt_store.specs.View.{held_seen, newest_answer, newest_seen, is_absent, opened, outcomes_held, place_seen, slot_view, without_valid};
 
 use audit_model::fault::CkptFault;
 use audit_model::place::Place;
@@ -123,15 +123,15 @@ impl Slots {
         ensures held { MatchResult result (λ c. held_seen self ≡ Some (outcomes_held c)) (λ _. held_seen self ≡ None) }
     {
         match self.newest_number() {
-            None => self.without_intact(),
+            None => self.without_valid(),
             Some(0) => self.zero.opened(wanted),
             Some(_) => self.one.opened(wanted),
         }
     }
 
     /// Returns the answer if no slot is valid.
-    fn without_intact(self) -> Result<Option<Checkpoint>, StoreFault>
-        ensures { result ≡ without_intact self }
+    fn without_valid(self) -> Result<Option<Checkpoint>, StoreFault>
+        ensures { result ≡ without_valid self }
     {
         if self.zero.is_absent() && self.one.is_absent() {
             Ok(None)

@@ -16,11 +16,11 @@ ghost use Rattle.ckpt_store.specs.Whole.{HasBegun, HasFailed, IsGathering, IsSav
 
 use crate::collection::Collection;
 use crate::finding::{Finding, find_in};
+use crate::folder_content::{given_by, has_broken};
 use crate::gather::save_list;
-use crate::given::{given_by, has_broken};
+use crate::gather_result::{FindingList, GatherResult, Ungathered};
 use crate::look::{LookFault, look};
 use crate::slots::Slots;
-use crate::told::{FindingList, Told, Ungathered};
 use audit_io::keeper::Keeper;
 use audit_model::buffers::Bytes;
 use audit_model::memory::Memory;
@@ -54,9 +54,9 @@ pub fn gather<C: Keeper, F: Keeper>(
     folders: &mut [F],
     job: &Job,
     saves: bool,
-) -> Result<Told, Ungathered>
+) -> Result<GatherResult, Ungathered>
     requires few { total job.now ≤ most_trajectories }
-    requires lets { LetsGathering C.lets job.now (job_digest job.now) saves (C.state keeper.old).slots (C.state keeper.old).tried (map (λ k. F.state k) folders.old) }
+    requires lets { LetsGathering C.lets job.now (job_digest job.now) saves (C.state keeper.old).slots (C.state keeper.old).attempted (map (λ k. F.state k) folders.old) }
     ensures gathered { IfOk result (IsGathering job.now (job_digest job.now) saves (C.state keeper.old) (C.state keeper.new) (map (λ k. F.state k) folders.old) (map (λ k. F.state k) folders.new)) }
     ensures cause { IfErr result (IsUnsaved (HasFailed job.now (job_digest job.now) saves (C.state keeper.old) (C.state keeper.new) (map (λ k. F.state k) folders.old) (map (λ k. F.state k) folders.new))
         (C.state keeper.old) (C.state keeper.new)) }
@@ -76,12 +76,12 @@ fn gather_from<C: Keeper, F: Keeper>(
     job: &Job,
     begun: Begun,
     saves: bool,
-) -> Result<Told, Ungathered>
+) -> Result<GatherResult, Ungathered>
     requires total { begun.collection.total ≡ total job.now }
     requires covered { IsCovered begun.collection }
     requires place { IsPlace begun.place }
     requires begun { HasBegun job.now (job_digest job.now) (C.state keeper.old).slots (begun.place.slot, begun.place.generation) begun.own begun.collection }
-    requires lets { LetsGathering C.lets job.now (job_digest job.now) saves (C.state keeper.old).slots (C.state keeper.old).tried (map (λ k. F.state k) folders.old) }
+    requires lets { LetsGathering C.lets job.now (job_digest job.now) saves (C.state keeper.old).slots (C.state keeper.old).attempted (map (λ k. F.state k) folders.old) }
     ensures gathered { IfOk result (IsGathering job.now (job_digest job.now) saves (C.state keeper.old) (C.state keeper.new) (map (λ k. F.state k) folders.old) (map (λ k. F.state k) folders.new)) }
     ensures cause { IfErr result (IsUnsaved (HasFailed job.now (job_digest job.now) saves (C.state keeper.old) (C.state keeper.new) (map (λ k. F.state k) folders.old) (map (λ k. F.state k) folders.new))
         (C.state keeper.old) (C.state keeper.new)) }
@@ -96,7 +96,7 @@ fn gather_from<C: Keeper, F: Keeper>(
         Ok(found) => {
             let saved = saves && may_save(own, found.as_slice());
             match finish(alloc, keeper, place, &digest, &collection, saved) {
-                Ok(done) => Ok(Told {
+                Ok(done) => Ok(GatherResult {
                     own,
                     folders: found,
                     done,

@@ -14,8 +14,8 @@ use Rattle.claim_counter.specs.Records.{AreDifferentBelow}
 use Rattle.claim_counter.specs.Passes.{own, size_of}
 use Rattle.claim_counter.specs.declared.worker.Worker.{Worker}
 use Rattle.claim_counter.specs.Workers.{IsWorkerDone}
-use Rattle.claim_counter.specs.Walks.{found_at, LacksIds, IsTodo, IsWithin}
-use Rattle.claim_counter.proofs.Sharing.{Lacks, found_is, share_within, share_apart, share_absent, lacks_others}
+use Rattle.claim_counter.specs.Walks.{found_at, MissesIds, IsTodo, IsWithin}
+use Rattle.claim_counter.proofs.Sharing.{Misses, found_is, share_within, share_apart, share_absent, misses_others}
 
 -- any predicate holds for each member of an empty list
 pub none_yet : {A : Type 0} (P : A → Type 0) (xs : List A) → length xs ≡ 0 → All P xs
@@ -42,7 +42,7 @@ module _ {J : Type 0} (job : Job) (todo : List ℕ) (c : Claims) (w : Worker J) 
       subst (All HasFewVisits) (sym done.shared)
       (All-map HasFewVisits (found_at job todo) places (λ k d inside. subst HasFewVisits (sym (found_is job (get_or todo (get_or places k d) 0))) (law (get_or todo (get_or places k d) 0))))
 
-  absent_from : (now : List Outcome) (before : List ℕ) → AreDifferentBelow (length todo) (before ++ places) → Lacks now todo before
+  absent_from : (now : List Outcome) (before : List ℕ) → AreDifferentBelow (length todo) (before ++ places) → Misses now todo before
       → All (λ o. IsFalse (has_id now o.id)) w.share.items
   absent_from now before together lacks =
       subst (All (λ (o : Outcome). IsFalse (has_id now o.id))) (sym done.shared) (share_absent job todo before places now together different lacks)
@@ -56,10 +56,10 @@ module _ {J : Type 0} (job : Job) (todo : List ℕ) (c : Claims) (w : Worker J) 
   more_absent kept now before is apart_before holds together =
       let in_todo : AreDifferentBelow (length todo) before = subst (λ n. AreDifferentBelow n before) count apart_before in
       absent_from now before (subst (λ n. AreDifferentBelow n (before ++ places)) count together)
-      (subst (λ os. Lacks os todo before) (sym holds) (lacks_others job todo before in_todo kept is))
+      (subst (λ os. Misses os todo before) (sym holds) (misses_others job todo before in_todo kept is))
 
   -- the book accepts the first worker's outcomes
-  pub first_share : (b : Booked) → LacksIds job b todo → ((id : ℕ) → HasFewVisits (outcome job (draw job.setting.key) id)) → IsShareFor b w.share.items
+  pub first_share : (b : Booked) → MissesIds job b todo → ((id : ℕ) → HasFewVisits (outcome job (draw job.setting.key) id)) → IsShareFor b w.share.items
   first_share b lacks law = record {
     below = done_within lacks.ids.within b.total lacks.whole;
     absent = first_absent b.outcomes lacks.ids;
@@ -68,7 +68,7 @@ module _ {J : Type 0} (job : Job) (todo : List ℕ) (c : Claims) (w : Worker J) 
   }
 
   -- the book accepts the next worker's outcomes, which come from other places
-  pub more_share : (b now : Booked) (before : List ℕ) → LacksIds job b todo → now.total ≡ b.total → AreDifferentBelow (size_of c).limit before
+  pub more_share : (b now : Booked) (before : List ℕ) → MissesIds job b todo → now.total ≡ b.total → AreDifferentBelow (size_of c).limit before
       → now.outcomes ≡ b.outcomes ++ map (found_at job todo) before → ((id : ℕ) → HasFewVisits (outcome job (draw job.setting.key) id))
       → AreDifferentBelow (size_of c).limit (before ++ places) → IsShareFor now w.share.items
   more_share b now before lacks same apart_before holds law together = record {

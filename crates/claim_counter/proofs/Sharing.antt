@@ -19,8 +19,8 @@ use Rattle.claim_counter.specs.Records.{AreDifferentBelow}
 use Rattle.claim_counter.specs.Walks.{found, found_at, IsTodo, IsWithin}
 
 -- no outcome is kept for the ids at the other places
-abbrev pub Lacks : List Outcome → List ℕ → List ℕ → Type 0
-Lacks kept todo places = (k : ℕ) → k < length todo → times k places ≡ 0 → IsFalse (has_id kept (slice_index todo k))
+abbrev pub Misses : List Outcome → List ℕ → List ℕ → Type 0
+Misses kept todo places = (k : ℕ) → k < length todo → times k places ≡ 0 → IsFalse (has_id kept (slice_index todo k))
 
 -- ---- lists in which no number stands twice
 
@@ -109,8 +109,8 @@ module _ (job : Job) (todo places : List ℕ) (different : AreDifferentBelow (le
       id_at k l = sym (ap (λ (o : Outcome). o.id) (get_or-map (found_at job todo) places k 0 d l) ∙ found_id job (get_or todo (get_or places k 0) 0))
 
   -- a book with the outcomes at these places has none for the other places
-  pub lacks_others : (kept : List Outcome) → IsTodo job kept todo → Lacks (kept ++ map (found_at job todo) places) todo places
-  lacks_others kept is k inside none =
+  pub misses_others : (kept : List Outcome) → IsTodo job kept todo → Misses (kept ++ map (found_at job todo) places) todo places
+  misses_others kept is k inside none =
       let id = get_or todo k 0 in
       list_any-append (λ (o : Outcome). o.id == id) kept (map (found_at job todo) places)
       ∙ ap (λ b. b || has_id (map (found_at job todo) places) id) (is.absent k 0 inside)
@@ -124,7 +124,7 @@ module _ (job : Job) (todo places : List ℕ) (different : AreDifferentBelow (le
 
 -- a book has no outcome of a list whose places are others
 pub share_absent : (job : Job) (todo before places : List ℕ) (kept : List Outcome) → AreDifferentBelow (length todo) (before ++ places)
-    → AreDifferentBelow (length todo) places → Lacks kept todo before → All (λ o. IsFalse (has_id kept o.id)) (map (found_at job todo) places)
+    → AreDifferentBelow (length todo) places → Misses kept todo before → All (λ o. IsFalse (has_id kept o.id)) (map (found_at job todo) places)
 share_absent job todo before places kept together different lacks = All-map (λ (o : Outcome). has_id kept o.id ≡ false) (found_at job todo) places (λ k d inside.
     let place = get_or places k d in
     let none : times place before ≡ 0 =

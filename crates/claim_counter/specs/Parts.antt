@@ -7,15 +7,15 @@ use Rattle.claim_counter.specs.declared.claims.Claims.{Claims}
 use Rattle.claim_counter.specs.Records.{fresh}
 use Rattle.claim_counter.specs.Passes.{own, size_of, BelongsTo}
 use Rattle.claim_counter.specs.Workers.{IsWorkerDone, IsReady}
-use Rattle.claim_counter.specs.declared.parts.Hand.{Hand}
-use Rattle.claim_counter.specs.declared.parts.Part.{Part}
-use Rattle.claim_counter.specs.declared.parts.Team.{Team}
+use Rattle.claim_counter.specs.declared.parts.IdleWorker.{IdleWorker}
+use Rattle.claim_counter.specs.declared.parts.PartCounter.{PartCounter}
+use Rattle.claim_counter.specs.declared.parts.PartWorkers.{PartWorkers}
 use Rattle.claim_counter.specs.declared.worker.Worker.{Worker}
 use Rattle.audit_model.specs.Room.{RoomyOutcomes}
 use Rattle.flip_kernel.specs.Held.{Held}
 
 -- a counter of `count` places, none drawn, and a pass that can be split for `workers` workers
-pub record IsFreshPart (count workers : ℕ) (p : Part) : Type 0 where
+pub record IsFreshPart (count workers : ℕ) (p : PartCounter) : Type 0 where
   pub limit : (size_of p.claims).limit ≡ count
   pub seats : (size_of p.claims).seats ≡ workers
   pub pass : BelongsTo p.claims p.pass
@@ -28,7 +28,7 @@ pub record MayRest (job : Job) (walker : Held) (share : RoomyOutcomes) : Type 0 
 
 module _ {J : Type 0} where
   -- a worker between two parts: its list is empty and has capacity for all outcomes
-  pub record IsHand (job : Job) (h : Hand J) : Type 0 where
+  pub record IsIdleWorker (job : Job) (h : IdleWorker J) : Type 0 where
     pub made : h.walker.job ≡ job
     pub empty : h.share.items ≡ []
     pub room : total job ≤ h.share.spare
@@ -45,34 +45,34 @@ module _ {J : Type 0} where
     pub room : total job ≤ length w.share.items + w.share.spare
 
   -- the list of resting workers has capacity for one more
-  pub record HasPlace {A : Type 0} (job : Job) (hands : Vec (Hand J) A) : Type 0 where
-    pub hands_are : All (IsHand job) hands.items
-    pub room : vec_len hands < vec_capacity hands
+  pub record HasPlace {A : Type 0} (job : Job) (idle_workers : Vec (IdleWorker J) A) : Type 0 where
+    pub hands_are : All (IsIdleWorker job) idle_workers.items
+    pub room : vec_len idle_workers < vec_capacity idle_workers
 
   -- all workers rest, and there is capacity to give each a pass
-  pub record AreResting {A B : Type 0} (job : Job) (hands : Vec (Hand J) A) (workers : Vec (Worker J) B) : Type 0 where
-    pub some : 0 < vec_len hands
-    pub hands_are : All (IsHand job) hands.items
+  pub record AreResting {A B : Type 0} (job : Job) (idle_workers : Vec (IdleWorker J) A) (workers : Vec (Worker J) B) : Type 0 where
+    pub some : 0 < vec_len idle_workers
+    pub hands_are : All (IsIdleWorker job) idle_workers.items
     pub none : vec_len workers ≡ 0
-    pub room : vec_len hands ≤ vec_capacity workers
+    pub room : vec_len idle_workers ≤ vec_capacity workers
 
   -- all workers are back from a part, and there is capacity for all to rest
-  pub record AreBack {A B : Type 0} (job : Job) (todo : List ℕ) (c : Claims) (workers : Vec (Worker J) A) (hands : Vec (Hand J) B) : Type 0 where
+  pub record AreBack {A B : Type 0} (job : Job) (todo : List ℕ) (c : Claims) (workers : Vec (Worker J) A) (idle_workers : Vec (IdleWorker J) B) : Type 0 where
     pub workers_are : All (IsBack job todo c) workers.items
     pub some : 0 < vec_len workers
-    pub none : vec_len hands ≡ 0
-    pub room : vec_len workers ≤ vec_capacity hands
+    pub none : vec_len idle_workers ≡ 0
+    pub room : vec_len workers ≤ vec_capacity idle_workers
 
   -- `seats` resting workers, and capacity to give each a pass
-  pub record IsTeam (job : Job) (seats : ℕ) (t : Team J) : Type 0 where
-    pub hands : All (IsHand job) t.hands.items
-    pub count : vec_len t.hands ≡ seats
+  pub record IsPartWorkers (job : Job) (seats : ℕ) (t : PartWorkers J) : Type 0 where
+    pub idle_workers : All (IsIdleWorker job) t.idle_workers.items
+    pub count : vec_len t.idle_workers ≡ seats
     pub some : 1 ≤ seats
     pub none : vec_len t.workers ≡ 0
-    pub hands_room : seats ≤ vec_capacity t.hands
+    pub hands_room : seats ≤ vec_capacity t.idle_workers
     pub room : seats ≤ vec_capacity t.workers
     pub hub : length t.hub ≡ job.graph.units
 
   -- the hub is not computed yet
-  abbrev pub HasNoHub : Job → Team J → Type 0
+  abbrev pub HasNoHub : Job → PartWorkers J → Type 0
   HasNoHub job t = t.hub ≡ replicate job.graph.units 0

@@ -31,6 +31,6 @@ pub record IsTodo (job : Job) (kept : List Outcome) (todo : List ℕ) : Type 0 w
   pub absent : All (λ id. IsFalse (has_id kept id)) todo
 
 -- a book of the job without outcomes for these ids, which are still to be walked
-pub record LacksIds (job : Job) (b : Booked) (todo : List ℕ) : Type 0 where
+pub record MissesIds (job : Job) (b : Booked) (todo : List ℕ) : Type 0 where
   pub ids : IsTodo job b.outcomes todo
   pub whole : b.total ≡ total job

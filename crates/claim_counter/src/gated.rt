@@ -16,11 +16,11 @@ use walker::walker::Walker;
 
 /// A start token: proof that the gate has learned an id and that nobody has walked the id since. Only `tell` makes one.
 /// It can be neither copied nor dropped.
-pub struct Told {
+pub struct StartToken {
     id: u32,
 }
 
-impl Model for Told {
+impl Model for StartToken {
     ghost use Rattle.std.specs.Prelude.{ℕ};
 
     ghost Value = { ℕ };
@@ -28,13 +28,13 @@ impl Model for Told {
     ghost view = { λ t. t.id };
 }
 
-impl Told {
+impl StartToken {
     /// Tells the gate that the trajectory with this id is about to start.
-    pub fn tell<G: Gate>(gate: &G, id: u32) -> Told
+    pub fn tell<G: Gate>(gate: &G, id: u32) -> StartToken
         ensures { result ≡ id }
     {
         gate.before(id);
-        Told { id }
+        StartToken { id }
     }
 }
 
@@ -65,14 +65,14 @@ impl<J: Judge> GatedWalker<J> {
 
     /// Walks the trajectory of the token and returns its outcome. Walks of the outlier test begin at the start plan.
     /// Endpoint trajectories begin at `hub`, which no other trajectory reads. Allocates nothing.
-    pub fn walk(&mut self, job: &Job, hub: &[u32], told: Told) -> Outcome
+    pub fn walk(&mut self, job: &Job, hub: &[u32], observed: StartToken) -> Outcome
         requires made { self.old.job ≡ job.now }
-        requires id { told < job.now.setting.walks + job.now.setting.ends }
-        requires hub { job.now.setting.walks ≤ told → hub.now ≡ hub_of job.now (draw job.now.setting.key) }
-        ensures outcome { result ≡ outcome job.now (draw job.now.setting.key) told }
+        requires id { observed < job.now.setting.walks + job.now.setting.ends }
+        requires hub { job.now.setting.walks ≤ observed → hub.now ≡ hub_of job.now (draw job.now.setting.key) }
+        ensures outcome { result ≡ outcome job.now (draw job.now.setting.key) observed }
         ensures made { self.new.job ≡ job.now }
     {
-        let Told { id } = told;
+        let StartToken { id } = observed;
         self.walker.walk(job, hub, id)
     }
 

@@ -3,11 +3,11 @@
 #![tactic(auto)]
 
 mod claims;
-pub mod crew;
 pub mod gated;
 pub mod laws;
 pub mod parts;
 mod pass;
+pub mod pool;
 mod record;
 mod rule;
 pub mod runtime;
@@ -15,14 +15,14 @@ pub mod walking;
 pub mod worker;
 
 pub use claims::{Claims, Closed};
-pub use crew::{Crew, recruit};
-pub use gated::{GatedWalker, Told};
+pub use gated::{GatedWalker, StartToken};
 pub use laws::{
     count_is_bounded, end_keeps, join_keeps, number_keeps, sole_has_all, split_keeps,
     start_is_counted,
 };
-pub use parts::{Part, Team, find_hub, muster, walk_part};
+pub use parts::{PartCounter, PartWorkers, find_hub, make_part_workers, walk_part};
 pub use pass::Pass;
+pub use pool::{WorkerPool, make_pool};
 pub use record::{PassRecord, Size};
 pub use runtime::Runtime;
 pub use walking::walk_run;

@@ -9,9 +9,9 @@ ghost use Rattle.audit_statement.specs.Draw.{draw};
 ghost use Rattle.outcome_book.specs.Booked.{IsShareFor};
 ghost use Rattle.flip_kernel.specs.Judged.{IsJudgeFor};
 ghost use Rattle.walker.specs.Judges.{AreJudges};
-ghost use Rattle.claim_counter.specs.Parts.{AreBack, AreResting, HasNoHub, HasPlace, IsBack, IsFreshPart, IsHand, IsLent, IsTeam, MayRest};
+ghost use Rattle.claim_counter.specs.Parts.{AreBack, AreResting, HasNoHub, HasPlace, IsBack, IsFreshPart, IsIdleWorker, IsLent, IsPartWorkers, MayRest};
 ghost use Rattle.claim_counter.specs.Workers.{IsShared};
-ghost use Rattle.claim_counter.specs.Walks.{found, found_at, LacksIds, ServesEnds};
+ghost use Rattle.claim_counter.specs.Walks.{found, found_at, MissesIds, ServesEnds};
 ghost use Rattle.audit_model.specs.Limits.{most_trajectories, most_workers};
 
 use crate::gated::GatedWalker;
@@ -32,46 +32,46 @@ use std::thread::Threads;
 
 /// The counter of one part, and the pass that has all its seats.
 #[derive(Drop)]
-pub struct Part {
+pub struct PartCounter {
     pub(crate) claims: Claims,
     pub(crate) pass: Pass,
 }
 
-impl Part {
+impl PartCounter {
     /// Makes the counter of a part with `count` trajectories and `workers` workers. The only error is out of memory.
-    pub fn new(alloc: Global, count: u32, workers: u32) -> Result<Part, Memory>
+    pub fn new(alloc: Global, count: u32, workers: u32) -> Result<PartCounter, Memory>
         requires count { count ≤ most_trajectories }
         requires workers { (1 ≤ workers) × (workers ≤ most_workers) }
         ensures { IfOk result (IsFreshPart count workers) }
     {
         let (claims, pass) = Claims::new(alloc, count, workers)?;
-        Ok(Part { claims, pass })
+        Ok(PartCounter { claims, pass })
     }
 }
 
 /// A worker between two parts: a walker, and an empty list with capacity for the outcomes of all trajectories.
 #[derive(Drop)]
-pub struct Hand<J: Judge> {
+pub struct IdleWorker<J: Judge> {
     pub(crate) walker: GatedWalker<J>,
     pub(crate) share: OutcomeList,
 }
 
 /// The workers of a run in parts, and the hub.
 #[derive(Drop)]
-pub struct Team<J: Judge> {
-    pub(crate) hands: Vec<Hand<J>>,
+pub struct PartWorkers<J: Judge> {
+    pub(crate) idle_workers: Vec<IdleWorker<J>>,
     pub(crate) workers: Vec<Worker<J>>,
     pub(crate) hub: UnitList,
 }
 
 // Makes a worker without a pass.
-fn make_hand<J: Judge>(alloc: Global, job: &Job, judge: J) -> Result<Hand<J>, Memory>
+fn make_idle_worker<J: Judge>(alloc: Global, job: &Job, judge: J) -> Result<IdleWorker<J>, Memory>
     requires judge { IsJudgeFor job.now (J.judging judge) }
-    ensures { IfOk result (IsHand job.now) }
+    ensures { IfOk result (IsIdleWorker job.now) }
 {
     let walker = GatedWalker::new(alloc, job, judge)?;
     let share = OutcomeList::with_room(alloc, job.total() as usize)?;
-    Ok(Hand { walker, share })
+    Ok(IdleWorker { walker, share })
 }
 
 // Makes a worker without a pass for each constraint.
@@ -79,47 +79,51 @@ fn make_hands<J: Judge>(
     alloc: Global,
     job: &Job,
     mut judges: Vec<J>,
-) -> Result<Vec<Hand<J>>, Memory>
+) -> Result<Vec<IdleWorker<J>>, Memory>
     requires judges { AreJudges job.now J.judging judges.items }
-    ensures hands { IfOk result (λ h. All (IsHand job.now) h.items) }
+    ensures idle_workers { IfOk result (λ h. All (IsIdleWorker job.now) h.items) }
     ensures count { IfOk result (λ h. vec_len h ≡ vec_len judges) }
     ensures room { IfOk result (λ h. vec_len judges ≤ vec_capacity h) }
 {
-    let mut hands = Vec::with_capacity(alloc, judges.len())?;
+    let mut idle_workers = Vec::with_capacity(alloc, judges.len())?;
     while let Some(judge) = judges.pop() {
-        hands.push_reserved(make_hand(alloc, job, judge)?);
+        idle_workers.push_reserved(make_idle_worker(alloc, job, judge)?);
     }
-    Ok(hands)
+    Ok(idle_workers)
 }
 
 /// Makes a worker for each constraint. The hub is not computed yet. The only error is out of memory, and walking
 /// allocates nothing more.
-pub fn muster<J: Judge>(alloc: Global, job: &Job, judges: Vec<J>) -> Result<Team<J>, Memory>
+pub fn make_part_workers<J: Judge>(
+    alloc: Global,
+    job: &Job,
+    judges: Vec<J>,
+) -> Result<PartWorkers<J>, Memory>
     requires workers { 1 ≤ vec_len judges }
     requires judges { AreJudges job.now J.judging judges.items }
-    ensures team { IfOk result (IsTeam job.now (vec_len judges)) }
+    ensures part_workers { IfOk result (IsPartWorkers job.now (vec_len judges)) }
     ensures no_hub { IfOk result (HasNoHub job.now) }
 {
     let workers = Vec::with_capacity(alloc, judges.len())?;
-    let hands = make_hands(alloc, job, judges)?;
+    let idle_workers = make_hands(alloc, job, judges)?;
     let hub = UnitList::zeros(alloc, job.units() as usize)?;
-    Ok(Team {
-        hands,
+    Ok(PartWorkers {
+        idle_workers,
         workers,
         hub,
     })
 }
 
 // Gives the worker a pass for the next part.
-fn lend<J: Judge>(job: &Job, claims: &Claims, hand: Hand<J>, pass: Pass) -> Worker<J>
+fn lend<J: Judge>(job: &Job, claims: &Claims, idle_worker: IdleWorker<J>, pass: Pass) -> Worker<J>
     requires limit { (size_of claims.now).limit ≤ total job.now }
     requires pass { BelongsTo claims.now pass × (own pass ≡ fresh 0) }
-    requires hand { IsHand job.now hand }
+    requires idle_worker { IsIdleWorker job.now idle_worker }
     ensures { IsLent job.now claims.now result }
 {
     // Called for its contract: the job's total fits 32 bits.
     let _total = job.total();
-    let Hand { walker, share } = hand;
+    let IdleWorker { walker, share } = idle_worker;
     Worker {
         walker,
         pass,
@@ -132,24 +136,24 @@ fn lend_all<J: Judge>(
     job: &Job,
     claims: &Claims,
     mut pass: Pass,
-    hands: &mut Vec<Hand<J>>,
+    idle_workers: &mut Vec<IdleWorker<J>>,
     workers: &mut Vec<Worker<J>>,
 )
     requires limit { (size_of claims.now).limit ≤ total job.now }
-    requires pass { BelongsTo claims.now pass × (own pass ≡ fresh (vec_len hands.old - 1)) }
-    requires resting { AreResting job.now hands.old workers.old }
+    requires pass { BelongsTo claims.now pass × (own pass ≡ fresh (vec_len idle_workers.old - 1)) }
+    requires resting { AreResting job.now idle_workers.old workers.old }
     ensures lent { All (IsLent job.now claims.now) workers.new.items }
-    ensures count { vec_len workers.new ≡ vec_len hands.old }
-    ensures none { vec_len hands.new ≡ 0 }
-    ensures hands_room { vec_capacity hands.new ≡ vec_capacity hands.old }
+    ensures count { vec_len workers.new ≡ vec_len idle_workers.old }
+    ensures none { vec_len idle_workers.new ≡ 0 }
+    ensures hands_room { vec_capacity idle_workers.new ≡ vec_capacity idle_workers.old }
     ensures room { vec_capacity workers.new ≡ vec_capacity workers.old }
 {
-    let Some(last) = hands.pop() else {
+    let Some(last) = idle_workers.pop() else {
         unreachable!()
     };
-    while let Some(hand) = hands.pop() {
+    while let Some(idle_worker) = idle_workers.pop() {
         let part = claims.split(&mut pass);
-        workers.push_reserved(lend(job, claims, hand, part));
+        workers.push_reserved(lend(job, claims, idle_worker, part));
     }
     workers.push_reserved(lend(job, claims, last, pass));
 }
@@ -186,36 +190,36 @@ fn rest<J: Judge>(
     job: &Job,
     walker: GatedWalker<J>,
     mut share: OutcomeList,
-    hands: &mut Vec<Hand<J>>,
+    idle_workers: &mut Vec<IdleWorker<J>>,
 )
-    requires hand { MayRest job.now walker share }
-    requires hands { HasPlace job.now hands.old }
-    ensures hands { All (IsHand job.now) hands.new.items }
-    ensures count { vec_len hands.new ≡ vec_len hands.old + 1 }
-    ensures room { vec_capacity hands.new ≡ vec_capacity hands.old }
+    requires idle_worker { MayRest job.now walker share }
+    requires idle_workers { HasPlace job.now idle_workers.old }
+    ensures idle_workers { All (IsIdleWorker job.now) idle_workers.new.items }
+    ensures count { vec_len idle_workers.new ≡ vec_len idle_workers.old + 1 }
+    ensures room { vec_capacity idle_workers.new ≡ vec_capacity idle_workers.old }
 {
     // Called for its contract: the job's total fits 32 bits.
     let _total = job.total();
     share.clear();
-    hands.push_reserved(Hand { walker, share });
+    idle_workers.push_reserved(IdleWorker { walker, share });
 }
 
 // Merges the first worker's outcomes into the book and returns its pass.
 fn take_first<J: Judge>(
     job: &Job,
     worker: Worker<J>,
-    hands: &mut Vec<Hand<J>>,
+    idle_workers: &mut Vec<IdleWorker<J>>,
     book: &mut Book,
 ) -> Pass
     requires share { IsShareFor book.old worker.share.items }
-    requires hand { MayRest job.now worker.walker worker.share }
-    requires hands { HasPlace job.now hands.old }
+    requires idle_worker { MayRest job.now worker.walker worker.share }
+    requires idle_workers { HasPlace job.now idle_workers.old }
     ensures pass { result ≡ worker.pass }
     ensures total { book.new.total ≡ book.old.total }
     ensures outcomes { book.new.outcomes ≡ book.old.outcomes ++ worker.share.items }
-    ensures hands { All (IsHand job.now) hands.new.items }
-    ensures count { vec_len hands.new ≡ vec_len hands.old + 1 }
-    ensures room { vec_capacity hands.new ≡ vec_capacity hands.old }
+    ensures idle_workers { All (IsIdleWorker job.now) idle_workers.new.items }
+    ensures count { vec_len idle_workers.new ≡ vec_len idle_workers.old + 1 }
+    ensures room { vec_capacity idle_workers.new ≡ vec_capacity idle_workers.old }
 {
     let Worker {
         walker,
@@ -223,7 +227,7 @@ fn take_first<J: Judge>(
         share,
     } = worker;
     book.merge(share.as_slice());
-    rest(job, walker, share, hands);
+    rest(job, walker, share, idle_workers);
     pass
 }
 
@@ -233,23 +237,23 @@ fn take_next<J: Judge>(
     claims: &Claims,
     pass: Pass,
     worker: Worker<J>,
-    hands: &mut Vec<Hand<J>>,
+    idle_workers: &mut Vec<IdleWorker<J>>,
     book: &mut Book,
 ) -> Pass
     requires pass { BelongsTo claims.now pass }
     requires worker { BelongsTo claims.now worker.pass }
     requires share { AreDifferentBelow (size_of claims.now).limit ((own pass).claims ++ (own worker.pass).claims)
         → IsShareFor book.old worker.share.items }
-    requires hand { MayRest job.now worker.walker worker.share }
-    requires hands { HasPlace job.now hands.old }
+    requires idle_worker { MayRest job.now worker.walker worker.share }
+    requires idle_workers { HasPlace job.now idle_workers.old }
     ensures pass { BelongsTo claims.now result }
     ensures both { own result ≡ joined_passes (own pass) (own worker.pass) }
     ensures different { AreDifferentBelow (size_of claims.now).limit (own result).claims }
     ensures total { book.new.total ≡ book.old.total }
     ensures outcomes { book.new.outcomes ≡ book.old.outcomes ++ worker.share.items }
-    ensures hands { All (IsHand job.now) hands.new.items }
-    ensures count { vec_len hands.new ≡ vec_len hands.old + 1 }
-    ensures room { vec_capacity hands.new ≡ vec_capacity hands.old }
+    ensures idle_workers { All (IsIdleWorker job.now) idle_workers.new.items }
+    ensures count { vec_len idle_workers.new ≡ vec_len idle_workers.old + 1 }
+    ensures room { vec_capacity idle_workers.new ≡ vec_capacity idle_workers.old }
 {
     let Worker {
         walker,
@@ -258,7 +262,7 @@ fn take_next<J: Judge>(
     } = worker;
     let both = claims.join(pass, other);
     book.merge(outcomes.as_slice());
-    rest(job, walker, outcomes, hands);
+    rest(job, walker, outcomes, idle_workers);
     both
 }
 
@@ -268,20 +272,20 @@ fn take_all<J: Judge>(
     todo: &[u32],
     claims: &Claims,
     workers: &mut Vec<Worker<J>>,
-    hands: &mut Vec<Hand<J>>,
+    idle_workers: &mut Vec<IdleWorker<J>>,
     book: &mut Book,
 ) -> Pass
-    requires back { AreBack job.now todo.now claims.now workers.old hands.old }
+    requires back { AreBack job.now todo.now claims.now workers.old idle_workers.old }
     requires limit { (size_of claims.now).limit ≡ length todo.now }
-    requires todo { LacksIds job.now book.old todo.now }
+    requires todo { MissesIds job.now book.old todo.now }
     ensures pass { BelongsTo claims.now result }
     ensures ended { (own result).ended ≡ true }
     ensures seats { (own result).weight + (own result).spare ≡ vec_len workers.old }
     ensures total { book.new.total ≡ book.old.total }
     ensures outcomes { book.new.outcomes ≡ book.old.outcomes ++ map (found_at job.now todo.now) (own result).claims }
-    ensures hands { All (IsHand job.now) hands.new.items }
-    ensures count { vec_len hands.new ≡ vec_len workers.old }
-    ensures room { vec_capacity hands.new ≡ vec_capacity hands.old }
+    ensures idle_workers { All (IsIdleWorker job.now) idle_workers.new.items }
+    ensures count { vec_len idle_workers.new ≡ vec_len workers.old }
+    ensures room { vec_capacity idle_workers.new ≡ vec_capacity idle_workers.old }
     ensures none { vec_len workers.new ≡ 0 }
     ensures workers_room { vec_capacity workers.new ≡ vec_capacity workers.old }
 {
@@ -291,21 +295,23 @@ fn take_all<J: Judge>(
     let Some(first) = workers.pop() else {
         unreachable!()
     };
-    let mut pass = take_first(job, first, hands, book);
+    let mut pass = take_first(job, first, idle_workers, book);
     while let Some(worker) = workers.pop() {
-        pass = take_next(job, claims, pass, worker, hands, book);
+        pass = take_next(job, claims, pass, worker, idle_workers, book);
     }
     pass
 }
 
 /// Computes the hub. Allocates nothing.
-pub fn find_hub<J: Judge>(job: &Job, team: &mut Team<J>)
-    requires team { IsTeam job.now (vec_len team.old.hands) team.old }
-    ensures team { IsTeam job.now (vec_len team.old.hands) team.new }
-    ensures hub { team.new.hub ≡ hub_of job.now (draw job.now.setting.key) }
+pub fn find_hub<J: Judge>(job: &Job, part_workers: &mut PartWorkers<J>)
+    requires part_workers { IsPartWorkers job.now (vec_len part_workers.old.idle_workers) part_workers.old }
+    ensures part_workers { IsPartWorkers job.now (vec_len part_workers.old.idle_workers) part_workers.new }
+    ensures hub { part_workers.new.hub ≡ hub_of job.now (draw job.now.setting.key) }
 {
-    let hand = &mut team.hands[0];
-    hand.walker.hub_into(job, team.hub.as_mut_slice());
+    let idle_worker = &mut part_workers.idle_workers[0];
+    idle_worker
+        .walker
+        .hub_into(job, part_workers.hub.as_mut_slice());
 }
 
 /// Walks the trajectories with these ids and adds their outcomes to the book. Each worker is a thread, if one can be
@@ -315,31 +321,31 @@ pub fn walk_part<R: Threads + Sync, J: Judge + Send, G: Gate + Sync>(
     rt: &Runtime<R, G>,
     job: &Job,
     todo: &[u32],
-    part: Part,
-    team: &mut Team<J>,
+    part: PartCounter,
+    part_workers: &mut PartWorkers<J>,
     book: &mut Book,
 )
-    requires team { IsTeam job.now (vec_len team.old.hands) team.old }
-    requires part { IsFreshPart (length todo.now) (vec_len team.old.hands) part }
-    requires todo { LacksIds job.now book.old todo.now }
-    requires hub { ServesEnds job.now todo.now team.old.hub }
-    ensures team { IsTeam job.now (vec_len team.old.hands) team.new }
-    ensures hub { team.new.hub ≡ team.old.hub }
+    requires part_workers { IsPartWorkers job.now (vec_len part_workers.old.idle_workers) part_workers.old }
+    requires part { IsFreshPart (length todo.now) (vec_len part_workers.old.idle_workers) part }
+    requires todo { MissesIds job.now book.old todo.now }
+    requires hub { ServesEnds job.now todo.now part_workers.old.hub }
+    ensures part_workers { IsPartWorkers job.now (vec_len part_workers.old.idle_workers) part_workers.new }
+    ensures hub { part_workers.new.hub ≡ part_workers.old.hub }
     ensures total { book.new.total ≡ book.old.total }
     ensures outcomes { IsPermutation book.new.outcomes (book.old.outcomes ++ map (found job.now) todo.now) }
 {
-    let Part { claims, pass } = part;
-    let hands = &mut team.hands;
-    let workers = &mut team.workers;
-    lend_all(job, &claims, pass, hands, workers);
+    let PartCounter { claims, pass } = part;
+    let idle_workers = &mut part_workers.idle_workers;
+    let workers = &mut part_workers.workers;
+    lend_all(job, &claims, pass, idle_workers, workers);
     run_all(
         rt,
         job,
         todo,
-        team.hub.as_slice(),
+        part_workers.hub.as_slice(),
         &claims,
         workers.as_mut_slice(),
     );
-    let all = take_all(job, todo, &claims, workers, hands, book);
+    let all = take_all(job, todo, &claims, workers, idle_workers, book);
     claims.close(all);
 }

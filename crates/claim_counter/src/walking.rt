@@ -4,12 +4,12 @@ ghost use Rattle.std.specs.List.{AllPairs};
 ghost use Rattle.std.specs.Prelude.{◌≡◌, ◌+◌, ◌<◌, ◌≤◌, ◌++◌, ℕ, All, IsFalse, length, map, vec_len, IsPermutation};
 ghost use Rattle.audit_model.specs.Run.{run_ids, full};
 ghost use Rattle.audit_statement.specs.Draw.{draw};
-ghost use Rattle.claim_counter.specs.Crews.{IsCrew};
-ghost use Rattle.claim_counter.specs.Parts.{IsTeam};
-ghost use Rattle.claim_counter.specs.Walks.{found, LacksIds, ServesEnds};
+ghost use Rattle.claim_counter.specs.Pools.{IsPool};
+ghost use Rattle.claim_counter.specs.Parts.{IsPartWorkers};
+ghost use Rattle.claim_counter.specs.Walks.{found, MissesIds, ServesEnds};
 
-use crate::crew::Crew;
-use crate::parts::{Team, find_hub, walk_part};
+use crate::parts::{PartWorkers, find_hub, walk_part};
+use crate::pool::WorkerPool;
 use crate::runtime::Runtime;
 use audit_io::gate::Gate;
 use audit_model::buffers::OutcomeList;
@@ -33,14 +33,14 @@ pub fn has_above(ids: &[u32], bound: u32) -> bool
 }
 
 // Computes the hub exactly if one of the trajectories starts from it.
-fn walk_hub<J: Judge>(job: &Job, todo: &[u32], team: &mut Team<J>)
-    requires team { IsTeam job.now (vec_len team.old.hands) team.old }
-    ensures team { IsTeam job.now (vec_len team.old.hands) team.new }
-    ensures hub { ServesEnds job.now todo.now team.new.hub }
-    ensures unneeded { All (λ id. id < job.now.setting.walks) todo.now → team.new.hub ≡ team.old.hub }
+fn walk_hub<J: Judge>(job: &Job, todo: &[u32], part_workers: &mut PartWorkers<J>)
+    requires part_workers { IsPartWorkers job.now (vec_len part_workers.old.idle_workers) part_workers.old }
+    ensures part_workers { IsPartWorkers job.now (vec_len part_workers.old.idle_workers) part_workers.new }
+    ensures hub { ServesEnds job.now todo.now part_workers.new.hub }
+    ensures unneeded { All (λ id. id < job.now.setting.walks) todo.now → part_workers.new.hub ≡ part_workers.old.hub }
 {
     if has_above(todo, job.setting().walks) {
-        find_hub(job, team);
+        find_hub(job, part_workers);
     }
 }
 
@@ -49,17 +49,20 @@ fn walk_all<R: Threads + Sync, J: Judge + Send, G: Gate + Sync>(
     rt: &Runtime<R, G>,
     job: &Job,
     todo: &[u32],
-    crew: Crew<J>,
+    pool: WorkerPool<J>,
     book: &mut Book,
 )
-    requires crew { IsCrew job.now (length todo.now) job.now.setting.workers crew }
-    requires todo { LacksIds job.now book.old todo.now }
+    requires pool { IsPool job.now (length todo.now) job.now.setting.workers pool }
+    requires todo { MissesIds job.now book.old todo.now }
     ensures total { book.new.total ≡ book.old.total }
     ensures outcomes { IsPermutation book.new.outcomes (book.old.outcomes ++ map (found job.now) todo.now) }
 {
-    let Crew { part, mut team } = crew;
-    walk_hub(job, todo, &mut team);
-    walk_part(rt, job, todo, part, &mut team, book);
+    let WorkerPool {
+        part,
+        mut part_workers,
+    } = pool;
+    walk_hub(job, todo, &mut part_workers);
+    walk_part(rt, job, todo, part, &mut part_workers, book);
 }
 
 /// Walks the trajectories with these ids, adds their outcomes to the book, and fills `out` with the book's outcomes by
@@ -69,12 +72,12 @@ pub fn walk_run<R: Threads + Sync, J: Judge + Send, G: Gate + Sync>(
     rt: &Runtime<R, G>,
     job: &Job,
     todo: &[u32],
-    crew: Crew<J>,
+    pool: WorkerPool<J>,
     book: &mut Book,
     out: &mut OutcomeList,
 )
-    requires crew { IsCrew job.now (length todo.now) job.now.setting.workers crew }
-    requires todo { LacksIds job.now book.old todo.now }
+    requires pool { IsPool job.now (length todo.now) job.now.setting.workers pool }
+    requires todo { MissesIds job.now book.old todo.now }
     requires room { book.old.total ≤ length out.old.items + out.old.spare }
     ensures total { book.new.total ≡ book.old.total }
     ensures outcomes { IsPermutation book.new.outcomes (book.old.outcomes ++ map (found job.now) todo.now) }
@@ -86,7 +89,7 @@ pub fn walk_run<R: Threads + Sync, J: Judge + Send, G: Gate + Sync>(
 {
     // Called for its contract: the book holds no more than its capacity.
     let _kept = book.len();
-    walk_all(rt, job, todo, crew, book);
+    walk_all(rt, job, todo, pool, book);
     // Called for their contracts: the book is within its capacity, and its outcomes by id are all those that were
     // walked.
     let _all = book.len();

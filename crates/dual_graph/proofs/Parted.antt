@@ -68,10 +68,10 @@ module _ (g : Graph) (inside : ℕ → Bool) where
 -- no such units exist exactly if the set is connected
 pub none_is_whole : (g : Graph) (inside : ℕ → Bool) (parted : Option (ℕ × ℕ)) (none : Bool) → parted ≡ parting_of g inside → is_some parted ≡ not none
     → (none ≡ true) ↔ IsConnected g inside
-none_is_whole g inside parted none is told =
+none_is_whole g inside parted none is observed =
     let units : Option (ℕ × ℕ) = Some (least_in g inside, parted_in g inside) in
-    let on : is_connected g inside ≡ true → not none ≡ false = λ h. sym told ∙ ap is_some (is ∙ cond-true (is_connected g inside) None units h) in
-    let off : is_connected g inside ≡ false → not none ≡ true = λ h. sym told ∙ ap is_some (is ∙ cond-false (is_connected g inside) None units h) in (
+    let on : is_connected g inside ≡ true → not none ≡ false = λ h. sym observed ∙ ap is_some (is ∙ cond-true (is_connected g inside) None units h) in
+    let off : is_connected g inside ≡ false → not none ≡ true = λ h. sym observed ∙ ap is_some (is ∙ cond-false (is_connected g inside) None units h) in (
       λ h. passes_connected g inside (true_from_ne_false (is_connected g inside) (λ not_so. both_ways (not none) (not_from_true none h) (off not_so))),
       λ connected. true_from_ne_false none (λ h. both_ways (not none) (on (connected_passes g inside connected)) (not_from_false none h)),
     )

@@ -13,7 +13,7 @@ use Rattle.audit_model.proofs.Options.{or_nothing}
 use Rattle.audit_model.proofs.First.{first_below_same, first_below_more, first_below_here, any_from_none, any_from_some}
 use Rattle.dual_json.specs.Names.{label_from, label_total, same_name}
 use Rattle.dual_json.specs.Places.{nth, repeated_label, IsLabelIndex}
-use Rattle.dual_json.specs.declared.names.Name.{Name}
+use Rattle.dual_json.specs.declared.names.NodeName.{NodeName}
 
 -- equality of labels is symmetric
 pub same_turned : (a b : Label) → same_label a b ≡ same_label b a
@@ -24,11 +24,11 @@ pub same_alike : (a b c : Label) → same_label a b ≡ true → same_label a c 
 same_alike a b c e = (eq_by_cmp_equiv label_total).congr a b c e
 
 -- the map covers the places below j, whose labels are distinct
-pub record IsIndexed {S : Type 0} (labels : List Label) (j : ℕ) (places : HashMap Name ℕ S) : Type 0 where
-  pub leads : (q : Name) → get same_name places q ≡ first_below j (λ i. same_label (label_from q) (nth labels i))
+pub record IsIndexed {S : Type 0} (labels : List Label) (j : ℕ) (places : HashMap NodeName ℕ S) : Type 0 where
+  pub leads : (q : NodeName) → get same_name places q ≡ first_below j (λ i. same_label (label_from q) (nth labels i))
   pub none : first_below j (λ k. any_below k (λ i. same_label (nth labels i) (nth labels k))) ≡ None
 
-module _ {S : Type 0} (labels : List Label) (j : ℕ) (places : HashMap Name ℕ S) (key : Name) (before : IsIndexed labels j places) (at : nth labels j ≡ label_from key) where
+module _ {S : Type 0} (labels : List Label) (j : ℕ) (places : HashMap NodeName ℕ S) (key : NodeName) (before : IsIndexed labels j places) (at : nth labels j ≡ label_from key) where
   turned : (i : ℕ) → same_label (label_from key) (nth labels i) ≡ same_label (nth labels i) (nth labels j)
   turned i = same_turned (label_from key) (nth labels i) ∙ ap (same_label (nth labels i)) (sym at)
 
@@ -41,9 +41,9 @@ module _ {S : Type 0} (labels : List Label) (j : ℕ) (places : HashMap Name ℕ
       (any_from_some j (λ i. same_label (nth labels i) (nth labels j)) first one))
       ∙ ap (λ o. Some (fault.SameId (unwrap_or o 0) j)) one
 
-  module _ (new : HashMap Name ℕ S) (absent : get same_name places key ≡ None)
-      (updates : (q : Name) → get same_name new q ≡ cond (same_name key q) (Some j) (get same_name places q)) where
-    one_more : (q : Name) → get same_name new q ≡ option_or (first_below j (λ i. same_label (label_from q) (nth labels i))) (cond (same_label (label_from q) (nth labels j)) (Some j) None)
+  module _ (new : HashMap NodeName ℕ S) (absent : get same_name places key ≡ None)
+      (updates : (q : NodeName) → get same_name new q ≡ cond (same_name key q) (Some j) (get same_name places q)) where
+    one_more : (q : NodeName) → get same_name new q ≡ option_or (first_below j (λ i. same_label (label_from q) (nth labels i))) (cond (same_label (label_from q) (nth labels j)) (Some j) None)
     one_more q = elim (cases_Bool (same_label (label_from key) (label_from q))) [
       | inl same ↦
           let back : same_label (label_from q) (label_from key) ≡ true = same_turned (label_from q) (label_from key) ∙ same in
@@ -71,7 +71,7 @@ module _ {S : Type 0} (labels : List Label) (j : ℕ) (places : HashMap Name ℕ
         }
 
 -- once all labels are in the map, they are distinct, and it gives the place of each
-pub indexed_all : {S : Type 0} (labels : List Label) (j : ℕ) (places : HashMap Name ℕ S) → j ≡ length labels → IsIndexed labels j places → (repeated_label labels ≡ None) × IsLabelIndex labels places
+pub indexed_all : {S : Type 0} (labels : List Label) (j : ℕ) (places : HashMap NodeName ℕ S) → j ≡ length labels → IsIndexed labels j places → (repeated_label labels ≡ None) × IsLabelIndex labels places
 indexed_all labels j places all is = (
   ap (option_map (λ k. fault.SameId (unwrap_or (first_below k (λ i. same_label (nth labels i) (nth labels k))) 0) k))
       (subst (λ (m : ℕ). first_below m (λ k. any_below k (λ i. same_label (nth labels i) (nth labels k))) ≡ None) all is.none),

@@ -12,7 +12,7 @@ use Rattle.dual_json.specs.Values.{value_data, items_data}
 use Rattle.dual_json.specs.declared.value.Value.{Value}
 use Rattle.audit_statement.specs.Reading.{elements, list_of}
 use Rattle.dual_json.specs.Names.{label_from}
-use Rattle.dual_json.specs.declared.names.Name.{Name}
+use Rattle.dual_json.specs.declared.names.NodeName.{NodeName}
 use Rattle.dual_json.specs.Places.{object_at}
 use Rattle.dual_json.specs.Shape.{views, lists_in}
 
@@ -40,7 +40,7 @@ pub length-lists_in : (vs : List Value) → length (lists_in vs) ≡ length vs
 length-lists_in vs = length-map (views vs) (λ d. unwrap_or (list_of d) []) ∙ length-views vs
 
 -- a name is missing exactly if its label is
-pub unnamed_is : (o : Option Name) (b : Bool) → is_some o ≡ not b → is_none (option_map label_from o) ≡ b
+pub unnamed_is : (o : Option NodeName) (b : Bool) → is_some o ≡ not b → is_none (option_map label_from o) ≡ b
 unnamed_is None true e = refl
 unnamed_is None false e = cc e
 unnamed_is (Some x) true e = cc e

@@ -15,17 +15,17 @@ use Rattle.audit_model.proofs.Labels.{same_equal}
 use Rattle.dual_json.specs.Districts.{AreDifferent, AreDistricts}
 use Rattle.dual_json.specs.Names.{label_from, name_cmp, name_total}
 use Rattle.dual_json.specs.Places.{nth, labels_from}
-use Rattle.dual_json.specs.declared.names.Name.{Name}
+use Rattle.dual_json.specs.declared.names.NodeName.{NodeName}
 use Rattle.dual_json.proofs.Named.{nth_get}
 
 -- the indices of the first names
-pub record AreStarted (names found : List Name) (i : ℕ) (start : List ℕ) : Type 0 where
+pub record AreStarted (names found : List NodeName) (i : ℕ) (start : List ℕ) : Type 0 where
   pub count : length start ≡ i
   pub inside : (k : ℕ) → k < i → get_or start k 0 < length found
   pub place : (k : ℕ) → k < i → nth (labels_from found) (get_or start k 0) ≡ nth (labels_from names) k
 
 -- one more name's index is appended
-pub started_more : (names found : List Name) (i : ℕ) (start new : List ℕ) (place : ℕ) (x : Name) → AreStarted names found i start → place < length found
+pub started_more : (names found : List NodeName) (i : ℕ) (start new : List ℕ) (place : ℕ) (x : NodeName) → AreStarted names found i start → place < length found
     → nth (labels_from names) i ≡ label_from x → name_cmp (get_or found place x) x ≡ Equal → new ≡ start ++ place ∷ [] → AreStarted names found (i + 1) new
 started_more names found i start new place x before l at tied is = record {
   count = omega (arith, ap length is, length-append start (place ∷ []), before.count);
@@ -47,13 +47,13 @@ started_more names found i start new place x before l at tied is = record {
     there k under = ap (λ (t : List ℕ). get_or t k 0) is ∙ get_or_append_left start (place ∷ []) 0 k (omega (arith, under, before.count))
 
 -- each name of the list is found
-pub never_missing : (names found : List Name) (i p : ℕ) (d : Name) → AreDifferent names found → i < length names
+pub never_missing : (names found : List NodeName) (i p : ℕ) (d : NodeName) → AreDifferent names found → i < length names
     → (IsNonDecreasingBy (λ y. ordering_index (name_cmp y (get_or names i d))) found → IsPartitionPoint (λ y. name_cmp y (get_or names i d) ≡ Less) (λ y. name_cmp y (get_or names i d) ≡ Greater) found p) → ⊥
 never_missing names found i p d are l search_says =
-    let x : Name = get_or names i d in
+    let x : NodeName = get_or names i d in
     let there = are.to x (Contains-get_or names i d l) in
     let tied : name_cmp (get_or found there.0 there.1) x ≡ Equal =
-    ap (λ (y : Name). name_cmp y x) there.3 ∙ tied_back name_total x there.1 ((Equal-is (name_cmp x there.1)).0 there.4) in
+    ap (λ (y : NodeName). name_cmp y x) there.3 ∙ tied_back name_total x there.1 ((Equal-is (name_cmp x there.1)).0 there.4) in
     let sorted : IsSortedBy (λ a b. is_lt (name_cmp a b)) found =
     λ k e low high. ap is_lt (name_total.antisymm (get_or found (k + 1) e) (get_or found k e) ∙ ap ordering_reverse (Less-from_sorted name_cmp found k (k + 1) e are.rising (omega arith) high)) in
     let point = search_says (searchable_from_sorted name_total (λ y. y) found x sorted) in
@@ -63,7 +63,7 @@ never_missing names found i p d are l search_says =
     ]
 
 -- the labels of rising names rise
-rising_labels : (found : List Name) → IsStrictlySortedBy name_cmp found → (i j : ℕ) → i < j → j < length (labels_from found) → label_cmp (nth (labels_from found) i) (nth (labels_from found) j) ≡ Less
+rising_labels : (found : List NodeName) → IsStrictlySortedBy name_cmp found → (i j : ℕ) → i < j → j < length (labels_from found) → label_cmp (nth (labels_from found) i) (nth (labels_from found) j) ≡ Less
 rising_labels [] rising i j up l = absurd (omega (arith, l))
 rising_labels (y ∷ ys) rising i j up l =
     let inside : j < length (y ∷ ys) = omega (arith, l, length-map (y ∷ ys) label_from) in
@@ -72,12 +72,12 @@ rising_labels (y ∷ ys) rising i j up l =
     ∙ Less-from_sorted name_cmp (y ∷ ys) i j y rising up inside
 
 -- each distinct label is that of a name
-from_names : (names found : List Name) → ((x : Name) → Contains found x → Contains names x) → (k : ℕ) → k < length (labels_from found)
+from_names : (names found : List NodeName) → ((x : NodeName) → Contains found x → Contains names x) → (k : ℕ) → k < length (labels_from found)
     → (i : ℕ) × (i < length (labels_from names)) × (nth (labels_from found) k ≡ nth (labels_from names) i)
 from_names names [] from k l = absurd (omega (arith, l))
 from_names names (y ∷ ys) from k l =
     let inside : k < length (y ∷ ys) = omega (arith, l, length-map (y ∷ ys) label_from) in
-    let x : Name = get_or (y ∷ ys) k y in
+    let x : NodeName = get_or (y ∷ ys) k y in
     let there = from x (Contains-get_or (y ∷ ys) k y inside) in
     let under = there.1 in (
       there.0,
@@ -86,7 +86,7 @@ from_names names (y ∷ ys) from k l =
     )
 
 -- once all names have an index, labels and indices form districts
-pub started_all : (names found : List Name) (i : ℕ) (start : List ℕ) → AreDifferent names found → i ≡ length names → AreStarted names found i start
+pub started_all : (names found : List NodeName) (i : ℕ) (start : List ℕ) → AreDifferent names found → i ≡ length names → AreStarted names found i start
     → AreDistricts (labels_from names) (labels_from found) start
 started_all names found i start are all is = record {
   rising = rising_labels found are.rising;

@@ -11,14 +11,14 @@ use Rattle.audit_model.specs.Label.{label_cmp, same_label}
 use Rattle.audit_statement.specs.Reading.{refused_if}
 use Rattle.dual_json.specs.Names.{name_cmp, same_name}
 use Rattle.dual_json.specs.Places.{nth}
-use Rattle.dual_json.specs.declared.names.Name.{Name}
+use Rattle.dual_json.specs.declared.names.NodeName.{NodeName}
 use Rattle.audit_model.specs.Limits.{most_districts}
 
 -- the distinct names of a list, in rising order
-pub record AreDifferent (names found : List Name) : Type 0 where
+pub record AreDifferent (names found : List NodeName) : Type 0 where
   pub rising : IsStrictlySortedBy name_cmp found
-  pub from : (x : Name) → Contains found x → Contains names x
-  pub to : (x : Name) → Contains names x → Any (λ y. same_name x y ≡ true) found
+  pub from : (x : NodeName) → Contains found x → Contains names x
+  pub to : (x : NodeName) → Contains names x → Any (λ y. same_name x y ≡ true) found
   pub short : length found ≤ length names
 
 -- the distinct labels of a list in rising order, and the index of each label among them

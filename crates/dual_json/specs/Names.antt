@@ -11,19 +11,19 @@ use Rattle.std.specs.declared.cmp.Ordering.TheVariants.{Less, Equal}
 use Rattle.audit_model.specs.declared.setting.Label.{Label}
 use Rattle.audit_model.specs.declared.setting.Label.TheVariants.{Whole, Word}
 use Rattle.audit_model.specs.Label.{label_cmp, same_label}
-use Rattle.dual_json.specs.declared.names.Name.{Name}
-use Rattle.dual_json.specs.declared.names.Name.TheVariants as name
+use Rattle.dual_json.specs.declared.names.NodeName.{NodeName}
+use Rattle.dual_json.specs.declared.names.NodeName.TheVariants as name
 
 -- the label of a name
-abbrev pub label_from : Name → Label
+abbrev pub label_from : NodeName → Label
 label_from (name.Whole n) = Whole n
 label_from (name.Word s) = Word s.now
 
 -- the order of names
-abbrev pub name_cmp : Name → Name → Ordering
+abbrev pub name_cmp : NodeName → NodeName → Ordering
 name_cmp a b = label_cmp (label_from a) (label_from b)
 
-abbrev pub same_name : Name → Name → Bool
+abbrev pub same_name : NodeName → NodeName → Bool
 same_name a b = same_label (label_from a) (label_from b)
 
 -- the input of a hasher: the label's number or bytes
@@ -31,7 +31,7 @@ abbrev pub label_writes : Label → HashWrites
 label_writes (Whole n) = fed.i128 n
 label_writes (Word s) = fed.str s
 
-abbrev pub name_writes : Name → HashWrites
+abbrev pub name_writes : NodeName → HashWrites
 name_writes name = label_writes (label_from name)
 
 -- ---- the order is total
@@ -85,5 +85,5 @@ same_is (Whole a) (Word t) e = cc e
 same_is (Word s) (Whole b) e = cc e
 same_is (Word s) (Word t) e = ap Word (same_text s t (sym (texts_ties s t ∙ e)))
 
-pub name_hashes : (a b : Name) → same_name a b ≡ true → name_writes a ≡ name_writes b
+pub name_hashes : (a b : NodeName) → same_name a b ≡ true → name_writes a ≡ name_writes b
 name_hashes a b same = ap label_writes (same_is (label_from a) (label_from b) same)

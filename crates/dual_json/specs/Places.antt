@@ -13,7 +13,7 @@ use Rattle.audit_model.specs.First.{first_below}
 use Rattle.audit_model.specs.Label.{same_label}
 use Rattle.audit_statement.specs.Reading.{label_of, id_of}
 use Rattle.dual_json.specs.Names.{label_from, same_name}
-use Rattle.dual_json.specs.declared.names.Name.{Name}
+use Rattle.dual_json.specs.declared.names.NodeName.{NodeName}
 use Rattle.dual_json.specs.declared.names.Unnamed.{Unnamed}
 use Rattle.dual_json.specs.declared.names.Unnamed.TheVariants as unnamed
 
@@ -29,7 +29,7 @@ abbrev pub nth : List Label → ℕ → Label
 nth labels i = slice_index_or labels i (Word [])
 
 -- the labels of a list of names
-abbrev pub labels_from : List Name → List Label
+abbrev pub labels_from : List NodeName → List Label
 labels_from names = map label_from names
 
 -- the first object without a label at the key
@@ -57,8 +57,8 @@ repeated_label labels = option_map
     (first_below (length labels) (λ j. any_below j (λ i. same_label (nth labels i) (nth labels j))))
 
 -- the map gives the first place of each name's label
-abbrev pub IsLabelIndex : {S : Type 0} → List Label → HashMap Name ℕ S → Type 0
-IsLabelIndex labels places = (q : Name) → get same_name places q ≡ place_of_label labels (label_from q)
+abbrev pub IsLabelIndex : {S : Type 0} → List Label → HashMap NodeName ℕ S → Type 0
+IsLabelIndex labels places = (q : NodeName) → get same_name places q ≡ place_of_label labels (label_from q)
 
 -- the node that an entry names
 abbrev pub place_of_entry : List Label → Data → Option ℕ

@@ -7,7 +7,7 @@ use Rattle.audit_model.specs.declared.fault.GraphFault.{GraphFault}
 use Rattle.audit_model.specs.declared.fault.GraphFault.TheVariants as fault
 use Rattle.audit_model.specs.First.{first_some}
 use Rattle.audit_statement.specs.Reading.{Document, list_of, refused_if}
-use Rattle.dual_json.specs.declared.shape.Parts.{Parts}
+use Rattle.dual_json.specs.declared.shape.RootParts.{RootParts}
 use Rattle.audit_model.specs.Limits.{most_units}
 
 -- the data of a list of values
@@ -19,7 +19,7 @@ abbrev pub lists_in : List Value → List (List Data)
 lists_in values = map (λ d. unwrap_or (list_of d) []) (views values)
 
 -- the document of the parts
-abbrev pub document_of_parts : Parts → Document
+abbrev pub document_of_parts : RootParts → Document
 document_of_parts p = record { nodes = views p.nodes.now; adjacency = lists_in p.adjacency.now; directed = p.directed }
 
 -- the first fault of the parts' flags and lengths

@@ -6,13 +6,13 @@ ghost use Rattle.dual_json.specs.Districts.{district_count_fault, AreDifferent, 
 ghost use Rattle.dual_json.specs.Places.{labels_from};
 ghost use Rattle.audit_model.specs.Limits.{most_units};
 
-use crate::names::Name;
+use crate::names::NodeName;
 use audit_model::fault::GraphFault;
 use audit_model::lists::{LabelList, UnitList};
 use std::alloc::Global;
 
 /// Returns the distinct names in rising order. The only error is `Memory`.
-pub fn different<'v>(alloc: Global, names: &[Name<'v>]) -> Result<Vec<Name<'v>>, GraphFault>
+pub fn different<'v>(alloc: Global, names: &[NodeName<'v>]) -> Result<Vec<NodeName<'v>>, GraphFault>
     ensures { MatchResult result (λ found. AreDifferent names.now found.items) (λ f. f ≡ Memory) }
 {
     let mut found = Vec::from_slice(alloc, names)?;
@@ -34,8 +34,8 @@ pub fn check_count(count: usize) -> Result<(), GraphFault>
 /// Returns the index of each name among the distinct ones. The only error is `Memory`.
 pub fn start_of<'v>(
     alloc: Global,
-    names: &[Name<'v>],
-    found: &[Name<'v>],
+    names: &[NodeName<'v>],
+    found: &[NodeName<'v>],
 ) -> Result<UnitList, GraphFault>
     requires few { length found.now ≤ most_units }
     requires different { AreDifferent names.now found.now }
@@ -52,7 +52,7 @@ pub fn start_of<'v>(
 }
 
 /// Copies the names to labels that own their texts. The only error is `Memory`.
-pub fn labels_of(alloc: Global, names: &[Name<'_>]) -> Result<LabelList, GraphFault>
+pub fn labels_of(alloc: Global, names: &[NodeName<'_>]) -> Result<LabelList, GraphFault>
     ensures { MatchResult result (λ labels. labels ≡ labels_from names.now) (λ f. f ≡ Memory) }
 {
     let mut labels = LabelList::new(alloc);

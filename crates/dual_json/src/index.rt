@@ -6,7 +6,7 @@ ghost use Rattle.audit_model.specs.declared.fault.GraphFault.TheVariants.{Memory
 ghost use Rattle.dual_json.specs.Places.{labels_from, repeated_label, place_of_entry, IsLabelIndex};
 ghost use Rattle.audit_model.specs.Limits.{most_units};
 
-use crate::names::{Name, name_at};
+use crate::names::{NodeName, name_at};
 use crate::value::Value;
 use audit_model::fault::GraphFault;
 use std::alloc::Global;
@@ -16,8 +16,8 @@ use std::marker::Model;
 /// The ids of all nodes, which are distinct, and a map from each to its node.
 #[derive(Drop)]
 pub struct Index<'v> {
-    names: Vec<Name<'v>>,
-    places: HashMap<Name<'v>, u32>,
+    names: Vec<NodeName<'v>>,
+    places: HashMap<NodeName<'v>, u32>,
 }
 
 impl<'v> Model for Index<'v> {
@@ -34,7 +34,7 @@ impl<'v> Model for Index<'v> {
 
 impl<'v> Index<'v> {
     /// Indexes the names, or returns the first name that an earlier node has too.
-    pub fn of(alloc: Global, names: Vec<Name<'v>>) -> Result<Index<'v>, GraphFault>
+    pub fn of(alloc: Global, names: Vec<NodeName<'v>>) -> Result<Index<'v>, GraphFault>
         requires { length names.items ≤ most_units }
         ensures { MatchResult result (λ index. (repeated_label (labels_from names.entry.items) ≡ None) × (index ≡ labels_from names.entry.items))
             (λ f. (f ≡ Memory) ⊎ (repeated_label (labels_from names.entry.items) ≡ Some f)) }
@@ -57,7 +57,10 @@ impl<'v> Index<'v> {
 }
 
 /// Maps each name to its place, or returns the first name that an earlier place has too.
-fn places_of<'v>(alloc: Global, names: &[Name<'v>]) -> Result<HashMap<Name<'v>, u32>, GraphFault>
+fn places_of<'v>(
+    alloc: Global,
+    names: &[NodeName<'v>],
+) -> Result<HashMap<NodeName<'v>, u32>, GraphFault>
     requires { length names.now ≤ most_units }
     ensures { MatchResult result (λ places. (repeated_label (labels_from names.now) ≡ None) × IsLabelIndex (labels_from names.now) places)
         (λ f. (f ≡ Memory) ⊎ (repeated_label (labels_from names.now) ≡ Some f)) }

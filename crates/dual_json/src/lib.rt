@@ -20,4 +20,4 @@ pub use crate::read::read_graph;
 pub use crate::regions::read_regions;
 pub use audit_model::fault::{Column, GraphFault, Part, RegionFault};
 pub use districts::{different, labels_of, start_of};
-pub use names::Name;
+pub use names::NodeName;

@@ -19,19 +19,19 @@ use std::hash::{Hash, Hasher};
 
 /// An id or a label: an integer or a text.
 #[derive(Clone, Copy)]
-pub enum Name<'v> {
+pub enum NodeName<'v> {
     Whole(i128),
     Word(&'v str),
 }
 
-impl Name<'_> {
+impl NodeName<'_> {
     /// Copies the name to a label that owns its text. Fails if there is no memory.
     pub fn to_label(&self, alloc: Global) -> Result<Label, Memory>
         ensures { IfOk result (λ l. l ≡ label_from self.now) }
     {
         match self {
-            Name::Whole(number) => Ok(Label::Whole(*number)),
-            Name::Word(word) => {
+            NodeName::Whole(number) => Ok(Label::Whole(*number)),
+            NodeName::Word(word) => {
                 let mut text = Text::new(alloc);
                 text.push_str(*word)?;
                 Ok(Label::Word(text))
@@ -40,7 +40,7 @@ impl Name<'_> {
     }
 }
 
-impl PartialEq for Name<'_> {
+impl PartialEq for NodeName<'_> {
     ghost eq = { same_name };
 
     ghost laws = { name_per };
@@ -50,11 +50,11 @@ impl PartialEq for Name<'_> {
     }
 }
 
-impl Eq for Name<'_> {
+impl Eq for NodeName<'_> {
     ghost laws = { name_equiv };
 }
 
-impl PartialOrd for Name<'_> {
+impl PartialOrd for NodeName<'_> {
     ghost partial_cmp = { λ a b. Some (name_cmp a b) };
 
     ghost laws = { name_po };
@@ -64,7 +64,7 @@ impl PartialOrd for Name<'_> {
     }
 }
 
-impl Ord for Name<'_> {
+impl Ord for NodeName<'_> {
     ghost cmp = { name_cmp };
 
     ghost total = { name_total };
@@ -75,43 +75,43 @@ impl Ord for Name<'_> {
 
     fn cmp(&self, other: &Self) -> Ordering {
         match (self, other) {
-            (Name::Whole(a), Name::Whole(b)) => a.cmp(b),
-            (Name::Whole(_), Name::Word(_)) => Ordering::Less,
-            (Name::Word(_), Name::Whole(_)) => Ordering::Greater,
-            (Name::Word(a), Name::Word(b)) => a.cmp(b),
+            (NodeName::Whole(a), NodeName::Whole(b)) => a.cmp(b),
+            (NodeName::Whole(_), NodeName::Word(_)) => Ordering::Less,
+            (NodeName::Word(_), NodeName::Whole(_)) => Ordering::Greater,
+            (NodeName::Word(a), NodeName::Word(b)) => a.cmp(b),
         }
     }
 }
 
-impl Hash for Name<'_> {
+impl Hash for NodeName<'_> {
     ghost hash_input = { name_writes };
 
     ghost respects_eq = { name_hashes };
 
     fn hash<H: Hasher>(&self, state: &mut H) {
         match self {
-            Name::Whole(number) => number.hash(state),
-            Name::Word(word) => word.hash(state),
+            NodeName::Whole(number) => number.hash(state),
+            NodeName::Word(word) => word.hash(state),
         }
     }
 }
 
 /// Returns the name that a value is, if it is an integer or a text.
-pub fn name_of<'v>(value: &Value<'v>) -> Option<Name<'v>>
+pub fn name_of<'v>(value: &Value<'v>) -> Option<NodeName<'v>>
     ensures { option_map label_from result ≡ label_of (value_data value.now) }
 {
     match value {
         Value::Number(number) => match number.as_i128() {
-            Some(whole) => Some(Name::Whole(whole)),
+            Some(whole) => Some(NodeName::Whole(whole)),
             None => None,
         },
-        Value::String(text) => Some(Name::Word(*text)),
+        Value::String(text) => Some(NodeName::Word(*text)),
         _ => None,
     }
 }
 
 /// Returns the name at a key of an object.
-pub fn name_at<'v>(object: &Value<'v>, key: &str) -> Option<Name<'v>>
+pub fn name_at<'v>(object: &Value<'v>, key: &str) -> Option<NodeName<'v>>
     ensures { option_map label_from result ≡ label_at_key key.now (value_data object.now) }
 {
     match object.get(key) {
@@ -132,7 +132,7 @@ pub fn names_at<'v>(
     alloc: Global,
     objects: &[Value<'v>],
     key: &str,
-) -> Result<Vec<Name<'v>>, Unnamed>
+) -> Result<Vec<NodeName<'v>>, Unnamed>
     requires { length objects.now ≤ most_units }
     ensures { MatchResult result (λ names. (first_unnamed key.now (views objects.now) ≡ None) × AreLabels key.now (views objects.now) (labels_from names.items))
         (λ why. TellsUnnamed why (first_unnamed key.now (views objects.now))) }

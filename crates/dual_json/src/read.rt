@@ -18,9 +18,9 @@ use crate::columns::{check_columns, check_numbers, counts_of, frozen_of, group_o
 use crate::districts::{check_count, different, labels_of, start_of};
 use crate::edges::{check_entries, graph_of};
 use crate::index::Index;
-use crate::names::{Name, Unnamed, names_at};
+use crate::names::{NodeName, Unnamed, names_at};
 use crate::parse::parse;
-use crate::shape::{Parts, check_frame, parts_of};
+use crate::shape::{RootParts, check_frame, parts_of};
 use crate::value::Value;
 use audit_model::fault::GraphFault;
 use audit_model::lists::{LabelList, UnitList};
@@ -116,7 +116,7 @@ fn ids_of<'v>(alloc: Global, nodes: &[Value<'v>]) -> Result<Index<'v>, GraphFaul
 }
 
 /// Reads the graph from the parts of the root.
-fn graph_in(alloc: Global, parts: &Parts<'_, '_>) -> Result<Graph, GraphFault>
+fn graph_in(alloc: Global, parts: &RootParts<'_, '_>) -> Result<Graph, GraphFault>
     ensures { MatchResult result
         (λ g. (graph_fault (document_of_parts parts.now) ≡ None) × (graph (document_of_parts parts.now) ≡ g) × (length parts.now.nodes.now ≤ most_units) × IsGraph g × (count_edges g (λ u v. true) ≤ most_edges))
         (λ f. (f ≡ fault.Memory) ⊎ (graph_fault (document_of_parts parts.now) ≡ Some f)) }
@@ -132,7 +132,7 @@ fn names_in<'v>(
     alloc: Global,
     nodes: &[Value<'v>],
     columns: &Columns,
-) -> Result<Vec<Name<'v>>, GraphFault>
+) -> Result<Vec<NodeName<'v>>, GraphFault>
     requires { length nodes.now ≤ most_units }
     ensures { MatchResult result
         (λ names. (labels_fault columns.now (views nodes.now) ≡ None) × AreLabels columns.now.district (views nodes.now) (labels_from names.items))
@@ -152,7 +152,7 @@ fn rows_of<'v>(
     alloc: Global,
     nodes: &[Value<'_>],
     columns: &Columns,
-    names: &[Name<'v>],
+    names: &[NodeName<'v>],
 ) -> Result<Rows, GraphFault>
     requires few { length names.now ≤ most_units }
     requires labels { AreLabels columns.now.district (views nodes.now) (labels_from names.now) }
@@ -177,7 +177,11 @@ fn rows_of<'v>(
 }
 
 /// Reads everything from the parts of the root.
-fn read_parts(alloc: Global, parts: &Parts<'_, '_>, columns: &Columns) -> Result<Parsed, GraphFault>
+fn read_parts(
+    alloc: Global,
+    parts: &RootParts<'_, '_>,
+    columns: &Columns,
+) -> Result<Parsed, GraphFault>
     ensures read { MatchResult result
         (λ p. (refusal (document_of_parts parts.now) columns.now ≡ None) × (parsed (document_of_parts parts.now) columns.now ≡ parsed_of p))
         (λ f. (f ≡ fault.Memory) ⊎ (refusal (document_of_parts parts.now) columns.now ≡ Some f)) }

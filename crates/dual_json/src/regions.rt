@@ -14,9 +14,9 @@ ghost use Rattle.dual_json.specs.Places.{labels_from};
 ghost use Rattle.dual_json.specs.Shape.{views, document_of_parts};
 
 use crate::districts::{different, start_of};
-use crate::names::{Name, Unnamed, names_at};
+use crate::names::{NodeName, Unnamed, names_at};
 use crate::read::value_of;
-use crate::shape::{Parts, parts_of};
+use crate::shape::{RootParts, parts_of};
 use crate::value::Value;
 use audit_model::fault::RegionFault;
 use audit_model::lists::UnitList;
@@ -80,7 +80,7 @@ fn first_missing(nodes: &[Value<'_>], column: &Text) -> Option<u32>
 }
 
 /// Returns the index of each name among the distinct names in rising order, or `TooMany`.
-fn numbers_of(alloc: Global, names: &[Name<'_>]) -> Result<UnitList, RegionFault>
+fn numbers_of(alloc: Global, names: &[NodeName<'_>]) -> Result<UnitList, RegionFault>
     requires { length names.now ≤ most_units }
     ensures { MatchResult result
         (λ numbers. (nat_lt most_regions (different_count (labels_from names.now)) ≡ false) × AreNumbered (labels_from names.now) numbers)
@@ -100,7 +100,11 @@ fn numbers_of(alloc: Global, names: &[Name<'_>]) -> Result<UnitList, RegionFault
 }
 
 /// Reads the regions of the nodes.
-fn regions_in(alloc: Global, parts: &Parts<'_, '_>, column: &Text) -> Result<UnitList, RegionFault>
+fn regions_in(
+    alloc: Global,
+    parts: &RootParts<'_, '_>,
+    column: &Text,
+) -> Result<UnitList, RegionFault>
     requires { length parts.now.nodes.now ≤ most_units }
     ensures read { MatchResult result
         (λ numbers. (region_fault (document_of_parts parts.now) column.now ≡ None) × (regions (document_of_parts parts.now) column.now ≡ numbers))

@@ -13,14 +13,14 @@ use audit_model::fault::{GraphFault, Part};
 
 /// The parts of the root object: its nodes, the adjacency list of each, and its `directed` flag.
 #[derive(Clone, Copy)]
-pub struct Parts<'v, 't> {
+pub struct RootParts<'v, 't> {
     pub nodes: &'v [Value<'t>],
     pub adjacency: &'v [Value<'t>],
     pub directed: bool,
 }
 
 /// Returns the parts, or the first one that has the wrong shape.
-pub fn parts_of<'v, 't>(root: &'v Value<'t>) -> Result<Parts<'v, 't>, Part>
+pub fn parts_of<'v, 't>(root: &'v Value<'t>) -> Result<RootParts<'v, 't>, Part>
     ensures { MatchResult result (λ parts. (bad_part (value_data root.now) ≡ None) × (document (value_data root.now) ≡ document_of_parts parts))
         (λ part. bad_part (value_data root.now) ≡ Some part) }
 {
@@ -42,7 +42,7 @@ pub fn parts_of<'v, 't>(root: &'v Value<'t>) -> Result<Parts<'v, 't>, Part>
     if flag_at(root, "multigraph").is_none() {
         return Err(Part::Multigraph);
     }
-    Ok(Parts {
+    Ok(RootParts {
         nodes,
         adjacency,
         directed,
@@ -51,7 +51,7 @@ pub fn parts_of<'v, 't>(root: &'v Value<'t>) -> Result<Parts<'v, 't>, Part>
 
 /// Checks that the graph is undirected, that its two lists have equal lengths, and that there are
 /// at most 100,000 units.
-pub fn check_frame(parts: &Parts<'_, '_>) -> Result<(), GraphFault>
+pub fn check_frame(parts: &RootParts<'_, '_>) -> Result<(), GraphFault>
     ensures { MatchResult result (λ _. (frame_fault parts.now.directed (length parts.now.nodes.now) (length parts.now.adjacency.now) ≡ None)
         × (length parts.now.nodes.now ≡ length parts.now.adjacency.now) × (length parts.now.nodes.now ≤ most_units))
         (λ f. frame_fault parts.now.directed (length parts.now.nodes.now) (length parts.now.adjacency.now) ≡ Some f) }

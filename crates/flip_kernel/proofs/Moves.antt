@@ -228,7 +228,7 @@ module _ (job : Job) (plan : List ℕ) (u d : ℕ) (sound : IsJob job) (legal : 
 
   -- without kept bounds, the flip is not a move
   pub not_kept : (kept : Bool) → kept ≡ false → IsTrue kept ↔ Keeps → IsTrue false ↔ IsMove job plan u d
-  not_kept kept is told = (λ moved. absurd (false≢true moved), λ move. absurd (both_ways kept is (told.1 (move_keeps move))))
+  not_kept kept is observed = (λ moved. absurd (false≢true moved), λ move. absurd (both_ways kept is (observed.1 (move_keeps move))))
 
 -- after a move, the pair back is open
 pub left_is_open : (job : Job) (plan : List ℕ) (u d : ℕ) → IsJob job → IsLegal job plan → u < job.graph.units → d < job.districts → IsMove job plan u d

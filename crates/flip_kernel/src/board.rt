@@ -235,12 +235,12 @@ impl Board {
     ///
     /// It tests the counts of faces first and the rules last. `None` means that the flip is a move
     /// if the unit may leave its district.
-    fn told<J: Judge>(&mut self, judge: &J, flip: Flip) -> Option<bool>
+    fn observed<J: Judge>(&mut self, judge: &J, flip: Flip) -> Option<bool>
         requires made { self.old.job ≡ flip.job.now }
         requires judge { IsSeated flip.job.now self.old.plan (J.judging judge.now) }
         requires beside { IsTrue (is_open flip.job.now.graph self.old.plan flip.unit flip.district) }
         requires kept { KeepsBoundsIn flip.job.now self.old.plan flip.unit flip.district }
-        ensures told { MatchOption result
+        ensures observed { MatchOption result
             (MayLeave flip.entry.job.now.graph self.old.plan flip.entry.unit ↔ IsMove flip.entry.job.now self.old.plan flip.entry.unit flip.entry.district)
             (λ moves. IsTrue moves ↔ IsMove flip.entry.job.now self.old.plan flip.entry.unit flip.entry.district) }
         ensures same { self.new ≡ self.old }
@@ -300,7 +300,7 @@ impl Board {
         ensures searches { (steps.old ≤ steps.new) × (steps.new ≤ steps.old + 1) }
         ensures local { IsLocal flip.entry.job.now.graph self.old.plan flip.entry.unit → steps.new ≡ steps.old }
     {
-        match self.told(judge, flip) {
+        match self.observed(judge, flip) {
             Some(moves) => moves,
             None => self.searching_tells(flip.job, flip.unit, steps),
         }
@@ -314,7 +314,7 @@ impl Board {
         requires beside { IsTrue (is_open flip.job.now.graph self.old.plan flip.unit flip.district) }
         ensures same { self.new ≡ self.old }
     {
-        if !self.keeps_bounds(flip) || self.told(judge, flip).is_some() {
+        if !self.keeps_bounds(flip) || self.observed(judge, flip).is_some() {
             return false;
         }
         !local_holds(
@@ -342,7 +342,7 @@ impl Board {
         };
         self.counts.follow(&self.faces, leaving, flip.district);
         shift(flip, &mut self.sums, &mut self.plan);
-        self.openings.renew(
+        self.openings.update(
             graph,
             self.plan.as_slice(),
             self.pairs.districts,

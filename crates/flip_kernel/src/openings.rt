@@ -107,7 +107,7 @@ impl Openings {
     /// Updates the open pairs after a unit has moved away from `home`, where it has a neighbor.
     ///
     /// It costs one pass over the unit's neighbors and theirs, and allocates nothing.
-    pub fn renew(&mut self, graph: &Graph, plan: &[u32], districts: u32, unit: u32, home: u32)
+    pub fn update(&mut self, graph: &Graph, plan: &[u32], districts: u32, unit: u32, home: u32)
         requires plan { length plan.now ≡ graph.now.units }
         requires in_range { (u : ℕ) → u < graph.now.units → slice_index plan.now u < districts }
         requires unit { unit < graph.now.units }

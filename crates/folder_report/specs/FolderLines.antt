@@ -6,7 +6,7 @@ use Rattle.audit_statement.specs.Note.{as_line}
 use Rattle.ckpt_store.specs.Findings.{is_added, is_start}
 use Rattle.ckpt_store.specs.declared.finding.Finding.{Finding}
 use Rattle.ckpt_store.specs.declared.finding.Finding.TheVariants as finding
-use Rattle.ckpt_store.specs.declared.told.Told.{Told}
+use Rattle.ckpt_store.specs.declared.gather_result.GatherResult.{GatherResult}
 
 -- the text after the number of outcomes
 abbrev pub beside_text : Bool → List ℕ
@@ -54,8 +54,8 @@ abbrev pub done_line : ℕ → ℕ → List ℕ
 done_line done total = as_line (codes "done: " ∷ decimal done ∷ codes " of " ∷ decimal total ∷ [])
 
 -- the whole report of a gathering on folders with these names
-abbrev pub told_text : List (List ℕ) → Told → ℕ → List ℕ
-told_text names told total = (as_line (own_texts told.own) ++ of_each (folder_line names) names told.folders) ++ done_line told.done total
+abbrev pub observed_text : List (List ℕ) → GatherResult → ℕ → List ℕ
+observed_text names observed total = (as_line (own_texts observed.own) ++ of_each (folder_line names) names observed.folders) ++ done_line observed.done total
 
 -- a line with a reason why nothing was saved
 abbrev pub refusal : List (List ℕ) → List ℕ
@@ -70,5 +70,5 @@ abbrev pub folder_refusal : List (List ℕ) → List ℕ → Finding → List �
 folder_refusal names name what = cond (is_added what) [] (refusal (folder_texts names name what))
 
 -- the reasons why nothing was saved
-abbrev pub refusals : List (List ℕ) → Told → List ℕ
-refusals names told = own_refusal told.own ++ of_each (folder_refusal names) names told.folders
+abbrev pub refusals : List (List ℕ) → GatherResult → List ℕ
+refusals names observed = own_refusal observed.own ++ of_each (folder_refusal names) names observed.folders

@@ -11,11 +11,11 @@ use Rattle.audit_statement.specs.Accepted.{no_columns}
 use Rattle.audit_statement.specs.Checkpoint.{job_digest}
 use Rattle.audit_statement.specs.Endings.{AddsLine, AppendsPart}
 use Rattle.audit_statement.specs.Note.{Ending, folder_taken, load_fault, no_memory, note, save_fault, write_fault}
-use Rattle.ckpt_store.specs.declared.told.Told.{Told}
-use Rattle.ckpt_store.specs.declared.told.Ungathered.{Ungathered}
-use Rattle.ckpt_store.specs.declared.told.Ungathered.TheVariants as ungathered
+use Rattle.ckpt_store.specs.declared.gather_result.GatherResult.{GatherResult}
+use Rattle.ckpt_store.specs.declared.gather_result.Ungathered.{Ungathered}
+use Rattle.ckpt_store.specs.declared.gather_result.Ungathered.TheVariants as ungathered
 use Rattle.ckpt_store.specs.Whole.{HasFailed, IsGathering, IsUnsaved}
-use Rattle.folder_report.specs.FolderLines.{refusals, told_text}
+use Rattle.folder_report.specs.FolderLines.{refusals, observed_text}
 
 -- the ending of a run that fails for the same reason as this gathering
 abbrev pub ending_of : Ungathered → Ending
@@ -59,13 +59,13 @@ pub record IsNoted (before after : Outputs) (lines : List ℕ) : Type 0 where
 
 -- The end of a gathering with findings. They are written if it was only to look, or if it saved. Otherwise the lines
 -- say why it did not save.
-abbrev pub TellsFound : Bool → List (List ℕ) → ℕ → Told → Outputs → Outputs → ℕ → Type 0
-TellsFound true names total told before after status =
-    IsWhole before after (told_text names told total) status ⊎ IsCutOff before after (told_text names told total) status
-TellsFound false names total told before after status = (status ≡ refused_status) × IsNoted before after (refusals names told)
+abbrev pub TellsFound : Bool → List (List ℕ) → ℕ → GatherResult → Outputs → Outputs → ℕ → Type 0
+TellsFound true names total observed before after status =
+    IsWhole before after (observed_text names observed total) status ⊎ IsCutOff before after (observed_text names observed total) status
+TellsFound false names total observed before after status = (status ≡ refused_status) × IsNoted before after (refusals names observed)
 
-abbrev pub TellsGathering : Bool → List (List ℕ) → ℕ → Result Told Ungathered → Outputs → Outputs → ℕ → Type 0
-TellsGathering saves names total (Ok told) before after status = TellsFound (not saves || told.saved) names total told before after status
+abbrev pub TellsGathering : Bool → List (List ℕ) → ℕ → Result GatherResult Ungathered → Outputs → Outputs → ℕ → Type 0
+TellsGathering saves names total (Ok observed) before after status = TellsFound (not saves || observed.saved) names total observed before after status
 TellsGathering saves names total (Err why) before after status =
     (status ≡ failed_status why) × IsNoted before after (note no_columns (ending_of why))
 
@@ -73,7 +73,7 @@ TellsGathering saves names total (Err why) before after status =
 -- left the slots of such a failure. The status and both outputs report it.
 pub record EndsGathering (job : Job) (saves : Bool) (names : List (List ℕ)) (before after : Kept) (folders folders_now : List Kept) (outputs outputs_now : Outputs) (status : ℕ)
     : Type 0 where
-  pub answer : Result Told Ungathered
+  pub answer : Result GatherResult Ungathered
   pub gathered : IfOk answer (IsGathering job (job_digest job) saves before after folders folders_now)
   pub cause : IfErr answer (IsUnsaved (HasFailed job (job_digest job) saves before after folders folders_now) before after)
   pub tells : TellsGathering saves names (total job) answer outputs outputs_now status

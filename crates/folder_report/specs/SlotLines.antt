@@ -6,27 +6,27 @@ use Rattle.audit_model.specs.Job.{Job}
 use Rattle.audit_model.specs.Pair.{Pair}
 use Rattle.audit_model.specs.Run.{total}
 use Rattle.audit_model.specs.State.{Kept}
-use Rattle.audit_model.specs.Told.{IfTold}
+use Rattle.audit_model.specs.Observed.{IfObserved}
 use Rattle.audit_statement.specs.Accepted.{no_columns}
 use Rattle.audit_statement.specs.Note.{as_line, fault_name, folder_taken, load_fault, no_memory, note}
 use Rattle.hex.specs.Hex.{encode_lower}
 use Rattle.ckpt_store.specs.Holding.{HoldsStored, newest_in}
 use Rattle.ckpt_store.specs.Progress as definition
-use Rattle.ckpt_store.specs.declared.held.Held.{Held}
-use Rattle.ckpt_store.specs.declared.held.Held.TheVariants as held
+use Rattle.ckpt_store.specs.declared.slot_content.SlotContent.{SlotContent}
+use Rattle.ckpt_store.specs.declared.slot_content.SlotContent.TheVariants as held
 use Rattle.ckpt_store.specs.declared.progress.Progress.{Progress}
 use Rattle.ckpt_store.specs.declared.progress.Progress.TheVariants as progress
 use Rattle.folder_report.specs.Gatherings.{IsCutOff, IsNoted, IsWhole, Outputs}
 
 -- the text after the number of a slot
-abbrev pub held_texts : Held → List (List ℕ)
+abbrev pub held_texts : SlotContent → List (List ℕ)
 held_texts held.Absent = codes ": absent" ∷ []
 held_texts (held.Broken fault) = codes ": " ∷ fault_name fault ∷ []
 held_texts (held.Whole c) =
     codes ": version " ∷ decimal c.version ∷ codes " generation " ∷ decimal c.generation ∷ codes " outcomes " ∷ decimal (length c.outcomes.items) ∷ codes " digest "
     ∷ encode_lower c.digest ∷ []
 
-abbrev pub slot_line : ℕ → Held → List ℕ
+abbrev pub slot_line : ℕ → SlotContent → List ℕ
 slot_line slot what = as_line (codes "slot " ∷ decimal slot ∷ held_texts what)
 
 abbrev pub newest_texts : Option ℕ → List (List ℕ)
@@ -39,7 +39,7 @@ progress_texts progress.OtherJob total = codes "done: the newest is another job'
 progress_texts progress.Damaged total = codes "done: no slot is intact" ∷ []
 
 -- the contents of both slots, and the newest of them
-abbrev pub both_text : Held → Held → List ℕ
+abbrev pub both_text : SlotContent → SlotContent → List ℕ
 both_text first second = (slot_line 0 first ++ slot_line 1 second) ++ as_line (newest_texts (newest_in first second))
 
 -- the progress of the job, if there is one
@@ -52,15 +52,15 @@ total_of None = 0
 total_of (Some job) = total job
 
 -- the whole report on two slots
-abbrev pub slots_text : Option Job → Pair → Held → Held → List ℕ
+abbrev pub slots_text : Option Job → Pair → SlotContent → SlotContent → List ℕ
 slots_text job p first second = both_text first second ++ job_text (option_map (λ j. definition.progress j p.zero_slot p.one_slot) job) (total_of job)
 
 -- Both slots were loaded, the known ones if the keeper is observable, and the report was written, or a front of it.
-pub record HasShown (job : Option Job) (told : Option Pair) (before after : Outputs) (status : ℕ) : Type 0 where
+pub record HasShown (job : Option Job) (observed : Option Pair) (before after : Outputs) (status : ℕ) : Type 0 where
   pub pair : Pair
-  pub same : IfTold told (λ p. pair ≡ p)
-  pub first : Held
-  pub second : Held
+  pub same : IfObserved observed (λ p. pair ≡ p)
+  pub first : SlotContent
+  pub second : SlotContent
   pub zero : HoldsStored pair.zero_slot first
   pub one : HoldsStored pair.one_slot second
   pub written : IsWhole before after (slots_text job pair first second) status ⊎ IsCutOff before after (slots_text job pair first second) status
@@ -75,5 +75,5 @@ HasFailedToShow before after outputs outputs_now status =
 -- the end of a call that reports two slots, which saves nothing
 pub record EndsShowing (job : Option Job) (before after : Kept) (outputs outputs_now : Outputs) (status : ℕ) : Type 0 where
   pub slots : after.slots ≡ before.slots
-  pub tried : after.tried ≡ before.tried
+  pub attempted : after.attempted ≡ before.attempted
   pub shown : HasShown job before.slots outputs outputs_now status ⊎ HasFailedToShow before after outputs outputs_now status

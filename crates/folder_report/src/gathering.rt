@@ -8,7 +8,7 @@ ghost use Rattle.audit_statement.specs.Checkpoint.{job_digest};
 ghost use Rattle.audit_statement.specs.Endings.{AddsLine};
 ghost use Rattle.audit_statement.specs.Note as terms;
 ghost use Rattle.ckpt_store.specs.Whole.{LetsGathering};
-ghost use Rattle.folder_report.specs.FolderLines.{folder_line, folder_refusal, of_each, own_refusal, refusals, told_text};
+ghost use Rattle.folder_report.specs.FolderLines.{folder_line, folder_refusal, of_each, own_refusal, refusals, observed_text};
 ghost use Rattle.folder_report.specs.Gatherings.{EndsGathering, IsCutOff, IsNoted, IsWhole, Outputs, TellsFound, TellsGathering, ending_of, failed_status, refused_status};
 ghost use Rattle.report.specs.Said.{AddsText, IsSaid};
 
@@ -16,7 +16,7 @@ use crate::lines::{add_folder_line, add_own_line};
 use audit_io::keeper::Keeper;
 use audit_io::sink::Sink;
 use ckpt_store::finding::Finding;
-use ckpt_store::told::{Told, Ungathered};
+use ckpt_store::gather_result::{GatherResult, Ungathered};
 use ckpt_store::whole::gather;
 use plan_core::job::Job;
 use report::ended::Ended;
@@ -45,12 +45,12 @@ pub fn gather_and_tell<C: Keeper, F: Keeper, O: Sink, N: Sink>(
 ) -> u8
     requires few { total job.now ≤ most_trajectories }
     requires names { length names.now ≡ length folders.old }
-    requires lets { LetsGathering C.lets job.now (job_digest job.now) saves (C.state keeper.old).slots (C.state keeper.old).tried (map (λ k. F.state k) folders.old) }
+    requires lets { LetsGathering C.lets job.now (job_digest job.now) saves (C.state keeper.old).slots (C.state keeper.old).attempted (map (λ k. F.state k) folders.old) }
     ensures { EndsGathering job.now saves (map string_bytes names.now) (C.state keeper.old) (C.state keeper.new) (map (λ k. F.state k) folders.old) (map (λ k. F.state k) folders.new)
         (record { out = O.state out.old; note = N.state note.old }) (record { out = O.state out.new; note = N.state note.new }) result }
 {
     match gather(alloc, keeper, folders, job, saves) {
-        Ok(told) => tell_found(job, names, saves, &told, out, note),
+        Ok(observed) => tell_found(job, names, saves, &observed, out, note),
         Err(why) => tell_failed(why, note),
     }
 }
@@ -58,7 +58,7 @@ pub fn gather_and_tell<C: Keeper, F: Keeper, O: Sink, N: Sink>(
 // Writes the diagnostic of a failed gathering and returns its status.
 fn tell_failed<N: Sink>(why: Ungathered, note: &mut N) -> u8
     ensures status { result ≡ failed_status why }
-    ensures told { AddsLine (N.state note.old) (N.state note.new) (terms.note no_columns (ending_of why)) }
+    ensures observed { AddsLine (N.state note.old) (N.state note.new) (terms.note no_columns (ending_of why)) }
 {
     match why {
         Ungathered::Memory => tell(&Ended::NoMemory, note),
@@ -73,30 +73,35 @@ fn tell_found<O: Sink, N: Sink>(
     job: &Job,
     names: &[String],
     saves: bool,
-    told: &Told,
+    observed: &GatherResult,
     out: &mut O,
     note: &mut N,
 ) -> u8
-    ensures { TellsFound (not saves || told.now.saved) (map string_bytes names.now) (total job.now) told.now
+    ensures { TellsFound (not saves || observed.now.saved) (map string_bytes names.now) (total job.now) observed.now
         (record { out = O.state out.old; note = N.state note.old }) (record { out = O.state out.new; note = N.state note.new }) result }
 {
-    if saves && !told.saved {
-        write_refusals(names, told, note);
+    if saves && !observed.saved {
+        write_refusals(names, observed, note);
         return REFUSED;
     }
-    if write_told(job.total(), names, told, out) {
+    if write_observed(job.total(), names, observed, out) {
         return 0;
     }
     tell(&Ended::WriteFault, note)
 }
 
 // Writes the findings. Returns true if nothing failed.
-fn write_told<O: Sink>(total: u32, names: &[String], told: &Told, out: &mut O) -> bool
-    ensures { IsSaid (O.state out.old) (O.state out.new) (told_text (map string_bytes names.now) told.now total) result }
+fn write_observed<O: Sink>(
+    total: u32,
+    names: &[String],
+    observed: &GatherResult,
+    out: &mut O,
+) -> bool
+    ensures { IsSaid (O.state out.old) (O.state out.new) (observed_text (map string_bytes names.now) observed.now total) result }
 {
-    let going = add_own_line(out, true, &[], &told.own);
-    let going = add_folders(names, told.folders.as_slice(), going, out);
-    let done = Number(u64::from(told.done));
+    let going = add_own_line(out, true, &[], &observed.own);
+    let going = add_folders(names, observed.folders.as_slice(), going, out);
+    let done = Number(u64::from(observed.done));
     let total = Number(u64::from(total));
     add_line(
         out,
@@ -119,12 +124,12 @@ fn add_folders<O: Sink>(names: &[String], findings: &[Finding], going: bool, out
     going
 }
 
-fn write_refusals<N: Sink>(names: &[String], told: &Told, note: &mut N)
-    ensures { AddsLine (N.state note.old) (N.state note.new) (refusals (map string_bytes names.now) told.now) }
+fn write_refusals<N: Sink>(names: &[String], observed: &GatherResult, note: &mut N)
+    ensures { AddsLine (N.state note.old) (N.state note.new) (refusals (map string_bytes names.now) observed.now) }
 {
-    let going = add_own_refusal(&told.own, note);
+    let going = add_own_refusal(&observed.own, note);
     // Nothing follows these lines, so a failure needs no answer.
-    let _ended = add_refusals(names, told.folders.as_slice(), going, note);
+    let _ended = add_refusals(names, observed.folders.as_slice(), going, note);
 }
 
 // Writes the reason why the working folder cannot be gathered into, if there is one.

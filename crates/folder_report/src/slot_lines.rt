@@ -2,15 +2,15 @@
 
 ghost use Rattle.std.specs.Prelude.{◌≡◌, ◌++◌, ◌∷◌, [], List, ℕ};
 ghost use Rattle.audit_statement.specs.Note.{as_line, fault_name};
-ghost use Rattle.ckpt_store.specs.declared.held.Held.TheVariants as what;
+ghost use Rattle.ckpt_store.specs.declared.slot_content.SlotContent.TheVariants as what;
 ghost use Rattle.folder_report.specs.SlotLines.{newest_texts, progress_texts, slot_line};
 ghost use Rattle.report.specs.Said.{AddsText};
 
 use audit_io::sink::Sink;
 use audit_model::fault::CkptFault;
 use ckpt_format::decode::Checkpoint;
-use ckpt_store::held::Held;
 use ckpt_store::progress::Progress;
+use ckpt_store::slot_content::SlotContent;
 use report::note::add_line;
 use report::piece::Piece::{Digest, Number, Text};
 
@@ -58,20 +58,20 @@ fn add_whole_line<N: Sink>(out: &mut N, going: bool, slot: u8, checkpoint: &Chec
 }
 
 /// Writes the line of a slot, unless an earlier write failed. Returns true if nothing failed.
-pub(crate) fn add_slot_line<N: Sink>(out: &mut N, going: bool, slot: u8, held: &Held) -> bool
+pub(crate) fn add_slot_line<N: Sink>(out: &mut N, going: bool, slot: u8, held: &SlotContent) -> bool
     ensures { AddsText (N.state out.old) (N.state out.new) going (slot_line slot held.now) result }
 {
     match held {
-        Held::Absent => {
+        SlotContent::Absent => {
             let number = Number(u64::from(slot));
             add_line(out, going, &[Text("slot "), number], &[Text(": absent")])
         }
-        Held::Broken(fault) => {
+        SlotContent::Broken(fault) => {
             let number = Number(u64::from(slot));
             let name = Text(name_of(fault));
             add_line(out, going, &[Text("slot "), number], &[Text(": "), name])
         }
-        Held::Whole(checkpoint) => add_whole_line(out, going, slot, checkpoint),
+        SlotContent::Whole(checkpoint) => add_whole_line(out, going, slot, checkpoint),
     }
 }
 

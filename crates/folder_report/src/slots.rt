@@ -14,9 +14,9 @@ use crate::slot_lines::{add_newest_line, add_progress_line, add_slot_line};
 use audit_io::keeper::Keeper;
 use audit_io::sink::Sink;
 use audit_model::memory::Memory;
-use ckpt_store::held::{Held, Loaded, held_of, load_slot, newest};
 use ckpt_store::look::LookFault;
 use ckpt_store::progress::{Progress, progress_of};
+use ckpt_store::slot_content::{Loaded, SlotContent, held_of, load_slot, newest};
 use plan_core::job::Job;
 use report::ended::Ended;
 use report::note::tell;
@@ -31,9 +31,9 @@ struct Both {
 
 /// The report on both slots, before it is written.
 #[derive(Drop)]
-struct Shown {
-    first: Held,
-    second: Held,
+struct SlotsReport {
+    first: SlotContent,
+    second: SlotContent,
     progress: Option<Progress>,
     total: u32,
 }
@@ -67,7 +67,7 @@ fn load_both<C: Keeper>(alloc: Global, keeper: &mut C) -> Result<Both, LookFault
     ensures loaded { IfOk result (λ b. HasLoadedBoth (C.state keeper.old).slots b.zero b.one) }
     ensures slots { (C.state keeper.new).slots ≡ (C.state keeper.old).slots }
     ensures cause { HasLookCause (C.state keeper.old).load_faults (C.state keeper.new).load_faults result }
-    ensures tried { (C.state keeper.new).tried ≡ (C.state keeper.old).tried }
+    ensures attempted { (C.state keeper.new).attempted ≡ (C.state keeper.old).attempted }
 {
     let zero = load_slot(alloc, keeper, 0)?;
     let one = load_slot(alloc, keeper, 1)?;
@@ -75,13 +75,13 @@ fn load_both<C: Keeper>(alloc: Global, keeper: &mut C) -> Result<Both, LookFault
 }
 
 // Returns the report on the slots. The only error is out of memory.
-fn shown_of(alloc: Global, job: Option<&Job>, both: &Both) -> Result<Shown, Memory>
+fn shown_of(alloc: Global, job: Option<&Job>, both: &Both) -> Result<SlotsReport, Memory>
     ensures { IfOk result (λ s. (p : Pair) → IsLoadedFrom both.now.zero p.zero_slot → IsLoadedFrom both.now.one p.one_slot → IsShownOf (option_map (λ j. j.now) job.entry) p s) }
 {
     let first = held_of(alloc, &both.zero)?;
     let second = held_of(alloc, &both.one)?;
     match job {
-        None => Ok(Shown {
+        None => Ok(SlotsReport {
             first,
             second,
             progress: None,
@@ -89,7 +89,7 @@ fn shown_of(alloc: Global, job: Option<&Job>, both: &Both) -> Result<Shown, Memo
         }),
         Some(job) => {
             let progress = progress_of(alloc, job, &both.zero, &both.one)?;
-            Ok(Shown {
+            Ok(SlotsReport {
                 first,
                 second,
                 progress: Some(progress),
@@ -100,7 +100,7 @@ fn shown_of(alloc: Global, job: Option<&Job>, both: &Both) -> Result<Shown, Memo
 }
 
 // Writes the report and returns the status.
-fn show<O: Sink, N: Sink>(shown: &Shown, out: &mut O, note: &mut N) -> u8
+fn show<O: Sink, N: Sink>(shown: &SlotsReport, out: &mut O, note: &mut N) -> u8
     ensures { IsWhole (record { out = O.state out.old; note = N.state note.old }) (record { out = O.state out.new; note = N.state note.new }) (shown_text shown.now) result
         ⊎ IsCutOff (record { out = O.state out.old; note = N.state note.old }) (record { out = O.state out.new; note = N.state note.new }) (shown_text shown.now) result }
 {
@@ -111,7 +111,7 @@ fn show<O: Sink, N: Sink>(shown: &Shown, out: &mut O, note: &mut N) -> u8
 }
 
 // Writes the lines. Returns true if nothing failed.
-fn write_shown<O: Sink>(shown: &Shown, out: &mut O) -> bool
+fn write_shown<O: Sink>(shown: &SlotsReport, out: &mut O) -> bool
     ensures { IsSaid (O.state out.old) (O.state out.new) (shown_text shown.now) result }
 {
     let going = add_slot_line(out, true, 0, &shown.first);
@@ -122,7 +122,7 @@ fn write_shown<O: Sink>(shown: &Shown, out: &mut O) -> bool
 }
 
 // Writes the progress of the job, if there is one.
-fn add_progress<O: Sink>(out: &mut O, going: bool, shown: &Shown) -> bool
+fn add_progress<O: Sink>(out: &mut O, going: bool, shown: &SlotsReport) -> bool
     ensures { AddsText (O.state out.old) (O.state out.new) going (job_text shown.now.progress shown.now.total) result }
 {
     match shown.progress {

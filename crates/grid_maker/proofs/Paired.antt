@@ -12,17 +12,17 @@ use Rattle.grid_maker.proofs.Neighbours.{last_ends}
 -- ---- the unit to the right and the unit below
 
 -- an option that depends on a test has a value only if the test is true
-told : (b : Bool) (a v : ℕ) → cond {A = Option ℕ} b (Some a) None ≡ Some v → (b ≡ true) × (v ≡ a)
-told true a v e = (refl, sym (ap (λ (o : Option ℕ). unwrap_or o 0) e))
-told false a v e = cc e
+observed : (b : Bool) (a v : ℕ) → cond {A = Option ℕ} b (Some a) None ≡ Some v → (b ≡ true) × (v ≡ a)
+observed true a v e = (refl, sym (ap (λ (o : Option ℕ). unwrap_or o 0) e))
+observed false a v e = cc e
 
 -- the unit to the right is the next one, and the unit is not the last of its row
 pub right_is : (side u v : ℕ) → right side u ≡ Some v → (nat_lt (u % side + 1) side ≡ true) × (v ≡ u + 1)
-right_is side u v e = told (nat_lt (u % side + 1) side) (u + 1) v e
+right_is side u v e = observed (nat_lt (u % side + 1) side) (u + 1) v e
 
 -- the unit below is one width further, and inside the grid
 pub below_is : (side u v : ℕ) → below side u ≡ Some v → (nat_lt (u + side) (side * side) ≡ true) × (v ≡ u + side)
-below_is side u v e = told (nat_lt (u + side) (side * side)) (u + side) v e
+below_is side u v e = observed (nat_lt (u + side) (side * side)) (u + side) v e
 
 -- the unit to the right is greater and inside the grid
 right_inside : (side u v : ℕ) → 0 < side → u < side * side → right side u ≡ Some v → (v ≡ u + 1) × (u < v) × (v < side * side)

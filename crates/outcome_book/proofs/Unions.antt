@@ -9,7 +9,7 @@ use Rattle.audit_model.specs.Run.{fits, total, with_id}
 use Rattle.audit_model.specs.Trajectory.{bare, no_bins, outcome, whole}
 use Rattle.outcome_book.specs.Booked.{AreApart}
 use Rattle.outcome_book.proofs.ById.{found_in}
-use Rattle.outcome_book.specs.Laws.{GroupingDoesNotMatter, HonestOutcomesAgree, OrderDoesNotMatter, TwiceChangesNothing, UnionsAreHonest, UnionsAreOne, UnionsAreRight, UnionsFit}
+use Rattle.outcome_book.specs.Laws.{GroupingDoesNotMatter, ConsistentOutcomesAgree, OrderDoesNotMatter, TwiceChangesNothing, UnionsAreConsistent, UnionsAreOne, UnionsAreRight, UnionsFit}
 use Rattle.outcome_book.specs.Union.{Agree, AgreeIf, AgreesWith, AreAgreed, AreById, IsUnion, fuller, fuller_if}
 
 -- ---- lookups
@@ -63,8 +63,8 @@ pub unions_fit : UnionsFit
 unions_fit job = unions_add_nothing (λ o. fits job o ≡ true)
 
 -- the union of outcomes of a job's trajectories, histograms possibly missing, is of its trajectories too
-pub unions_are_honest : UnionsAreHonest
-unions_are_honest job draws xs ys both hx hy u = record {
+pub unions_are_consistent : UnionsAreConsistent
+unions_are_consistent job draws xs ys both hx hy u = record {
   apart = apart_of both u.rising;
   below = unions_add_nothing (λ o. o.id < total job) xs ys both hx.below hy.below u;
   found = unions_add_nothing (λ o. (o ≡ whole job draws o.id) ⊎ (o ≡ bare (whole job draws o.id))) xs ys both hx.found hy.found u;
@@ -81,8 +81,8 @@ unions_are_right job draws xs ys both hx hy u = record {
 -- ---- agreement
 
 -- outcomes of one job's trajectories agree
-pub honest_outcomes_agree : HonestOutcomesAgree
-honest_outcomes_agree job draws xs ys hx hy = λ k d l. with_one (get_or ys k d) (hy.found k d l) (with_id xs (get_or ys k d).id) refl
+pub consistent_outcomes_agree : ConsistentOutcomesAgree
+consistent_outcomes_agree job draws xs ys hx hy = λ k d l. with_one (get_or ys k d) (hy.found k d l) (with_id xs (get_or ys k d).id) refl
   where
     both : (a o w : Outcome) → ((a ≡ w) ⊎ (a ≡ bare w)) → ((o ≡ w) ⊎ (o ≡ bare w)) → Agree a o
     both a o w (inl e) (inl f) = inl (e ∙ sym f)

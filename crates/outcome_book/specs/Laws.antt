@@ -3,7 +3,7 @@ use Rattle.std.specs.Prelude.{◌≡◌, IsTrue, List}
 use Rattle.std.specs.List.{All}
 use Rattle.audit_model.specs.declared.outcome.Outcome.{Outcome}
 use Rattle.audit_model.specs.Job.{Job}
-use Rattle.audit_model.specs.Run.{IsHonest, IsRight, fits}
+use Rattle.audit_model.specs.Run.{IsConsistent, IsRight, fits}
 use Rattle.audit_model.specs.Trajectory.{Draws}
 use Rattle.outcome_book.specs.Union.{AreAgreed, IsUnion}
 
@@ -14,16 +14,16 @@ UnionsFit = (job : Job) (xs ys both : List Outcome) → All (λ o. IsTrue (fits 
 
 -- outcomes of a job's trajectories, with their histograms or without, agree, and their union is of the job's
 -- trajectories too
-abbrev pub UnionsAreHonest : Type 0
-UnionsAreHonest = (job : Job) (draws : Draws) (xs ys both : List Outcome) → IsHonest job draws xs → IsHonest job draws ys → IsUnion xs ys both
-    → IsHonest job draws both
+abbrev pub UnionsAreConsistent : Type 0
+UnionsAreConsistent = (job : Job) (draws : Draws) (xs ys both : List Outcome) → IsConsistent job draws xs → IsConsistent job draws ys → IsUnion xs ys both
+    → IsConsistent job draws both
 
 abbrev pub UnionsAreRight : Type 0
 UnionsAreRight = (job : Job) (draws : Draws) (xs ys both : List Outcome) → IsRight job draws xs → IsRight job draws ys → IsUnion xs ys both
     → IsRight job draws both
 
-abbrev pub HonestOutcomesAgree : Type 0
-HonestOutcomesAgree = (job : Job) (draws : Draws) (xs ys : List Outcome) → IsHonest job draws xs → IsHonest job draws ys → AreAgreed xs ys
+abbrev pub ConsistentOutcomesAgree : Type 0
+ConsistentOutcomesAgree = (job : Job) (draws : Draws) (xs ys : List Outcome) → IsConsistent job draws xs → IsConsistent job draws ys → AreAgreed xs ys
 
 -- a union is unique
 abbrev pub UnionsAreOne : Type 0

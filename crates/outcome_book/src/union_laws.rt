@@ -1,6 +1,6 @@
 //! Laws of unions of outcomes. Each is the contract of a function with an empty body.
 
-ghost use Rattle.outcome_book.specs.Laws.{GroupingDoesNotMatter, HonestOutcomesAgree, OrderDoesNotMatter, TwiceChangesNothing, UnionsAreHonest, UnionsAreOne, UnionsAreRight, UnionsFit};
+ghost use Rattle.outcome_book.specs.Laws.{GroupingDoesNotMatter, ConsistentOutcomesAgree, OrderDoesNotMatter, TwiceChangesNothing, UnionsAreConsistent, UnionsAreOne, UnionsAreRight, UnionsFit};
 
 /// Shows that a union of plausible outcomes is plausible.
 pub fn unions_fit()
@@ -12,8 +12,8 @@ pub fn unions_fit()
 ///
 /// `honest` allows missing histograms; `right` has them as the job asks.
 pub fn unions_are_right()
-    ensures agree { HonestOutcomesAgree }
-    ensures honest { UnionsAreHonest }
+    ensures agree { ConsistentOutcomesAgree }
+    ensures consistent { UnionsAreConsistent }
     ensures right { UnionsAreRight }
 {}
 

@@ -215,17 +215,17 @@ module _ (job : Job) (plan : List ℕ) (complete : length plan ≡ job.graph.uni
 
     -- there is none, and the second check decides
     module _ (on : r ≡ true) (paths : Option PlanFault) (paths_is : paths ≡ shape_fault (with_start job plan)) (q : Bool) (other : is_some paths ≡ not q) where
-      tried : q ≡ (is_none (bounds_fault (with_start job plan)) && is_none (shape_fault (with_start job plan)))
-      tried =
+      attempted : q ≡ (is_none (bounds_fault (with_start job plan)) && is_none (shape_fault (with_start job plan)))
+      attempted =
           let none : is_none (bounds_fault (with_start job plan)) ≡ true = sym (ap is_none bounds_is) ∙ sym (turned (is_some bounds) r some) ∙ on in
           turned (is_some paths) q other ∙ ap is_none paths_is
           ∙ sym (and_second (is_none (bounds_fault (with_start job plan))) (is_none (shape_fault (with_start job plan))) none)
 
-      pub tried_decides : (q ≡ true) ↔ IsLegal job plan
-      tried_decides = judged q tried
+      pub attempted_decides : (q ≡ true) ↔ IsLegal job plan
+      attempted_decides = judged q attempted
 
-      pub tried_same : q ≡ is_legal job plan
-      tried_same = judged_same q tried
+      pub attempted_same : q ≡ is_legal job plan
+      attempted_same = judged_same q attempted
 
 -- ---- the job
 

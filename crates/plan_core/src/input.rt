@@ -3,7 +3,7 @@
 ghost use Rattle.std.specs.Prelude.{◌≡◌, ◌<◌, ◌≤◌, ℕ, length, slice_index, IfOk};
 ghost use Rattle.std.specs.List.{list_any};
 ghost use Rattle.audit_model.specs.Job.{home_of, total_population, total_votes, rules};
-ghost use Rattle.audit_model.specs.JobOf.{is_gap, lacks_votes, bounds_fault, path_fault, cut_fault, group_fault, plan_fault, job_from};
+ghost use Rattle.audit_model.specs.JobOf.{is_gap, has_no_votes, bounds_fault, path_fault, cut_fault, group_fault, plan_fault, job_from};
 ghost use Rattle.audit_model.specs.Limits.{IsWithinLimits, most_districts};
 ghost use Rattle.audit_model.specs.Meets.{keeps_frozen, majorities};
 ghost use Rattle.audit_model.specs.Plan.{least_population, greatest_population};
@@ -295,8 +295,8 @@ impl Input {
     }
 
     /// Returns true if the efficiency gap is asked for although there are no votes.
-    fn lacks_votes(&self) -> bool
-        ensures { result ≡ lacks_votes self.now }
+    fn has_no_votes(&self) -> bool
+        ensures { result ≡ has_no_votes self.now }
     {
         asks_gap(self.setting.asks.as_slice()) && self.votes == 0
     }
@@ -440,7 +440,7 @@ impl Input {
     pub fn plan_fault(&self, alloc: Global) -> Result<Option<PlanFault>, Memory>
         ensures { IfOk result (λ fault. fault ≡ plan_fault self.now) }
     {
-        if self.lacks_votes() {
+        if self.has_no_votes() {
             return Ok(Some(PlanFault::NoVotes));
         }
         let plan = self.start.as_slice();

@@ -5,10 +5,10 @@ use Rattle.std.proofs.lemmas.Bool.{cond-false, le-ltb}
 use Rattle.audit_model.specs.First.{first_below, first_some}
 use Rattle.audit_model.specs.declared.fault.TableFault.TheVariants as fault
 use Rattle.audit_model.proofs.First.{first_below_here}
-use Rattle.audit_statement.specs.Table.{is_plan_name, plan_name, lacks_header, too_many, bad_name}
+use Rattle.audit_statement.specs.Table.{is_plan_name, plan_name, misses_header, too_many, bad_name}
 
 module _ (header : List (List ℕ)) where
-  pub enough : 2 ≤ length header → lacks_header [] header [] ≡ None
+  pub enough : 2 ≤ length header → misses_header [] header [] ≡ None
   enough l = cond-false (nat_lt (length header) 2) (Some fault.NoHeader) None (le-ltb (length header) 2 l)
 
   pub few : length header - 1 ≤ 16 → too_many [] header [] ≡ None
@@ -16,7 +16,7 @@ module _ (header : List (List ℕ)) where
 
   pub bad_here : (plan : ℕ) → 2 ≤ length header → length header - 1 ≤ 16 → plan < length header - 1 → first_below plan (λ p. not (is_plan_name (plan_name [] header [] p))) ≡ None
       → is_plan_name (plan_name [] header [] plan) ≡ false
-      → first_some (lacks_header [] header [] ∷ too_many [] header [] ∷ bad_name [] header [] ∷ []) ≡ Some (fault.BadName plan)
+      → first_some (misses_header [] header [] ∷ too_many [] header [] ∷ bad_name [] header [] ∷ []) ≡ Some (fault.BadName plan)
   bad_here plan two most under none bad =
       let found : bad_name [] header [] ≡ Some (fault.BadName plan) =
       ap (option_map fault.BadName) (first_below_here (length header - 1) plan (λ p. not (is_plan_name (plan_name [] header [] p))) none under (ap not bad)) in

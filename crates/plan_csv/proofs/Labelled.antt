@@ -18,7 +18,7 @@ use Rattle.audit_model.proofs.Labels.{same_equal, equal_same}
 use Rattle.dual_json.specs.Districts.{AreDifferent, AreDistricts, is_new}
 use Rattle.dual_json.specs.Names.{label_from}
 use Rattle.dual_json.specs.Places.{nth, labels_from}
-use Rattle.dual_json.specs.declared.names.Name.{Name}
+use Rattle.dual_json.specs.declared.names.NodeName.{NodeName}
 use Rattle.dual_json.proofs.Counted.{label_count_is, district_is, labels_are}
 use Rattle.dual_json.proofs.Named.{nth_get, nth-push_same, nth-push_other}
 use Rattle.dual_json.proofs.Started.{started_all}
@@ -28,27 +28,27 @@ use Rattle.plan_csv.specs.Stages.{assigned_by, AreLabelsOf, IsAssigned}
 
 -- ---- labels of the first records
 
-pub record AreNamed (rows : List (List (List ℕ))) (plan j : ℕ) (names : List Name) : Type 0 where
+pub record AreNamed (rows : List (List (List ℕ))) (plan j : ℕ) (names : List NodeName) : Type 0 where
   pub count : length names ≡ j
   pub each : (e : ℕ) → e < j → nth (labels_from names) e ≡ label_in [] [] rows plan e
 
 -- one more record's label is appended
-pub named_more : (rows : List (List (List ℕ))) (plan j : ℕ) (names new : List Name) (name : Name) → AreNamed rows plan j names → new ≡ names ++ name ∷ []
+pub named_more : (rows : List (List (List ℕ))) (plan j : ℕ) (names new : List NodeName) (name : NodeName) → AreNamed rows plan j names → new ≡ names ++ name ∷ []
     → label_from name ≡ label_in [] [] rows plan j → AreNamed rows plan (j + 1) new
 named_more rows plan j names new name before made is = record {
   count = omega (arith, ap length made, length-append names (name ∷ []), before.count);
   each = λ e l. elim (cases_eq e j) [
     | inl same ↦
-        ap (λ (ns : List Name). nth (labels_from ns) e) made ∙ ap (nth (labels_from (names ++ name ∷ []))) (same ∙ sym before.count)
+        ap (λ (ns : List NodeName). nth (labels_from ns) e) made ∙ ap (nth (labels_from (names ++ name ∷ []))) (same ∙ sym before.count)
         ∙ nth-push_same names name ∙ is ∙ ap (label_in [] [] rows plan) (sym same)
     | inr off ↦
-        ap (λ (ns : List Name). nth (labels_from ns) e) made ∙ nth-push_other names name e (omega (arith, l, off, before.count))
+        ap (λ (ns : List NodeName). nth (labels_from ns) e) made ∙ nth-push_other names name e (omega (arith, l, off, before.count))
         ∙ before.each e (omega (arith, l, off))
   ];
 }
 
 -- once all records are read, the labels are those of the plan
-pub named_all : (rows : List (List (List ℕ))) (plan j : ℕ) (names : List Name) → j ≡ length rows → AreNamed rows plan j names → AreLabelsOf rows plan (labels_from names)
+pub named_all : (rows : List (List (List ℕ))) (plan j : ℕ) (names : List NodeName) → j ≡ length rows → AreNamed rows plan j names → AreLabelsOf rows plan (labels_from names)
 named_all rows plan j names all is = record {
   count = length-map names label_from ∙ is.count ∙ all;
   each = λ e l. is.each e (omega (arith, l, all));
@@ -57,11 +57,11 @@ named_all rows plan j names all is = record {
 -- ---- the position of each label
 
 -- the label at each position is that of one of the names
-at_place : (names : List Name) (i : ℕ) → i < length names → (x : Name) × (nth (labels_from names) i ≡ label_from x) × Contains names x
+at_place : (names : List NodeName) (i : ℕ) → i < length names → (x : NodeName) × (nth (labels_from names) i ≡ label_from x) × Contains names x
 at_place [] i l = absurd (omega (arith, l))
 at_place (y ∷ ys) i l = (get_or (y ∷ ys) i y, nth_get (y ∷ ys) i y l, Contains-get_or (y ∷ ys) i y l)
 
-module _ (names found : List Name) (are : AreDifferent names found) where
+module _ (names found : List NodeName) (are : AreDifferent names found) where
   place : ℕ → ℕ
   place i = unwrap_or (first_below (length found) (λ k. same_label (nth (labels_from found) k) (nth (labels_from names) i))) 0
 

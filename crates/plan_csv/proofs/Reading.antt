@@ -79,10 +79,10 @@ module _ (p : Parsed) (setting : Setting) (regions : List ℕ) (job : Job) where
 -- the graph's own job with an origin has the graph's units and the setting
 module _ (p : Parsed) (setting : Setting) (origin : Option Origin) (regions : List ℕ) (n : Named) (is : IsOwn setting origin p regions n) where
   pub own_units : n.job.graph.units ≡ p.graph.units
-  own_units = ap (λ (j : Job). j.graph.units) (is.told ∙ sym (ap (with_origin origin) (own_keeps p setting regions is.job is.made)))
+  own_units = ap (λ (j : Job). j.graph.units) (is.observed ∙ sym (ap (with_origin origin) (own_keeps p setting regions is.job is.made)))
 
   pub own_setting : n.job.setting ≡ setting
-  own_setting = ap (λ (j : Job). j.setting) is.told ∙ setting_of_job p setting regions is.job is.made
+  own_setting = ap (λ (j : Job). j.setting) is.observed ∙ setting_of_job p setting regions is.job is.made
 
 -- ---- after the table
 
@@ -98,7 +98,7 @@ module _ (p : Parsed) (setting : Setting) (origin : Option Origin) (regions t g 
   pub own_joins : (n : Named) → IsOwn setting origin p regions n → from_table setting origin p regions (table_reading t (id_reading g)) ≡ from_others n.name n.job (named_jobs n.job plans)
   own_joins n is =
       tables ∙ ap (from_own setting.columns.district origin plans) is.made
-      ∙ ap (λ (job : Job). from_others setting.columns.district job (named_jobs job plans)) (sym is.told)
+      ∙ ap (λ (job : Job). from_others setting.columns.district job (named_jobs job plans)) (sym is.observed)
       ∙ ap (λ (name : List ℕ). from_others name n.job (named_jobs n.job plans)) (sym is.named)
 
 -- the jobs of the bytes come from the graph before the line feed and the table after it, with all bytes as origin

@@ -32,7 +32,7 @@ pub record IsOwn (setting : Setting) (origin : Option Origin) (parsed : Parsed) 
   pub named : n.name ≡ setting.columns.district
   pub job : Job
   pub made : job_of parsed setting regions ≡ Ok job
-  pub told : n.job ≡ with_origin origin job
+  pub observed : n.job ≡ with_origin origin job
   pub sound : IsJob n.job
 
 -- the fault is that of the graph's own plan

@@ -12,7 +12,7 @@ use Rattle.audit_model.specs.declared.plans.Assigned.{Assigned}
 use Rattle.audit_model.specs.declared.setting.Label.{Label}
 use Rattle.audit_model.specs.Below.{any_below, map_below}
 use Rattle.audit_model.specs.First.{first_below, first_some}
-use Rattle.audit_statement.specs.Table.{unit_text, names_unit, entry_of, shared_id, unknown_id, repeated_unit, missing_unit, refused_count, refusal, lacks_header, too_many, bad_name, plan_name, label_count, label_in, label_of_district, district_in}
+use Rattle.audit_statement.specs.Table.{unit_text, names_unit, entry_of, shared_id, unknown_id, repeated_unit, missing_unit, refused_count, refusal, misses_header, too_many, bad_name, plan_name, label_count, label_in, label_of_district, district_in}
 use Rattle.dual_json.specs.Districts.{AreDistricts}
 use Rattle.dual_json.specs.Places.{nth}
 
@@ -95,7 +95,7 @@ assigned_by header rows records plan = record {
 -- the faults after the unreadable records
 abbrev pub later : List Label → List (List ℕ) → List (List (List ℕ)) → Option TableFault
 later ids header entries = first_some (
-    lacks_header ids header entries ∷ too_many ids header entries ∷ bad_name ids header entries ∷ shared_id ids header entries
+    misses_header ids header entries ∷ too_many ids header entries ∷ bad_name ids header entries ∷ shared_id ids header entries
     ∷ unknown_id ids header entries ∷ repeated_unit ids header entries ∷ missing_unit ids header entries ∷ refused_count ids header entries ∷ [])
 
 -- the first fault of the records

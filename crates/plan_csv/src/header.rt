@@ -26,10 +26,10 @@ pub fn is_plan_name(name: &str) -> bool
 pub fn plans_of(header: &StringRecord) -> Result<usize, TableFault>
     ensures { MatchResult result
         (λ plans. (plans ≡ table.plan_count [] (fields_of header.now) [])
-        × (table.lacks_header [] (fields_of header.now) [] ≡ None)
+        × (table.misses_header [] (fields_of header.now) [] ≡ None)
         × (table.too_many [] (fields_of header.now) [] ≡ None)
         × (table.bad_name [] (fields_of header.now) [] ≡ None))
-        (λ f. first_some (table.lacks_header [] (fields_of header.now) [] ∷ table.too_many [] (fields_of header.now) [] ∷ table.bad_name [] (fields_of header.now) [] ∷ []) ≡ Some f) }
+        (λ f. first_some (table.misses_header [] (fields_of header.now) [] ∷ table.too_many [] (fields_of header.now) [] ∷ table.bad_name [] (fields_of header.now) [] ∷ []) ≡ Some f) }
 {
     let columns = header.len();
     if columns < 2 {

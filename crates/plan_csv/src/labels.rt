@@ -19,7 +19,7 @@ use audit_model::plans::Assigned;
 use audit_model::text::Text;
 use csv::StringRecord;
 use dual_json::districts::{different, labels_of, start_of};
-use dual_json::names::Name;
+use dual_json::names::NodeName;
 use std::alloc::Global;
 
 /// Returns true if a plan may not have this number of districts.
@@ -64,13 +64,13 @@ fn names_of<'e>(
     alloc: Global,
     entries: &'e [StringRecord],
     plan: usize,
-) -> Result<Vec<Name<'e>>, Memory>
+) -> Result<Vec<NodeName<'e>>, Memory>
     requires { plan < 16 }
     ensures { IfOk result (λ names. AreLabelsOf (map fields_of entries.now) plan (labels_from names.items)) }
 {
     let mut names = Vec::with_capacity(alloc, entries.len())?;
     for entry in 0..entries.len() {
-        names.push(Name::Word(field(&entries[entry], plan + 1)))?;
+        names.push(NodeName::Word(field(&entries[entry], plan + 1)))?;
     }
     Ok(names)
 }
@@ -100,8 +100,8 @@ fn picked(alloc: Global, districts: &[u32], records: &[usize]) -> Result<UnitLis
 fn assigned_of(
     alloc: Global,
     name: &str,
-    names: &[Name<'_>],
-    found: &[Name<'_>],
+    names: &[NodeName<'_>],
+    found: &[NodeName<'_>],
     records: &[usize],
 ) -> Result<Assigned, Memory>
     requires different { AreDifferent names.now found.now }

@@ -27,9 +27,9 @@ module _ (job : Job) (held now : Held) (same : now ≡ held) (made : held.job �
   legal_held legal = subst (λ (j : Job). IsLegal j held.plan) made (subst (λ (h : Held). IsLegal h.job h.plan) same legal)
 
   -- the written line is the line of the current plan
-  pub line_told : (step moved n : ℕ) (values : List ℤ) (before kept plan : List ℕ) → IsJob job → n ≡ length job.setting.asks → values ≡ four_values (ask_values job held.plan)
+  pub line_observed : (step moved n : ℕ) (values : List ℤ) (before kept plan : List ℕ) → IsJob job → n ≡ length job.setting.asks → values ≡ four_values (ask_values job held.plan)
       → kept ≡ before → plan ≡ now.plan → plan_line step moved (take n values) kept plan ≡ plan_line step moved (ask_values job held.plan) before held.plan
-  line_told step moved n values before kept plan sound count is b p =
+  line_observed step moved n values before kept plan sound count is b p =
       ap (λ (zs : List ℤ). plan_line step moved zs kept plan) (taken job held.plan n values sound count is)
       ∙ ap (λ (q : List ℕ). plan_line step moved (ask_values job held.plan) q plan) b
       ∙ ap (λ (q : List ℕ). plan_line step moved (ask_values job held.plan) before q) (p ∙ ap (λ (h : Held). h.plan) same)

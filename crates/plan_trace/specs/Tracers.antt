@@ -10,7 +10,7 @@ use Rattle.audit_statement.specs.Endings.{AppendsPart}
 use Rattle.audit_statement.specs.Report.{line}
 use Rattle.audit_statement.specs.Trace.{count_shown, first_lines, range_lines, trace_head, trace_text}
 use Rattle.flip_kernel.specs.Held.{Held}
-use Rattle.plan_trace.specs.declared.tracing.Ready.{Ready}
+use Rattle.plan_trace.specs.declared.tracing.TraceBuffers.{TraceBuffers}
 use Rattle.plan_trace.specs.declared.tracing.Traced.{Traced}
 use Rattle.plan_trace.specs.declared.tracing.TraceRange.{TraceRange}
 use Rattle.plan_trace.specs.declared.tracing.Tracer.{Tracer}
@@ -24,7 +24,7 @@ pub record IsTracer {J : Type 0} (job : Job) (t : Tracer J) : Type 0 where
   pub pen : IsPen job t.pen
 
 -- a tracer, the hub's memory, and the lines before the first trajectory
-pub record IsReady {J : Type 0} (job : Job) (r : Ready J) : Type 0 where
+pub record IsReady {J : Type 0} (job : Job) (r : TraceBuffers J) : Type 0 where
   pub tracer : IsTracer job r.tracer
   pub hub : length r.hub ≡ job.graph.units
   pub head : r.head.items ≡ trace_head job

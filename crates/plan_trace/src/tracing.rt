@@ -52,7 +52,7 @@ pub struct Tracer<J: Judge> {
 
 /// All memory of a trace, allocated before its first write.
 #[derive(Drop)]
-pub struct Ready<J: Judge> {
+pub struct TraceBuffers<J: Judge> {
     pub tracer: Tracer<J>,
     pub hub: UnitList,
     pub head: Bytes,
@@ -82,14 +82,14 @@ fn make_hub(job: &Job) -> Result<UnitList, Memory>
     job.start().copy()
 }
 
-fn make_ready<J: Judge>(alloc: Global, job: &Job, judge: J) -> Result<Ready<J>, Memory>
+fn make_buffers<J: Judge>(alloc: Global, job: &Job, judge: J) -> Result<TraceBuffers<J>, Memory>
     requires judge { IsJudgeFor job.now (J.judging judge) }
     ensures { IfOk result (λ r. IsReady job.now r) }
 {
     let tracer = make_tracer(alloc, job, judge)?;
     let hub = make_hub(job)?;
     let head = make_head(alloc, job)?;
-    Ok(Ready { tracer, hub, head })
+    Ok(TraceBuffers { tracer, hub, head })
 }
 
 /// Writes the line of the walker's current plan, after this many steps and moves.
@@ -254,7 +254,7 @@ fn find_hub<J: Judge>(job: &Job, last: u32, walker: &mut Walker<J>, hub: &mut Un
 fn write_body<J: Judge, K: Sink>(
     job: &Job,
     range: TraceRange,
-    ready: &mut Ready<J>,
+    ready: &mut TraceBuffers<J>,
     out: &mut K,
 ) -> Result<(), Failed>
     requires thin { 0 < range.thin }
@@ -274,7 +274,7 @@ fn write_body<J: Judge, K: Sink>(
 fn write_trace<J: Judge, K: Sink>(
     job: &Job,
     range: TraceRange,
-    ready: &mut Ready<J>,
+    ready: &mut TraceBuffers<J>,
     out: &mut K,
 ) -> Result<(), Failed>
     requires thin { 0 < range.thin }
@@ -304,7 +304,7 @@ pub fn trace<J: Judge, K: Sink>(
     requires few { range.last < most_trajectories }
     ensures { TracesJob job.now range (K.state out.old) (K.state out.new) result }
 {
-    match make_ready(alloc, job, judge) {
+    match make_buffers(alloc, job, judge) {
         Err(_) => Ended::NoMemory,
         Ok(mut ready) => match write_trace(job, range, &mut ready, out) {
             Ok(()) => Ended::Done,

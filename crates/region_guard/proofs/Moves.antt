@@ -11,7 +11,7 @@ use Rattle.audit_model.specs.Meets.{are_whole, split_of, split_regions, splits_i
 use Rattle.audit_model.proofs.Below.{count_below_same, count_below_le, count_below_zero}
 use Rattle.audit_model.proofs.Meeting.{below_above_all}
 use Rattle.audit_model.proofs.Numbers.{place_below}
-use Rattle.region_guard.specs.declared.splits.Splits.{Splits}
+use Rattle.region_guard.specs.declared.splits.SplitCounts.{SplitCounts}
 use Rattle.region_guard.specs.declared.splits.Totals.{Totals}
 use Rattle.region_guard.specs.Standing.{AreSplits, IsStep, IsTable, broken_in, cell, permits_splits, totals_from, totals_of, units_among}
 use Rattle.region_guard.proofs.Cells.{sum_but_one, sum_same, sum_small, one_if, all_is_none, count_more, count_but_one, count_but_two, some_counted, split_is_counted, row_of_cell, place_of_cell}
@@ -204,10 +204,10 @@ module _ (regions after : List ℕ) (most districts u from : ℕ) (step : IsStep
       (not_from_false (nat_le (split_of regions before region) most) h)
 
   -- if the unit stays, so do the totals
-  pub stayed : (splits : Splits) → AreSplits regions most districts splits before → to ≡ from → splits.totals ≡ totals_of regions most after
+  pub stayed : (splits : SplitCounts) → AreSplits regions most districts splits before → to ≡ from → splits.totals ≡ totals_of regions most after
   stayed splits stood e = stood.totals ∙ ap (totals_of regions most) (same_plan e)
 
-  module _ (splits : Splits) (r : ℕ) (table : IsTable regions districts splits) (stood : AreSplits regions most districts splits before)
+  module _ (splits : SplitCounts) (r : ℕ) (table : IsTable regions districts splits) (stood : AreSplits regions most districts splits before)
       (e : r ≡ region) where
     abbrev pub cells : List ℕ
     cells = splits.cells
@@ -405,7 +405,7 @@ counted_on regions plan cells districts unit rows places lr lp before q d lq ld 
     ]
 
 -- the position of a region and a district does not overflow
-pub small_place : (regions : List ℕ) (districts : ℕ) (splits : Splits) (r d : ℕ) → IsTable regions districts splits → r < length splits.widths → d < districts
+pub small_place : (regions : List ℕ) (districts : ℕ) (splits : SplitCounts) (r d : ℕ) → IsTable regions districts splits → r < length splits.widths → d < districts
     → r * districts + d < 1000000
 small_place regions districts splits r d table lr ld =
     let inside = place_below r d (length splits.widths) districts lr ld in
@@ -421,7 +421,7 @@ within rules after t h =
     (all_is_none (above_all rules.regions) (λ q. nat_le (split_of rules.regions after q) rules.max_split))
 
 -- recomputed counts are the plan's
-pub stands_anew : (regions : List ℕ) (most districts : ℕ) (splits : Splits) (plan : List ℕ)
+pub stands_anew : (regions : List ℕ) (most districts : ℕ) (splits : SplitCounts) (plan : List ℕ)
     → (0 < above_all regions → length plan ≡ length regions) → above_all plan ≤ districts → length splits.widths ≡ above_all regions
     → ((q d : ℕ) → q < length splits.widths → d < districts → cell districts splits.cells q d ≡ units_among (length regions) regions plan q d)
     → ((q : ℕ) → q < length splits.widths → get_or splits.widths q 0 ≡ count_below districts (λ d. nat_lt 0 (cell districts splits.cells q d)))
@@ -484,7 +484,7 @@ none_permitted rules plan none =
     (le-leb (split_regions rules.regions plan) rules.max_split_regions (omega (arith, split))))
 
 -- without regions, the counts are those of every plan
-pub none_stand : (regions : List ℕ) (most districts : ℕ) (splits : Splits) (plan other : List ℕ) → length regions ≡ 0
+pub none_stand : (regions : List ℕ) (most districts : ℕ) (splits : SplitCounts) (plan other : List ℕ) → length regions ≡ 0
     → AreSplits regions most districts splits plan → AreSplits regions most districts splits other
 none_stand regions most districts splits plan other none stood =
     let zero_above = none_above regions none in

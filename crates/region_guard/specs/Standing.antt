@@ -7,7 +7,7 @@ use Rattle.audit_model.specs.District.{district_sum}
 use Rattle.audit_model.specs.Limits.{IsGroup, most_regions, most_districts, most_units}
 use Rattle.audit_model.specs.Meets.{are_whole, keeps_frozen, majorities, split_of, split_regions, splits_in_all}
 use Rattle.region_guard.specs.declared.majority.GroupTally.{GroupTally}
-use Rattle.region_guard.specs.declared.splits.Splits.{Splits}
+use Rattle.region_guard.specs.declared.splits.SplitCounts.{SplitCounts}
 use Rattle.region_guard.specs.declared.splits.Totals.{Totals}
 
 -- a list has one entry per unit, or none
@@ -72,7 +72,7 @@ permits_splits rules plan =
     && nat_le (split_regions rules.regions plan) rules.max_split_regions
 
 -- a table with a row per region and a column per district, at most 5,000 by 200
-pub record IsTable (regions : List ℕ) (districts : ℕ) (splits : Splits) : Type 0 where
+pub record IsTable (regions : List ℕ) (districts : ℕ) (splits : SplitCounts) : Type 0 where
   pub rows : length splits.widths ≡ above_all regions
   pub places : length splits.cells ≡ length splits.widths * districts
   pub few_rows : above_all regions ≤ most_regions
@@ -80,7 +80,7 @@ pub record IsTable (regions : List ℕ) (districts : ℕ) (splits : Splits) : Ty
   pub few : districts ≤ most_districts
 
 -- the counts are the plan's: units by region and district, districts by region, and totals
-pub record AreSplits (regions : List ℕ) (most districts : ℕ) (splits : Splits) (plan : List ℕ) : Type 0 where
+pub record AreSplits (regions : List ℕ) (most districts : ℕ) (splits : SplitCounts) (plan : List ℕ) : Type 0 where
   pub units : (region district : ℕ) → region < above_all regions → district < districts
       → cell districts splits.cells region district ≡ units_among (length regions) regions plan region district
   pub widths : (region : ℕ) → region < above_all regions → slice_index splits.widths region ≡ split_of regions plan region
@@ -106,7 +106,7 @@ pub record IsTallied (group : Group) (districts : ℕ) (tally : GroupTally) (pla
 -- ---- all rules
 
 -- all counts are the plan's, and `kept` is true if the plan keeps the districts of frozen units
-pub record IsStanding (rules : Rules) (districts : ℕ) (splits : Splits) (tally : GroupTally) (kept : Bool) (plan : List ℕ) : Type 0 where
+pub record IsStanding (rules : Rules) (districts : ℕ) (splits : SplitCounts) (tally : GroupTally) (kept : Bool) (plan : List ℕ) : Type 0 where
   pub regions : AreSplits rules.regions rules.max_split districts splits plan
   pub group : IsTallied rules.group districts tally plan
   pub frozen : kept ≡ keeps_frozen rules.frozen rules.home plan

@@ -13,7 +13,7 @@ use crate::counting::{
     count_in_all, count_split, count_units, count_widths, move_unit, row_count, set_width,
 };
 use crate::majority::GroupTally;
-use crate::splits::{Splits, Totals};
+use crate::splits::{SplitCounts, Totals};
 use audit_model::memory::Memory;
 use audit_model::outcome::SumsView;
 use audit_model::rules::Rules;
@@ -33,7 +33,7 @@ pub struct RegionGuard<F, T> {
     test: T,
     rules: Rules,
     districts: u32,
-    splits: Splits,
+    splits: SplitCounts,
     tally: GroupTally,
     kept: bool,
 }
@@ -255,7 +255,7 @@ impl<F: Fn(&SumsView) -> bool + Drop, T: Fn(u32) -> bool + Drop> RegionGuard<F, 
         ensures kept { IfOk result (λ g. g.kept ≡ false) }
     {
         let rows = row_count(rules.regions.as_slice()) as usize;
-        let splits = Splits::zeros(alloc, rows, districts as usize)?;
+        let splits = SplitCounts::zeros(alloc, rows, districts as usize)?;
         let tally = GroupTally::zeros(alloc, districts as usize, rules.group_share)?;
         Ok(RegionGuard {
             cut,

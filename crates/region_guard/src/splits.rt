@@ -53,15 +53,19 @@ impl Totals {
 /// Counts of a plan's regions: `cells` has the units by region and district, `widths` the districts
 /// of each region.
 #[derive(Drop)]
-pub struct Splits {
+pub struct SplitCounts {
     pub(crate) cells: NumList,
     pub(crate) widths: UnitList,
     pub(crate) totals: Totals,
 }
 
-impl Splits {
+impl SplitCounts {
     /// Allocates counts of zero. Fails if there is no memory.
-    pub(crate) fn zeros(alloc: Global, regions: usize, districts: usize) -> Result<Splits, Memory>
+    pub(crate) fn zeros(
+        alloc: Global,
+        regions: usize,
+        districts: usize,
+    ) -> Result<SplitCounts, Memory>
         requires few_rows { regions ≤ most_regions }
         requires few { districts ≤ most_districts }
         ensures { IfOk result (λ s. s ≡ record {
@@ -70,7 +74,7 @@ impl Splits {
           totals = record { broken = 0; in_all = 0; split = 0 };
         }) }
     {
-        Ok(Splits {
+        Ok(SplitCounts {
             cells: NumList::zeros(alloc, regions * districts)?,
             widths: UnitList::zeros(alloc, regions)?,
             totals: Totals {

@@ -27,40 +27,40 @@ appends-none out = record { ok = sym (append-nil out.items); room = λ _. (refl,
 
 module _ (word : ℕ → List ℕ) (test : ℕ → Bool) where
   -- the words of the numbers below n that pass
-  abbrev pub told : ℕ → List ℕ
-  told n = spaced (map word (filter_below n test))
+  abbrev pub observed : ℕ → List ℕ
+  observed n = spaced (map word (filter_below n test))
 
   -- the words of one more number, which passes
-  pub told_more : (n : ℕ) → test n ≡ true → told (n + 1) ≡ told n ++ (32 ∷ word n)
-  told_more n is_true =
+  pub observed_more : (n : ℕ) → test n ≡ true → observed (n + 1) ≡ observed n ++ (32 ∷ word n)
+  observed_more n is_true =
       rw (add-one n, is_true)
       (ap spaced (map-append word (filter_below n test) (n ∷ []))
       ∙ flat_map-append (λ (w : List ℕ). 32 ∷ w) (map word (filter_below n test)) (word n ∷ [])
-      ∙ ap (λ (t : List ℕ). told n ++ t) (append-nil (32 ∷ word n)))
+      ∙ ap (λ (t : List ℕ). observed n ++ t) (append-nil (32 ∷ word n)))
 
   -- the words of one more number, which does not pass
-  pub told_same : (n : ℕ) → test n ≡ false → told (n + 1) ≡ told n
-  told_same n is_false = rw (add-one n, is_false) (ap (λ (ns : List ℕ). spaced (map word ns)) (append-nil (filter_below n test)))
+  pub observed_same : (n : ℕ) → test n ≡ false → observed (n + 1) ≡ observed n
+  observed_same n is_false = rw (add-one n, is_false) (ap (λ (ns : List ℕ). spaced (map word ns)) (append-nil (filter_below n test)))
 
   -- the words of more numbers begin with those of fewer
-  pub told_front : (n more : ℕ) → (rest : List ℕ) × (told (n + more) ≡ told n ++ rest)
-  told_front n zero = ([], ap told (let e : n + 0 ≡ n = omega arith in e) ∙ sym (append-nil (told n)))
-  told_front n (suc more) = let before = told_front n more in let at : n + suc more ≡ (n + more) + 1 = omega arith in by (test (n + more)) refl before at
+  pub observed_front : (n more : ℕ) → (rest : List ℕ) × (observed (n + more) ≡ observed n ++ rest)
+  observed_front n zero = ([], ap observed (let e : n + 0 ≡ n = omega arith in e) ∙ sym (append-nil (observed n)))
+  observed_front n (suc more) = let before = observed_front n more in let at : n + suc more ≡ (n + more) + 1 = omega arith in by (test (n + more)) refl before at
     where
-      by : (b : Bool) → test (n + more) ≡ b → (rest : List ℕ) × (told (n + more) ≡ told n ++ rest) → n + suc more ≡ (n + more) + 1
-          → (rest : List ℕ) × (told (n + suc more) ≡ told n ++ rest)
-      by true e (rest, is) at = (rest ++ (32 ∷ word (n + more)), ap told at ∙ told_more (n + more) e ∙ ap (λ (t : List ℕ). t ++ (32 ∷ word (n + more))) is ∙ append_assoc (told n) rest (32 ∷ word (n + more)))
-      by false e (rest, is) at = (rest, ap told at ∙ told_same (n + more) e ∙ is)
+      by : (b : Bool) → test (n + more) ≡ b → (rest : List ℕ) × (observed (n + more) ≡ observed n ++ rest) → n + suc more ≡ (n + more) + 1
+          → (rest : List ℕ) × (observed (n + suc more) ≡ observed n ++ rest)
+      by true e (rest, is) at = (rest ++ (32 ∷ word (n + more)), ap observed at ∙ observed_more (n + more) e ∙ ap (λ (t : List ℕ). t ++ (32 ∷ word (n + more))) is ∙ append_assoc (observed n) rest (32 ∷ word (n + more)))
+      by false e (rest, is) at = (rest, ap observed at ∙ observed_same (n + more) e ∙ is)
 
   -- if one word cannot be appended, the whole cannot
-  pub told_err : (old now new : RoomyBytes) (n all : ℕ) (e : Memory) → n < all → test n ≡ true → AppendsText old now (told n) (Ok tt)
-      → AppendsText now new (32 ∷ word n) (Err e) → AppendsText old new (told all) (Err e)
-  told_err old now new n all e below is_true before failed =
-      let front = told_front (n + 1) (all - (n + 1)) in
-      let whole : told all ≡ (told n ++ (32 ∷ word n)) ++ front.0 =
-      ap told (let at : all ≡ (n + 1) + (all - (n + 1)) = omega arith in at) ∙ front.1 ∙ ap (λ (t : List ℕ). t ++ front.0) (told_more n is_true) in
-      appends-by old new ((told n ++ (32 ∷ word n)) ++ front.0) (told all) (Err e) (sym whole)
-      (appends-err old new (told n ++ (32 ∷ word n)) front.0 e (appends-two old now new (told n) (32 ∷ word n) (Err e) before failed))
+  pub observed_err : (old now new : RoomyBytes) (n all : ℕ) (e : Memory) → n < all → test n ≡ true → AppendsText old now (observed n) (Ok tt)
+      → AppendsText now new (32 ∷ word n) (Err e) → AppendsText old new (observed all) (Err e)
+  observed_err old now new n all e below is_true before failed =
+      let front = observed_front (n + 1) (all - (n + 1)) in
+      let whole : observed all ≡ (observed n ++ (32 ∷ word n)) ++ front.0 =
+      ap observed (let at : all ≡ (n + 1) + (all - (n + 1)) = omega arith in at) ∙ front.1 ∙ ap (λ (t : List ℕ). t ++ front.0) (observed_more n is_true) in
+      appends-by old new ((observed n ++ (32 ∷ word n)) ++ front.0) (observed all) (Err e) (sym whole)
+      (appends-err old new (observed n ++ (32 ∷ word n)) front.0 e (appends-two old now new (observed n) (32 ∷ word n) (Err e) before failed))
 
 -- ---- the greatest length of a line
 
@@ -106,9 +106,9 @@ plan_line_le job step moved before plan sound legal units is =
     let asks = length-map job.setting.asks (λ (ask : Ask). plan_value job plan ask.score) in
     let few = (small job sound).few_asks in
     let units_few = sound.within.input.units in
-    let told_units = width-changes plan (λ u. not (slice_index plan u == slice_index before u)) (length plan)
+    let observed_units = width-changes plan (λ u. not (slice_index plan u == slice_index before u)) (length plan)
     (omega (arith, legal.complete, units_few)) (λ u l. omega (arith, legal.in_range u (omega (arith, legal.complete)), sound.within.input.few)) in
-    omega (arith, whole, parts, numbers, asks, few, told_units, legal.complete, length-decimal_any step, length-decimal_any moved)
+    omega (arith, whole, parts, numbers, asks, few, observed_units, legal.complete, length-decimal_any step, length-decimal_any moved)
 
 -- the length of the line that starts a trajectory
 pub trace_id_line_le : (job : Job) (id thin units : ℕ) → length (trace_id_line job id thin) ≤ 400 + units * 10

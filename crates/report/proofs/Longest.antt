@@ -480,14 +480,14 @@ length-head job h =
 -- ---- all of it
 
 -- a text that is no longer than a sum has capacity if the sum does not overflow
-pub told : (text : List ℕ) (sum : ℕ) (fits : Type 0) (answer : Option ℕ) → length text ≤ sum → SomeIff answer fits sum → IfSome answer (λ room. length text ≤ room)
-told text sum fits None short is = tt
-told text sum fits (Some room) short is = omega (arith, short, is.1)
+pub observed : (text : List ℕ) (sum : ℕ) (fits : Type 0) (answer : Option ℕ) → length text ≤ sum → SomeIff answer fits sum → IfSome answer (λ room. length text ≤ room)
+observed text sum fits None short is = tt
+observed text sum fits (Some room) short is = omega (arith, short, is.1)
 
 -- two texts have capacity if the sum of their lengths does not overflow
-pub both_told : (first second : List ℕ) (one two : ℕ) (fits : Type 0) (answer : Option ℕ) → length first ≤ one → length second ≤ two → SomeIff answer fits (two + one)
+pub both_observed : (first second : List ℕ) (one two : ℕ) (fits : Type 0) (answer : Option ℕ) → length first ≤ one → length second ≤ two → SomeIff answer fits (two + one)
     → IfSome answer (λ room. length (first ++ second) ≤ room)
-both_told first second one two fits answer short brief is = told (first ++ second) (two + one) fits answer (omega (arith, short, brief, length-append first second)) is
+both_observed first second one two fits answer short brief is = observed (first ++ second) (two + one) fits answer (omega (arith, short, brief, length-append first second)) is
 
 -- the six parts of a report, each within its bound, are joined within the sum
 parts-le : (a b c d e f : List ℕ) (h l m n k : ℕ) → length a ≤ 1657 + h → length b ≤ l → length c ≤ 591 → length d ≤ m → length e ≤ n → length f ≤ 4 → 2252 + h + l + m + n ≤ k

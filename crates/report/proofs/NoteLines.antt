@@ -7,7 +7,10 @@ use Rattle.audit_statement.specs.Endings.{AddsLine, AppendsPart}
 use Rattle.report.specs.declared.piece.Piece.{Piece}
 use Rattle.report.specs.Pieces.{piece_text}
 use Rattle.report.specs.Said.{IsSaid}
-use Rattle.audit_statement.specs.Note.{as_line}
+use Rattle.std.specs.Prelude.{◌==◌, codes, decimal}
+use Rattle.std.proofs.lemmas.Bool.{cond-true, cond-false}
+use Rattle.audit_model.specs.declared.fault.PlanFault.TheVariants.{TooFewMajorities}
+use Rattle.audit_statement.specs.Note.{as_line, plan_note}
 use Rattle.audit_model.specs.State.{Stream}
 use Rattle.report.proofs.Appended.{part_after}
 
@@ -100,3 +103,24 @@ filled_line pieces start rest is none =
     ∙ ap (λ t. flat_map piece_text pieces ++ t) none
     ∙ sym (line_begins pieces [])
     ∙ ap as_line (append-nil (map piece_text pieces))
+
+-- ---- the line about a group's majorities
+
+-- a share of one half is not named
+pub names_half : (districts least share : ℕ) → (share == 5000) ≡ true
+    → as_line (codes "the group has a majority in " ∷ decimal districts ∷ codes " districts, fewer than " ∷ decimal least ∷ [])
+    ≡ as_line (plan_note (TooFewMajorities districts least share))
+names_half districts least share half =
+    ap (λ start. as_line (start ++ decimal districts ∷ codes " districts, fewer than " ∷ decimal least ∷ []))
+    (sym (cond-true (share == 5000) (codes "the group has a majority in " ∷ [])
+    (codes "the group has more than " ∷ decimal share ∷ codes " of 10000 in " ∷ []) half))
+
+-- another share is named
+pub names_share : (districts least share : ℕ) → (share == 5000) ≡ false
+    → as_line (codes "the group has more than " ∷ decimal share ∷ codes " of 10000 in "
+    ∷ decimal districts ∷ codes " districts, fewer than " ∷ decimal least ∷ [])
+    ≡ as_line (plan_note (TooFewMajorities districts least share))
+names_share districts least share other =
+    ap (λ start. as_line (start ++ decimal districts ∷ codes " districts, fewer than " ∷ decimal least ∷ []))
+    (sym (cond-false (share == 5000) (codes "the group has a majority in " ∷ [])
+    (codes "the group has more than " ∷ decimal share ∷ codes " of 10000 in " ∷ []) other))

@@ -1,14 +1,15 @@
--- The number of regions, counted by marks, and the line of splits in all.
-use Rattle.std.proofs.Common.{◌≡◌, ℕ, suc, ◌<◌, ◌≤◌, Bool, true, false, ◌||◌, List, [], ◌∷◌, ◌++◌, length, All, refl, sym, ap, ◌∙◌, subst, inl, inr, arith, set, get_or-set_same, get_or-set_other}
+-- The number of regions, counted by marks, and the lines of splits in all, of the share and of frozen units.
+use Rattle.std.proofs.Common.{◌≡◌, ℕ, suc, ◌<◌, ◌≤◌, ◌^◌, Bool, true, false, ◌||◌, List, [], ◌∷◌, ◌++◌, length, All, refl, sym, ap, ◌∙◌, subst, inl, inr, arith, set, get_or-set_same, get_or-set_other}
 use Rattle.std.specs.Prelude.{◌==◌, codes, decimal, nat_lt}
 use Rattle.std.specs.List.{slice_index_or}
-use Rattle.std.proofs.lemmas.Bool.{cases_Bool, cond-true, cases_eq, eq-eqb, ne_eqb, eqb-true}
+use Rattle.std.proofs.lemmas.Bool.{cases_Bool, cond-true, cond-false, cases_eq, eq-eqb, ne_eqb, eqb-true}
 use Rattle.audit_model.specs.Below.{above_all, count_below}
 use Rattle.audit_model.specs.Graph.{has}
+use Rattle.audit_model.specs.Limits.{AreFrozen}
 use Rattle.audit_model.specs.Meets.{region_count}
 use Rattle.audit_model.proofs.Below.{count_below_into}
 use Rattle.audit_model.proofs.Bools.{or_false}
-use Rattle.audit_statement.specs.Report.{line, splits_line}
+use Rattle.audit_statement.specs.Report.{line, share_line, splits_line}
 
 -- ---- the marks
 
@@ -69,8 +70,23 @@ regions_counted regions few =
 -- ---- the line of splits in all
 
 -- the line is written if there are regions and splits are limited
-pub splits_are_told : (splits most : ℕ) (regions : List ℕ) → (length regions == 0) ≡ false → (nat_lt splits 995000 || nat_lt most 5000) ≡ true
+pub splits_are_observed : (splits most : ℕ) (regions : List ℕ) → (length regions == 0) ≡ false → (nat_lt splits 995000 || nat_lt most 5000) ≡ true
     → line (codes "max-splits" ∷ decimal splits ∷ codes "max-split-regions" ∷ decimal most ∷ []) ≡ splits_line splits most regions
-splits_are_told splits most [] some limited = cc
-splits_are_told splits most (r ∷ rest) some limited =
+splits_are_observed splits most [] some limited = cc
+splits_are_observed splits most (r ∷ rest) some limited =
     sym (cond-true (nat_lt splits 995000 || nat_lt most 5000) (line (codes "max-splits" ∷ decimal splits ∷ codes "max-split-regions" ∷ decimal most ∷ [])) [] limited)
+
+-- ---- the line of the share
+
+-- the line is written if there is a group and the share is not one half
+pub share_is_observed : (share : ℕ) (members : List ℕ) → (length members == 0) ≡ false → (share == 5000) ≡ false
+    → line (codes "group-share" ∷ decimal share ∷ []) ≡ share_line share members
+share_is_observed share [] some other = cc
+share_is_observed share (n ∷ rest) some other = sym (cond-false (share == 5000) [] (line (codes "group-share" ∷ decimal share ∷ [])) other)
+
+-- ---- the frozen units
+
+-- a column of frozen units is as short as the list of units
+pub few_frozen : (units : ℕ) (frozen : List ℕ) → AreFrozen units frozen → units ≤ 100000 → length frozen < 2 ^ 32
+few_frozen units frozen (inl none) few = omega (arith, ap length none)
+few_frozen units frozen (inr each) few = omega (arith, each, few)

@@ -8,6 +8,7 @@ ghost use Rattle.report.specs.Pieces.{piece_text};
 ghost use Rattle.report.specs.Said.{AddsText, IsSaid};
 ghost use Rattle.audit_statement.specs.Endings.{AddsLine, TellsWhy};
 ghost use Rattle.audit_statement.specs.Status.{status_of};
+ghost use Rattle.audit_model.specs.declared.fault.PlanFault.TheVariants.{TooFewMajorities};
 ghost use Rattle.audit_model.specs.Names.{name_text};
 ghost use Rattle.audit_model.specs.State.{Stream};
 ghost use Rattle.audit_statement.specs.Note as terms;
@@ -29,7 +30,7 @@ use itoa::Buffer;
 /// Writes the diagnostic and returns the exit status.
 pub fn tell<N: Sink>(why: &Ended, note: &mut N) -> u8
     ensures status { result ≡ status_of (ending_of why.now) }
-    ensures told { TellsWhy (columns_kept why.now) (N.state note.old) (N.state note.new) (ending_of why.now) }
+    ensures observed { TellsWhy (columns_kept why.now) (N.state note.old) (N.state note.new) (ending_of why.now) }
 {
     tell_line(why, note);
     status(why)
@@ -352,7 +353,7 @@ fn plan_line(fault: &PlanFault) -> Line<'static>
 // Returns the line about too few districts with a majority of the group. A share of one half is not
 // named.
 fn majorities_line(districts: u32, least: u32, share: u32) -> Line<'static>
-    ensures { terms.as_line (map piece_text result) ≡ terms.as_line (terms.plan_note (plan.TooFewMajorities districts least share)) }
+    ensures { terms.as_line (map piece_text result) ≡ terms.as_line (terms.plan_note (TooFewMajorities districts least share)) }
 {
     if share == 5_000 {
         return line_of(&[

@@ -125,7 +125,7 @@ fn push_share_line(job: &Job, out: &mut Bytes) -> Result<(), Memory>
 fn push_frozen_line(job: &Job, out: &mut Bytes) -> Result<(), Memory>
     ensures { AppendsText out.old out.new (definition.frozen_line job.now.frozen) result }
 {
-    let frozen = job.rules().frozen.as_slice();
+    let frozen = frozen_of(job);
     if frozen.is_empty() {
         return Ok(());
     }
@@ -136,6 +136,15 @@ fn push_frozen_line(job: &Job, out: &mut Bytes) -> Result<(), Memory>
             Word::Number(u64::from(count_frozen(frozen))),
         ],
     )
+}
+
+fn frozen_of(job: &Job) -> &[u32]
+    ensures value { result.now ≡ job.now.frozen }
+    ensures few { length result.now < 2 ^ 32 }
+{
+    // Called for its contract: the job is within its limits.
+    let _units = job.units();
+    job.rules().frozen.as_slice()
 }
 
 /// Returns the number of frozen units.

@@ -70,7 +70,7 @@ impl Share {
     }
 
     // Returns the share of these votes in billionths, from the cache if they are unchanged.
-    fn renew(&mut self, first: u64, second: u64) -> u64
+    fn update(&mut self, first: u64, second: u64) -> u64
         requires { first + second < 2 ^ 64 }
         ensures { result ≡ definition.share first second }
     {
@@ -92,13 +92,13 @@ fn median_less_mean(sums: &SumsView, last: &mut [Share], room: &mut [u64], media
         return 0;
     }
     let shares = &mut room[..sums.first.len()];
-    renew_shares(sums, last, shares);
+    update_shares(sums, last, shares);
     mean_median(shares, median)
 }
 
 // Writes the first party's vote share in each district, using the cached shares.
 #[tactic(auto, using(crate::proofs::Below::map_below_more))]
-fn renew_shares(sums: &SumsView, last: &mut [Share], shares: &mut [u64])
+fn update_shares(sums: &SumsView, last: &mut [Share], shares: &mut [u64])
     requires votes { AreVotes sums.now.first sums.now.second }
     requires last { length sums.now.first ≤ length last.old }
     requires room { length shares.old ≡ length sums.now.first }
@@ -107,6 +107,6 @@ fn renew_shares(sums: &SumsView, last: &mut [Share], shares: &mut [u64])
     let first = sums.first.as_slice();
     let second = sums.second.as_slice();
     for district in 0..first.len() {
-        shares[district] = last[district].renew(first[district], second[district]);
+        shares[district] = last[district].update(first[district], second[district]);
     }
 }

@@ -2,24 +2,24 @@
 use Rattle.std.proofs.Common.{◌≡◌, ℕ, sym, subst, vec_len}
 use Rattle.audit_model.specs.Job.{Job}
 use Rattle.audit_model.specs.Room.{RoomyOutcomes}
-use Rattle.claim_counter.specs.declared.parts.Part.{Part}
-use Rattle.claim_counter.specs.declared.parts.Team.{Team}
-use Rattle.claim_counter.specs.Parts.{IsFreshPart, IsTeam}
+use Rattle.claim_counter.specs.declared.parts.PartCounter.{PartCounter}
+use Rattle.claim_counter.specs.declared.parts.PartWorkers.{PartWorkers}
+use Rattle.claim_counter.specs.Parts.{IsFreshPart, IsPartWorkers}
 use Rattle.outcome_book.specs.Booked.{Booked}
-use Rattle.sequential_test.specs.Crews.{HasWalkedTo}
+use Rattle.sequential_test.specs.Pools.{HasWalkedTo}
 
 -- a part for an equal number of workers
-pub same_part : (count seats n : ℕ) (p : Part) → IsFreshPart count seats p → n ≡ seats → IsFreshPart count n p
+pub same_part : (count seats n : ℕ) (p : PartCounter) → IsFreshPart count seats p → n ≡ seats → IsFreshPart count n p
 same_part count seats n p is same = subst (λ (k : ℕ). IsFreshPart count k p) (sym same) is
 
 module _ {J : Type 0} where
   -- the walked state for equal numbers
-  pub same_walked : (job : Job) (seats count : ℕ) (t : Team J) (b : Booked) (sorted : RoomyOutcomes) → HasWalkedTo job seats count t b sorted
+  pub same_walked : (job : Job) (seats count : ℕ) (t : PartWorkers J) (b : Booked) (sorted : RoomyOutcomes) → HasWalkedTo job seats count t b sorted
       → (n m : ℕ) → n ≡ seats → m ≡ count → HasWalkedTo job n m t b sorted
   same_walked job seats count t b sorted is n m same_seats same_count =
       subst (λ (k : ℕ). HasWalkedTo job k m t b sorted) (sym same_seats)
       (subst (λ (k : ℕ). HasWalkedTo job seats k t b sorted) (sym same_count) is)
 
   -- the number of workers is the number of hands
-  pub own_seats : (job : Job) (seats : ℕ) (t : Team J) → IsTeam job seats t → IsTeam job (vec_len t.hands) t
-  own_seats job seats t is = subst (λ (n : ℕ). IsTeam job n t) (sym is.count) is
+  pub own_seats : (job : Job) (seats : ℕ) (t : PartWorkers J) → IsPartWorkers job seats t → IsPartWorkers job (vec_len t.idle_workers) t
+  own_seats job seats t is = subst (λ (n : ℕ). IsPartWorkers job n t) (sym is.count) is

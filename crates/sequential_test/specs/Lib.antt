@@ -1,3 +1,3 @@
-pub mod Crews
+pub mod Pools
 pub mod Ranks
 pub mod Rounds

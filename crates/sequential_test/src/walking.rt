@@ -8,15 +8,15 @@ ghost use Rattle.audit_model.specs.Stopping.{stops_of};
 ghost use Rattle.audit_model.specs.Trajectory.{sequence};
 ghost use Rattle.claim_counter.specs.Parts.{IsFreshPart};
 ghost use Rattle.audit_statement.specs.Draw.{draw};
-ghost use Rattle.sequential_test.specs.Crews.{AreRounds, HasWalkedTo, IsStoppingCrew};
+ghost use Rattle.sequential_test.specs.Pools.{AreRounds, HasWalkedTo, IsStoppingPool};
 ghost use Rattle.sequential_test.specs.Rounds.{ends_after, found_below, AreIds, AreParts, AreSettledBelow, StopsInTime};
 
-use crate::crew::{StoppingCrew, after_round};
 use crate::laws::{all_ends_settle, settled_stops_are_final};
+use crate::pool::{StoppingPool, after_round};
 use crate::settling::settle_all;
 use audit_io::gate::Gate;
 use audit_model::buffers::OutcomeList;
-use claim_counter::parts::{Part, Team, find_hub, walk_part};
+use claim_counter::parts::{PartCounter, PartWorkers, find_hub, walk_part};
 use claim_counter::runtime::Runtime;
 use flip_guard::judge::Judge;
 use outcome_book::book::Book;
@@ -38,14 +38,14 @@ struct Stretch<'a> {
     ids: &'a [u32],
     from: u32,
     to: u32,
-    part: Part,
+    part: PartCounter,
 }
 
 /// All ids of a run, and the counter of each round.
 #[derive(Drop)]
 struct Rounds<'a> {
     todo: &'a [u32],
-    parts: Vec<Part>,
+    parts: Vec<PartCounter>,
 }
 
 // Walks the trajectories of a stretch after those before it, and fills `sorted` with all outcomes by rising id.
@@ -53,21 +53,21 @@ fn walk_to<R: Threads + Sync, J: Judge + Send, G: Gate + Sync>(
     rt: &Runtime<R, G>,
     job: &Job,
     stretch: Stretch,
-    team: &mut Team<J>,
+    part_workers: &mut PartWorkers<J>,
     book: &mut Book,
     sorted: &mut OutcomeList,
 )
     requires ids { AreIds stretch.from stretch.to stretch.ids.now }
     requires few { stretch.to ≤ total job.now }
-    requires part { IsFreshPart (stretch.to - stretch.from) (vec_len team.old.hands) stretch.part }
-    requires walked { HasWalkedTo job.now (vec_len team.old.hands) stretch.from team.old book.old sorted.old }
-    ensures walked { HasWalkedTo job.now (vec_len team.old.hands) stretch.entry.to team.new book.new sorted.new }
+    requires part { IsFreshPart (stretch.to - stretch.from) (vec_len part_workers.old.idle_workers) stretch.part }
+    requires walked { HasWalkedTo job.now (vec_len part_workers.old.idle_workers) stretch.from part_workers.old book.old sorted.old }
+    ensures walked { HasWalkedTo job.now (vec_len part_workers.old.idle_workers) stretch.entry.to part_workers.new book.new sorted.new }
     ensures sorted { sorted.new.items ≡ found_below job.now stretch.entry.to }
     ensures rising { AllPairs (λ a b. a.id ≡ b.id → ⊥) sorted.new.items }
 {
     // Called for its contract: outcomes by rising id are those of consecutive ids.
     outcomes_by_id_are_mapped();
-    walk_part(rt, job, stretch.ids, stretch.part, team, book);
+    walk_part(rt, job, stretch.ids, stretch.part, part_workers, book);
     // Called for its contract: the book holds no more than its capacity.
     let _all = book.len();
     book.sorted_into(sorted);
@@ -78,16 +78,16 @@ fn walk_rounds<R: Threads + Sync, J: Judge + Send, G: Gate + Sync>(
     rt: &Runtime<R, G>,
     job: &Job,
     rounds: Rounds,
-    team: &mut Team<J>,
+    part_workers: &mut PartWorkers<J>,
     book: &mut Book,
     sorted: &mut OutcomeList,
 ) -> [[u32; 3]; 4]
     requires ids { rounds.todo.now ≡ map_below (total job.now) (λ id. id) }
     requires some { 1 ≤ job.now.setting.stop }
     requires some_ends { 1 ≤ job.now.setting.ends }
-    requires rounds { AreRounds job.now.setting.ends (vec_len team.old.hands) 0 rounds.parts.items }
+    requires rounds { AreRounds job.now.setting.ends (vec_len part_workers.old.idle_workers) 0 rounds.parts.items }
     requires all { ends_after job.now.setting.ends (vec_len rounds.parts) ≡ job.now.setting.ends }
-    requires walked { HasWalkedTo job.now (vec_len team.old.hands) job.now.setting.walks team.old book.old sorted.old }
+    requires walked { HasWalkedTo job.now (vec_len part_workers.old.idle_workers) job.now.setting.walks part_workers.old book.old sorted.old }
     ensures in_time { StopsInTime job.now sorted.new.items }
     ensures stops { AreSettledBelow job.now sorted.new.items (length job.now.setting.asks) result }
     ensures parts { AreParts job.now.setting.ends (length job.now.setting.asks) result }
@@ -111,7 +111,7 @@ fn walk_rounds<R: Threads + Sync, J: Judge + Send, G: Gate + Sync>(
             to,
             part,
         };
-        walk_to(rt, job, stretch, team, book, sorted);
+        walk_to(rt, job, stretch, part_workers, book, sorted);
         walked = next;
         match settle_all(job, sorted.as_slice()) {
             Some(stops) => return stops,
@@ -129,14 +129,14 @@ pub fn walk_to_stops<R: Threads + Sync, J: Judge + Send, G: Gate + Sync>(
     rt: &Runtime<R, G>,
     job: &Job,
     todo: &[u32],
-    crew: StoppingCrew<J>,
+    pool: StoppingPool<J>,
     book: &mut Book,
     sorted: &mut OutcomeList,
 ) -> [[u32; 3]; 4]
     requires ids { todo.now ≡ map_below (total job.now) (λ id. id) }
     requires some { 1 ≤ job.now.setting.stop }
     requires some_ends { 1 ≤ job.now.setting.ends }
-    requires crew { IsStoppingCrew job.now job.now.setting.workers crew }
+    requires pool { IsStoppingPool job.now job.now.setting.workers pool }
     requires empty { book.old.outcomes ≡ [] }
     requires total { book.old.total ≡ total job.now }
     requires room { total job.now ≤ length sorted.old.items + sorted.old.spare }
@@ -148,13 +148,13 @@ pub fn walk_to_stops<R: Threads + Sync, J: Judge + Send, G: Gate + Sync>(
     // Called for their contracts: later endpoints do not change a settled stop, and the job is within its limits.
     settled_stops_are_final();
     let _units = job.units();
-    let StoppingCrew {
-        mut team,
+    let StoppingPool {
+        mut part_workers,
         seats: _,
         walks,
         rounds,
-    } = crew;
-    find_hub(job, &mut team);
+    } = pool;
+    find_hub(job, &mut part_workers);
     let to = job.setting().walks;
     let stretch = Stretch {
         ids: ids_from(todo, 0, to),
@@ -162,10 +162,10 @@ pub fn walk_to_stops<R: Threads + Sync, J: Judge + Send, G: Gate + Sync>(
         to,
         part: walks,
     };
-    walk_to(rt, job, stretch, &mut team, book, sorted);
+    walk_to(rt, job, stretch, &mut part_workers, book, sorted);
     let rounds = Rounds {
         todo,
         parts: rounds,
     };
-    walk_rounds(rt, job, rounds, &mut team, book, sorted)
+    walk_rounds(rt, job, rounds, &mut part_workers, book, sorted)
 }

@@ -20,12 +20,12 @@ unfolding found
 found_right job id = ap (outcome job (draw job.setting.key)) (sym (fitting.found_id job (draw job.setting.key) job.setting.shift id))
 
 -- the outcome of a walk has the id of its start token
-pub walked_id : (job : Job) (id told : ℕ) (o : Outcome) → told ≡ id → o ≡ outcome job (draw job.setting.key) told → o.id ≡ id
-walked_id job id told o told_is is = ap (λ (x : Outcome). x.id) is ∙ outcome_id job (draw job.setting.key) told ∙ told_is
+pub walked_id : (job : Job) (id observed : ℕ) (o : Outcome) → observed ≡ id → o ≡ outcome job (draw job.setting.key) observed → o.id ≡ id
+walked_id job id observed o observed_is is = ap (λ (x : Outcome). x.id) is ∙ outcome_id job (draw job.setting.key) observed ∙ observed_is
 
 -- the outcome of a walk is the one found for its own id
-pub walked_found : (job key : Job) (id told : ℕ) (o : Outcome) → job ≡ key → told ≡ id → o ≡ outcome job (draw job.setting.key) told → o ≡ found key o.id
+pub walked_found : (job key : Job) (id observed : ℕ) (o : Outcome) → job ≡ key → observed ≡ id → o ≡ outcome job (draw job.setting.key) observed → o ≡ found key o.id
 unfolding found
-walked_found job key id told o same told_is is =
-    is ∙ ap (λ (j : Job). outcome j (draw j.setting.key) told) same
-    ∙ ap (outcome key (draw key.setting.key)) (sym (ap (λ (x : Outcome). x.id) is ∙ outcome_id job (draw job.setting.key) told))
+walked_found job key id observed o same observed_is is =
+    is ∙ ap (λ (j : Job). outcome j (draw j.setting.key) observed) same
+    ∙ ap (outcome key (draw key.setting.key)) (sym (ap (λ (x : Outcome). x.id) is ∙ outcome_id job (draw job.setting.key) observed))

@@ -20,7 +20,7 @@ use Rattle.tally_desk.proofs.Booking.{absent_of_book, booked-push, booked_fit, b
 use Rattle.claim_counter.proofs.Sharing.{found_id}
 use Rattle.tally_desk.proofs.Righting.{saved_outcomes_are_right}
 use Rattle.tally_desk.proofs.Todo.{todo_once, todo_within}
-use Rattle.tally_desk.specs.Holding.{HoldsOpeningAndPart, RunTriesAreRight, SavesHoldParts}
+use Rattle.tally_desk.specs.Holding.{HoldsOpeningAndPart, RunAttemptsAreRight, SavesHoldParts}
 
 module _ (parts : Parts) (plan : IsPlan parts) where
   abbrev OfTodo : List Entry → Type 0
@@ -92,8 +92,8 @@ pub saves_hold_parts : SavesHoldParts
 saves_hold_parts parts part plan of_todo = holds_part parts plan part of_todo
 
 -- the law on saves from correct initial outcomes
-pub run_tries_are_right : RunTriesAreRight
-run_tries_are_right parts t plan opening is = record {
+pub run_attempts_are_right : RunAttemptsAreRight
+run_attempts_are_right parts t plan opening is = record {
   version = 2;
   generation = is.generation;
   outcomes = by_id (total parts.job) (booked parts is.part);

@@ -8,9 +8,9 @@ use Rattle.std.proofs.lemmas.List.Sorted.{length_permutation, sum_by-IsPermutati
 use Rattle.audit_io.specs.declared.source.Failed.{Failed}
 use Rattle.audit_model.specs.Faults.{Counts, HasCause, Rose}
 use Rattle.audit_model.specs.State.{Kept as KeeperState}
-use Rattle.audit_model.specs.Told.{IfBothTold, IfTold}
+use Rattle.audit_model.specs.Observed.{IfBothObserved, IfObserved}
 use Rattle.audit_model.specs.Pair.{Pair, stored, HoldsBytes, KeepsOther}
-use Rattle.audit_model.specs.Tries.{tried_all, tried_too, try_of}
+use Rattle.audit_model.specs.Attempts.{attempted_all, attempted_too, try_of}
 use Rattle.audit_model.specs.declared.outcome.Outcome.{Outcome}
 use Rattle.audit_model.specs.Run.{total, by_id}
 use Rattle.audit_model.specs.Times.{times}
@@ -22,20 +22,20 @@ use Rattle.outcome_book.specs.Booked.{Booked, IsBook}
 use Rattle.tally_desk.specs.declared.entry.Entry.{Entry}
 use Rattle.tally_desk.specs.declared.handing.Kept.{Kept}
 use Rattle.tally_desk.specs.Entries.{posted_id, ids_of, saves_made, tickets_of, up_to_save}
-use Rattle.tally_desk.specs.Homes.{IsSaveOf, SlotsAs, booked, tries}
+use Rattle.tally_desk.specs.Homes.{IsSaveOf, SlotsAs, booked, attempts}
 use Rattle.audit_statement.specs.InOrder.{moved, failed_of}
 use Rattle.tally_desk.specs.InTurn.{AreUnfailed, EndsSaves, RunSavesInTurn, SavesRest, UnfailedRunsSaveInTurn}
 use Rattle.tally_desk.specs.Parts.{LetsDesk, Parts, IsPlaceFor}
 use Rattle.tally_desk.specs.Views.{PassView}
 use Rattle.tally_desk.proofs.Marking.{ids_up_to_save}
 use Rattle.tally_desk.proofs.Slotting.{other_is}
-use Rattle.tally_desk.proofs.Trying.{tried_then}
+use Rattle.tally_desk.proofs.Trying.{attempted_then}
 use Rattle.tally_desk.proofs.Turning.{counts_more}
-use Rattle.tally_desk.specs.Ran.{BothSaved, HasRun, KeepsSome}
+use Rattle.tally_desk.specs.RunResult.{BothSaved, HasRun, KeepsSome}
 use Rattle.tally_desk.specs.Saves.{IsClosedWith, LetsLastSave, MakesLastSave}
 use Rattle.tally_desk.proofs.Failing.{failed_run}
 use Rattle.tally_desk.proofs.Ordering.{are_saves, saves_with_last}
-use Rattle.tally_desk.proofs.Tried.{are_run_tries, rest_tries, run_tries}
+use Rattle.tally_desk.proofs.Attempted.{are_run_attempts, rest_attempts, run_attempts}
 
 -- ---- counts of faults
 
@@ -132,7 +132,7 @@ module _ {C : Type 0} (state : C → KeeperState) (parts : Parts) (v : PassView)
       (λ i. (k.digest_is i, k.closed.kept.place_is i, same_all i)) sound in
       subst (λ (x : Place × List ℕ × List Outcome). lets (state kept.keeper) x.0.slot (checkpoint 2 x.1 x.0.generation x.2))
       (λ i. (sym k.closed.kept.place_is i, sym k.digest_is i, sym same_all i))
-      (desk (state kept.keeper) (tries parts posted) (try_of place.slot (checkpoint 2 (job_digest parts.job) place.generation all) true) k.closed.kept.tried_is
+      (desk (state kept.keeper) (attempts parts posted) (try_of place.slot (checkpoint 2 (job_digest parts.job) place.generation all) true) k.closed.kept.attempted_is
       (saves_with_last parts k.closed.plan true posted of_todo in_order k.closed.kept.sound k.closed.due k.closed.all (sym none ∙ k.closed.last) rest_sound))
 
   at_moved : (a c : Pair) → SlotsAs parts a c kept.place posted → SlotsAs parts a c (moved (saves_made posted) parts.place) posted
@@ -140,23 +140,23 @@ module _ {C : Type 0} (state : C → KeeperState) (parts : Parts) (v : PassView)
 
   -- the slots if the last post saved
   saved_before : UnfailedRunsSaveInTurn → kept.failed_saves ≡ 0 → kept.last_saved ≡ true → (a c : Option Pair) → IsPlaceFor parts.job a parts.place
-      → IfBothTold a c (λ p q. SlotsAs parts p q kept.place posted) → IfBothTold a c (λ p q. RunSavesInTurn parts p q posted)
-  saved_before law none last None c first told = tt
-  saved_before law none last (Some p) None first told = told
-  saved_before law none last (Some p) (Some q) first told =
-      law parts p q q posted k.closed.plan first (unfailed none) (at_moved p q told)
+      → IfBothObserved a c (λ p q. SlotsAs parts p q kept.place posted) → IfBothObserved a c (λ p q. RunSavesInTurn parts p q posted)
+  saved_before law none last None c first observed = tt
+  saved_before law none last (Some p) None first observed = observed
+  saved_before law none last (Some p) (Some q) first observed =
+      law parts p q q posted k.closed.plan first (unfailed none) (at_moved p q observed)
       (subst (λ (b : Bool). EndsSaves b parts q q (moved (saves_made posted) parts.place) posted) (sym last ∙ k.closed.last) refl)
 
   -- the slots if the last save was made after the desk
   saved_now : UnfailedRunsSaveInTurn → kept.failed_saves ≡ 0 → kept.last_saved ≡ false → (sorted : List Outcome) → sorted ≡ by_id kept.book.total kept.book.outcomes
       → IsCheckpoint (checkpoint 2 digest kept.place.generation sorted) 2 digest kept.place.generation sorted → (a c d : Option Pair) → IsPlaceFor parts.job a parts.place
-      → IfBothTold a c (λ p q. SlotsAs parts p q kept.place posted) → KeepsOther c d kept.place.slot
-      → HoldsBytes d kept.place.slot (checkpoint 2 digest kept.place.generation sorted) → IfTold d (IsNewestForFitJobs digest kept.place.slot kept.place.generation sorted)
-      → IfBothTold a d (λ p q. RunSavesInTurn parts p q posted)
-  saved_now law none last sorted is sound None c d first told other held fresh = tt
-  saved_now law none last sorted is sound (Some p) None d first told other held fresh = absurd told
-  saved_now law none last sorted is sound (Some p) (Some q) None first told other held fresh = other
-  saved_now law none last sorted is sound (Some p) (Some q) (Some r) first told other held fresh =
+      → IfBothObserved a c (λ p q. SlotsAs parts p q kept.place posted) → KeepsOther c d kept.place.slot
+      → HoldsBytes d kept.place.slot (checkpoint 2 digest kept.place.generation sorted) → IfObserved d (IsNewestForFitJobs digest kept.place.slot kept.place.generation sorted)
+      → IfBothObserved a d (λ p q. RunSavesInTurn parts p q posted)
+  saved_now law none last sorted is sound None c d first observed other held fresh = tt
+  saved_now law none last sorted is sound (Some p) None d first observed other held fresh = absurd observed
+  saved_now law none last sorted is sound (Some p) (Some q) None first observed other held fresh = other
+  saved_now law none last sorted is sound (Some p) (Some q) (Some r) first observed other held fresh =
       let all : List Outcome = by_id (total parts.job) (booked parts posted) in
       let same : sorted ≡ all = is ∙ ap (λ (b : Booked). by_id b.total b.outcomes) k.closed.kept.book_is in
       let rest : SavesRest parts q r kept.place posted = record {
@@ -167,7 +167,7 @@ module _ {C : Type 0} (state : C → KeeperState) (parts : Parts) (v : PassView)
         other = sym (other_is r kept.place.slot k.closed.slot) ∙ other ∙ other_is q kept.place.slot k.closed.slot;
         fresh = subst (λ (x : List ℕ × List Outcome). IsNewestForFitJobs x.0 kept.place.slot kept.place.generation x.1 r) (λ i. (k.digest_is i, same i)) fresh;
       } in
-      law parts p q r posted k.closed.plan first (unfailed none) (at_moved p q told)
+      law parts p q r posted k.closed.plan first (unfailed none) (at_moved p q observed)
       (subst (λ (b : Bool). EndsSaves b parts q r (moved (saves_made posted) parts.place) posted) (sym last ∙ k.closed.last)
       (subst (λ (at : Place). SavesRest parts q r at posted) k.closed.kept.place_is rest))
 
@@ -193,12 +193,12 @@ module _ {C : Type 0} (state : C → KeeperState) (parts : Parts) (v : PassView)
   )
 
   -- the slots in all cases, known or not
-  keeps_by : (a c d : Option Pair) → IfBothTold a c (λ p q. SlotsAs parts p q kept.place posted) → KeepsOther c d kept.place.slot → IfBothTold a d (KeepsSome parts)
-  keeps_by None c d told other = tt
-  keeps_by (Some p) None d told other = absurd told
-  keeps_by (Some p) (Some q) None told other = other
-  keeps_by (Some p) (Some q) (Some r) told other =
-      keeps_some p q r (saves_made posted) refl told (sym (other_is r kept.place.slot k.closed.slot) ∙ other ∙ other_is q kept.place.slot k.closed.slot)
+  keeps_by : (a c d : Option Pair) → IfBothObserved a c (λ p q. SlotsAs parts p q kept.place posted) → KeepsOther c d kept.place.slot → IfBothObserved a d (KeepsSome parts)
+  keeps_by None c d observed other = tt
+  keeps_by (Some p) None d observed other = absurd observed
+  keeps_by (Some p) (Some q) None observed other = other
+  keeps_by (Some p) (Some q) (Some r) observed other =
+      keeps_some p q r (saves_made posted) refl observed (sym (other_is r kept.place.slot k.closed.slot) ∙ other ∙ other_is q kept.place.slot k.closed.slot)
 
 -- slots that did not change keep every other slot
 keeps_itself : (c : Option Pair) (at : ℕ) → KeepsOther c c at
@@ -238,30 +238,30 @@ module _ {C : Type 0} (state : C → KeeperState) (law : UnfailedRunsSaveInTurn)
       by true e = subst (λ (x : C). KeepsOther (state kept.keeper).slots (state x).slots kept.place.slot) (sym (s.saved e).0) (keeps_itself (state kept.keeper).slots kept.place.slot)
       by false e = (s.unsaved e).other
 
-  rest_in_turn : (kept.failed_saves ≡ 0) × IsOk rest → IfBothTold parts.keeper.slots (state now.keeper).slots (λ p q. RunSavesInTurn parts p q all_posted)
+  rest_in_turn : (kept.failed_saves ≡ 0) × IsOk rest → IfBothObserved parts.keeper.slots (state now.keeper).slots (λ p q. RunSavesInTurn parts p q all_posted)
   rest_in_turn both = by kept.last_saved refl
     where
-      by : (l : Bool) → kept.last_saved ≡ l → IfBothTold parts.keeper.slots (state now.keeper).slots (λ p q. RunSavesInTurn parts p q all_posted)
+      by : (l : Bool) → kept.last_saved ≡ l → IfBothObserved parts.keeper.slots (state now.keeper).slots (λ p q. RunSavesInTurn parts p q all_posted)
       by true e =
-          subst (λ (x : C). IfBothTold parts.keeper.slots (state x).slots (λ p q. RunSavesInTurn parts p q all_posted)) (sym (s.saved e).0)
-          (saved_before state parts v kept digest k law both.0 e parts.keeper.slots (state kept.keeper).slots k.closed.plan.place k.closed.kept.told)
+          subst (λ (x : C). IfBothObserved parts.keeper.slots (state x).slots (λ p q. RunSavesInTurn parts p q all_posted)) (sym (s.saved e).0)
+          (saved_before state parts v kept digest k law both.0 e parts.keeper.slots (state kept.keeper).slots k.closed.plan.place k.closed.kept.observed)
       by false e =
           let t = s.unsaved e in
           saved_now state parts v kept digest k law both.0 e sorted is t.sound parts.keeper.slots (state kept.keeper).slots (state now.keeper).slots k.closed.plan.place
-          k.closed.kept.told t.other (on_ok_at rest both.1 t.held) (on_ok_at rest both.1 t.newest)
+          k.closed.kept.observed t.other (on_ok_at rest both.1 t.held) (on_ok_at rest both.1 t.newest)
 
-  rest_tried : (state now.keeper).tried ≡ tried_all parts.keeper.tried (run_tries kept.last_saved (is_ok rest) parts all_posted)
-  rest_tried = by kept.last_saved refl
+  rest_attempted : (state now.keeper).attempted ≡ attempted_all parts.keeper.attempted (run_attempts kept.last_saved (is_ok rest) parts all_posted)
+  rest_attempted = by kept.last_saved refl
     where
-      by : (l : Bool) → kept.last_saved ≡ l → (state now.keeper).tried ≡ tried_all parts.keeper.tried (run_tries kept.last_saved (is_ok rest) parts all_posted)
+      by : (l : Bool) → kept.last_saved ≡ l → (state now.keeper).attempted ≡ attempted_all parts.keeper.attempted (run_attempts kept.last_saved (is_ok rest) parts all_posted)
       by true e =
-          ap (λ x. (state x).tried) (s.saved e).0 ∙ k.closed.kept.tried_is ∙ ap (tried_all parts.keeper.tried) (sym (append-nil (tries parts all_posted)))
-          ∙ ap (λ (l : Bool). tried_all parts.keeper.tried (run_tries l (is_ok rest) parts all_posted)) (sym e)
+          ap (λ x. (state x).attempted) (s.saved e).0 ∙ k.closed.kept.attempted_is ∙ ap (attempted_all parts.keeper.attempted) (sym (append-nil (attempts parts all_posted)))
+          ∙ ap (λ (l : Bool). attempted_all parts.keeper.attempted (run_attempts l (is_ok rest) parts all_posted)) (sym e)
       by false e =
-          (s.unsaved e).tried
-          ∙ (λ i. tried_too (k.closed.kept.tried_is i) (k.closed.kept.place_is i).slot (checkpoint 2 (k.digest_is i) (k.closed.kept.place_is i).generation (same i)) (is_ok rest))
-          ∙ sym (tried_then parts.keeper.tried (tries parts all_posted) (rest_tries false (is_ok rest) parts all_posted))
-          ∙ ap (λ (l : Bool). tried_all parts.keeper.tried (run_tries l (is_ok rest) parts all_posted)) (sym e)
+          (s.unsaved e).attempted
+          ∙ (λ i. attempted_too (k.closed.kept.attempted_is i) (k.closed.kept.place_is i).slot (checkpoint 2 (k.digest_is i) (k.closed.kept.place_is i).generation (same i)) (is_ok rest))
+          ∙ sym (attempted_then parts.keeper.attempted (attempts parts all_posted) (rest_attempts false (is_ok rest) parts all_posted))
+          ∙ ap (λ (l : Bool). attempted_all parts.keeper.attempted (run_attempts l (is_ok rest) parts all_posted)) (sym e)
 
   rest_sound : kept.last_saved ≡ false
       → IsCheckpoint (checkpoint 2 (job_digest parts.job) (moved (saves_made all_posted) parts.place).generation (by_id (total parts.job) (booked parts all_posted)))
@@ -270,7 +270,7 @@ module _ {C : Type 0} (state : C → KeeperState) (law : UnfailedRunsSaveInTurn)
       subst (λ (x : List ℕ × Place × List Outcome). IsCheckpoint (checkpoint 2 x.0 x.1.generation x.2) 2 x.0 x.1.generation x.2)
       (λ i. (k.digest_is i, k.closed.kept.place_is i, same i)) (s.unsaved e).sound
 
-  rest_covered : min (parts.keeper.save_faults + failed_of (run_tries kept.last_saved (is_ok rest) parts all_posted)) (2 ^ 64 - 1) ≤ (state now.keeper).save_faults
+  rest_covered : min (parts.keeper.save_faults + failed_of (run_attempts kept.last_saved (is_ok rest) parts all_posted)) (2 ^ 64 - 1) ≤ (state now.keeper).save_faults
   rest_covered =
       let count = failed_run parts kept.last_saved (is_ok rest) all_posted
       ∙ ap (λ (n : ℕ). n + cond {A = ℕ} (not kept.last_saved && not (is_ok rest)) 1 0) (sym k.closed.kept.failed_is) in
@@ -290,10 +290,10 @@ module _ {C : Type 0} (state : C → KeeperState) (law : UnfailedRunsSaveInTurn)
     cause = both_cause parts.keeper.save_faults kept.failed_saves (state kept.keeper).save_faults (state now.keeper).save_faults rest k.closed.kept.covered k.closed.kept.counts k.closed.kept.shown rest_cause result b;
     loads = rest_loads;
     in_turn = on_ok_of result (λ ok. rest_in_turn (b.ok ok));
-    keeps = keeps_by state parts v kept digest k parts.keeper.slots (state kept.keeper).slots (state now.keeper).slots k.closed.kept.told rest_other;
-    tries = run_tries kept.last_saved (is_ok rest) parts all_posted;
-    tried = rest_tried;
-    are_tries = are_run_tries parts k.closed.plan kept.last_saved (is_ok rest) all_posted (of_todo state parts v kept digest k) k.closed.kept.sound k.closed.due rest_sound;
+    keeps = keeps_by state parts v kept digest k parts.keeper.slots (state kept.keeper).slots (state now.keeper).slots k.closed.kept.observed rest_other;
+    attempts = run_attempts kept.last_saved (is_ok rest) parts all_posted;
+    attempted = rest_attempted;
+    are_attempts = are_run_attempts parts k.closed.plan kept.last_saved (is_ok rest) all_posted (of_todo state parts v kept digest k) k.closed.kept.sound k.closed.due rest_sound;
     in_order = are_saves parts k.closed.plan kept.last_saved (is_ok rest) all_posted (of_todo state parts v kept digest k) (in_order state parts v kept digest k) k.closed.kept.sound k.closed.due k.closed.last rest_sound;
     covered = rest_covered;
   }

@@ -20,7 +20,7 @@ pub mod Slotting
 pub mod Steps
 pub mod Tallying
 pub mod Todo
-pub mod Tried
+pub mod Attempted
 pub mod Trying
 pub mod Turning
 pub mod Unposted

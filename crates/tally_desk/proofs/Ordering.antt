@@ -8,7 +8,7 @@ use Rattle.std.proofs.lemmas.Nat.{div-mul-add, le-div, mul-le}
 use Rattle.std.proofs.Math.Nat.{mod-lt}
 use mathlib.Core.Logic.{dite}
 use native.Mathlib.Decide.{ℕ_discrete}
-use Rattle.audit_model.specs.Tries.{Try}
+use Rattle.audit_model.specs.Attempts.{Try}
 use Rattle.audit_model.specs.declared.outcome.Outcome.{Outcome}
 use Rattle.audit_model.specs.declared.place.Place.{Place}
 use Rattle.audit_model.specs.Run.{total, by_id}
@@ -21,14 +21,14 @@ use Rattle.audit_statement.specs.InOrder.{AreSavesSoFar}
 use Rattle.tally_desk.specs.declared.entry.Entry.{Entry}
 use Rattle.tally_desk.specs.Desks.{AreDue}
 use Rattle.tally_desk.specs.Entries.{ends_saved, ends_saved_from, posted_id, ids_of, is_due, saves_made, tickets_of}
-use Rattle.tally_desk.specs.Homes.{IsSound, Made, booked, made, made_after, made_with, tries, try_made}
-use Rattle.audit_statement.specs.InOrder.{moved, AreSavesFrom, AreSavesOf, IsSaveOfIds, count_of_tries, last_succeeded, last_succeeded_from, place_after, taken_in}
+use Rattle.tally_desk.specs.Homes.{IsSound, Made, booked, made, made_after, made_with, attempts, try_made}
+use Rattle.audit_statement.specs.InOrder.{moved, AreSavesFrom, AreSavesOf, IsSaveOfIds, count_of_attempts, last_succeeded, last_succeeded_from, place_after, taken_in}
 use Rattle.claim_counter.specs.Walks.{found}
 use Rattle.tally_desk.specs.Parts.{IsPlan, Parts}
 use Rattle.tally_desk.proofs.Marking.{next_turn}
 use Rattle.tally_desk.proofs.Regular.{due_later, due_next, first_ticket, next_group, next_less, other_tickets}
 use Rattle.tally_desk.proofs.Holding.{moved_all}
-use Rattle.tally_desk.proofs.Tried.{fewer, later as later_ones, rest_tries, run_tries, sound_rest}
+use Rattle.tally_desk.proofs.Attempted.{fewer, later as later_ones, rest_attempts, run_attempts, sound_rest}
 
 -- the members of one list that another list does not use
 left_over : (xs ys : List ℕ) → ((id : ℕ) → times id xs ≤ times id ys) → (more : List ℕ) × ((id : ℕ) → times id (xs ++ more) ≡ times id ys)
@@ -154,15 +154,15 @@ module _ (parts : Parts) (plan : IsPlan parts) where
 
   -- ---- the number of saves
 
-  abbrev tried_after : List Entry → List Entry → List Try
-  tried_after earlier posted = map (try_made parts.job) (made_after parts earlier posted)
+  abbrev attempted_after : List Entry → List Entry → List Try
+  attempted_after earlier posted = map (try_made parts.job) (made_after parts earlier posted)
 
   count_with : (earlier : List Entry) (e : Entry) (ms : List Made) (b : Bool)
       → length (map (try_made parts.job) (cond b (made_with parts earlier e ∷ []) [] ++ ms)) ≡ cond {A = ℕ} b 1 0 + length (map (try_made parts.job) ms)
   count_with earlier e ms true = omega arith
   count_with earlier e ms false = omega arith
 
-  count : (posted earlier : List Entry) (q r : ℕ) → r < v → Tickets posted (q * v + r) → length (tried_after earlier posted) + q ≡ (q * v + r + length posted) / v
+  count : (posted earlier : List Entry) (q r : ℕ) → r < v → Tickets posted (q * v + r) → length (attempted_after earlier posted) + q ≡ (q * v + r + length posted) / v
   count [] earlier q r less tickets =
       (let same : 0 + q ≡ q = omega arith in same) ∙ sym (ap (λ (z : ℕ). z / v) (let same : q * v + r + 0 ≡ q * v + r = omega arith in same) ∙ div-mul-add q v r less)
   count (e ∷ posted) earlier q r less tickets =
@@ -174,14 +174,14 @@ module _ (parts : Parts) (plan : IsPlan parts) where
       let flag : cond {A = ℕ} (is_due v e) 1 0 ≡ 1 = ap (λ (b : Bool). cond b 1 0) (due_next v plan.every e q r here full) in
       let rest = count posted (earlier ++ e ∷ []) (suc q) 0 (omega (arith, plan.every)) (later ∙ ap (λ (z : ℕ). range_with_len z (length posted)) (next_group v plan.every q r full)) in
       let reached : suc q * v + 0 + length posted ≡ q * v + r + length (e ∷ posted) = omega (arith, full, suc-mul q v) in
-      let sum : length (tried_after earlier (e ∷ posted)) + q ≡ length (tried_after (earlier ++ e ∷ []) posted) + suc q = omega (arith, cut, flag) in
+      let sum : length (attempted_after earlier (e ∷ posted)) + q ≡ length (attempted_after (earlier ++ e ∷ []) posted) + suc q = omega (arith, cut, flag) in
       sum ∙ rest ∙ ap (λ (z : ℕ). z / v) reached)
       (λ not_full.
       let more = next_less v plan.every r less not_full in
       let flag : cond {A = ℕ} (is_due v e) 1 0 ≡ 0 = ap (λ (b : Bool). cond b 1 0) (due_later v plan.every e q r here more) in
       let rest = count posted (earlier ++ e ∷ []) q (r + 1) more (later ∙ ap (λ (z : ℕ). range_with_len z (length posted)) (let same : q * v + r + 1 ≡ q * v + (r + 1) = omega arith in same)) in
       let reached : q * v + (r + 1) + length posted ≡ q * v + r + length (e ∷ posted) = omega arith in
-      let sum : length (tried_after earlier (e ∷ posted)) + q ≡ length (tried_after (earlier ++ e ∷ []) posted) + q = omega (arith, cut, flag) in
+      let sum : length (attempted_after earlier (e ∷ posted)) + q ≡ length (attempted_after (earlier ++ e ∷ []) posted) + q = omega (arith, cut, flag) in
       sum ∙ rest ∙ ap (λ (z : ℕ). z / v) reached)
 
   -- ---- the mark of the last post
@@ -196,7 +196,7 @@ module _ (parts : Parts) (plan : IsPlan parts) where
   one_end e c false due is = unsaved e due is
 
   ends : (posted earlier : List Entry) (a : ℕ) (b c : Bool) → Tickets posted a → All Due posted → b ≡ ((a % v == 0) && c)
-      → ends_saved_from b posted ≡ (((a + length posted) % v == 0) && last_succeeded_from c (tried_after earlier posted))
+      → ends_saved_from b posted ≡ (((a + length posted) % v == 0) && last_succeeded_from c (attempted_after earlier posted))
   ends [] earlier a b c tickets due is = is ∙ ap (λ (z : ℕ). (z % v == 0) && c) (let same : a ≡ a + 0 = omega arith in same)
   ends (e ∷ posted) earlier a b c tickets due is =
       let here = first_ticket e posted a tickets in
@@ -219,9 +219,9 @@ module _ (parts : Parts) (plan : IsPlan parts) where
 
   pub are_saves : (last_saved succeeded : Bool) (posted : List Entry) → OfTodo posted → tickets_of posted ≡ range_with_len 0 (length posted) → All (IsSound parts.job) (made parts posted)
       → AreDue parts posted → last_saved ≡ ends_saved posted → (last_saved ≡ false → IsSoundAt (moved (saves_made posted) parts.place).generation posted)
-      → AreSavesOf parts.job parts.opening parts.save_every parts.place (ids_of posted) (run_tries last_saved succeeded parts posted)
+      → AreSavesOf parts.job parts.opening parts.save_every parts.place (ids_of posted) (run_attempts last_saved succeeded parts posted)
   are_saves last_saved succeeded posted of_todo tickets sound due last rest_sound = record {
-    each = order posted posted [] 0 0 (rest_tries last_saved succeeded parts posted) refl (let none : 0 ≡ 0 * v + 0 = omega arith in none) (omega (arith, plan.every)) of_todo from sound due
+    each = order posted posted [] 0 0 (rest_attempts last_saved succeeded parts posted) refl (let none : 0 ≡ 0 * v + 0 = omega arith in none) (omega (arith, plan.every)) of_todo from sound due
         (rest_from last_saved rest_sound);
     counted = counted_by last_saved last;
   }
@@ -232,9 +232,9 @@ module _ (parts : Parts) (plan : IsPlan parts) where
       long : length (ids_of posted) ≡ length posted
       long = length-map posted posted_id
 
-      groups : length (tries parts posted) ≡ length posted / v
+      groups : length (attempts parts posted) ≡ length posted / v
       groups =
-          (let same : length (tries parts posted) ≡ length (tries parts posted) + 0 = omega arith in same) ∙ count posted [] 0 0 (omega (arith, plan.every)) from
+          (let same : length (attempts parts posted) ≡ length (attempts parts posted) + 0 = omega arith in same) ∙ count posted [] 0 0 (omega (arith, plan.every)) from
           ∙ ap (λ (z : ℕ). z / v) (let same : 0 * v + 0 + length posted ≡ length posted = omega arith in same)
 
       enough : length (ids_of posted) ≤ suc (length posted / v) * v
@@ -243,7 +243,7 @@ module _ (parts : Parts) (plan : IsPlan parts) where
           let left : length posted % v < v = mod-lt (length posted) (let some_ids : 0 < v = omega (arith, plan.every) in some_ids) in
           omega (arith, parted, left, long, suc-mul (length posted / v) v)
 
-      rest_from : (b : Bool) → (b ≡ false → IsSoundAt (moved (saves_made posted) parts.place).generation posted) → From posted (suc (length posted / v)) posted (rest_tries b succeeded parts posted)
+      rest_from : (b : Bool) → (b ≡ false → IsSoundAt (moved (saves_made posted) parts.place).generation posted) → From posted (suc (length posted / v)) posted (rest_attempts b succeeded parts posted)
       rest_from true h = tt
       rest_from false h = (
         save_of (moved (saves_made posted) parts.place).generation (moved (saves_made posted) parts.place).slot posted (take (suc (length posted / v) * v) (ids_of posted)) succeeded
@@ -251,26 +251,26 @@ module _ (parts : Parts) (plan : IsPlan parts) where
         tt,
       )
 
-      whole : ends_saved posted ≡ ((length posted % v == 0) && last_succeeded (tries parts posted))
+      whole : ends_saved posted ≡ ((length posted % v == 0) && last_succeeded (attempts parts posted))
       whole =
           ends posted [] 0 false false tickets due (none_yet (0 % v == 0))
-          ∙ ap (λ (z : ℕ). (z % v == 0) && last_succeeded (tries parts posted)) (let same : 0 + length posted ≡ length posted = omega arith in same)
+          ∙ ap (λ (z : ℕ). (z % v == 0) && last_succeeded (attempts parts posted)) (let same : 0 + length posted ≡ length posted = omega arith in same)
 
-      first_tries : (rest : List Try) → take (length posted / v) (tries parts posted ++ rest) ≡ tries parts posted
-      first_tries rest = take_at (tries parts posted) rest (length posted / v) groups
+      first_attempts : (rest : List Try) → take (length posted / v) (attempts parts posted ++ rest) ≡ attempts parts posted
+      first_attempts rest = take_at (attempts parts posted) rest (length posted / v) groups
 
-      rest_count : (b : Bool) → length (rest_tries b succeeded parts posted) ≡ cond {A = ℕ} b 0 1
+      rest_count : (b : Bool) → length (rest_attempts b succeeded parts posted) ≡ cond {A = ℕ} b 0 1
       rest_count true = refl
       rest_count false = refl
 
-      counted_by : (b : Bool) → b ≡ ends_saved posted → length (run_tries b succeeded parts posted) ≡ count_of_tries v (length (ids_of posted)) (run_tries b succeeded parts posted)
+      counted_by : (b : Bool) → b ≡ ends_saved posted → length (run_attempts b succeeded parts posted) ≡ count_of_attempts v (length (ids_of posted)) (run_attempts b succeeded parts posted)
       counted_by b is =
-          let test : b ≡ ((length posted % v == 0) && last_succeeded (take (length posted / v) (run_tries b succeeded parts posted))) =
-          is ∙ whole ∙ ap (λ ts. (length posted % v == 0) && last_succeeded ts) (sym (first_tries (rest_tries b succeeded parts posted))) in
-          let both : length (run_tries b succeeded parts posted) ≡ length (tries parts posted) + length (rest_tries b succeeded parts posted) =
-          length-append (tries parts posted) (rest_tries b succeeded parts posted) in
+          let test : b ≡ ((length posted % v == 0) && last_succeeded (take (length posted / v) (run_attempts b succeeded parts posted))) =
+          is ∙ whole ∙ ap (λ ts. (length posted % v == 0) && last_succeeded ts) (sym (first_attempts (rest_attempts b succeeded parts posted))) in
+          let both : length (run_attempts b succeeded parts posted) ≡ length (attempts parts posted) + length (rest_attempts b succeeded parts posted) =
+          length-append (attempts parts posted) (rest_attempts b succeeded parts posted) in
           both ∙ (λ i. groups i + rest_count b i) ∙ ap (λ (x : Bool). length posted / v + cond {A = ℕ} x 0 1) test
-          ∙ ap (λ (n : ℕ). count_of_tries v n (run_tries b succeeded parts posted)) (sym long)
+          ∙ ap (λ (n : ℕ). count_of_attempts v n (run_attempts b succeeded parts posted)) (sym long)
 
   -- ---- the saves so far
 
@@ -287,13 +287,13 @@ module _ (parts : Parts) (plan : IsPlan parts) where
 
   -- the attempts made with these posts are the first attempts of the run
   pub saves_so_far : (posted : List Entry) → OfTodo posted → tickets_of posted ≡ range_with_len 0 (length posted) → All (IsSound parts.job) (made parts posted) → AreDue parts posted
-      → AreSavesSoFar parts.job parts.opening parts.save_every parts.place parts.todo (tries parts posted)
+      → AreSavesSoFar parts.job parts.opening parts.save_every parts.place parts.todo (attempts parts posted)
   saves_so_far posted of_todo tickets sound due =
       let left = left_over (ids_of posted) parts.todo of_todo in record {
         walked = ids_of posted ++ left.0;
         all_walked = permutation_from_times (ids_of posted ++ left.0) parts.todo left.1;
         first = record {
-          each = more_ids (ids_of posted) left.0 1 parts.place (tries parts posted) enough goes;
+          each = more_ids (ids_of posted) left.0 1 parts.place (attempts parts posted) enough goes;
           few = omega (arith, groups, more_groups left.0);
         };
       }
@@ -304,21 +304,21 @@ module _ (parts : Parts) (plan : IsPlan parts) where
       from : Tickets posted (0 * v + 0)
       from = tickets ∙ ap (λ (z : ℕ). range_with_len z (length posted)) none
 
-      goes : AreSavesFrom parts.job parts.opening v (ids_of posted) 1 parts.place (tries parts posted)
-      goes = subst (From posted 1 []) (append-nil (tries parts posted)) (order posted posted [] 0 0 [] refl none (omega (arith, plan.every)) of_todo from sound due tt)
+      goes : AreSavesFrom parts.job parts.opening v (ids_of posted) 1 parts.place (attempts parts posted)
+      goes = subst (From posted 1 []) (append-nil (attempts parts posted)) (order posted posted [] 0 0 [] refl none (omega (arith, plan.every)) of_todo from sound due tt)
 
       long : length (ids_of posted) ≡ length posted
       long = length-map posted posted_id
 
-      groups : length (tries parts posted) ≡ length posted / v
+      groups : length (attempts parts posted) ≡ length posted / v
       groups =
-          (let same : length (tries parts posted) ≡ length (tries parts posted) + 0 = omega arith in same) ∙ count posted [] 0 0 (omega (arith, plan.every)) from
+          (let same : length (attempts parts posted) ≡ length (attempts parts posted) + 0 = omega arith in same) ∙ count posted [] 0 0 (omega (arith, plan.every)) from
           ∙ ap (λ (z : ℕ). z / v) (let same : 0 * v + 0 + length posted ≡ length posted = omega arith in same)
 
       within : (length posted / v) * v ≤ length posted
       within = let parted = div-add-mod' (length posted) v in omega (arith, parted)
 
-      enough : (k : ℕ) → k < length (tries parts posted) → (1 + k) * v ≤ length (ids_of posted)
+      enough : (k : ℕ) → k < length (attempts parts posted) → (1 + k) * v ≤ length (ids_of posted)
       enough k less =
           let le : (1 + k) * v ≤ (length posted / v) * v = mul-le (1 + k) v (length posted / v) v (omega (arith, less, groups)) (omega arith) in
           omega (arith, le, within, long)
@@ -329,7 +329,7 @@ module _ (parts : Parts) (plan : IsPlan parts) where
   -- the attempts of the run, with a last save of all posts
   pub saves_with_last : (succeeded : Bool) (posted : List Entry) → OfTodo posted → tickets_of posted ≡ range_with_len 0 (length posted) → All (IsSound parts.job) (made parts posted)
       → AreDue parts posted → IsPermutation (ids_of posted) parts.todo → false ≡ ends_saved posted → IsSoundAt (moved (saves_made posted) parts.place).generation posted
-      → AreSavesSoFar parts.job parts.opening parts.save_every parts.place parts.todo (run_tries false succeeded parts posted)
+      → AreSavesSoFar parts.job parts.opening parts.save_every parts.place parts.todo (run_attempts false succeeded parts posted)
   saves_with_last succeeded posted of_todo tickets sound due all last rest_sound =
       let saves = are_saves false succeeded posted of_todo tickets sound due last (λ _. rest_sound) in
       record { walked = ids_of posted; all_walked = all; first = record { each = saves.each; few = omega (arith, saves.counted) } }

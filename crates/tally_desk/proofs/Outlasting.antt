@@ -6,18 +6,18 @@ use Rattle.std.proofs.lemmas.List.{map-append}
 use Rattle.std.specs.Prelude.{◌==◌}
 use Rattle.std.proofs.lemmas.List.Sums.{sum_by-append}
 use Rattle.std.proofs.lemmas.List.Elements.{All-cons, All-head, All-nil, All-tail}
-use Rattle.audit_model.specs.Tries.{Try}
+use Rattle.audit_model.specs.Attempts.{Try}
 use Rattle.audit_model.specs.Run.{IsRight, fits, total}
 use Rattle.audit_model.specs.Times.{times}
 use Rattle.audit_statement.specs.Checkpoint.{job_digest}
 use Rattle.audit_statement.specs.Histories.{AreInTurn, IsRightSave, IsSaveAt}
-use Rattle.ckpt_store.specs.Laws.{SavesKeepTheNewest, SavesLeaveHonestSlots}
+use Rattle.ckpt_store.specs.Laws.{SavesKeepTheNewest, SavesLeaveConsistentSlots}
 use Rattle.audit_statement.specs.Draw.{draw}
 use Rattle.tally_desk.specs.declared.entry.Entry.{Entry}
 use Rattle.tally_desk.specs.Entries.{posted_id, ids_of, is_due, saves_made}
-use Rattle.tally_desk.specs.Homes.{IsSound, Made, booked, made_after, made_with, tries, try_made}
+use Rattle.tally_desk.specs.Homes.{IsSound, Made, booked, made_after, made_with, attempts, try_made}
 use Rattle.audit_statement.specs.InOrder.{moved}
-use Rattle.tally_desk.specs.Outlasting.{RunStopsKeepTheNewest, RunStopsLeaveHonestSlots}
+use Rattle.tally_desk.specs.Outlasting.{RunStopsKeepTheNewest, RunStopsLeaveConsistentSlots}
 use Rattle.tally_desk.specs.Parts.{IsPlan, Parts}
 use Rattle.tally_desk.proofs.Booking.{booked_fit, by_id_fit}
 use Rattle.tally_desk.proofs.Marking.{next_turn}
@@ -49,12 +49,12 @@ module _ (parts : Parts) (plan : IsPlan parts) where
     right = saved_outcomes_are_right parts (earlier ++ e ∷ []) plan of_todo opening;
   }
 
-  right_tries : IsRight parts.job (draw parts.job.setting.key) parts.opening → (posted earlier : List Entry)
+  right_attempts : IsRight parts.job (draw parts.job.setting.key) parts.opening → (posted earlier : List Entry)
       → ((id : ℕ) → times id (ids_of (earlier ++ posted)) ≤ times id parts.todo) → All (IsSound parts.job) (made_after parts earlier posted)
       → All RightTry (map (try_made parts.job) (made_after parts earlier posted))
-  right_tries opening [] earlier of_todo sound = All-nil RightTry
-  right_tries opening (e ∷ posted) earlier of_todo sound =
-      by (is_due parts.save_every e) sound (right_tries opening posted (earlier ++ e ∷ []) (λ id. subst (λ (l : List Entry). times id (ids_of l) ≤ times id parts.todo) (sym (append_assoc earlier (e ∷ []) posted)) (of_todo id)))
+  right_attempts opening [] earlier of_todo sound = All-nil RightTry
+  right_attempts opening (e ∷ posted) earlier of_todo sound =
+      by (is_due parts.save_every e) sound (right_attempts opening posted (earlier ++ e ∷ []) (λ id. subst (λ (l : List Entry). times id (ids_of l) ≤ times id parts.todo) (sym (append_assoc earlier (e ∷ []) posted)) (of_todo id)))
     where
       by : (b : Bool) → All (IsSound parts.job) (cond b (made_with parts earlier e ∷ []) [] ++ made_after parts (earlier ++ e ∷ []) posted)
           → (All (IsSound parts.job) (made_after parts (earlier ++ e ∷ []) posted) → All RightTry (map (try_made parts.job) (made_after parts (earlier ++ e ∷ []) posted)))
@@ -118,13 +118,13 @@ module _ (parts : Parts) (plan : IsPlan parts) where
       rest_sound (All-tail (λ (x : Entry). x.saved ≡ true → is_due parts.save_every x ≡ true) e posted due))
 
 -- the saves of a desk are correct saves in turn, which leave consistent slots
-pub stops_leave_honest_slots : SavesLeaveHonestSlots → RunStopsLeaveHonestSlots
-stops_leave_honest_slots law parts posted before after n posts opening out honest =
-    law parts.job (draw parts.job.setting.key) (job_digest parts.job) before after (tries parts posted) n
-    (right_tries parts posts.plan opening posted [] posts.of_todo posts.sound) out honest
+pub stops_leave_consistent_slots : SavesLeaveConsistentSlots → RunStopsLeaveConsistentSlots
+stops_leave_consistent_slots law parts posted before after n posts opening out consistent =
+    law parts.job (draw parts.job.setting.key) (job_digest parts.job) before after (attempts parts posted) n
+    (right_attempts parts posts.plan opening posted [] posts.of_todo posts.sound) out consistent
 
 -- the saves of a desk keep the newest slot or make a newer one
 pub stops_keep_the_newest : SavesKeepTheNewest → RunStopsKeepTheNewest
 stops_keep_the_newest law parts posted before after n posts first out =
-    law parts.job (job_digest parts.job) before after parts.place.slot parts.place.generation (tries parts posted) n first
+    law parts.job (job_digest parts.job) before after parts.place.slot parts.place.generation (attempts parts posted) n first
     (in_turn parts posts.plan posted [] posts.of_todo posts.sound posts.due) out

@@ -12,7 +12,7 @@ use Rattle.audit_model.specs.declared.place.Place.{Place}
 use Rattle.ckpt_store.specs.Laws.{CheckpointsAreOurs, IsNewestForFitJobs, SavedSlotsAreNewest}
 use Rattle.tally_desk.specs.declared.entry.Entry.{Entry}
 use Rattle.tally_desk.specs.Entries.{post_of, ids_of, is_missed, saves_made, missed, up_to_save, after_save}
-use Rattle.audit_model.specs.Told.{IfBothTold}
+use Rattle.audit_model.specs.Observed.{IfBothObserved}
 use Rattle.tally_desk.specs.Homes.{IsSaveOf, SlotsAs, booked}
 use Rattle.audit_statement.specs.InOrder.{moved, next_place}
 use Rattle.tally_desk.specs.Parts.{Parts, IsPlan}
@@ -69,10 +69,10 @@ after_before (suc (suc (suc g))) below = absurd (omega arith)
 -- ---- known or unknown slots
 
 -- an implication carries over to slots that may be unknown
-pub told_map : {A : Type 0} (a b : Option A) (P Q : A → A → Type 0) → ((x y : A) → P x y → Q x y) → IfBothTold a b P → IfBothTold a b Q
-told_map None b P Q f h = tt
-told_map (Some x) None P Q f h = h
-told_map (Some x) (Some y) P Q f h = f x y h
+pub observed_map : {A : Type 0} (a b : Option A) (P Q : A → A → Type 0) → ((x y : A) → P x y → Q x y) → IfBothObserved a b P → IfBothObserved a b Q
+observed_map None b P Q f h = tt
+observed_map (Some x) None P Q f h = h
+observed_map (Some x) (Some y) P Q f h = f x y h
 
 -- if the count is zero, the condition is false
 cond_none : (b : Bool) → cond {A = ℕ} b 1 0 ≡ 0 → b ≡ false
@@ -126,8 +126,8 @@ module _ (newest : SavedSlotsAreNewest) (ours : CheckpointsAreOurs) (parts : Par
   pub newest_written : (n : ℕ) → saves_made l ≡ n → newest_for parts.job (job_digest parts.job) after ≡ Some place.slot
   newest_written zero none =
       let here : place ≡ parts.place = at ∙ ap (λ (n : ℕ). moved n parts.place) none in
-      let told : place_for parts.job (job_digest parts.job) before ≡ (place.slot, place.generation) = first ∙ ap (λ (p : Place). (p.slot, p.generation)) (sym here) in
-      (newest parts.job 2 (job_digest parts.job) before after place.slot place.generation outcomes told sound fit held (last ∙ s.last_unsaved none)).newest
+      let observed : place_for parts.job (job_digest parts.job) before ≡ (place.slot, place.generation) = first ∙ ap (λ (p : Place). (p.slot, p.generation)) (sym here) in
+      (newest parts.job 2 (job_digest parts.job) before after place.slot place.generation outcomes observed sound fit held (last ∙ s.last_unsaved none)).newest
   newest_written (suc n) some_saves =
       let save = s.last_saved (omega (arith, some_saves)) in
       let old = by_id (total parts.job) (booked parts (up_to_save (saves_made l) l)) in

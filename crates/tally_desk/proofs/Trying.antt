@@ -3,16 +3,16 @@ use Rattle.std.proofs.Common.{◌≡◌, Bool, true, false, cond, List, [], ◌�
 use Rattle.std.specs.List.{All}
 use Rattle.std.proofs.lemmas.List.{append-nil, map-append}
 use Rattle.std.proofs.lemmas.List.Elements.{All-push}
-use Rattle.audit_model.specs.Tries.{Try, tried_all, tried_too}
+use Rattle.audit_model.specs.Attempts.{Try, attempted_all, attempted_too}
 use Rattle.tally_desk.specs.declared.entry.Entry.{Entry}
 use Rattle.tally_desk.specs.Entries.{is_due}
-use Rattle.tally_desk.specs.Homes.{IsSound, Made, made, made_after, made_with, tries, try_made}
+use Rattle.tally_desk.specs.Homes.{IsSound, Made, made, made_after, made_with, attempts, try_made}
 use Rattle.tally_desk.specs.Parts.{Parts}
 
 -- attempts made one list after the other
-pub tried_then : (told : Option (List Try)) (xs ys : List Try) → tried_all told (xs ++ ys) ≡ tried_all (tried_all told xs) ys
-tried_then told [] ys = refl
-tried_then told (x ∷ xs) ys = tried_then (tried_too told x.slot x.bytes x.succeeded) xs ys
+pub attempted_then : (observed : Option (List Try)) (xs ys : List Try) → attempted_all observed (xs ++ ys) ≡ attempted_all (attempted_all observed xs) ys
+attempted_then observed [] ys = refl
+attempted_then observed (x ∷ xs) ys = attempted_then (attempted_too observed x.slot x.bytes x.succeeded) xs ys
 
 abbrev one : Parts → List Entry → Entry → List Made
 one parts earlier e = cond (is_due parts.save_every e) (made_with parts earlier e ∷ []) []
@@ -31,9 +31,9 @@ undue_made : (parts : Parts) (l : List Entry) (e : Entry) → is_due parts.save_
 undue_made parts l e is = made_push parts [] l e ∙ ap (λ (b : Bool). made parts l ++ cond b (made_with parts l e ∷ []) []) is ∙ append-nil (made parts l)
 
 -- the attempts are unchanged if no save was due
-pub undue_tries : (parts : Parts) (told : Option (List Try)) (l : List Entry) (e : Entry) → is_due parts.save_every e ≡ false
-    → tried_all told (tries parts l) ≡ tried_all told (tries parts (l ++ e ∷ []))
-undue_tries parts told l e is = ap (λ (ms : List Made). tried_all told (map (try_made parts.job) ms)) (sym (undue_made parts l e is))
+pub undue_attempts : (parts : Parts) (observed : Option (List Try)) (l : List Entry) (e : Entry) → is_due parts.save_every e ≡ false
+    → attempted_all observed (attempts parts l) ≡ attempted_all observed (attempts parts (l ++ e ∷ []))
+undue_attempts parts observed l e is = ap (λ (ms : List Made). attempted_all observed (map (try_made parts.job) ms)) (sym (undue_made parts l e is))
 
 -- the attempts stay sound if no save was due
 pub undue_sound : (parts : Parts) (l : List Entry) (e : Entry) → is_due parts.save_every e ≡ false
@@ -47,12 +47,12 @@ pub due_made : (parts : Parts) (l : List Entry) (e : Entry) → is_due parts.sav
 due_made parts l e is = made_push parts [] l e ∙ ap (λ (b : Bool). made parts l ++ cond b (made_with parts l e ∷ []) []) is
 
 -- a due save adds one attempt
-pub due_tries : (parts : Parts) (told : Option (List Try)) (l : List Entry) (e : Entry) → is_due parts.save_every e ≡ true
-    → (let t = try_made parts.job (made_with parts l e) in tried_too (tried_all told (tries parts l)) t.slot t.bytes t.succeeded ≡ tried_all told (tries parts (l ++ e ∷ [])))
-due_tries parts told l e is =
-    sym (ap (λ (ms : List Made). tried_all told (map (try_made parts.job) ms)) (due_made parts l e is)
-    ∙ ap (tried_all told) (map-append (try_made parts.job) (made parts l) (made_with parts l e ∷ []))
-    ∙ tried_then told (tries parts l) (try_made parts.job (made_with parts l e) ∷ []))
+pub due_attempts : (parts : Parts) (observed : Option (List Try)) (l : List Entry) (e : Entry) → is_due parts.save_every e ≡ true
+    → (let t = try_made parts.job (made_with parts l e) in attempted_too (attempted_all observed (attempts parts l)) t.slot t.bytes t.succeeded ≡ attempted_all observed (attempts parts (l ++ e ∷ [])))
+due_attempts parts observed l e is =
+    sym (ap (λ (ms : List Made). attempted_all observed (map (try_made parts.job) ms)) (due_made parts l e is)
+    ∙ ap (attempted_all observed) (map-append (try_made parts.job) (made parts l) (made_with parts l e ∷ []))
+    ∙ attempted_then observed (attempts parts l) (try_made parts.job (made_with parts l e) ∷ []))
 
 -- all attempts are sound if the new one is
 pub due_sound : (parts : Parts) (l : List Entry) (e : Entry) → is_due parts.save_every e ≡ true → IsSound parts.job (made_with parts l e)

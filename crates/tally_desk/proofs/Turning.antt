@@ -7,9 +7,9 @@ use Rattle.std.proofs.lemmas.List.Sums.{count_by-le-length}
 use Rattle.std.proofs.lemmas.Bool.{true≢false}
 use Rattle.audit_model.specs.Faults.{Counts}
 use Rattle.audit_model.specs.State.{Kept}
-use Rattle.audit_model.specs.Told.{IfBothTold, IfTold}
+use Rattle.audit_model.specs.Observed.{IfBothObserved, IfObserved}
 use Rattle.audit_model.specs.Pair.{Pair, HoldsBytes, KeepsOther}
-use Rattle.audit_model.specs.Tries.{tried_all, tried_too}
+use Rattle.audit_model.specs.Attempts.{attempted_all, attempted_too}
 use Rattle.audit_model.specs.declared.outcome.Outcome.{Outcome}
 use Rattle.audit_model.specs.Job.{Job}
 use Rattle.audit_model.specs.JobOf.{IsJob}
@@ -28,17 +28,17 @@ use Rattle.outcome_book.specs.Booked.{Booked, HasFewVisits}
 use Rattle.tally_desk.specs.declared.entry.Entry.{Entry}
 use Rattle.tally_desk.specs.declared.home.Home.{Home}
 use Rattle.tally_desk.specs.Entries.{post_of, posted_id, ids_of, is_due, is_missed, saves_made, missed, ticket_of, tickets_of}
-use Rattle.tally_desk.specs.Homes.{HasTurned, IsSound, KeptAs, MayTurn, SlotsAs, booked, made, made_with, tries, try_made}
+use Rattle.tally_desk.specs.Homes.{HasTurned, IsSound, KeptAs, MayTurn, SlotsAs, booked, made, made_with, attempts, try_made}
 use Rattle.audit_statement.specs.InOrder.{moved, next_place}
 use Rattle.tally_desk.specs.Parts.{Parts, IsPlan, IsPlaceFor}
-use Rattle.tally_desk.specs.Saving.{LetsSave, SavedWhereDue, TriedSave, bytes_of, sorted_of}
+use Rattle.tally_desk.specs.Saving.{LetsSave, SavedWhereDue, AttemptedSave, bytes_of, sorted_of}
 use Rattle.tally_desk.proofs.Bounds.{range_push}
 use Rattle.tally_desk.proofs.Booking.{absent_of_book, booked-push, booked_fit, by_id_fit}
 use Rattle.claim_counter.proofs.Sharing.{found_is}
 use Rattle.tally_desk.proofs.Marking.{missed-push, saves-push}
-use Rattle.tally_desk.proofs.Slotting.{moved_slot, moved_generation, other_is, saved_slots, told_map, unsaved_slots}
+use Rattle.tally_desk.proofs.Slotting.{moved_slot, moved_generation, other_is, saved_slots, observed_map, unsaved_slots}
 use Rattle.tally_desk.proofs.Ordering.{saves_so_far}
-use Rattle.tally_desk.proofs.Trying.{due_made, due_sound, due_tries, undue_sound, undue_tries}
+use Rattle.tally_desk.proofs.Trying.{due_made, due_sound, due_attempts, undue_sound, undue_attempts}
 use Rattle.tally_desk.proofs.Todo.{todo_small, todo_within}
 
 -- ---- counts of faults
@@ -78,35 +78,35 @@ count_none false is = refl
 -- ---- known or unknown slots
 
 -- the slots after a post without a save
-told_as_before : (parts : Parts) (l : List Entry) (t i : ℕ) (place : Place) → is_missed parts.save_every (post_of t i false) ≡ false → (a b : Option Pair)
-    → IfBothTold a b (λ before now. SlotsAs parts before now place l) → IfBothTold a b (λ before now. SlotsAs parts before now place (l ++ post_of t i false ∷ []))
-told_as_before parts l t i place unmissed a b h = told_map a b _ _ (λ before now s. unsaved_slots parts l t i before now now place refl (λ _. refl) s) h
+observed_as_before : (parts : Parts) (l : List Entry) (t i : ℕ) (place : Place) → is_missed parts.save_every (post_of t i false) ≡ false → (a b : Option Pair)
+    → IfBothObserved a b (λ before now. SlotsAs parts before now place l) → IfBothObserved a b (λ before now. SlotsAs parts before now place (l ++ post_of t i false ∷ []))
+observed_as_before parts l t i place unmissed a b h = observed_map a b _ _ (λ before now s. unsaved_slots parts l t i before now now place refl (λ _. refl) s) h
 
 -- the slots after a failed save
-told_failed : (parts : Parts) (l : List Entry) (t i : ℕ) (place : Place) → place.slot < 2 → is_missed parts.save_every (post_of t i false) ≡ true → (a b c : Option Pair)
-    → IfBothTold a b (λ before now. SlotsAs parts before now place l) → KeepsOther b c place.slot
-    → IfBothTold a c (λ before now. SlotsAs parts before now place (l ++ post_of t i false ∷ []))
-told_failed parts l t i place slot is_one None b c h other = tt
-told_failed parts l t i place slot is_one (Some p) None c h other = absurd h
-told_failed parts l t i place slot is_one (Some p) (Some q) None h other = other
-told_failed parts l t i place slot is_one (Some p) (Some q) (Some r) h other =
+observed_failed : (parts : Parts) (l : List Entry) (t i : ℕ) (place : Place) → place.slot < 2 → is_missed parts.save_every (post_of t i false) ≡ true → (a b c : Option Pair)
+    → IfBothObserved a b (λ before now. SlotsAs parts before now place l) → KeepsOther b c place.slot
+    → IfBothObserved a c (λ before now. SlotsAs parts before now place (l ++ post_of t i false ∷ []))
+observed_failed parts l t i place slot is_one None b c h other = tt
+observed_failed parts l t i place slot is_one (Some p) None c h other = absurd h
+observed_failed parts l t i place slot is_one (Some p) (Some q) None h other = other
+observed_failed parts l t i place slot is_one (Some p) (Some q) (Some r) h other =
     unsaved_slots parts l t i p q r place (sym (other_is r place.slot slot) ∙ other ∙ other_is q place.slot slot) (λ none. absurd (true≢false (sym is_one ∙ none))) h
 
 module _ (newest : SavedSlotsAreNewest) (ours : CheckpointsAreOurs) where
   -- the slots after a successful save
-  told_saved : (parts : Parts) (plan : IsPlan parts) (l : List Entry) (t i : ℕ) (place : Place) → place ≡ moved (saves_made l) parts.place
+  observed_saved : (parts : Parts) (plan : IsPlan parts) (l : List Entry) (t i : ℕ) (place : Place) → place ≡ moved (saves_made l) parts.place
       → ((id : ℕ) → times id (ids_of l) ≤ times id parts.todo)
       → (let all = by_id (total parts.job) (booked parts (l ++ post_of t i true ∷ [])) in
       list_all (fits parts.job) all ≡ true
       → IsCheckpoint (checkpoint 2 (job_digest parts.job) place.generation all) 2 (job_digest parts.job) place.generation all
-      → (a b c : Option Pair) → IsPlaceFor parts.job a parts.place → IfBothTold a b (λ before now. SlotsAs parts before now place l)
+      → (a b c : Option Pair) → IsPlaceFor parts.job a parts.place → IfBothObserved a b (λ before now. SlotsAs parts before now place l)
       → KeepsOther b c place.slot → HoldsBytes c place.slot (checkpoint 2 (job_digest parts.job) place.generation all)
-      → IfTold c (IsNewestForFitJobs (job_digest parts.job) place.slot place.generation all)
-      → IfBothTold a c (λ before now. SlotsAs parts before now (next_place place) (l ++ post_of t i true ∷ [])))
-  told_saved parts plan l t i place at of_todo fit sound None b c first h other held fresh = tt
-  told_saved parts plan l t i place at of_todo fit sound (Some p) None c first h other held fresh = absurd h
-  told_saved parts plan l t i place at of_todo fit sound (Some p) (Some q) None first h other held fresh = other
-  told_saved parts plan l t i place at of_todo fit sound (Some p) (Some q) (Some r) first h other held fresh =
+      → IfObserved c (IsNewestForFitJobs (job_digest parts.job) place.slot place.generation all)
+      → IfBothObserved a c (λ before now. SlotsAs parts before now (next_place place) (l ++ post_of t i true ∷ [])))
+  observed_saved parts plan l t i place at of_todo fit sound None b c first h other held fresh = tt
+  observed_saved parts plan l t i place at of_todo fit sound (Some p) None c first h other held fresh = absurd h
+  observed_saved parts plan l t i place at of_todo fit sound (Some p) (Some q) None first h other held fresh = other
+  observed_saved parts plan l t i place at of_todo fit sound (Some p) (Some q) (Some r) first h other held fresh =
       let slot : place.slot < 2 = subst (λ (x : Place). x.slot < 2) (sym at) (moved_slot (saves_made l) parts.place plan.slot) in
       let generation : place.generation < 3 = subst (λ (x : Place). x.generation < 3) (sym at) (moved_generation (saves_made l) parts.place plan.generation) in
       saved_slots newest ours parts plan l t i p q r place slot generation at first of_todo fit sound held
@@ -198,11 +198,11 @@ module _ {C : Type 0} (state : C → Kept) (lets : Lets) (parts : Parts) (y : Ho
         subst (λ (x : List ℕ × Place × List Outcome). IsCheckpoint (checkpoint 2 x.0 x.1.generation x.2) 2 x.0 x.1.generation x.2) (λ i. (digests i, k.place_is i, sorted i)) sound in
         let so_far = saves_so_far parts may.plan (next true) (next_of_todo true) (tickets_next true) (due_sound parts l e due one_sound k.sound)
         (All-push (λ (x : Entry). x.saved ≡ true → is_due parts.save_every x ≡ true) l e may.due (λ _. due)) in
-        let one_more : tries parts (next true) ≡ tries parts l ++ try_made parts.job (made_with parts l e) ∷ [] =
+        let one_more : attempts parts (next true) ≡ attempts parts l ++ try_made parts.job (made_with parts l e) ∷ [] =
         ap (map (try_made parts.job)) (due_made parts l e due) ∙ map-append (try_made parts.job) (made parts l) (made_with parts l e ∷ []) in
         subst (λ (x : Place × List ℕ × List Outcome). lets (state y.keeper) x.0.slot (checkpoint 2 x.1 x.0.generation x.2))
         (λ i. (sym k.place_is i, sym digests i, sym sorted i))
-        (may.holds.run_saves (state y.keeper) (tries parts l) (try_made parts.job (made_with parts l e)) k.tried_is
+        (may.holds.run_saves (state y.keeper) (attempts parts l) (try_made parts.job (made_with parts l e)) k.attempted_is
         (subst (AreSavesSoFar parts.job parts.opening parts.save_every parts.place parts.todo) one_more so_far))
 
     -- no save was due, and none was made
@@ -220,9 +220,9 @@ module _ {C : Type 0} (state : C → Kept) (lets : Lets) (parts : Parts) (y : Ho
             shown = k.shown;
             loads = k.loads;
             place_is = k.place_is ∙ ap (λ (n : ℕ). moved n parts.place) (let more = saves-push l (post_of (length l) o.id false) in let same : saves_made l ≡ saves_made (next false) = omega (arith, more) in same);
-            tried_is = k.tried_is ∙ undue_tries parts parts.keeper.tried l (post_of (length l) o.id false) not_due;
+            attempted_is = k.attempted_is ∙ undue_attempts parts parts.keeper.attempted l (post_of (length l) o.id false) not_due;
             sound = undue_sound parts l (post_of (length l) o.id false) not_due k.sound;
-            told = told_as_before parts l (length l) o.id y.place unmissed parts.keeper.slots (state y.keeper).slots k.told;
+            observed = observed_as_before parts l (length l) o.id y.place unmissed parts.keeper.slots (state y.keeper).slots k.observed;
           };
           due = λ h. absurd (true≢false (sym h));
           posted = refl;
@@ -234,15 +234,15 @@ module _ {C : Type 0} (state : C → Kept) (lets : Lets) (parts : Parts) (y : Ho
 
     module _ (newest : SavedSlotsAreNewest) (ours : CheckpointsAreOurs) (n : Home C) (was_due : (saved : Bool) → is_due parts.save_every (post_of (length l) o.id saved) ≡ true) where
       -- the state after a save that was due
-      rest_done : (saved : Bool) → TriedSave state m n saved → KeptAs state parts n.book n.keeper n.place n.failed_saves (next saved) → Done n saved
-      rest_done saved tried kept = record {
+      rest_done : (saved : Bool) → AttemptedSave state m n saved → KeptAs state parts n.book n.keeper n.place n.failed_saves (next saved) → Done n saved
+      rest_done saved attempted kept = record {
         kept = kept;
         due = λ _. was_due saved;
-        posted = tried.rest.posted;
-        every = tried.rest.every ∙ may.holds.equipped.every;
-        digest = tried.rest.digest ∙ may.holds.equipped.digest;
-        sorted_room = omega (arith, tried.rest.sorted_room, may.holds.equipped.sorted_room);
-        save_room = omega (arith, tried.rest.save_room, may.holds.equipped.save_room);
+        posted = attempted.rest.posted;
+        every = attempted.rest.every ∙ may.holds.equipped.every;
+        digest = attempted.rest.digest ∙ may.holds.equipped.digest;
+        sorted_room = omega (arith, attempted.rest.sorted_room, may.holds.equipped.sorted_room);
+        save_room = omega (arith, attempted.rest.save_room, may.holds.equipped.save_room);
       }
 
       abbrev all : List Outcome
@@ -255,76 +255,76 @@ module _ {C : Type 0} (state : C → Kept) (lets : Lets) (parts : Parts) (y : Ho
       sorted_is = ap (λ (q : Booked). by_id q.total q.outcomes) (book_is true)
 
       -- the history has the new save too, whether it succeeded or not
-      history_is : (saved : Bool) → TriedSave state m n saved → (state n.keeper).tried ≡ tried_all parts.keeper.tried (tries parts (next saved))
-      history_is saved tried =
+      history_is : (saved : Bool) → AttemptedSave state m n saved → (state n.keeper).attempted ≡ attempted_all parts.keeper.attempted (attempts parts (next saved))
+      history_is saved attempted =
           let k = may.holds.kept in
           let sorted : sorted_of m ≡ by_id (total parts.job) (booked parts (next saved)) = ap (λ (q : Booked). by_id q.total q.outcomes) (book_is saved) in
-          tried.tried
-          ∙ (λ i. tried_too (k.tried_is i) (k.place_is i).slot (checkpoint 2 (digests i) (k.place_is i).generation (sorted i)) saved)
-          ∙ due_tries parts parts.keeper.tried l (post_of (length l) o.id saved) (was_due saved)
+          attempted.attempted
+          ∙ (λ i. attempted_too (k.attempted_is i) (k.place_is i).slot (checkpoint 2 (digests i) (k.place_is i).generation (sorted i)) saved)
+          ∙ due_attempts parts parts.keeper.attempted l (post_of (length l) o.id saved) (was_due saved)
 
-      sound_is : (saved : Bool) → TriedSave state m n saved → All (IsSound parts.job) (made parts (next saved))
-      sound_is saved tried =
+      sound_is : (saved : Bool) → AttemptedSave state m n saved → All (IsSound parts.job) (made parts (next saved))
+      sound_is saved attempted =
           let k = may.holds.kept in
           let sorted : sorted_of m ≡ by_id (total parts.job) (booked parts (next saved)) = ap (λ (q : Booked). by_id q.total q.outcomes) (book_is saved) in
           due_sound parts l (post_of (length l) o.id saved) (was_due saved)
-          (subst (λ (x : List ℕ × Place × List Outcome). IsCheckpoint (checkpoint 2 x.0 x.1.generation x.2) 2 x.0 x.1.generation x.2) (λ i. (digests i, k.place_is i, sorted i)) tried.sound)
+          (subst (λ (x : List ℕ × Place × List Outcome). IsCheckpoint (checkpoint 2 x.0 x.1.generation x.2) 2 x.0 x.1.generation x.2) (λ i. (digests i, k.place_is i, sorted i)) attempted.sound)
           k.sound
 
-      saved_kept : TriedSave state m n true → KeptAs state parts n.book n.keeper n.place n.failed_saves (next true)
-      saved_kept tried =
+      saved_kept : AttemptedSave state m n true → KeptAs state parts n.book n.keeper n.place n.failed_saves (next true)
+      saved_kept attempted =
           let k = may.holds.kept in
-          let w = tried.on_ok refl in
+          let w = attempted.on_ok refl in
           let e = post_of (length l) o.id true in
           let count : saves_made (next true) ≡ suc (saves_made l) = let more = saves-push l e in omega (arith, more) in
           let none = count_none (is_missed parts.save_every e) (saved_unmissed parts.save_every (length l) o.id) in
           let same_missed : missed parts.save_every l ≡ missed parts.save_every (next true) = omega (arith, missed-push parts.save_every l e, none) in
           record {
-            book_is = tried.rest.book ∙ book_is true;
+            book_is = attempted.rest.book ∙ book_is true;
             failed_is = w.failed ∙ k.failed_is ∙ same_missed;
             covered = omega (arith, k.covered, w.faults, w.failed);
             counts = subst (Counts parts.keeper.save_faults) (sym w.faults) k.counts;
             shown = λ rose. let some_failed = k.shown (omega (arith, rose, w.faults)) in omega (arith, some_failed, w.failed);
-            loads = tried.loads ∙ k.loads;
+            loads = attempted.loads ∙ k.loads;
             place_is = w.place ∙ ap next_place k.place_is ∙ ap (λ (c : ℕ). moved c parts.place) (sym count);
-            tried_is = history_is true tried;
-            sound = sound_is true tried;
-            told = subst (λ (p : Place). IfBothTold parts.keeper.slots (state n.keeper).slots (λ before now. SlotsAs parts before now p (next true))) (sym w.place)
-                (told_saved newest ours parts may.plan l (length l) o.id y.place k.place_is may.of_todo
+            attempted_is = history_is true attempted;
+            sound = sound_is true attempted;
+            observed = subst (λ (p : Place). IfBothObserved parts.keeper.slots (state n.keeper).slots (λ before now. SlotsAs parts before now p (next true))) (sym w.place)
+                (observed_saved newest ours parts may.plan l (length l) o.id y.place k.place_is may.of_todo
                 (by_id_fit (fits parts.job) (total parts.job) (booked parts (next true)) (booked_fit parts may.plan (next true) (next_of_todo true)))
-                (subst (λ (x : List ℕ × List Outcome). IsCheckpoint (checkpoint 2 x.0 y.place.generation x.1) 2 x.0 y.place.generation x.1) (λ i. (digests i, sorted_is i)) tried.sound)
-                parts.keeper.slots (state y.keeper).slots (state n.keeper).slots may.plan.place k.told tried.other
+                (subst (λ (x : List ℕ × List Outcome). IsCheckpoint (checkpoint 2 x.0 y.place.generation x.1) 2 x.0 y.place.generation x.1) (λ i. (digests i, sorted_is i)) attempted.sound)
+                parts.keeper.slots (state y.keeper).slots (state n.keeper).slots may.plan.place k.observed attempted.other
                 (subst (λ (x : List ℕ × List Outcome). HoldsBytes (state n.keeper).slots y.place.slot (checkpoint 2 x.0 y.place.generation x.1)) (λ i. (digests i, sorted_is i)) w.held)
-                (subst (λ (x : List ℕ × List Outcome). IfTold (state n.keeper).slots (IsNewestForFitJobs x.0 y.place.slot y.place.generation x.1)) (λ i. (digests i, sorted_is i)) w.newest));
+                (subst (λ (x : List ℕ × List Outcome). IfObserved (state n.keeper).slots (IsNewestForFitJobs x.0 y.place.slot y.place.generation x.1)) (λ i. (digests i, sorted_is i)) w.newest));
           }
 
-      failed_kept : TriedSave state m n false → KeptAs state parts n.book n.keeper n.place n.failed_saves (next false)
-      failed_kept tried =
+      failed_kept : AttemptedSave state m n false → KeptAs state parts n.book n.keeper n.place n.failed_saves (next false)
+      failed_kept attempted =
           let k = may.holds.kept in
-          let w = tried.on_err refl in
+          let w = attempted.on_err refl in
           let e = post_of (length l) o.id false in
           let is_one : is_missed parts.save_every e ≡ true = ap (λ (d : Bool). d && not false) (was_due false) in
           let one_more : missed parts.save_every (next false) ≡ missed parts.save_every l + 1 =
           missed-push parts.save_every l e ∙ ap (λ (c : ℕ). missed parts.save_every l + c) (missed_one (is_due parts.save_every e) (was_due false)) in
           let same : saves_made l ≡ saves_made (next false) = let more = saves-push l e in omega (arith, more) in
           record {
-            book_is = tried.rest.book ∙ book_is false;
+            book_is = attempted.rest.book ∙ book_is false;
             failed_is = w.failed ∙ ap (λ (c : ℕ). c + 1) k.failed_is ∙ sym one_more;
             covered = subst (λ (c : ℕ). min (parts.keeper.save_faults + c) (2 ^ 64 - 1) ≤ (state n.keeper).save_faults) (sym w.failed)
                 (covered_more (2 ^ 64 - 1) parts.keeper.save_faults y.failed_saves (state y.keeper).save_faults (state n.keeper).save_faults k.covered w.rose);
-            counts = counts_more parts.keeper.save_faults (state y.keeper).save_faults (state n.keeper).save_faults k.counts tried.counts;
+            counts = counts_more parts.keeper.save_faults (state y.keeper).save_faults (state n.keeper).save_faults k.counts attempted.counts;
             shown = λ rose. omega (arith, w.failed);
-            loads = tried.loads ∙ k.loads;
+            loads = attempted.loads ∙ k.loads;
             place_is = w.place ∙ k.place_is ∙ ap (λ (c : ℕ). moved c parts.place) same;
-            tried_is = history_is false tried;
-            sound = sound_is false tried;
-            told = subst (λ (p : Place). IfBothTold parts.keeper.slots (state n.keeper).slots (λ before now. SlotsAs parts before now p (next false))) (sym w.place)
-                (told_failed parts l (length l) o.id y.place slot_below is_one parts.keeper.slots (state y.keeper).slots (state n.keeper).slots k.told tried.other);
+            attempted_is = history_is false attempted;
+            sound = sound_is false attempted;
+            observed = subst (λ (p : Place). IfBothObserved parts.keeper.slots (state n.keeper).slots (λ before now. SlotsAs parts before now p (next false))) (sym w.place)
+                (observed_failed parts l (length l) o.id y.place slot_below is_one parts.keeper.slots (state y.keeper).slots (state n.keeper).slots k.observed attempted.other);
           }
 
-      tried_done : (saved : Bool) → TriedSave state m n saved → Done n saved
-      tried_done true tried = rest_done true tried (saved_kept tried)
-      tried_done false tried = rest_done false tried (failed_kept tried)
+      attempted_done : (saved : Bool) → AttemptedSave state m n saved → Done n saved
+      attempted_done true attempted = rest_done true attempted (saved_kept attempted)
+      attempted_done false attempted = rest_done false attempted (failed_kept attempted)
 
     pub done : SavedSlotsAreNewest → CheckpointsAreOurs → (n : Home C) (saved : Bool) → SavedWhereDue state (length l + 1) m n saved → Done n saved
     done newest ours n saved s = by (is_due parts.save_every (post_of (length l) o.id false)) refl
@@ -334,7 +334,7 @@ module _ {C : Type 0} (state : C → Kept) (lets : Lets) (parts : Parts) (y : Ho
 
         by : (d : Bool) → is_due parts.save_every (post_of (length l) o.id false) ≡ d → Done n saved
         by false not_due = let was = s.undue (due_by false not_due) in subst (λ (x : Home C × Bool). Done x.0 x.1) (λ k. (sym was.1 k, sym was.0 k)) (undone not_due)
-        by true was_due = tried_done newest ours n (λ _. was_due) saved (s.due (due_by true was_due))
+        by true was_due = attempted_done newest ours n (λ _. was_due) saved (s.due (due_by true was_due))
 
   -- the entry of the outcome was appended
   pub turned : (n z : Home C) (saved : Bool) → Done n saved → z.posted.items ≡ n.posted.items ++ post_of (length l) o.id saved ∷ []

@@ -1,7 +1,7 @@
 -- The contents of a run's saves.
 use Rattle.std.specs.Prelude.{◌≡◌, ℕ, ◌+◌, ◌<◌, ◌≤◌, ◌⊎◌, List, length}
 use Rattle.std.specs.List.{All, Contains}
-use Rattle.audit_model.specs.Tries.{Try}
+use Rattle.audit_model.specs.Attempts.{Try}
 use Rattle.audit_model.specs.declared.outcome.Outcome.{Outcome}
 use Rattle.audit_model.specs.Run.{IsRight, total, by_id}
 use Rattle.audit_model.specs.Times.{times}
@@ -13,7 +13,7 @@ use Rattle.tally_desk.specs.Entries.{ids_of}
 use Rattle.tally_desk.specs.Homes.{booked}
 use Rattle.claim_counter.specs.Walks.{found}
 use Rattle.tally_desk.specs.Parts.{IsPlan, Parts}
-use Rattle.tally_desk.specs.Ran.{IsRunTry}
+use Rattle.tally_desk.specs.RunResult.{IsRunTry}
 
 -- all initial outcomes, and those of `count` ids to do
 pub record HoldsOpeningAndPart (parts : Parts) (count : ℕ) (saved : List Outcome) : Type 0 where
@@ -27,6 +27,6 @@ SavesHoldParts = (parts : Parts) (part : List Entry) → IsPlan parts → ((id :
     → HoldsOpeningAndPart parts (length part) (by_id (total parts.job) (booked parts part))
 
 -- the law that every save attempt is correct if the initial outcomes are
-abbrev pub RunTriesAreRight : Type 0
-RunTriesAreRight = (parts : Parts) (t : Try) → IsPlan parts → IsRight parts.job (draw parts.job.setting.key) parts.opening → IsRunTry parts t
+abbrev pub RunAttemptsAreRight : Type 0
+RunAttemptsAreRight = (parts : Parts) (t : Try) → IsPlan parts → IsRight parts.job (draw parts.job.setting.key) parts.opening → IsRunTry parts t
     → IsRightSave parts.job (draw parts.job.setting.key) (job_digest parts.job) t.bytes

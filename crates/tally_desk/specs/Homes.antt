@@ -2,10 +2,10 @@
 use Rattle.std.specs.Prelude.{◌≡◌, ℕ, ◌+◌, ◌-◌, ◌*◌, ◌%◌, ◌^◌, ◌<◌, ◌≤◌, min, Bool, true, cond, List, ◌∷◌, [], ◌++◌, length, map, Some, vec_capacity}
 use Rattle.std.specs.List.{All, range_with_len}
 use Rattle.audit_model.specs.State.{Kept}
-use Rattle.audit_model.specs.Told.{IfBothTold}
+use Rattle.audit_model.specs.Observed.{IfBothObserved}
 use Rattle.audit_model.specs.Faults.{Counts}
 use Rattle.audit_model.specs.Pair.{Pair, Stored, stored}
-use Rattle.audit_model.specs.Tries.{Try, tried_all, try_of}
+use Rattle.audit_model.specs.Attempts.{Try, attempted_all, try_of}
 use Rattle.audit_model.specs.declared.outcome.Outcome.{Outcome}
 use Rattle.audit_model.specs.Job.{Job}
 use Rattle.audit_model.specs.Run.{total, by_id}
@@ -65,8 +65,8 @@ bytes_made job m = checkpoint 2 (job_digest job) m.generation m.outcomes
 abbrev pub try_made : Job → Made → Try
 try_made job m = try_of m.slot (bytes_made job m) m.succeeded
 
-abbrev pub tries : Parts → List Entry → List Try
-tries parts posted = map (try_made parts.job) (made parts posted)
+abbrev pub attempts : Parts → List Entry → List Try
+attempts parts posted = map (try_made parts.job) (made parts posted)
 
 abbrev pub IsSound : Job → Made → Type 0
 IsSound job m = IsCheckpoint (bytes_made job m) 2 (job_digest job) m.generation m.outcomes
@@ -111,9 +111,9 @@ module _ {C : Type 0} (state : C → Kept) where
     pub loads : (state keeper).load_faults ≡ parts.keeper.load_faults
     pub place_is : place ≡ moved (saves_made posted) parts.place
     -- the keeper was asked for these saves and no others
-    pub tried_is : (state keeper).tried ≡ tried_all parts.keeper.tried (tries parts posted)
+    pub attempted_is : (state keeper).attempted ≡ attempted_all parts.keeper.attempted (attempts parts posted)
     pub sound : All (IsSound parts.job) (made parts posted)
-    pub told : IfBothTold parts.keeper.slots (state keeper).slots (λ before now. SlotsAs parts before now place posted)
+    pub observed : IfBothObserved parts.keeper.slots (state keeper).slots (λ before now. SlotsAs parts before now place posted)
 
   -- the remaining fields: the save interval, the job's digest, and capacity for all posts, all outcomes by rising id
   -- and their checkpoint

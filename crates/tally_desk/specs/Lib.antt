@@ -1,5 +1,5 @@
 pub mod Counter
-pub mod Crews
+pub mod Pools
 pub mod Desks
 pub mod Entries
 pub mod Founded
@@ -11,7 +11,7 @@ pub mod Machines
 pub mod Outlasting
 pub mod Parts
 pub mod Passes
-pub mod Ran
+pub mod RunResult
 pub mod Righted
 pub mod Rooms
 pub mod Saves

@@ -2,7 +2,7 @@
 use Rattle.std.specs.Prelude.{◌≡◌, ℕ, ◌<◌, ◌≤◌, IsTrue, List, length, Option}
 use Rattle.std.specs.List.{All}
 use Rattle.audit_model.specs.State.{Kept}
-use Rattle.audit_model.specs.Told.{IfTold}
+use Rattle.audit_model.specs.Observed.{IfObserved}
 use Rattle.audit_model.specs.Pair.{Pair}
 use Rattle.audit_model.specs.declared.outcome.Outcome.{Outcome}
 use Rattle.audit_model.specs.Job.{Job}
@@ -28,7 +28,7 @@ pub record Parts : Type 0 where
 
 -- the place of the job's next checkpoint, if the slots are known
 abbrev pub IsPlaceFor : Job → Option Pair → Place → Type 0
-IsPlaceFor job slots place = IfTold slots (λ p. place_for job (job_digest job) p ≡ (place.slot, place.generation))
+IsPlaceFor job slots place = IfObserved slots (λ p. place_for job (job_digest job) p ≡ (place.slot, place.generation))
 
 -- the ids to do: by rising id, the first ids of the job's part without an initial outcome
 abbrev pub IsTodoFor : Job → List Outcome → List ℕ → Type 0
@@ -61,4 +61,4 @@ pub record IsPlan (parts : Parts) : Type 0 where
 
 -- the keeper accepts each due save of the desk
 abbrev pub LetsDesk : Lets → Parts → Type 0
-LetsDesk lets parts = LetsRun lets parts.keeper.tried parts.job parts.opening parts.save_every parts.place parts.todo
+LetsDesk lets parts = LetsRun lets parts.keeper.attempted parts.job parts.opening parts.save_every parts.place parts.todo

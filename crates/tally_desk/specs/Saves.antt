@@ -3,9 +3,9 @@ use Rattle.std.specs.Prelude.{◌≡◌, ℕ, true, false, List, Result, OnOk, i
 use Rattle.audit_io.specs.declared.source.Failed.{Failed}
 use Rattle.audit_model.specs.Faults.{HasCause}
 use Rattle.audit_model.specs.State.{Kept as KeeperState}
-use Rattle.audit_model.specs.Told.{IfTold}
+use Rattle.audit_model.specs.Observed.{IfObserved}
 use Rattle.audit_model.specs.Pair.{HoldsBytes, KeepsOther}
-use Rattle.audit_model.specs.Tries.{tried_too}
+use Rattle.audit_model.specs.Attempts.{attempted_too}
 use Rattle.audit_model.specs.declared.outcome.Outcome.{Outcome}
 use Rattle.audit_statement.specs.Checkpoint.{IsCheckpoint, checkpoint, job_digest}
 use Rattle.audit_model.specs.declared.place.Place.{Place}
@@ -34,11 +34,11 @@ pub record SavesThese {C : Type 0} (state : C → KeeperState) (before now : C) 
     (outcomes : List Outcome) (result : Result (Unit {0}) Failed) : Type 0 where
   pub sound : IsCheckpoint (checkpoint 2 digest place.generation outcomes) 2 digest place.generation outcomes
   pub held : OnOk result (HoldsBytes (state now).slots place.slot (checkpoint 2 digest place.generation outcomes))
-  pub newest : OnOk result (IfTold (state now).slots (IsNewestForFitJobs digest place.slot place.generation outcomes))
+  pub newest : OnOk result (IfObserved (state now).slots (IsNewestForFitJobs digest place.slot place.generation outcomes))
   pub other : KeepsOther (state before).slots (state now).slots place.slot
   pub cause : HasCause (state before).save_faults (state now).save_faults result
   pub loads : (state now).load_faults ≡ (state before).load_faults
-  pub tried : (state now).tried ≡ tried_too (state before).tried place.slot (checkpoint 2 digest place.generation outcomes) (is_ok result)
+  pub attempted : (state now).attempted ≡ attempted_too (state before).attempted place.slot (checkpoint 2 digest place.generation outcomes) (is_ok result)
 
 -- nothing is done if the last post saved, and otherwise a last save is made
 pub record MakesLastSave {C : Type 0} (state : C → KeeperState) (before now : Kept C) (digest : List ℕ)

@@ -2,9 +2,9 @@
 use Rattle.std.specs.Prelude.{◌≡◌, ℕ, ◌+◌, ◌%◌, ◌==◌, Bool, true, false, List, length}
 use Rattle.audit_model.specs.Faults.{Counts, Rose}
 use Rattle.audit_model.specs.State.{Kept}
-use Rattle.audit_model.specs.Told.{IfTold}
+use Rattle.audit_model.specs.Observed.{IfObserved}
 use Rattle.audit_model.specs.Pair.{HoldsBytes, KeepsOther}
-use Rattle.audit_model.specs.Tries.{tried_too}
+use Rattle.audit_model.specs.Attempts.{attempted_too}
 use Rattle.audit_model.specs.declared.outcome.Outcome.{Outcome}
 use Rattle.audit_statement.specs.Checkpoint.{IsCheckpoint, checkpoint}
 use Rattle.audit_statement.specs.Due.{Lets}
@@ -42,7 +42,7 @@ module _ {C : Type 0} where
       pub failed : now.failed_saves ≡ before.failed_saves
       pub faults : (state now.keeper).save_faults ≡ (state before.keeper).save_faults
       pub held : HoldsBytes (state now.keeper).slots before.place.slot (bytes_of before)
-      pub newest : IfTold (state now.keeper).slots (IsNewestForFitJobs before.digest before.place.slot before.place.generation (sorted_of before))
+      pub newest : IfObserved (state now.keeper).slots (IsNewestForFitJobs before.digest before.place.slot before.place.generation (sorted_of before))
 
     -- the save failed
     pub record FailedSave (before now : Home C) : Type 0 where
@@ -51,11 +51,11 @@ module _ {C : Type 0} where
       pub rose : Rose (state before.keeper).save_faults (state now.keeper).save_faults
 
     -- a save was attempted
-    pub record TriedSave (before now : Home C) (saved : Bool) : Type 0 where
+    pub record AttemptedSave (before now : Home C) (saved : Bool) : Type 0 where
       pub rest : KeepsRest before now
       pub loads : (state now.keeper).load_faults ≡ (state before.keeper).load_faults
       pub counts : Counts (state before.keeper).save_faults (state now.keeper).save_faults
-      pub tried : (state now.keeper).tried ≡ tried_too (state before.keeper).tried before.place.slot (bytes_of before) saved
+      pub attempted : (state now.keeper).attempted ≡ attempted_too (state before.keeper).attempted before.place.slot (bytes_of before) saved
       pub other : KeepsOther (state before.keeper).slots (state now.keeper).slots before.place.slot
       pub sound : IsCheckpoint (bytes_of before) 2 before.digest before.place.generation (sorted_of before)
       pub on_ok : saved ≡ true → Saved before now
@@ -64,4 +64,4 @@ module _ {C : Type 0} where
     -- a save was attempted if it was due after this number of posts, and otherwise nothing was done
     pub record SavedWhereDue (posts : ℕ) (before now : Home C) (saved : Bool) : Type 0 where
       pub undue : (posts % before.save_every == 0) ≡ false → (saved ≡ false) × (now ≡ before)
-      pub due : (posts % before.save_every == 0) ≡ true → TriedSave before now saved
+      pub due : (posts % before.save_every == 0) ≡ true → AttemptedSave before now saved

@@ -2,11 +2,11 @@
 ghost use Rattle.std.specs.Prelude.{◌≡◌, ◌≤◌};
 
 use crate::counter::counter_laws;
-use crate::handing::{Kept, Outset, Refused, furnish, hand_over, open};
+use crate::handing::{InitialState, Kept, Refused, furnish, hand_over, open};
 use crate::home::Home;
 use crate::pass::{DeskPass, take_out};
-use crate::rule::{Draw, Look, OnePass, OneTally, Posting, See, Serve, Take};
-use crate::view::{Founding, View};
+use crate::rule::{DeskSplit, NextPlace, OneTally, PollTicket, Posting, See, Serve, Take};
+use crate::view::{DeskView, Founding};
 use atomic_table::{Seat, Table};
 use audit_io::keeper::Keeper;
 use audit_model::lists::UnitList;
@@ -26,7 +26,7 @@ const LONGEST_SLEEP: u64 = 100;
 /// whenever the number of posts is a multiple of `save_every`. Claims are lock-free; only posts wait for each other.
 #[derive(Drop)]
 pub struct Desk<C: Keeper> {
-    pub(crate) table: Table<Home<C>, View, Founding<C>, OneTally<C>, Global>,
+    pub(crate) table: Table<Home<C>, DeskView, Founding<C>, OneTally<C>, Global>,
     todo: UnitList,
     save_every: u32,
     ghost three_words: { table.shared.table_id.words ≡ 3 },
@@ -46,7 +46,7 @@ impl<C: Keeper> Desk<C> {
     ghost use Rattle.tally_desk.specs.Homes.{HomeAs};
     ghost use Rattle.tally_desk.specs.Parts.{LetsDesk, MayFound};
     ghost use Rattle.tally_desk.specs.Passes.{Belongs, Claims, HasPostedAll, IsClosed, Posts, view_of};
-    ghost use Rattle.tally_desk.specs.Ran.{starts};
+    ghost use Rattle.tally_desk.specs.RunResult.{starts};
     ghost use Rattle.tally_desk.specs.Views.{waiting};
 
     /// Makes a desk for at most `seats` passes, and its first pass. The book must have no outcome for the ids to do.
@@ -57,43 +57,43 @@ impl<C: Keeper> Desk<C> {
     pub fn new(
         alloc: Global,
         job: &Job,
-        outset: Outset<C>,
+        initial_state: InitialState<C>,
         seats: u32,
     ) -> Result<(Desk<C>, DeskPass), Refused<C>>
-        requires found { MayFound job.now (C.state outset.keeper).slots outset.plan outset.todo outset.book }
+        requires found { MayFound job.now (C.state initial_state.keeper).slots initial_state.plan initial_state.todo initial_state.book }
         requires seats { (1 ≤ seats) × (seats ≤ 33) }
-        requires lets { LetsDesk C.lets (starts C.state job.now outset.book.outcomes outset.todo outset.plan.save_every seats outset.plan.place outset.keeper) }
+        requires lets { LetsDesk C.lets (starts C.state job.now initial_state.book.outcomes initial_state.todo initial_state.plan.save_every seats initial_state.plan.place initial_state.keeper) }
         ensures parts { IfOk result (λ d. parts_of C.state d.0.table.shared.key ≡ record {
           job = job.now;
-          opening = outset.book.outcomes;
-          todo = outset.todo;
-          save_every = outset.plan.save_every;
+          opening = initial_state.book.outcomes;
+          todo = initial_state.todo;
+          save_every = initial_state.plan.save_every;
           seats = seats;
-          place = outset.plan.place;
-          keeper = C.state outset.keeper;
+          place = initial_state.plan.place;
+          keeper = C.state initial_state.keeper;
         }) }
         ensures pass { IfOk result (λ d. let parts = parts_of C.state d.0.table.shared.key in
             Belongs d.0.table.shared.table_id parts d.1 × (view_of d.1 ≡ first_view parts)) }
-        ensures refused { IfErr result (λ r. (r.book ≡ outset.book) × (r.keeper ≡ outset.keeper)) }
+        ensures refused { IfErr result (λ r. (r.book ≡ initial_state.book) × (r.keeper ≡ initial_state.keeper)) }
     {
         // Called for their contracts: the job is within its limits, and the book is within its capacity.
         let _units = job.units();
-        let _len = outset.book.len();
+        let _len = initial_state.book.len();
         let founding = Founding {
             job: Snapshot::of(job),
-            book: Snapshot::of(&outset.book),
-            todo: Snapshot::of(&outset.todo),
-            save_every: outset.plan.save_every,
+            book: Snapshot::of(&initial_state.book),
+            todo: Snapshot::of(&initial_state.todo),
+            save_every: initial_state.plan.save_every,
             seats,
-            place: outset.plan.place,
-            keeper: Snapshot::of(&outset.keeper),
+            place: initial_state.plan.place,
+            keeper: Snapshot::of(&initial_state.keeper),
         };
-        let Outset {
+        let InitialState {
             plan,
             todo,
             book,
             keeper,
-        } = outset;
+        } = initial_state;
         let save_every = plan.save_every;
         let home = match furnish(alloc, job, plan, todo.len(), book, keeper) {
             Ok(home) => home,
@@ -129,7 +129,7 @@ impl<C: Keeper> Desk<C> {
         // Called for their contracts: each kind of draw keeps the rule.
         counter_laws();
         let mut seat = take_out(&mut pass.badge);
-        let drawn = self.table.shared.fetch_add::<Draw>(&mut seat, 0, 1);
+        let drawn = self.table.shared.fetch_add::<NextPlace>(&mut seat, 0, 1);
         pass.badge = seat.into_badge();
         if drawn < self.todo.len() as u64 {
             Some(self.todo.as_slice()[drawn as usize])
@@ -186,7 +186,7 @@ impl<C: Keeper> Desk<C> {
     fn take_ticket<R: Wait, B: Posting>(
         &self,
         rt: &R,
-        seat: &mut Seat<Home<C>, View>,
+        seat: &mut Seat<Home<C>, DeskView>,
         id: u32,
     ) -> u64
         requires name { B.id ≡ id }
@@ -235,7 +235,7 @@ impl<C: Keeper> Desk<C> {
     }
 
     // Takes a ticket for a post of this id, if none is out.
-    fn try_ticket<B: Posting>(&self, seat: &mut Seat<Home<C>, View>, id: u32) -> Option<u64>
+    fn try_ticket<B: Posting>(&self, seat: &mut Seat<Home<C>, DeskView>, id: u32) -> Option<u64>
         requires name { B.id ≡ id }
         requires table { seat.old.table_id ≡ self.now.table.shared.table_id }
         requires empty { seat.old.me.1 ≡ [] }
@@ -255,7 +255,7 @@ impl<C: Keeper> Desk<C> {
     }
 
     // Spins until the ticket is served. The pass then owns the slot.
-    fn await_turn<R: Wait>(&self, rt: &R, seat: &mut Seat<Home<C>, View>, ticket: u64, id: u32)
+    fn await_turn<R: Wait>(&self, rt: &R, seat: &mut Seat<Home<C>, DeskView>, ticket: u64, id: u32)
         requires table { seat.old.table_id ≡ self.now.table.shared.table_id }
         requires empty { seat.old.me.1 ≡ [] }
         requires waits { IsWaiting (parts_of C.state self.now.table.shared.key) ticket id seat.old.me.0 }
@@ -263,7 +263,7 @@ impl<C: Keeper> Desk<C> {
         ensures begins { BeginsTurn (HomeAs C.state C.lets) (parts_of C.state self.now.table.shared.key) ticket id seat.old.me seat.new.me }
     {
         for _ in rt.forever() {
-            if self.table.shared.load::<Look>(seat, 2) == ticket {
+            if self.table.shared.load::<PollTicket>(seat, 2) == ticket {
                 return;
             }
             thread::yield_now();
@@ -272,7 +272,7 @@ impl<C: Keeper> Desk<C> {
     }
 
     // Posts the outcome and serves the next ticket.
-    fn serve(&self, seat: &mut Seat<Home<C>, View>, ticket: u64, outcome: Outcome)
+    fn serve(&self, seat: &mut Seat<Home<C>, DeskView>, ticket: u64, outcome: Outcome)
         requires table { seat.old.table_id ≡ self.now.table.shared.table_id }
         requires right { outcome ≡ found self.now.table.shared.key.job.value outcome.id }
         requires turn { IsInTurn (HomeAs C.state C.lets) (parts_of C.state self.now.table.shared.key) ticket outcome.id seat.old.me }
@@ -295,7 +295,7 @@ impl<C: Keeper> Desk<C> {
         // Called for their contracts: each kind of draw keeps the rule.
         counter_laws();
         let mut seat = take_out(&mut pass.badge);
-        let other = self.table.shared.split_seat::<OnePass>(&mut seat);
+        let other = self.table.shared.split_seat::<DeskSplit>(&mut seat);
         pass.badge = seat.into_badge();
         pass.spare -= 1;
         DeskPass {
@@ -326,7 +326,7 @@ impl<C: Keeper> Desk<C> {
         } = second;
         let mut seat = take_out(&mut badge);
         let other = take_out(&mut other_badge);
-        self.table.shared.join_seat::<OnePass>(&mut seat, other);
+        self.table.shared.join_seat::<DeskSplit>(&mut seat, other);
         // Joining gives no fact about both passes together. Reading the counter afterwards does.
         self.table.shared.load::<See>(&mut seat, 0);
         DeskPass {

@@ -14,7 +14,7 @@ use crate::entry::Entry;
 use crate::home::Home;
 use crate::next_save::NextSave;
 use crate::rule::OneTally;
-use crate::view::{Founding, View};
+use crate::view::{DeskView, Founding};
 use atomic_table::{Seat, Table};
 use audit_io::keeper::Keeper;
 use audit_model::buffers::{Bytes, OutcomeList};
@@ -34,7 +34,7 @@ pub struct DeskPlan {
 
 /// The initial state of a desk: save settings, ids to do, book and keeper.
 #[derive(Drop)]
-pub struct Outset<C> {
+pub struct InitialState<C> {
     pub plan: DeskPlan,
     pub todo: UnitList,
     pub book: Book,
@@ -106,8 +106,8 @@ pub(crate) fn open<C: Keeper>(
     founding: &Founding<C>,
 ) -> Result<
     (
-        Table<Home<C>, View, Founding<C>, OneTally<C>, Global>,
-        Seat<Home<C>, View>,
+        Table<Home<C>, DeskView, Founding<C>, OneTally<C>, Global>,
+        Seat<Home<C>, DeskView>,
     ),
     Refused<C>,
 >

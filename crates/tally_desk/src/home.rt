@@ -35,7 +35,7 @@ impl<C: Keeper> Home<C> {
     ghost use Rattle.tally_desk.specs.Homes.{HasTurned, MayTurn};
     ghost use Rattle.tally_desk.specs.Parts.{Parts};
     ghost use Rattle.tally_desk.specs.Rooms.{HasSaveRoom};
-    ghost use Rattle.tally_desk.specs.Saving.{LetsSave, SavedWhereDue, TriedSave};
+    ghost use Rattle.tally_desk.specs.Saving.{LetsSave, SavedWhereDue, AttemptedSave};
 
     // Saves a checkpoint of the book. Returns true if the save succeeded.
     fn save_book(&mut self) -> bool
@@ -43,7 +43,7 @@ impl<C: Keeper> Home<C> {
         requires count { self.old.failed_saves + 1 < 2 ^ 32 }
         requires room { HasSaveRoom self.old.book.total self.old.sorted self.old.room }
         requires lets { LetsSave C.state C.lets self.old }
-        ensures { TriedSave C.state self.old self.new result }
+        ensures { AttemptedSave C.state self.old self.new result }
     {
         // Called for its contract: the book is within its capacity.
         let _count = self.book.len();

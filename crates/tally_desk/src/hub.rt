@@ -1,7 +1,7 @@
 //! The hub of a run that saves.
 
 ghost use Rattle.std.specs.Prelude.{◌≡◌, ◌<◌, ℕ, All, IsFalse, List, length};
-ghost use Rattle.tally_desk.specs.Crews.{IsWalker};
+ghost use Rattle.tally_desk.specs.Pools.{IsWalker};
 ghost use Rattle.claim_counter.specs.Walks.{ServesEnds};
 
 use crate::desk::Desk;

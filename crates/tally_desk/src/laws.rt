@@ -4,7 +4,7 @@ ghost use Rattle.tally_desk.specs.Entries.{UnfailedPostsAreRegular};
 ghost use Rattle.tally_desk.specs.Homes.{HomeAs};
 ghost use Rattle.tally_desk.specs.InTurn.{UnfailedRunsSaveInTurn};
 ghost use Rattle.tally_desk.specs.Machines.{StepsAreEvents};
-ghost use Rattle.tally_desk.specs.Outlasting.{RunStopsKeepTheNewest, RunStopsLeaveHonestSlots};
+ghost use Rattle.tally_desk.specs.Outlasting.{RunStopsKeepTheNewest, RunStopsLeaveConsistentSlots};
 ghost use Rattle.tally_desk.specs.Parts.{Parts};
 ghost use Rattle.tally_desk.specs.Passes.{PostsStayWhole};
 ghost use Rattle.tally_desk.specs.Righted.{SavedOutcomesAreRight};
@@ -12,7 +12,8 @@ ghost use Rattle.tally_desk.specs.Righted.{SavedOutcomesAreRight};
 use crate::counter::counter_laws;
 use audit_io::keeper::Keeper;
 use ckpt_store::laws::{
-    checkpoints_are_ours, saved_slots_are_newest, saves_keep_the_newest, saves_leave_honest_slots,
+    checkpoints_are_ours, saved_slots_are_newest, saves_keep_the_newest,
+    saves_leave_consistent_slots,
 };
 
 /// Shows that each step of a pass keeps the rule of the desk. It also takes the matching state of the run machine to
@@ -50,10 +51,10 @@ pub fn saved_outcomes_are_right()
 
 /// Shows that a stop anywhere in a run leaves consistent slots, wherever its saves failed, if the initial outcomes are
 /// correct.
-pub fn stops_leave_honest_slots()
-    ensures { RunStopsLeaveHonestSlots }
+pub fn stops_leave_consistent_slots()
+    ensures { RunStopsLeaveConsistentSlots }
 {
-    saves_leave_honest_slots();
+    saves_leave_consistent_slots();
 }
 
 /// Shows that a stop anywhere in a run keeps the newest slot from before or leaves a newer one: the last save that

@@ -3,7 +3,6 @@
 #![tactic(auto)]
 
 mod counter;
-pub mod crew;
 pub mod desk;
 mod entry;
 pub mod handing;
@@ -12,6 +11,7 @@ mod hub;
 pub mod laws;
 mod next_save;
 pub mod pass;
+pub mod pool;
 mod posting;
 pub mod ran;
 mod rule;
@@ -21,10 +21,10 @@ mod view;
 mod walking;
 mod worker;
 
-pub use crew::{Crew, recruit};
 pub use desk::Desk;
-pub use handing::{DeskPlan, Kept, Outset, Refused};
+pub use handing::{DeskPlan, InitialState, Kept, Refused};
 pub use laws::{posts_stay_whole, unfailed_runs_save_in_turn};
 pub use pass::DeskPass;
-pub use ran::{Ran, run_over};
-pub use run_laws::{run_tries_are_right, saves_hold_parts};
+pub use pool::{DeskPool, make_pool};
+pub use ran::{RunResult, run_over};
+pub use run_laws::{run_attempts_are_right, saves_hold_parts};

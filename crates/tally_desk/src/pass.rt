@@ -3,14 +3,14 @@ ghost use Rattle.std.specs.Prelude.{◌≡◌, ◌<◌, ◌∷◌, []};
 ghost use Rattle.tally_desk.specs.Views.{no_turn, view_in};
 
 use crate::home::Home;
-use crate::view::View;
+use crate::view::DeskView;
 use atomic_table::{Badge, Seat};
 use std::mem;
 
 /// The right to claim ids at a desk and to post their outcomes. It takes a few bytes, and may cross threads.
 #[derive(Drop)]
 pub struct DeskPass {
-    pub(crate) badge: Badge<View>,
+    pub(crate) badge: Badge<DeskView>,
     pub(crate) spare: u32,
     pub(crate) ended: bool,
     ghost one_view: { badge.views ≡ view_in badge.views ∷ [] },
@@ -40,7 +40,7 @@ impl DeskPass {
 }
 
 // Takes the seat out of a badge and leaves the badge empty.
-pub(crate) fn take_out<C>(badge: &mut Badge<View>) -> Seat<Home<C>, View>
+pub(crate) fn take_out<C>(badge: &mut Badge<DeskView>) -> Seat<Home<C>, DeskView>
     requires { badge.old.views ≡ view_in badge.old.views ∷ [] }
     ensures table { result.table_id ≡ badge.old.table_id }
     ensures view { result.me ≡ (view_in badge.old.views, []) }

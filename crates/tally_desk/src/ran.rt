@@ -4,21 +4,21 @@ ghost use Rattle.std.specs.Prelude.{◌≡◌, ◌≤◌, IfErr, IfOk, vec_len};
 ghost use Rattle.audit_model.specs.Limits.{most_workers};
 ghost use Rattle.ckpt_store.specs.Places.{IsPlace};
 ghost use Rattle.claim_counter.specs.Walks.{IsWithin};
-ghost use Rattle.tally_desk.specs.Crews.{IsDeskCrew, MaySeat, WalksAtDesk};
+ghost use Rattle.tally_desk.specs.Pools.{IsDeskPool, MaySeat, WalksAtDesk};
 ghost use Rattle.tally_desk.specs.Founded.{parts_of};
 ghost use Rattle.tally_desk.specs.Parts.{LetsDesk, MayFound, Parts};
 ghost use Rattle.tally_desk.specs.Passes.{IsClosed, IsFirstPass};
-ghost use Rattle.tally_desk.specs.Ran.{BothSaved, HasRun, starts};
+ghost use Rattle.tally_desk.specs.RunResult.{BothSaved, HasRun, starts};
 ghost use Rattle.tally_desk.specs.Rooms.{HasSaveRoom};
 ghost use Rattle.tally_desk.specs.Saves.{IsClosedWith};
 ghost use Rattle.tally_desk.specs.Views.{PassView};
 
-use crate::crew::{Crew, seat};
 use crate::desk::Desk;
-use crate::handing::{Kept, Outset, Refused};
+use crate::handing::{InitialState, Kept, Refused};
 use crate::hub::walk_hub;
 use crate::laws::unfailed_runs_save_in_turn;
 use crate::pass::DeskPass;
+use crate::pool::{DeskPool, seat};
 use crate::saving::save_rest;
 use crate::walking::{gather, walk_each};
 use audit_io::gate::Gate;
@@ -34,7 +34,7 @@ use std::thread::Threads;
 
 /// The result of a run that saved while it walked: the keeper, and an error if a save failed.
 #[derive(Drop)]
-pub struct Ran<C> {
+pub struct RunResult<C> {
     pub keeper: C,
     pub saved: Result<(), Failed>,
 }
@@ -50,24 +50,24 @@ pub struct Ran<C> {
 pub fn run_over<R: Threads + Wait + Sync, C: Keeper + Send, J: Judge + Send, G: Gate + Sync>(
     rt: &Runtime<R, G>,
     job: &Job,
-    outset: Outset<C>,
-    crew: Crew<J>,
+    initial_state: InitialState<C>,
+    pool: DeskPool<J>,
     sorted: &mut OutcomeList,
     room: &mut Bytes,
-) -> Result<Ran<C>, Refused<C>>
-    requires outset { MayFound job.now (C.state outset.keeper).slots outset.plan outset.todo outset.book }
-    requires within { IsWithin job.now outset.todo }
-    requires crew { IsDeskCrew job.now (vec_len crew.walkers) crew }
-    requires workers { (1 ≤ vec_len crew.walkers) × (vec_len crew.walkers ≤ most_workers) }
-    requires room { HasSaveRoom outset.book.total sorted.old room.old }
-    requires lets { LetsDesk C.lets (starts C.state job.now outset.book.outcomes outset.todo outset.plan.save_every (vec_len crew.walkers) outset.plan.place outset.keeper) }
+) -> Result<RunResult<C>, Refused<C>>
+    requires initial_state { MayFound job.now (C.state initial_state.keeper).slots initial_state.plan initial_state.todo initial_state.book }
+    requires within { IsWithin job.now initial_state.todo }
+    requires pool { IsDeskPool job.now (vec_len pool.walkers) pool }
+    requires workers { (1 ≤ vec_len pool.walkers) × (vec_len pool.walkers ≤ most_workers) }
+    requires room { HasSaveRoom initial_state.book.total sorted.old room.old }
+    requires lets { LetsDesk C.lets (starts C.state job.now initial_state.book.outcomes initial_state.todo initial_state.plan.save_every (vec_len pool.walkers) initial_state.plan.place initial_state.keeper) }
     ensures ran { IfOk result (λ r. HasRun
-        (starts C.state job.now outset.book.outcomes outset.todo outset.plan.save_every (vec_len crew.walkers) outset.plan.place outset.keeper)
+        (starts C.state job.now initial_state.book.outcomes initial_state.todo initial_state.plan.save_every (vec_len pool.walkers) initial_state.plan.place initial_state.keeper)
         (C.state r.keeper) sorted.new.items r.saved) }
-    ensures refused { IfErr result (λ r. (r.book ≡ outset.book) × (r.keeper ≡ outset.keeper)) }
+    ensures refused { IfErr result (λ r. (r.book ≡ initial_state.book) × (r.keeper ≡ initial_state.keeper)) }
 {
-    let digest = outset.plan.digest;
-    match walk_over(rt, job, outset, crew) {
+    let digest = initial_state.plan.digest;
+    match walk_over(rt, job, initial_state, pool) {
         Ok(kept) => Ok(finish(kept, &digest, sorted, room)),
         Err(refused) => Err(refused),
     }
@@ -89,20 +89,20 @@ fn work<R: Threads + Wait + Sync, C: Keeper + Send, J: Judge + Send, G: Gate + S
     job: &Job,
     desk: Desk<C>,
     pass: DeskPass,
-    crew: Crew<J>,
+    pool: DeskPool<J>,
 ) -> Kept<C>
     requires pass { IsFirstPass desk.table.shared.table_id (parts_of C.state desk.table.shared.key) pass }
-    requires crew { MaySeat (parts_of C.state desk.table.shared.key) crew.walkers crew.workers crew.held }
-    requires shared { WalksAtDesk job.now (parts_of C.state desk.table.shared.key) crew.hub }
+    requires pool { MaySeat (parts_of C.state desk.table.shared.key) pool.walkers pool.workers pool.held }
+    requires shared { WalksAtDesk job.now (parts_of C.state desk.table.shared.key) pool.hub }
     ensures { (v : PassView) × IsClosed C.state (parts_of C.state desk.table.shared.key) v
         result.book result.keeper result.place result.failed_saves result.last_saved }
 {
-    let Crew {
+    let DeskPool {
         walkers,
         workers,
         held,
         hub,
-    } = crew;
+    } = pool;
     let mut workers = seat(&desk, pass, walkers, workers, held);
     walk_each(rt, job, hub.as_slice(), &desk, workers.as_mut_slice());
     let pass = gather(&desk, workers);
@@ -113,26 +113,26 @@ fn work<R: Threads + Wait + Sync, C: Keeper + Send, J: Judge + Send, G: Gate + S
 fn walk_over<R: Threads + Wait + Sync, C: Keeper + Send, J: Judge + Send, G: Gate + Sync>(
     rt: &Runtime<R, G>,
     job: &Job,
-    outset: Outset<C>,
-    crew: Crew<J>,
+    initial_state: InitialState<C>,
+    pool: DeskPool<J>,
 ) -> Result<Kept<C>, Refused<C>>
-    requires outset { MayFound job.now (C.state outset.keeper).slots outset.plan outset.todo outset.book }
-    requires within { IsWithin job.now outset.todo }
-    requires crew { IsDeskCrew job.now (vec_len crew.walkers) crew }
-    requires workers { (1 ≤ vec_len crew.walkers) × (vec_len crew.walkers ≤ most_workers) }
-    requires lets { LetsDesk C.lets (starts C.state job.now outset.book.outcomes outset.todo outset.plan.save_every (vec_len crew.walkers) outset.plan.place outset.keeper) }
+    requires initial_state { MayFound job.now (C.state initial_state.keeper).slots initial_state.plan initial_state.todo initial_state.book }
+    requires within { IsWithin job.now initial_state.todo }
+    requires pool { IsDeskPool job.now (vec_len pool.walkers) pool }
+    requires workers { (1 ≤ vec_len pool.walkers) × (vec_len pool.walkers ≤ most_workers) }
+    requires lets { LetsDesk C.lets (starts C.state job.now initial_state.book.outcomes initial_state.todo initial_state.plan.save_every (vec_len pool.walkers) initial_state.plan.place initial_state.keeper) }
     ensures closed { IfOk result (λ k. (v : PassView) × IsClosed C.state
-        (starts C.state job.now outset.book.outcomes outset.todo outset.plan.save_every (vec_len crew.walkers) outset.plan.place outset.keeper) v
+        (starts C.state job.now initial_state.book.outcomes initial_state.todo initial_state.plan.save_every (vec_len pool.walkers) initial_state.plan.place initial_state.keeper) v
         k.book k.keeper k.place k.failed_saves k.last_saved) }
-    ensures refused { IfErr result (λ r. (r.book ≡ outset.book) × (r.keeper ≡ outset.keeper)) }
+    ensures refused { IfErr result (λ r. (r.book ≡ initial_state.book) × (r.keeper ≡ initial_state.keeper)) }
 {
-    let mut crew = crew;
-    let needed = has_above(outset.todo.as_slice(), job.setting().walks);
-    let seats = crew.walkers.len() as u32;
-    match Desk::new(rt.alloc, job, outset, seats) {
+    let mut pool = pool;
+    let needed = has_above(initial_state.todo.as_slice(), job.setting().walks);
+    let seats = pool.walkers.len() as u32;
+    match Desk::new(rt.alloc, job, initial_state, seats) {
         Ok((desk, pass)) => {
-            walk_hub(&desk, job, needed, &mut crew.walkers[0], &mut crew.hub);
-            Ok(work(rt, job, desk, pass, crew))
+            walk_hub(&desk, job, needed, &mut pool.walkers[0], &mut pool.hub);
+            Ok(work(rt, job, desk, pass, pool))
         }
         Err(refused) => Err(refused),
     }
@@ -144,7 +144,7 @@ fn finish<C: Keeper>(
     digest: &[u8; 32],
     sorted: &mut OutcomeList,
     room: &mut Bytes,
-) -> Ran<C>
+) -> RunResult<C>
     requires place { IsPlace kept.place }
     requires room { HasSaveRoom kept.book.total sorted.old room.old }
     requires closed { (parts : Parts) × ((v : PassView) × (IsClosedWith C.state parts v kept digest.now × LetsDesk C.lets parts)) }
@@ -162,5 +162,5 @@ fn finish<C: Keeper>(
         failed_saves: _,
         last_saved: _,
     } = kept;
-    Ran { keeper, saved }
+    RunResult { keeper, saved }
 }

@@ -3,7 +3,7 @@
 ghost use Rattle.std.specs.Prelude.{ℕ};
 
 use crate::home::Home;
-use crate::view::{Founding, View};
+use crate::view::{DeskView, Founding};
 use atomic_table::{Join, Play, Split, TableRule};
 use audit_io::keeper::Keeper;
 use std::marker::{Brand, PhantomData};
@@ -13,7 +13,7 @@ pub struct OneTally<C> {
     keeper: PhantomData<C>,
 }
 
-impl<C: Keeper> TableRule<Home<C>, View, Founding<C>> for OneTally<C> {
+impl<C: Keeper> TableRule<Home<C>, DeskView, Founding<C>> for OneTally<C> {
     ghost use Rattle.tally_desk.specs.Desks.{Tallied, first_view};
     ghost use Rattle.tally_desk.specs.Founded.{parts_of};
     ghost use Rattle.tally_desk.specs.Homes.{HomeAs};
@@ -24,9 +24,9 @@ impl<C: Keeper> TableRule<Home<C>, View, Founding<C>> for OneTally<C> {
 }
 
 /// A draw of the next place.
-pub(crate) struct Draw;
+pub(crate) struct NextPlace;
 
-impl<C> Play<Home<C>, View> for Draw {
+impl<C> Play<Home<C>, DeskView> for NextPlace {
     ghost use Rattle.tally_desk.specs.Desks.{DrawsPlace};
 
     ghost then = { DrawsPlace };
@@ -46,16 +46,16 @@ pub(crate) struct Take<B> {
     id: PhantomData<B>,
 }
 
-impl<C, B: Posting> Play<Home<C>, View> for Take<B> {
+impl<C, B: Posting> Play<Home<C>, DeskView> for Take<B> {
     ghost use Rattle.tally_desk.specs.Desks.{TriesTicket};
 
     ghost then = { TriesTicket B.id };
 }
 
 /// A read of the ticket that is served.
-pub(crate) struct Look;
+pub(crate) struct PollTicket;
 
-impl<C: Keeper> Play<Home<C>, View> for Look {
+impl<C: Keeper> Play<Home<C>, DeskView> for PollTicket {
     ghost use Rattle.tally_desk.specs.Desks.{LooksForTurn};
     ghost use Rattle.tally_desk.specs.Homes.{HomeAs};
 
@@ -65,7 +65,7 @@ impl<C: Keeper> Play<Home<C>, View> for Look {
 /// The end of a turn.
 pub(crate) struct Serve;
 
-impl<C> Play<Home<C>, View> for Serve {
+impl<C> Play<Home<C>, DeskView> for Serve {
     ghost use Rattle.tally_desk.specs.Desks.{Serves};
 
     ghost then = { Serves };
@@ -74,16 +74,16 @@ impl<C> Play<Home<C>, View> for Serve {
 /// A read of the number of draws, after two passes are joined.
 pub(crate) struct See;
 
-impl<C> Play<Home<C>, View> for See {
+impl<C> Play<Home<C>, DeskView> for See {
     ghost use Rattle.tally_desk.specs.Desks.{SeesSeats};
 
     ghost then = { SeesSeats };
 }
 
 /// A split of one pass, or a join of two.
-pub(crate) struct OnePass;
+pub(crate) struct DeskSplit;
 
-impl Split<View> for OnePass {
+impl Split<DeskView> for DeskSplit {
     ghost use Rattle.tally_desk.specs.Desks.{left_view, right_view};
 
     ghost left = { left_view };
@@ -91,7 +91,7 @@ impl Split<View> for OnePass {
     ghost right = { right_view };
 }
 
-impl Join<View> for OnePass {
+impl Join<DeskView> for DeskSplit {
     ghost use Rattle.tally_desk.specs.Desks.{joined_view};
     ghost use Rattle.tally_desk.specs.Views.{spent_view};
 

@@ -8,11 +8,11 @@ use std::marker::Model;
 use std::snapshot::Snapshot;
 
 /// The knowledge of a pass, for proofs only. No value is ever made at run time.
-pub struct View {
+pub struct DeskView {
     nothing: (),
 }
 
-impl Model for View {
+impl Model for DeskView {
     ghost use Rattle.tally_desk.specs.Views.{PassView, spent_view};
 
     ghost Value = { PassView };

@@ -3,7 +3,7 @@
 ghost use Rattle.std.specs.Prelude.{◌≡◌, ◌+◌, ◌<◌, ℕ, All, true, vec_len};
 ghost use Rattle.tally_desk.specs.Founded.{parts_of};
 ghost use Rattle.tally_desk.specs.Passes.{Belongs, HasPostedAll, view_of};
-ghost use Rattle.tally_desk.specs.Crews.{IsDeskWorkerDone, IsReadyAtDesk, WalksAtDesk};
+ghost use Rattle.tally_desk.specs.Pools.{IsDeskWorkerDone, IsReadyAtDesk, WalksAtDesk};
 
 use crate::desk::Desk;
 use crate::laws::posts_stay_whole;

@@ -6,7 +6,7 @@ use crate::posting::{hand_in, post_all};
 use audit_io::gate::Gate;
 use audit_io::keeper::Keeper;
 use audit_model::outcome::Outcome;
-use claim_counter::gated::{GatedWalker, Told};
+use claim_counter::gated::{GatedWalker, StartToken};
 use flip_guard::judge::Judge;
 use plan_core::job::Job;
 use std::sync::Wait;
@@ -22,7 +22,7 @@ pub struct DeskWorker<J: Judge> {
 impl<J: Judge> DeskWorker<J> {
     ghost use Rattle.std.specs.Prelude.{◌≡◌, vec_capacity};
     ghost use Rattle.tally_desk.specs.Founded.{parts_of};
-    ghost use Rattle.tally_desk.specs.Crews.{IsDeskWorkerDone, IsReadyAtDesk, WalksAtDesk};
+    ghost use Rattle.tally_desk.specs.Pools.{IsDeskWorkerDone, IsReadyAtDesk, WalksAtDesk};
 
     /// Claims ids at the desk until none is left, walks each trajectory and posts its outcome. While another worker has
     /// its turn, outcomes are buffered and posted after a later walk.
@@ -43,8 +43,8 @@ impl<J: Judge> DeskWorker<J> {
         let pass = &mut self.pass;
         let held = &mut self.held;
         while let Some(id) = desk.claim(pass) {
-            let told = Told::tell(gate, id);
-            let outcome = walker.walk(job, hub, told);
+            let observed = StartToken::tell(gate, id);
+            let outcome = walker.walk(job, hub, observed);
             hand_in(rt, desk, pass, held, outcome);
         }
         post_all(rt, desk, pass, held);

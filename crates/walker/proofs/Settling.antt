@@ -178,9 +178,9 @@ module _ (job : Job) (draws : ℕ → ℕ) where
 
     pub test_after : (moved value : Bool) → moved ≡ not (bytes_eq before after) → moved ≡ value
         → not (bytes_eq (visit job draws job.start place) (visit job draws job.start (place + 1))) ≡ value
-    test_after moved value is told =
+    test_after moved value is observed =
         sym (ap (λ (p : List ℕ). not (bytes_eq p after)) visited ∙ ap (λ (p : List ℕ). not (bytes_eq (visit job draws job.start place) p)) visited_after)
-        ∙ sym is ∙ told
+        ∙ sym is ∙ observed
 
 -- a plan scored through the state is scored
 pub tested_of : (job held : Job) (plan : List ℕ) (asks : List Ask) (t : Trail) → held ≡ job → asks ≡ job.setting.asks

@@ -58,12 +58,12 @@ impl Tally {
             inside: [0; 4],
             counts: [0; 4],
         };
-        tally.renew(state, asks, room);
+        tally.update(state, asks, room);
         tally
     }
 
     /// Scores the current plan after a move.
-    pub fn renew<J: Judge>(&mut self, state: &State<J>, asks: &[Ask], room: &mut Room)
+    pub fn update<J: Judge>(&mut self, state: &State<J>, asks: &[Ask], room: &mut Room)
         requires start { self.old.start ≡ each (asked_value state.now.job state.now.job.start) asks.now }
         ensures start { self.new.start ≡ self.old.start }
         ensures inside { self.new.inside ≡ each (inside state.now.job state.now.plan) asks.now }

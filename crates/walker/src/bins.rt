@@ -42,7 +42,7 @@ impl Bins {
     }
 
     /// Finds the bin of the current plan after a move.
-    pub fn renew<J: Judge>(&mut self, state: &State<J>, room: &mut Room)
+    pub fn update<J: Judge>(&mut self, state: &State<J>, room: &mut Room)
         requires start { IsTrue self.old.asked → self.old.start ≡ plan_seats state.now.job state.now.job.start }
         requires small { self.old.bin < 9 }
         ensures asked { self.new.asked ≡ self.old.asked }

@@ -152,5 +152,5 @@ fn visit_next<J: Judge, L: Ledger>(
         return;
     }
     track.trail.settle(place + 1);
-    track.trail.renew(job, state, room);
+    track.trail.update(job, state, room);
 }

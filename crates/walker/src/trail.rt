@@ -62,7 +62,7 @@ impl Trail {
     }
 
     /// Scores the current plan after a move.
-    pub fn renew<J: Judge>(&mut self, job: &Job, state: &State<J>, room: &mut Room)
+    pub fn update<J: Judge>(&mut self, job: &Job, state: &State<J>, room: &mut Room)
         requires made { state.now.job ≡ job.now }
         requires few { self.old.moved < 10 ^ 9 }
         requires start { self.old.tally.start ≡ each (asked_value job.now job.now.start) job.now.setting.asks }
@@ -75,7 +75,8 @@ impl Trail {
         ensures counted { (draws : ℕ → ℕ) (visits : ℕ) → IsCounted job.now draws visits self.old → IsCounted job.now draws visits self.new }
     {
         self.moved += 1;
-        self.tally.renew(state, job.setting().asks.as_slice(), room);
-        self.bins.renew(state, room);
+        self.tally
+            .update(state, job.setting().asks.as_slice(), room);
+        self.bins.update(state, room);
     }
 }

@@ -17,7 +17,7 @@ ghost use Rattle.audit_statement.specs.Origin.{origin_of};
 ghost use Rattle.audit_statement.specs.Reading.{reading};
 ghost use Rattle.audit_statement.specs.Report.{check_text, report};
 ghost use Rattle.audit_statement.specs.Words.{setting_of};
-ghost use Rattle.audit_laws.specs.Jobs.{run_of, path_of_four, job_of_four, told_job};
+ghost use Rattle.audit_laws.specs.Jobs.{run_of, path_of_four, job_of_four, observed_job};
 ghost use Rattle.audit_laws.specs.Lines.{run_words};
 ghost use Rattle.audit_laws.specs.Texts.{columns, path_text, path_and_plans, parsed_four, region_text};
 
@@ -68,14 +68,14 @@ pub fn notes_of_limits()
 /// Shows that bytes have an origin if the setting requests it.
 pub fn small_origins()
     ensures untold { origin_of (run_of 5000 1 8 0 1000 []) (codes "{}") ≡ None }
-    ensures told { origin_of (record (run_of 5000 1 8 0 1000 []) { source = true }) (codes "{}") ≡ Some (record { sha256 = sha256 (codes "{}"); bytes = 2 }) }
+    ensures observed { origin_of (record (run_of 5000 1 8 0 1000 []) { source = true }) (codes "{}") ≡ Some (record { sha256 = sha256 (codes "{}"); bytes = 2 }) }
 {}
 
 /// Shows the job of bytes, with its origin if the setting requests it. Each of several plans has the origin of the
 /// whole input.
 pub fn jobs_with_origins()
     ensures untold { judged (record (run_of 5000 1 8 0 1000 []) { columns = columns }) path_text ≡ Ok (job_of_four path_of_four (record (run_of 5000 1 8 0 1000 []) { columns = columns })) }
-    ensures told { judged (record (run_of 5000 1 8 0 1000 []) { columns = columns; source = true }) path_text ≡
+    ensures observed { judged (record (run_of 5000 1 8 0 1000 []) { columns = columns; source = true }) path_text ≡
         Ok (record (job_of_four path_of_four (record (run_of 5000 1 8 0 1000 []) { columns = columns; source = true })) { origin = Some (record { sha256 = sha256 path_text; bytes = 274 }) }) }
     ensures several { jobs_reading (record (run_of 5000 1 8 0 1000 []) { columns = columns; source = true }) path_and_plans ≡
         Ok ((codes "d", record (job_of_four path_of_four (record (run_of 5000 1 8 0 1000 []) { columns = columns; source = true })) { origin = Some (record { sha256 = sha256 path_and_plans; bytes = 295 }) })
@@ -84,11 +84,11 @@ pub fn jobs_with_origins()
 
 /// Shows the lines of the origin below the first line. The names of the columns are JSON strings.
 pub fn check_text_with_origin()
-    ensures plain { check_text (told_job columns []) ≡
+    ensures plain { check_text (observed_job columns []) ≡
         codes "plan-check 1" ++ 10 ∷ codes "source sha256 abababababababababababababababababababababababababababababababab bytes 7" ++ 10 ∷
         codes "columns \"pop\" \"a\" \"b\" \"d\"" ++ 10 ∷
         codes "units 2 edges 1 districts 2" ++ 10 ∷ codes "population 2 slack 5000 low 1 high 1" ++ 10 ∷ codes "end" ++ 10 ∷ [] }
-    ensures quoted { check_text (told_job (record columns { population = codes "p\"o" ++ 10 ∷ codes "p"; group = codes "g"; whole = codes "v" }) (codes "r")) ≡
+    ensures quoted { check_text (observed_job (record columns { population = codes "p\"o" ++ 10 ∷ codes "p"; group = codes "g"; whole = codes "v" }) (codes "r")) ≡
         codes "plan-check 1" ++ 10 ∷ codes "source sha256 abababababababababababababababababababababababababababababababab bytes 7" ++ 10 ∷
         codes "columns \"p\\\"o\\np\" \"a\" \"b\" \"d\" region \"r\" group \"g\" of \"v\"" ++ 10 ∷
         codes "units 2 edges 1 districts 2" ++ 10 ∷ codes "population 2 slack 5000 low 1 high 1" ++ 10 ∷ codes "end" ++ 10 ∷ [] }
@@ -96,7 +96,7 @@ pub fn check_text_with_origin()
 
 /// Shows the lines of the origin in a report.
 pub fn report_with_origin()
-    ensures { report (told_job columns []) [] [] None ≡
+    ensures { report (observed_job columns []) [] [] None ≡
         codes "district-audit 1" ++ 10 ∷ codes "source sha256 abababababababababababababababababababababababababababababababab bytes 7" ++ 10 ∷
         codes "columns \"pop\" \"a\" \"b\" \"d\"" ++ 10 ∷
         codes "key 0000000000000000000000000000000000000000000000000000000000000000" ++ 10 ∷

@@ -3,7 +3,7 @@ use Rattle.audit_model.specs.declared.outcome.Outcome.{Outcome}
 use Rattle.audit_model.specs.Run.{taken_up}
 use Rattle.audit_laws.proofs.Leaving.{no_memory_ends}
 use Rattle.audit_input.proofs.Refused.{refused_ends}
-use Rattle.audit_input.proofs.Started.{opens_taken, saw_told, taken_none}
+use Rattle.audit_input.proofs.Started.{opens_taken, saw_observed, taken_none}
 use Rattle.audit_input.proofs.opening.open_found.Goals as goal
 
 pub returns-in-Ok : goal.returns-in-Ok
@@ -14,7 +14,7 @@ returns-in-Ok-take_up c = λ k saw.
     let resumes : c.args.job.now.setting.resume ≡ true = grind (arith, c.setting.ensures, c.if-not-setting.false) in
     opens_taken c.args.job.now c.requires.run c.args.digest k c.args.slots _ _ _ c.requires.digest resumes saw c.in-Ok.ensures.held
     (c.in-Ok.ensures.fit c.args.job.now c.requires.fit.0 c.requires.fit.1) (c.in-Ok-take_up.ensures ∙ ap (λ (os : List Outcome). taken_up c.args.job.now.setting.shift c.args.job.now.setting.walks os) c.as_slice.ensures)
-    _ refl refl (c.target_of-target.ensures k.slots (saw_told c.args.job.now c.args.digest k.slots c.args.slots saw))
+    _ refl refl (c.target_of-target.ensures k.slots (saw_observed c.args.job.now c.args.digest k.slots c.args.slots saw))
 
 pub returns : goal.returns
 returns c = λ k saw out.

@@ -3,5 +3,5 @@ use Rattle.audit_laws.proofs.laws.gathered_runs_write_one_report.Goals as goal
 
 pub returns : goal.returns
 returns c =
-    gathered_runs_write_one_report c.honest_slots_open_right.ensures c.right_outcomes_are_honest.ensures c.honest_slots_give_honest_outcomes.ensures c.unions_are_right.ensures.honest c.saves_leave_honest_slots.ensures
-    c.a_stop_in_a_save_leaves_honest_slots.ensures
+    gathered_runs_write_one_report c.consistent_slots_open_right.ensures c.right_outcomes_are_consistent.ensures c.consistent_slots_give_consistent_outcomes.ensures c.unions_are_right.ensures.consistent c.saves_leave_consistent_slots.ensures
+    c.a_stop_in_a_save_leaves_consistent_slots.ensures

@@ -23,4 +23,4 @@ report_cut-requires-clause-no_group g c κs within = λ k d inside.
 pub report_cut-requires-clause-no_frozen : goal.report_cut-requires-clause-no_frozen
 report_cut-requires-clause-no_frozen g c κs within = λ k d inside.
     let frozen = ap (λ (r : Rules). r.frozen) c.rules-rules.ensures ∙ ap (λ (j : Job). j.frozen) c.first_of.ensures.2 in
-    ((all_like c.args.plans.items c.first_of.ensures.0 (rw c.as_slice.ensures.value at c.first_of.ensures.1) c.requires) k d inside).freezing ∙ nil_from_length c.first_of.ensures.0.job.frozen (sym (ap length frozen) ∙ sym c.len-2.ensures ∙ c.if-len-eq0-2.true)
+    ((all_like c.args.plans.items c.first_of.ensures.0 (rw c.as_slice.ensures.value at c.first_of.ensures.1) c.requires) k d inside).freezing ∙ nil_from_length c.first_of.ensures.0.job.frozen (sym (ap length frozen) ∙ sym c.len-then-rules-eq0.ensures ∙ c.if-len-eq0-2.true)

@@ -19,8 +19,8 @@ overflow_add-workers g c =
     let workers = ap (λ (s : Setting). s.workers) (c.setting.ensures ∙ ap (λ (j : Job). j.setting) c.first_of-first.ensures.2) in
     omega (arith, workers, of.few_workers)
 
-pub cut_benches-requires-clause-plans : goal.cut_benches-requires-clause-plans
-cut_benches-requires-clause-plans g c =
+pub cut_judge_sets-requires-clause-plans : goal.cut_judge_sets-requires-clause-plans
+cut_judge_sets-requires-clause-plans g c =
     let cut = ap (λ (r : Rules). r.max_cut) c.rules-rules.ensures ∙ ap (λ (j : Job). j.setting.max_cut) c.first_of-first.ensures.2 in
     rw c.as_slice-2.ensures.value (λ k d inside.
     let like = (all_like c.args.plans.items c.first_of-first.ensures.0 (rw c.as_slice.ensures.value at c.first_of-first.ensures.1) c.requires.plans) k d inside in
@@ -35,11 +35,11 @@ pub report_plans-requires-clause-judges : goal.report_plans-requires-clause-judg
 report_plans-requires-clause-judges g c κs within =
     let cut = ap (λ (r : Rules). r.max_cut) c.rules-rules.ensures ∙ ap (λ (j : Job). j.setting.max_cut) c.first_of-first.ensures.2 in
     let workers = ap (λ (s : Setting). s.workers) c.setting.ensures ∙ ap (λ (j : Job). j.setting.workers) c.first_of-first.ensures.2 in
-    paired_with (λ n. IsLike c.first_of-first.ensures.0 n × (n.job.regions ≡ []) × (n.job.setting.group_districts ≡ 0) × (n.job.frozen ≡ [])) _ _ (λ n judges each bench.
+    paired_with (λ n. IsLike c.first_of-first.ensures.0 n × (n.job.regions ≡ []) × (n.job.setting.group_districts ≡ 0) × (n.job.frozen ≡ [])) _ _ (λ n judges each judge_set.
     let same = each.0.set in
     record {
       judges_are = λ i e within_judges.
-          let is = bench.each i e within_judges in
+          let is = judge_set.each i e within_judges in
           let limit_cut = ap (λ (s : Setting). s.max_cut) same ∙ sym cut in
           record {
             kept = (
@@ -52,8 +52,8 @@ report_plans-requires-clause-judges g c κs within =
             ruled = is.rules_are;
             taken = λ districts few. refl;
           };
-      count_is = bench.count_is ∙ ap (λ n. n + 1) (workers ∙ sym (ap (λ (s : Setting). s.workers) same));
-    }) c.args.plans.items c.in-Ok.benches.items (λ k d inside. (
+      count_is = judge_set.count_is ∙ ap (λ n. n + 1) (workers ∙ sym (ap (λ (s : Setting). s.workers) same));
+    }) c.args.plans.items c.in-Ok.judge_sets.items (λ k d inside. (
       (all_like c.args.plans.items c.first_of-first.ensures.0 (rw c.as_slice.ensures.value at c.first_of-first.ensures.1) c.requires.plans) k d inside,
       c.requires.no_regions k d inside,
       c.requires.no_group k d inside,

@@ -20,8 +20,8 @@ overflow_add-workers g c =
     let workers = ap (λ (s : Setting). s.workers) (c.setting.ensures ∙ ap (λ (j : Job). j.setting) c.first_of-first.ensures.2) in
     omega (arith, workers, of.few_workers)
 
-pub ruled_benches-requires-clause-plans : goal.ruled_benches-requires-clause-plans
-ruled_benches-requires-clause-plans g c =
+pub ruled_judge_sets-requires-clause-plans : goal.ruled_judge_sets-requires-clause-plans
+ruled_judge_sets-requires-clause-plans g c =
     let cut = ap (λ (r : Rules). r.max_cut) c.rules-rules.ensures ∙ ap (λ (j : Job). j.setting.max_cut) c.first_of-first.ensures.2 in
     let split = ap (λ (r : Rules). r.max_split) c.rules-rules.ensures ∙ ap (λ (j : Job). j.setting.max_split) c.first_of-first.ensures.2 in
     let workers = ap (λ (s : Setting). s.workers) c.setting.ensures ∙ ap (λ (j : Job). j.setting.workers) c.first_of-first.ensures.2 in
@@ -38,11 +38,11 @@ report_plans-requires-clause-judges g c κs within =
     let cut = ap (λ (r : Rules). r.max_cut) c.rules-rules.ensures ∙ ap (λ (j : Job). j.setting.max_cut) c.first_of-first.ensures.2 in
     let split = ap (λ (r : Rules). r.max_split) c.rules-rules.ensures ∙ ap (λ (j : Job). j.setting.max_split) c.first_of-first.ensures.2 in
     let workers = ap (λ (s : Setting). s.workers) c.setting.ensures ∙ ap (λ (j : Job). j.setting.workers) c.first_of-first.ensures.2 in
-    paired_with (IsLike c.first_of-first.ensures.0) _ _ (λ n judges each bench.
+    paired_with (IsLike c.first_of-first.ensures.0) _ _ (λ n judges each judge_set.
     let same = each.set in
     record {
       judges_are = λ i e within_judges.
-          let is = bench.each i e within_judges in
+          let is = judge_set.each i e within_judges in
           let limit_cut = ap (λ (s : Setting). s.max_cut) same ∙ sym cut in
           let limit_split = ap (λ (s : Setting). s.max_split) same ∙ sym split in
           record {
@@ -60,8 +60,8 @@ report_plans-requires-clause-judges g c κs within =
             ruled = is.rules_are;
             taken = takes_plans n.job _ _ each.sound.within is.rules_are is.districts_are;
           };
-      count_is = bench.count_is ∙ ap (λ n. n + 1) (workers ∙ sym (ap (λ (s : Setting). s.workers) same));
-    }) c.args.plans.items c.in-Ok.benches.items (all_like c.args.plans.items c.first_of-first.ensures.0 (rw c.as_slice.ensures.value at c.first_of-first.ensures.1) c.requires) (rw c.as_slice-2.ensures.value at c.in-Ok.ensures)
+      count_is = judge_set.count_is ∙ ap (λ n. n + 1) (workers ∙ sym (ap (λ (s : Setting). s.workers) same));
+    }) c.args.plans.items c.in-Ok.judge_sets.items (all_like c.args.plans.items c.first_of-first.ensures.0 (rw c.as_slice.ensures.value at c.first_of-first.ensures.1) c.requires) (rw c.as_slice-2.ensures.value at c.in-Ok.ensures)
 
 pub returns-in-Err : goal.returns-in-Err
 returns-in-Err g c = λ key all. refl

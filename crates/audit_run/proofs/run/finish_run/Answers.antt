@@ -19,8 +19,8 @@ finish_ruled-requires-clause-opened g c κs within =
 pub finish_ruled-requires-clause-lets : goal.finish_ruled-requires-clause-lets
 finish_ruled-requires-clause-lets g c κs within = subst (LetsSavesOf g.C.Keeper.lets c.args.job.now) (sym c.in-Ok.ensures.same) c.requires.lets
 
-pub returns-then-len-eq0 : goal.returns-then-len-eq0
-returns-then-len-eq0 g c = goes_on c.args.job.now _ _ _ _ _ _ c.in-Ok.ensures.same c.finish_cut.ensures
+pub returns-then-len-eq0-2 : goal.returns-then-len-eq0-2
+returns-then-len-eq0-2 g c = goes_on c.args.job.now _ _ _ _ _ _ c.in-Ok.ensures.same c.finish_cut.ensures
 
 pub returns-else-len-eq0 : goal.returns-else-len-eq0
 returns-else-len-eq0 g c = goes_on c.args.job.now _ _ _ _ _ _ c.in-Ok.ensures.same c.finish_ruled.ensures

@@ -13,5 +13,5 @@ returns-in-Ok g c = λ k opened.
     subst (λ (why : Ended). Finishes job out later k k why) (sym c.ended.ensures)
     (c.finish_unsaved.ensures k (subst (λ (os : List Outcome). IsOpening job k.slots os) (sym c.in-Ok.ensures.outcomes) opened))
 
-pub finish_unsaved-requires-clause-means : goal.finish_unsaved-requires-clause-means
-finish_unsaved-requires-clause-means g c κs within = c.in-Ok.ensures.means
+pub finish_unsaved-requires-clause-resources : goal.finish_unsaved-requires-clause-resources
+finish_unsaved-requires-clause-resources g c κs within = c.in-Ok.ensures.resources

@@ -10,9 +10,9 @@ finish-why-requires-clause-lets g c κs within = c.requires.lets _ c.in-Ok.ensur
 pub returns-in-Ok : goal.returns-in-Ok
 returns-in-Ok g c =
     c.ended_calls_keep_their_promise.ensures _ _ _ _ _ _
-    (ends_for _ _ _ _ _ _ _ (c.finish-why.ensures _ _ _ c.in-Ok.ensures) c.tell-status.ensures.status c.tell-status.ensures.told)
+    (ends_for _ _ _ _ _ _ _ (c.finish-why.ensures _ _ _ c.in-Ok.ensures) c.tell-status.ensures.status c.tell-status.ensures.observed)
 
 pub returns-in-Err : goal.returns-in-Err
 returns-in-Err g c =
     c.ended_calls_keep_their_promise.ensures _ _ _ _ _ _
-    (ends_for _ _ _ _ _ _ _ (c.in-Err.ensures _ _) c.tell-status-in-Err.ensures.status c.tell-status-in-Err.ensures.told)
+    (ends_for _ _ _ _ _ _ _ (c.in-Err.ensures _ _) c.tell-status-in-Err.ensures.status c.tell-status-in-Err.ensures.observed)

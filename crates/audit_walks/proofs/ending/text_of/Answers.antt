@@ -2,7 +2,7 @@ use Rattle.std.proofs.Common.{◌∙◌, ◌++◌, ℕ, List, Option, ap, subst,
 use Rattle.audit_model.specs.declared.outcome.Outcome.{Outcome}
 use Rattle.audit_statement.specs.Report.{report}
 use Rattle.report.specs.Outcomes.{AreOutcomesOf, AreStopsOf}
-use Rattle.audit_walks.specs.Found.{listed_in, told_in}
+use Rattle.audit_walks.specs.Found.{listed_in, observed_in}
 use Rattle.audit_walks.proofs.ending.text_of.Goals as goal
 
 pub text-requires-clause-outcomes : goal.text-requires-clause-outcomes
@@ -29,4 +29,4 @@ returns g c =
     ∙ ap (λ xs. xs ++ report job c.first_outcomes-outcomes.result.now c.first_stops-places.result.now c.test_serially-serial.result) c.requires.tellable.blank
     ∙ ap (λ (os : List Outcome). report job os c.first_stops-places.result.now c.test_serially-serial.result) outcomes
     ∙ ap (λ (stops : List (List ℕ)). report job (listed_in c.args.found) stops c.test_serially-serial.result) c.first_stops-places.ensures
-    ∙ ap (λ (serial : Option (ℕ × List ℕ)). report job (listed_in c.args.found) (told_in c.args.found) serial) c.test_serially-serial.ensures.found
+    ∙ ap (λ (serial : Option (ℕ × List ℕ)). report job (listed_in c.args.found) (observed_in c.args.found) serial) c.test_serially-serial.ensures.found

@@ -1,5 +1,5 @@
 use Rattle.std.proofs.Common.{length, subst}
-use Rattle.audit_walks.specs.Means.{AreWorkersFor}
+use Rattle.audit_walks.specs.Resources.{AreWorkersFor}
 use Rattle.audit_walks.proofs.walking.walk.Goals as goal
 
 pub walk_all-requires-clause-workers : goal.walk_all-requires-clause-workers

@@ -16,7 +16,7 @@ returns g c =
     all_found job ready.start.run c.requires.workers.plain c.args.ready.book.outcomes c.all.result
     (rw found.sorted all)
     (rw found.sorted found.listed)
-    found.told
+    found.observed
     (rw found.text ready.blank)
     (rw found.text ready.report_room)
 

@@ -15,4 +15,4 @@ returns-in-Ok-clause-shared g c =
     }
 
 pub new-requires-clause-lets : goal.new-requires-clause-lets
-new-requires-clause-lets g c = λ kept tries t is so_far. c.requires.lets kept t.slot t.bytes
+new-requires-clause-lets g c = λ kept attempts t is so_far. c.requires.lets kept t.slot t.bytes

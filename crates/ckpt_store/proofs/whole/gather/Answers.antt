@@ -3,9 +3,9 @@ use Rattle.ckpt_store.proofs.Untouched.{may_from, unsaved_from}
 use Rattle.ckpt_store.proofs.whole.gather.Goals as goal
 
 pub gather_from-requires-clause-lets : goal.gather_from-requires-clause-lets
-gather_from-requires-clause-lets g c = λ k folders_now place all tried asked may.
+gather_from-requires-clause-lets g c = λ k folders_now place all attempted asked may.
     let untouched = c.in-Ok.ensures.untouched in
-    c.requires.lets k folders_now place all (tried ∙ untouched.tried) asked (may_from _ _ _ _ _ _ _ _ untouched.slots may)
+    c.requires.lets k folders_now place all (attempted ∙ untouched.attempted) asked (may_from _ _ _ _ _ _ _ _ untouched.slots may)
 
 pub returns-in-Ok-clause-cause : goal.returns-in-Ok-clause-cause
 returns-in-Ok-clause-cause g c =

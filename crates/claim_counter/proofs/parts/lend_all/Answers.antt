@@ -1,50 +1,50 @@
 use Rattle.std.proofs.Common.{◌≡◌, ◌∙◌, refl, sym, ap, subst, ◌-◌, All, arith, vec_len}
 use Rattle.std.proofs.lemmas.List.Elements.{All-push}
 use Rattle.claim_counter.specs.Records.{fresh, with_less_spare}
-use Rattle.claim_counter.specs.Parts.{IsHand, IsLent}
+use Rattle.claim_counter.specs.Parts.{IsIdleWorker, IsLent}
 use Rattle.claim_counter.proofs.Gathering.{none_yet}
 use Rattle.claim_counter.proofs.parts.lend_all.Goals as goal
 use Rattle.audit_model.proofs.ListFacts.{popped_last, popped_rest}
 
-pub lend-requires-clause-hand : goal.lend-requires-clause-hand
-lend-requires-clause-hand g c =
-    popped_last (IsHand c.args.job.now) _ _ c.in-Some-pop.hand c.loop-hand.invariant.hands c.in-Some-pop.ensures.items
+pub lend-requires-clause-idle_worker : goal.lend-requires-clause-idle_worker
+lend-requires-clause-idle_worker g c =
+    popped_last (IsIdleWorker c.args.job.now) _ _ c.in-Some-pop.idle_worker c.loop-idle_worker.invariant.idle_workers c.in-Some-pop.ensures.items
 
-pub loop-hand-preserved : goal.loop-hand-preserved
-loop-hand-preserved g c =
-    let was = c.loop-hand.invariant in
+pub loop-idle_worker-preserved : goal.loop-idle_worker-preserved
+loop-idle_worker-preserved g c =
+    let was = c.loop-idle_worker.invariant in
     let rest = c.split-part.ensures.rest in
     let left = c.in-Some-pop.ensures.len in
     let counted = was.count in
     let longer = c.push_reserved.ensures.len in
     let P = IsLent c.args.job.now c.args.claims.now in
     record {
-      hands = popped_rest (IsHand c.args.job.now) _ _ c.in-Some-pop.hand was.hands c.in-Some-pop.ensures.items;
-      lent = subst (All P) (sym c.push_reserved.ensures.items) (All-push P c.loop-hand.workers.items c.lend.result was.lent c.lend.ensures);
+      idle_workers = popped_rest (IsIdleWorker c.args.job.now) _ _ c.in-Some-pop.idle_worker was.idle_workers c.in-Some-pop.ensures.items;
+      lent = subst (All P) (sym c.push_reserved.ensures.items) (All-push P c.loop-idle_worker.workers.items c.lend.result was.lent c.lend.ensures);
       pass = rest.0;
-      fresh = rest.1 ∙ ap with_less_spare was.fresh ∙ ap fresh (let e : vec_len c.loop-hand.hands - 1 ≡ vec_len c.pop-in-loop-hand.new.self = omega (arith, left) in e);
+      fresh = rest.1 ∙ ap with_less_spare was.fresh ∙ ap fresh (let e : vec_len c.loop-idle_worker.idle_workers - 1 ≡ vec_len c.pop-in-loop-idle_worker.new.self = omega (arith, left) in e);
       count = omega (arith, counted, longer, left);
-      hands_room = c.pop-in-loop-hand.ensures.capacity ∙ was.hands_room;
+      hands_room = c.pop-in-loop-idle_worker.ensures.capacity ∙ was.hands_room;
       room = c.push_reserved.ensures.capacity ∙ was.room;
     }
 
-pub lend-requires-2-clause-hand : goal.lend-requires-2-clause-hand
-lend-requires-2-clause-hand g c =
-    popped_last (IsHand c.args.job.now) _ _ c.in-Some.last c.requires.resting.hands_are c.in-Some.ensures.items
+pub lend-requires-2-clause-idle_worker : goal.lend-requires-2-clause-idle_worker
+lend-requires-2-clause-idle_worker g c =
+    popped_last (IsIdleWorker c.args.job.now) _ _ c.in-Some.last c.requires.resting.hands_are c.in-Some.ensures.items
 
 pub returns-clause-lent : goal.returns-clause-lent
 returns-clause-lent g c =
     let P = IsLent c.args.job.now c.args.claims.now in
-    subst (All P) (sym c.push_reserved-2.ensures.items) (All-push P c.loop-hand.workers.items c.lend-2.result c.loop-hand.invariant.lent c.lend-2.ensures)
+    subst (All P) (sym c.push_reserved-2.ensures.items) (All-push P c.loop-idle_worker.workers.items c.lend-2.result c.loop-idle_worker.invariant.lent c.lend-2.ensures)
 
-pub loop-hand-init : goal.loop-hand-init
-loop-hand-init g c =
+pub loop-idle_worker-init : goal.loop-idle_worker-init
+loop-idle_worker-init g c =
     let left = c.in-Some.ensures.len in
     record {
-      hands = popped_rest (IsHand c.args.job.now) _ _ c.in-Some.last c.requires.resting.hands_are c.in-Some.ensures.items;
+      idle_workers = popped_rest (IsIdleWorker c.args.job.now) _ _ c.in-Some.last c.requires.resting.hands_are c.in-Some.ensures.items;
       lent = none_yet (IsLent c.args.job.now c.args.claims.now) c.args.workers.now.items (omega (arith, c.requires.resting.none, c.args.workers.now.ok.0));
       pass = c.requires.pass.0;
-      fresh = c.requires.pass.1 ∙ ap fresh (let e : vec_len c.args.hands.now - 1 ≡ vec_len c.pop.new.self = omega (arith, left) in e);
+      fresh = c.requires.pass.1 ∙ ap fresh (let e : vec_len c.args.idle_workers.now - 1 ≡ vec_len c.pop.new.self = omega (arith, left) in e);
       count = omega (arith, left, c.requires.resting.none);
       hands_room = c.pop.ensures.capacity;
       room = refl;

@@ -1,19 +1,19 @@
 use Rattle.std.proofs.Common.{◌≡◌, ◌+◌, All, vec_capacity, vec_len}
 use Rattle.claim_counter.specs.Records.{fresh}
 use Rattle.claim_counter.specs.Passes.{own, BelongsTo}
-use Rattle.claim_counter.specs.Parts.{IsHand, IsLent}
+use Rattle.claim_counter.specs.Parts.{IsIdleWorker, IsLent}
 use Rattle.claim_counter.proofs.parts.lend_all.Given as goal
 
-abbrev pub invariant-loop-hand : goal.invariant-loop-hand
-invariant-loop-hand g l = record {
-  hands : All (IsHand l.job) l.hands.items;
+abbrev pub invariant-loop-idle_worker : goal.invariant-loop-idle_worker
+invariant-loop-idle_worker g l = record {
+  idle_workers : All (IsIdleWorker l.job) l.idle_workers.items;
   lent : All (IsLent l.job l.claims) l.workers.items;
   pass : BelongsTo l.claims l.pass;
-  fresh : own l.pass ≡ fresh (vec_len l.hands);
-  count : vec_len l.workers + vec_len l.hands + 1 ≡ vec_len l.fn.hands;
-  hands_room : vec_capacity l.hands ≡ vec_capacity l.fn.hands;
+  fresh : own l.pass ≡ fresh (vec_len l.idle_workers);
+  count : vec_len l.workers + vec_len l.idle_workers + 1 ≡ vec_len l.fn.idle_workers;
+  hands_room : vec_capacity l.idle_workers ≡ vec_capacity l.fn.idle_workers;
   room : vec_capacity l.workers ≡ vec_capacity l.fn.workers;
 }
 
-abbrev pub decreases-loop-hand : goal.decreases-loop-hand
-decreases-loop-hand g l = vec_len l.hands
+abbrev pub decreases-loop-idle_worker : goal.decreases-loop-idle_worker
+decreases-loop-idle_worker g l = vec_len l.idle_workers

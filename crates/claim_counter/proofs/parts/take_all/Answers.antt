@@ -5,7 +5,7 @@ use Rattle.claim_counter.specs.declared.pass.Pass.{Pass}
 use Rattle.claim_counter.specs.declared.record.PassRecord.{PassRecord}
 use Rattle.claim_counter.specs.Records.{AreDifferentBelow}
 use Rattle.claim_counter.specs.Passes.{own, size_of, BelongsTo}
-use Rattle.claim_counter.specs.Parts.{IsBack, IsHand}
+use Rattle.claim_counter.specs.Parts.{IsBack, IsIdleWorker}
 use Rattle.claim_counter.specs.Walks.{found_at}
 use Rattle.claim_counter.proofs.Gathering.{first_share, more_share, holds_more, none_yet}
 use Rattle.claim_counter.proofs.parts.take_all.Goals as goal
@@ -15,14 +15,14 @@ take_first-pass-requires-clause-share g c =
     let back = popped_last (IsBack c.args.job.now c.args.todo.now c.args.claims.now) _ _ c.in-Some.first c.requires.back.workers_are c.in-Some.ensures.items in
     first_share _ _ _ _ back.done c.requires.limit c.args.book.now c.requires.todo (λ id. c.outcomes_have_few_visits.ensures.found c.args.job.now _ id c.units-units.ensures.sound)
 
-pub take_first-pass-requires-clause-hand : goal.take_first-pass-requires-clause-hand
-take_first-pass-requires-clause-hand g c =
+pub take_first-pass-requires-clause-idle_worker : goal.take_first-pass-requires-clause-idle_worker
+take_first-pass-requires-clause-idle_worker g c =
     let back = popped_last (IsBack c.args.job.now c.args.todo.now c.args.claims.now) _ _ c.in-Some.first c.requires.back.workers_are c.in-Some.ensures.items in
     record { made = back.made; share_room = back.room }
 
-pub take_first-pass-requires-clause-hands : goal.take_first-pass-requires-clause-hands
-take_first-pass-requires-clause-hands g c = record {
-  hands_are = none_yet (IsHand c.args.job.now) c.args.hands.now.items (omega (arith, c.requires.back.none, c.args.hands.now.ok.0));
+pub take_first-pass-requires-clause-idle_workers : goal.take_first-pass-requires-clause-idle_workers
+take_first-pass-requires-clause-idle_workers g c = record {
+  hands_are = none_yet (IsIdleWorker c.args.job.now) c.args.idle_workers.now.items (omega (arith, c.requires.back.none, c.args.idle_workers.now.ok.0));
   room = omega (arith, c.requires.back.none, c.requires.back.some, c.requires.back.room);
 }
 
@@ -45,7 +45,7 @@ loop-worker-init g c =
       outcomes = c.take_first-pass.ensures.outcomes
           ∙ ap (λ (os : List Outcome). c.args.book.now.outcomes ++ os) done.shared
           ∙ ap (λ (p : Pass). c.args.book.now.outcomes ++ map (found_at c.args.job.now c.args.todo.now) (own p).claims) same;
-      hands = c.take_first-pass.ensures.hands;
+      idle_workers = c.take_first-pass.ensures.idle_workers;
       count =
           let left = c.in-Some.ensures.len in
           let one = c.take_first-pass.ensures.count in
@@ -66,17 +66,17 @@ take_next-pass-requires-clause-share g c together =
     more_share _ _ _ _ back.done c.requires.limit c.args.book.now c.loop-worker.book (own c.loop-worker.pass).claims c.requires.todo was.total was.different was.outcomes
     (λ id. c.outcomes_have_few_visits.ensures.found c.args.job.now _ id c.units-units.ensures.sound) together
 
-pub take_next-pass-requires-clause-hand : goal.take_next-pass-requires-clause-hand
-take_next-pass-requires-clause-hand g c =
+pub take_next-pass-requires-clause-idle_worker : goal.take_next-pass-requires-clause-idle_worker
+take_next-pass-requires-clause-idle_worker g c =
     let back = popped_last (IsBack c.args.job.now c.args.todo.now c.args.claims.now) _ _ c.in-Some-pop.worker c.loop-worker.invariant.workers c.in-Some-pop.ensures.items in
     record { made = back.made; share_room = back.room }
 
-pub take_next-pass-requires-clause-hands : goal.take_next-pass-requires-clause-hands
-take_next-pass-requires-clause-hands g c =
+pub take_next-pass-requires-clause-idle_workers : goal.take_next-pass-requires-clause-idle_workers
+take_next-pass-requires-clause-idle_workers g c =
     let was = c.loop-worker.invariant in
     let left = c.in-Some-pop.ensures.len in
     record {
-      hands_are = was.hands;
+      hands_are = was.idle_workers;
       room = omega (arith, was.count, was.room, left, c.requires.back.room);
     }
 
@@ -102,7 +102,7 @@ loop-worker-preserved g c =
       total = c.take_next-pass.ensures.total ∙ was.total;
       outcomes = holds_more _ _ _ _ done c.requires.limit c.args.book.now.outcomes c.loop-worker.book.outcomes _ (own c.loop-worker.pass).claims _
           was.outcomes c.take_next-pass.ensures.outcomes (ap (λ (p : PassRecord). p.claims) both);
-      hands = c.take_next-pass.ensures.hands;
+      idle_workers = c.take_next-pass.ensures.idle_workers;
       count =
           let left = c.in-Some-pop.ensures.len in
           let one = c.take_next-pass.ensures.count in

@@ -37,7 +37,7 @@ take_all-all-requires-clause-back g c = record {
   workers_are = let long : length c.run_all.new.workers ≡ c.lend_all.new.workers.len = search rules in
       subst (All (IsBack c.args.job.now c.args.todo.now c.args.part.claims)) (sym (with_items_is c.lend_all.new.workers c.run_all.new.workers long))
       c.run_all.ensures;
-  some = omega (arith, c.lend_all.ensures.count, c.requires.team.some);
+  some = omega (arith, c.lend_all.ensures.count, c.requires.part_workers.some);
   none = c.lend_all.ensures.none;
-  room = omega (arith, c.lend_all.ensures.count, c.lend_all.ensures.hands_room, c.requires.team.hands_room);
+  room = omega (arith, c.lend_all.ensures.count, c.lend_all.ensures.hands_room, c.requires.part_workers.hands_room);
 }

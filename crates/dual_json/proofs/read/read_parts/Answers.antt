@@ -10,7 +10,7 @@ use Rattle.dual_json.specs.Districts.{district_count_fault, different_count}
 use Rattle.dual_json.specs.Places.{labels_from}
 use Rattle.dual_json.specs.Shape.{views, document_of_parts}
 use Rattle.dual_json.specs.Stages.{graph_fault, labels_fault}
-use Rattle.dual_json.specs.declared.names.Name.{Name}
+use Rattle.dual_json.specs.declared.names.NodeName.{NodeName}
 use Rattle.dual_json.proofs.Bridge.{refusal_is, different_same, parsed_is, within_is, frozen_is, group_is}
 use Rattle.dual_json.proofs.Listed.{length-views}
 use Rattle.dual_json.proofs.read.read_parts.Goals as goal
@@ -25,7 +25,7 @@ returns-in_err-rows-clause-read c =
     let why : (f ≡ Memory) ⊎ (refusal d columns ≡ Some f) = elim c.in_err-rows.ensures [
       | inl m ↦ inl m
       | inr h ↦ inr (refusal_is d columns ∙ none_or (graph_fault d) _ c.in_ok-graph.ensures.0 ∙ none_or (labels_fault columns d.nodes) _ c.in_ok-names.ensures.0
-          ∙ ap district_count_fault (different_same d columns labels c.in_ok-names.ensures.1) ∙ ap (λ (ns : List Name). district_count_fault (different_count (labels_from ns))) (sym c.deref.ensures.value) ∙ h)
+          ∙ ap district_count_fault (different_same d columns labels c.in_ok-names.ensures.1) ∙ ap (λ (ns : List NodeName). district_count_fault (different_count (labels_from ns))) (sym c.deref.ensures.value) ∙ h)
     ] in
     err_at c.from_residual-in_err-rows.result f _ _ e why
 
@@ -35,7 +35,7 @@ returns-clause-read c =
     let columns = c.args.columns.now in
     let labels : List Label = labels_from c.in_ok-names.names.items in (
       refusal_is d columns ∙ or_of_none (graph_fault d) _ c.in_ok-graph.ensures.0 (or_of_none (labels_fault columns d.nodes) _ c.in_ok-names.ensures.0
-          (ap district_count_fault (different_same d columns labels c.in_ok-names.ensures.1) ∙ ap (λ (ns : List Name). district_count_fault (different_count (labels_from ns))) (sym c.deref.ensures.value) ∙ c.in_ok-rows.ensures.0)),
+          (ap district_count_fault (different_same d columns labels c.in_ok-names.ensures.1) ∙ ap (λ (ns : List NodeName). district_count_fault (different_count (labels_from ns))) (sym c.deref.ensures.value) ∙ c.in_ok-rows.ensures.0)),
       parsed_is d columns c.in_ok-graph.graph c.in_ok-rows.rows.counts c.in_ok-rows.rows.group c.in_ok-rows.rows.frozen c.in_ok-rows.rows.start c.in_ok-rows.rows.labels c.in_ok-graph.ensures.1 c.in_ok-rows.ensures.1,
     )
 

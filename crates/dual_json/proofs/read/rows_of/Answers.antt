@@ -5,7 +5,7 @@ use Rattle.audit_model.proofs.Results.{err_at}
 use Rattle.dual_json.specs.Districts.{district_count_fault, different_count, AreDistricts}
 use Rattle.dual_json.specs.Names.{label_from}
 use Rattle.dual_json.specs.Places.{labels_from}
-use Rattle.dual_json.specs.declared.names.Name.{Name}
+use Rattle.dual_json.specs.declared.names.NodeName.{NodeName}
 use Rattle.dual_json.proofs.Bridge.{count_within}
 use Rattle.dual_json.proofs.Counted.{label_count_is}
 use Rattle.dual_json.proofs.read.rows_of.Goals as goal
@@ -23,7 +23,7 @@ returns c =
     let amount : different_count (labels_from c.args.names.now) ≡ c.len.result =
     omega (arith, label_count_is (labels_from c.args.names.now) (labels_from c.deref.result.now) c.in_ok-start.start c.in_ok-start.ensures, length-map c.deref.result.now label_from, c.deref.ensures.len, c.len.ensures) in
     let found : c.in_ok-labels.labels ≡ labels_from c.deref.result.now =
-    c.in_ok-labels.ensures ∙ ap (λ (ns : List Name). labels_from ns) (c.deref-2.ensures.value ∙ sym c.deref.ensures.value) in
+    c.in_ok-labels.ensures ∙ ap (λ (ns : List NodeName). labels_from ns) (c.deref-2.ensures.value ∙ sym c.deref.ensures.value) in
     let long : length c.in_ok-labels.labels ≡ c.len.result = omega (arith, ap length found, length-map c.deref.result.now label_from, c.deref.ensures.len, c.len.ensures) in
     let within = count_within c.len.result c.in_ok-check_count.ensures in
     let low = within.0 in

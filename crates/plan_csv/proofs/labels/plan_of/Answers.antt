@@ -7,7 +7,7 @@ use Rattle.audit_model.specs.declared.fault.TableFault.TheVariants.{DistrictCoun
 use Rattle.dual_json.specs.Districts.{AreDifferent}
 use Rattle.dual_json.specs.Names.{label_from}
 use Rattle.dual_json.specs.Places.{labels_from}
-use Rattle.dual_json.specs.declared.names.Name.{Name}
+use Rattle.dual_json.specs.declared.names.NodeName.{NodeName}
 use Rattle.audit_statement.specs.Table.{label_count, plan_name}
 use Rattle.plan_csv.specs.Stages.{IsAssigned}
 use Rattle.plan_csv.proofs.Labelled.{districts_are, counted, assigned_is, fits}
@@ -18,7 +18,7 @@ returns-then-is_miscounted-clause-read c =
     let rows = map fields_of c.args.entries.now in
     let names = c.in_ok-names.names.items in
     let found = c.in-Ok.found.items in
-    let are : AreDifferent names found = subst (λ (ns : List Name). AreDifferent ns found) c.deref.ensures.value c.in-Ok.ensures in
+    let are : AreDifferent names found = subst (λ (ns : List NodeName). AreDifferent ns found) c.deref.ensures.value c.in-Ok.ensures in
     let d = districts_are names found are in
     let size : c.len-districts.result ≡ length found = search rules in
     let same : c.len-districts.result ≡ label_count [] [] rows c.args.plan =
@@ -33,7 +33,7 @@ returns-clause-read c =
     let a = c.in_ok-assigned_of.field-0 in
     let names = c.in_ok-names.names.items in
     let found = c.in-Ok.found.items in
-    let are : AreDifferent names found = subst (λ (ns : List Name). AreDifferent ns found) c.deref.ensures.value c.in-Ok.ensures in
+    let are : AreDifferent names found = subst (λ (ns : List NodeName). AreDifferent ns found) c.deref.ensures.value c.in-Ok.ensures in
     let d = districts_are names found are in
     let size : c.len-districts.result ≡ length found = search rules in
     let same : c.len-districts.result ≡ label_count [] [] rows c.args.plan =
@@ -42,8 +42,8 @@ returns-clause-read c =
     let named : c.field.result.now ≡ plan_name [] header [] c.args.plan = c.field.ensures ∙ ap (λ k. slice_index_or header k []) next in
     let is : IsAssigned (plan_name [] header [] c.args.plan) (labels_from names) (labels_from found) records a =
     subst (λ (n : List ℕ). IsAssigned n (labels_from names) (labels_from found) records a) named
-    (subst (λ (ns : List Name). IsAssigned c.field.result.now (labels_from ns) (labels_from found) records a) c.deref-2.ensures.value
-    (subst (λ (fs : List Name). IsAssigned c.field.result.now (labels_from c.deref-2.result.now) (labels_from fs) records a) c.deref-3.ensures.value c.in_ok-assigned_of.ensures)) in (
+    (subst (λ (ns : List NodeName). IsAssigned c.field.result.now (labels_from ns) (labels_from found) records a) c.deref-2.ensures.value
+    (subst (λ (fs : List NodeName). IsAssigned c.field.result.now (labels_from c.deref-2.result.now) (labels_from fs) records a) c.deref-3.ensures.value c.in_ok-assigned_of.ensures)) in (
       ap (λ n. nat_lt n 2 || nat_lt 200 n) (sym same) ∙ sym c.is_miscounted.ensures ∙ c.if-is_miscounted.false,
       assigned_is header rows c.args.plan (labels_from names) (labels_from found) records a c.in_ok-names.ensures is
           (λ u l. let under : get_or records u 0 < length c.args.entries.now = c.requires.under u l in omega (arith, under, length-map c.args.entries.now fields_of)),
@@ -62,8 +62,8 @@ returns-clause-fit c =
     let named : c.field.result.now ≡ plan_name [] header [] c.args.plan = c.field.ensures ∙ ap (λ k. slice_index_or header k []) next in
     let is : IsAssigned (plan_name [] header [] c.args.plan) (labels_from names) (labels_from found) records a =
     subst (λ (n : List ℕ). IsAssigned n (labels_from names) (labels_from found) records a) named
-    (subst (λ (ns : List Name). IsAssigned c.field.result.now (labels_from ns) (labels_from found) records a) c.deref-2.ensures.value
-    (subst (λ (fs : List Name). IsAssigned c.field.result.now (labels_from c.deref-2.result.now) (labels_from fs) records a) c.deref-3.ensures.value c.in_ok-assigned_of.ensures)) in
+    (subst (λ (ns : List NodeName). IsAssigned c.field.result.now (labels_from ns) (labels_from found) records a) c.deref-2.ensures.value
+    (subst (λ (fs : List NodeName). IsAssigned c.field.result.now (labels_from c.deref-2.result.now) (labels_from fs) records a) c.deref-3.ensures.value c.in_ok-assigned_of.ensures)) in
     let both = or_parts (nat_lt c.len-districts.result 2) (nat_lt 200 c.len-districts.result) (sym c.is_miscounted.ensures ∙ c.if-is_miscounted.false) in
     let two : 2 ≤ c.len-districts.result = ltb-false c.len-districts.result 2 both.0 in
     let few : c.len-districts.result ≤ 200 = ltb-false 200 c.len-districts.result both.1 in

@@ -17,7 +17,7 @@ loop-part-init g c = record {
     walked_is = omega arith;
     before = λ k some few settled. absurd (omega (arith, some, few));
   };
-  walked_is = same_walked c.args.job.now (vec_len c.args.team.now.hands) c.args.job.now.setting.walks _ _ _ c.requires.walked _ _ refl (omega arith);
+  walked_is = same_walked c.args.job.now (vec_len c.args.part_workers.now.idle_workers) c.args.job.now.setting.walks _ _ _ c.requires.walked _ _ refl (omega arith);
 }
 
 pub ids_from-ids-requires : goal.ids_from-ids-requires
@@ -39,7 +39,7 @@ walk_to-requires-clause-ids g c κs within = c.ids_from-ids.ensures (whole_ids (
 
 pub walk_to-requires-clause-walked : goal.walk_to-requires-clause-walked
 walk_to-requires-clause-walked g c κs within =
-    same_walked c.args.job.now _ _ _ _ _ c.loop-part.invariant.walked_is _ _ c.loop-part.invariant.walked_is.team.count
+    same_walked c.args.job.now _ _ _ _ _ c.loop-part.invariant.walked_is _ _ c.loop-part.invariant.walked_is.part_workers.count
     (ap (λ (s : Setting). s.walks + c.loop-part.walked) c.setting.ensures)
 
 pub walk_to-requires-clause-part : goal.walk_to-requires-clause-part
@@ -47,7 +47,7 @@ walk_to-requires-clause-part g c κs within =
     same_part _ _ _ _
     (part_is _ _ _ _ _ c.loop-part.invariant.round c.pop.new.self.items c.in-Some.part c.after_round-next.result _ _ c.in-Some.ensures.items (c.after_round-next.ensures ∙ ap (λ (s : Setting). min s.ends (2 * c.loop-part.walked + 64)) c.setting-2.ensures)
     (ap (λ (s : Setting). s.walks + c.loop-part.walked) c.setting.ensures) (ap (λ (s : Setting). s.walks + c.after_round-next.result) c.setting.ensures))
-    c.loop-part.invariant.walked_is.team.count
+    c.loop-part.invariant.walked_is.part_workers.count
 
 pub loop-part-preserved : goal.loop-part-preserved
 loop-part-preserved g c =
@@ -57,7 +57,7 @@ loop-part-preserved g c =
       round = round_done _ _ _ _ _ was.round c.pop.new.self.items c.in-Some.part c.after_round-next.result c.in-Some.ensures.items
           (c.after_round-next.ensures ∙ ap (λ (s : Setting). min s.ends (2 * c.loop-part.walked + 64)) c.setting-2.ensures)
           (λ settled. c.in-None.ensures.none (subst (AreSettled c.args.job.now) (sym (c.as_slice.ensures ∙ done.sorted ∙ ap (λ (s : Setting). found_below c.args.job.now (s.walks + c.after_round-next.result)) c.setting.ensures)) settled));
-      walked_is = same_walked c.args.job.now _ _ _ _ _ done.walked _ _ (sym was.walked_is.team.count)
+      walked_is = same_walked c.args.job.now _ _ _ _ _ done.walked _ _ (sym was.walked_is.part_workers.count)
           (sym (ap (λ (s : Setting). s.walks + c.after_round-next.result) c.setting.ensures));
     }
 

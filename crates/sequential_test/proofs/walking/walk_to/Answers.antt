@@ -7,7 +7,7 @@ use Rattle.sequential_test.proofs.walking.walk_to.Goals as goal
 
 pub walk_part-requires-clause-part : goal.walk_part-requires-clause-part
 walk_part-requires-clause-part g c κs within =
-    subst (λ (n : ℕ). IsFreshPart n (vec_len c.args.team.now.hands) c.args.stretch.part) (omega (arith, c.requires.ids.count)) c.requires.part
+    subst (λ (n : ℕ). IsFreshPart n (vec_len c.args.part_workers.now.idle_workers) c.args.stretch.part) (omega (arith, c.requires.ids.count)) c.requires.part
 
 pub walk_part-requires-clause-todo : goal.walk_part-requires-clause-todo
 walk_part-requires-clause-todo g c κs within = record {
@@ -20,7 +20,7 @@ walk_part-requires-clause-hub g c κs within = λ k d inside above. c.requires.w
 
 pub returns-clause-walked : goal.returns-clause-walked
 returns-clause-walked g c = record {
-  team = c.walk_part.ensures.team;
+  part_workers = c.walk_part.ensures.part_workers;
   hub_is = c.walk_part.ensures.hub ∙ c.requires.walked.hub_is;
   whole = c.walk_part.ensures.total ∙ c.requires.walked.whole;
   walked = found_more c.args.job.now c.args.stretch.from c.args.stretch.to c.args.stretch.ids.now c.args.book.now.outcomes c.walk_part.new.book.outcomes c.requires.ids c.requires.walked.walked c.walk_part.ensures.outcomes;

@@ -3,7 +3,7 @@ use Rattle.audit_model.specs.declared.outcome.Outcome.{Outcome}
 use Rattle.audit_model.specs.declared.setting.Setting.{Setting}
 use Rattle.audit_model.specs.Run.{IsRight, total}
 use Rattle.audit_model.proofs.Below.{length-map_below}
-use Rattle.sequential_test.specs.Crews.{AreRounds}
+use Rattle.sequential_test.specs.Pools.{AreRounds}
 use Rattle.audit_statement.specs.Draw.{draw}
 use Rattle.sequential_test.specs.Rounds.{ends_after}
 use Rattle.sequential_test.proofs.Rounding.{few_after, few_job}
@@ -21,7 +21,7 @@ walk_to-requires-clause-ids g c κs within = c.ids_from.ensures (whole_ids (tota
 
 pub walk_to-requires-clause-walked : goal.walk_to-requires-clause-walked
 walk_to-requires-clause-walked g c κs within = record {
-  team = own_seats c.args.job.now _ _ c.find_hub.ensures.team;
+  part_workers = own_seats c.args.job.now _ _ c.find_hub.ensures.part_workers;
   hub_is = c.find_hub.ensures.hub;
   whole = c.requires.total;
   walked = none_walked c.args.job.now c.args.book.now.outcomes c.requires.empty;
@@ -30,12 +30,12 @@ walk_to-requires-clause-walked g c κs within = record {
 
 pub walk_rounds-requires-clause-rounds : goal.walk_rounds-requires-clause-rounds
 walk_rounds-requires-clause-rounds g c κs within =
-    subst (λ (n : ℕ). AreRounds c.args.job.now.setting.ends n 0 c.args.crew.rounds.items)
-    (sym (c.walk_to.ensures.walked.team.count ∙ c.find_hub.ensures.team.count ∙ c.requires.crew.team.count)) c.requires.crew.rounds
+    subst (λ (n : ℕ). AreRounds c.args.job.now.setting.ends n 0 c.args.pool.rounds.items)
+    (sym (c.walk_to.ensures.walked.part_workers.count ∙ c.find_hub.ensures.part_workers.count ∙ c.requires.pool.part_workers.count)) c.requires.pool.rounds
 
 pub walk_rounds-requires-clause-walked : goal.walk_rounds-requires-clause-walked
 walk_rounds-requires-clause-walked g c κs within =
-    same_walked c.args.job.now _ _ _ _ _ c.walk_to.ensures.walked _ _ c.walk_to.ensures.walked.team.count
+    same_walked c.args.job.now _ _ _ _ _ c.walk_to.ensures.walked _ _ c.walk_to.ensures.walked.part_workers.count
     (sym (ap (λ (s : Setting). s.walks) c.setting.ensures))
 
 pub returns-clause-stops : goal.returns-clause-stops

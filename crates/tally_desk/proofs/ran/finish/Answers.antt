@@ -1,5 +1,5 @@
 use Rattle.std.proofs.Common.{ℕ, subst}
-use Rattle.tally_desk.specs.Ran.{BothSaved}
+use Rattle.tally_desk.specs.RunResult.{BothSaved}
 use Rattle.tally_desk.proofs.LastSave.{has_run, lets_last}
 use Rattle.tally_desk.proofs.ran.finish.Goals as goal
 

@@ -4,36 +4,36 @@ use Rattle.std.proofs.lemmas.List.Elements.{All-set}
 use Rattle.audit_model.specs.Job.{Job}
 use Rattle.audit_model.specs.declared.setting.Setting.{Setting}
 use Rattle.tally_desk.specs.Parts.{Parts}
-use Rattle.tally_desk.specs.Crews.{IsWalker}
+use Rattle.tally_desk.specs.Pools.{IsWalker}
 use Rattle.tally_desk.specs.Unposted.{IsRoomWithin, held_room}
 use Rattle.tally_desk.proofs.Unposted.{rooms_within}
 use Rattle.claim_counter.specs.Walks.{IsWithin, ServesEnds}
 use Rattle.tally_desk.proofs.ran.walk_over.Goals as goal
 
-pub work-requires-clause-crew : goal.work-requires-clause-crew
-work-requires-clause-crew g c κs inside =
+pub work-requires-clause-pool : goal.work-requires-clause-pool
+work-requires-clause-pool g c κs inside =
     let job = sym (ap (λ (p : Parts). p.job) c.in-Ok.ensures.parts) in
-    let seats : c.in-Ok.desk.table.shared.key.seats ≡ vec_len c.args.crew.walkers = omega (arith, ap (λ (p : Parts). p.seats) c.in-Ok.ensures.parts, c.len-seats.ensures) in
+    let seats : c.in-Ok.desk.table.shared.key.seats ≡ vec_len c.args.pool.walkers = omega (arith, ap (λ (p : Parts). p.seats) c.in-Ok.ensures.parts, c.len-seats.ensures) in
     record {
       seats_are = omega (arith, seats);
       some = omega (arith, c.requires.workers.0);
-      walkers_are = subst (λ (j : Job). All (IsWalker j) (slice_set c.args.crew.walkers.items 0 c.walk_hub.new.walker)) job
-          (All-set (IsWalker c.args.job.now) c.args.crew.walkers.items 0 c.walk_hub.new.walker c.walk_hub.ensures.walks c.requires.crew.walkers_are);
-      blank = c.requires.crew.blank;
-      room = c.requires.crew.room;
-      held_count = c.requires.crew.held_count;
-      held_rooms = subst (λ (j : Job). All (IsRoomWithin (held_room j.setting c.in-Ok.desk.table.shared.key.seats)) c.args.crew.held.items) job
-          (subst (λ (n : ℕ). All (IsRoomWithin (held_room c.args.job.now.setting n)) c.args.crew.held.items) (sym seats)
-          (rooms_within c.args.job.now.setting (vec_len c.args.crew.walkers) c.args.crew.held.items c.requires.crew.held_rooms));
+      walkers_are = subst (λ (j : Job). All (IsWalker j) (slice_set c.args.pool.walkers.items 0 c.walk_hub.new.walker)) job
+          (All-set (IsWalker c.args.job.now) c.args.pool.walkers.items 0 c.walk_hub.new.walker c.walk_hub.ensures.walks c.requires.pool.walkers_are);
+      blank = c.requires.pool.blank;
+      room = c.requires.pool.room;
+      held_count = c.requires.pool.held_count;
+      held_rooms = subst (λ (j : Job). All (IsRoomWithin (held_room j.setting c.in-Ok.desk.table.shared.key.seats)) c.args.pool.held.items) job
+          (subst (λ (n : ℕ). All (IsRoomWithin (held_room c.args.job.now.setting n)) c.args.pool.held.items) (sym seats)
+          (rooms_within c.args.job.now.setting (vec_len c.args.pool.walkers) c.args.pool.held.items c.requires.pool.held_rooms));
     }
 
 pub work-requires-clause-shared : goal.work-requires-clause-shared
 work-requires-clause-shared g c κs inside =
-    let below : IsFalse c.has_above-needed.result → All (λ id. id < c.args.job.now.setting.walks) c.args.outset.todo =
+    let below : IsFalse c.has_above-needed.result → All (λ id. id < c.args.job.now.setting.walks) c.args.initial_state.todo =
     λ none. subst (λ (x : Setting × List ℕ). All (λ id. id < x.0.walks) x.1) (λ i. (c.setting.ensures i, c.as_slice.ensures i)) (c.has_above-needed.ensures.none none) in
     let todo = sym (ap (λ (p : Parts). p.todo) c.in-Ok.ensures.parts) in
     record {
       same = sym (ap (λ (p : Parts). p.job) c.in-Ok.ensures.parts);
       within = subst (IsWithin c.args.job.now) todo c.requires.within;
-      hub = subst (λ (x : List ℕ). ServesEnds c.args.job.now x c.walk_hub.new.hub) todo (c.walk_hub.ensures.hub c.args.outset.todo below);
+      hub = subst (λ (x : List ℕ). ServesEnds c.args.job.now x c.walk_hub.new.hub) todo (c.walk_hub.ensures.hub c.args.initial_state.todo below);
     }

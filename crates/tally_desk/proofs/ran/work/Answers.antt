@@ -1,6 +1,6 @@
 use Rattle.std.proofs.Common.{◌≡◌, All, length, rules, subst, sym}
 use Rattle.std.proofs.lemmas.List.{with_items_is}
-use Rattle.tally_desk.specs.Crews.{IsDeskWorkerDone}
+use Rattle.tally_desk.specs.Pools.{IsDeskWorkerDone}
 use Rattle.tally_desk.specs.Founded.{parts_of}
 use Rattle.tally_desk.proofs.ran.work.Goals as goal
 

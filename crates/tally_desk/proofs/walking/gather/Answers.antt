@@ -3,7 +3,7 @@ use Rattle.tally_desk.specs.declared.pass.DeskPass.{DeskPass}
 use Rattle.tally_desk.specs.Founded.{parts_of}
 use Rattle.tally_desk.specs.Passes.{Belongs, HasPostedAll, view_of}
 use Rattle.tally_desk.specs.Views.{PassView}
-use Rattle.tally_desk.specs.Crews.{IsDeskWorkerDone}
+use Rattle.tally_desk.specs.Pools.{IsDeskWorkerDone}
 use Rattle.tally_desk.proofs.walking.gather.Goals as goal
 use Rattle.std.proofs.lemmas.Bool.{and_from}
 use Rattle.audit_model.proofs.ListFacts.{popped_last, popped_rest}

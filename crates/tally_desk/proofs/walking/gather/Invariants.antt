@@ -1,7 +1,7 @@
 use Rattle.std.proofs.Common.{◌≡◌, ◌+◌, All, vec_len, true}
 use Rattle.tally_desk.specs.Founded.{parts_of}
 use Rattle.tally_desk.specs.Passes.{Belongs, HasPostedAll, view_of}
-use Rattle.tally_desk.specs.Crews.{IsDeskWorkerDone}
+use Rattle.tally_desk.specs.Pools.{IsDeskWorkerDone}
 use Rattle.tally_desk.proofs.walking.gather.Given as goal
 
 abbrev pub invariant-loop-worker : goal.invariant-loop-worker

@@ -25,8 +25,8 @@ pub settle-requires-clause-bins : goal.settle-requires-clause-bins
 settle-requires-clause-bins g c =
     bins_fit c.args.job.now (draw c.args.track.now.draws.key c.args.track.now.draws.stream) c.args.place c.args.track.now.trail c.requires.on.trail (omega (arith, c.requires.few))
 
-pub renew-requires-clause-few : goal.renew-requires-clause-few
-renew-requires-clause-few g c =
+pub update-requires-clause-few : goal.update-requires-clause-few
+update-requires-clause-few g c =
     let le = moved_le c.args.job.now (draw c.args.track.now.draws.key c.args.track.now.draws.stream) c.args.place c.args.track.now.trail c.requires.on.trail in
     omega (arith, c.settle.ensures.moved, le, c.requires.few)
 
@@ -39,8 +39,8 @@ returns-clause-on g c =
     let visited = visited_after job along c.args.place before.draws.place c.args.state.now.plan c.step.new.state.plan c.requires.on.at c.requires.on.visited step in
     let test = test_after job along c.args.place before.draws.place c.args.state.now.plan c.step.new.state.plan
     c.requires.on.at c.requires.on.visited step c.step.result true c.step.ensures.moved c.if-not-step.false in
-    on_track job c.step.new.state.plan c.args.place before.draws c.step.new.draws c.renew.new.self c.requires.on.at c.step.ensures.draws visited
-    (went job along c.args.place before.trail c.requires.on.trail c.renew.new.self test
-    (c.renew.ensures.moved ∙ ap (λ (n : ℕ). n + 1) c.settle.ensures.moved) (c.renew.ensures.visits ∙ c.settle.ensures.visits)
-    (subst (λ (p : List ℕ). IsTested job p c.renew.new.self) visited c.renew.ensures.tested)
-    (c.renew.ensures.counted along (c.args.place + 1) (c.settle.ensures.counted job along c.args.place c.requires.on.trail refl)))
+    on_track job c.step.new.state.plan c.args.place before.draws c.step.new.draws c.update.new.self c.requires.on.at c.step.ensures.draws visited
+    (went job along c.args.place before.trail c.requires.on.trail c.update.new.self test
+    (c.update.ensures.moved ∙ ap (λ (n : ℕ). n + 1) c.settle.ensures.moved) (c.update.ensures.visits ∙ c.settle.ensures.visits)
+    (subst (λ (p : List ℕ). IsTested job p c.update.new.self) visited c.update.ensures.tested)
+    (c.update.ensures.counted along (c.args.place + 1) (c.settle.ensures.counted job along c.args.place c.requires.on.trail refl)))

@@ -17,9 +17,9 @@ pub returns-clause-untold : goal.returns-clause-untold
 unfolding judged jobs_reading job_of job_with reading id_reading table_reading csv_on_literals digits is_utf8 chars encode_utf8 serde_json_on_literals count_below
 returns-clause-untold c = refl
 
-pub returns-clause-told : goal.returns-clause-told
+pub returns-clause-observed : goal.returns-clause-observed
 unfolding judged jobs_reading job_of job_with reading id_reading table_reading csv_on_literals digits is_utf8 chars encode_utf8 serde_json_on_literals count_below
-returns-clause-told c = refl
+returns-clause-observed c = refl
 
 pub returns-clause-several : goal.returns-clause-several
 unfolding judged jobs_reading job_of job_with reading id_reading table_reading csv_on_literals digits is_utf8 chars encode_utf8 serde_json_on_literals count_below

@@ -12,16 +12,16 @@ table_of : (g h : Graph) (p q : List ℕ) (m n : ℕ) (table : List Bool) → g 
 table_of g h p q m n table eg ep em is =
     subst (λ (x : Graph). TellsOpen x q n table) eg (subst (λ (x : List ℕ). TellsOpen g x n table) ep (subst (λ (x : ℕ). TellsOpen g p x table) em is))
 
-pub renew-requires-clause-table : goal.renew-requires-clause-table
-renew-requires-clause-table c =
+pub update-requires-clause-table : goal.update-requires-clause-table
+update-requires-clause-table c =
     let s = c.self.inside in
     let same : s.job.value ≡ c.args.flip.job.now = ap (λ (h : Held). h.job) c.self.view_is ∙ c.requires.made in
     let back = put_back s.plan c.as_slice-3.result.now c.args.flip.unit c.args.flip.district _ (c.as_slice-3.ensures ∙ c.shift.ensures.plan) (ap (λ (p : List ℕ). get_or p c.args.flip.unit 0) c.as_slice.ensures) in
     table_of s.job.value.graph c.graph-graph.result.now s.plan _ s.job.value.districts s.pairs.districts s.openings
     (ap (λ (j : Job). j.graph) same ∙ sym c.graph-graph.ensures) (sym back) (sym c.self.invariant.numbers.districts) c.self.invariant.opened
 
-pub renew-requires-clause-beside : goal.renew-requires-clause-beside
-renew-requires-clause-beside c =
+pub update-requires-clause-beside : goal.update-requires-clause-beside
+update-requires-clause-beside c =
     let s = c.self.inside in
     let flip = c.args.flip in
     let job = flip.job.now in

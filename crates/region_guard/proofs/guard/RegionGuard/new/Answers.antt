@@ -2,7 +2,7 @@ use Rattle.std.proofs.Common.{◌≡◌, ℕ, ◌*◌, length, sym, ap, ◌∙�
 use Rattle.std.proofs.lemmas.List.{length-replicate}
 use Rattle.audit_model.specs.Below.{above_all}
 use Rattle.audit_model.proofs.ListFacts.{above_all_most}
-use Rattle.region_guard.specs.declared.splits.Splits.{Splits}
+use Rattle.region_guard.specs.declared.splits.SplitCounts.{SplitCounts}
 use Rattle.region_guard.proofs.guard.RegionGuard.new.Goals as goal
 
 pub zeros-requires-clause-few_rows : goal.zeros-requires-clause-few_rows
@@ -16,8 +16,8 @@ returns-clause-table g c =
     let rows : ℕ = c.row_count-rows.result in
     let is_rows : rows ≡ above_all c.args.rules.regions = c.row_count-rows.ensures ∙ ap above_all c.as_slice.ensures in
     let is = c.in_ok-splits.ensures in
-    let wide = ap (λ (s : Splits). length {A = ℕ} s.widths) is ∙ length-replicate rows 0 in
-    let long = ap (λ (s : Splits). length {A = ℕ} s.cells) is ∙ length-replicate (rows * c.args.districts) 0 in
+    let wide = ap (λ (s : SplitCounts). length {A = ℕ} s.widths) is ∙ length-replicate rows 0 in
+    let long = ap (λ (s : SplitCounts). length {A = ℕ} s.cells) is ∙ length-replicate (rows * c.args.districts) 0 in
     record {
       rows = wide ∙ is_rows;
       places = long ∙ ap (λ n. n * c.args.districts) (sym wide);

@@ -1,5 +1,5 @@
 use Rattle.std.proofs.Common.{◌≡◌, ℕ, ◌+◌, ◌-◌, not, List, sym, ap, ◌∙◌, subst, arith}
-use Rattle.region_guard.specs.declared.splits.Splits.{Splits}
+use Rattle.region_guard.specs.declared.splits.SplitCounts.{SplitCounts}
 use Rattle.std.specs.Prelude.{nat_le, nat_lt}
 use Rattle.region_guard.specs.declared.splits.Totals.{Totals}
 use Rattle.region_guard.specs.Standing.{broken_in}
@@ -13,7 +13,7 @@ returns-then-after-unit g c =
     let after : List ℕ = c.args.after.now in
     let most : ℕ = c.args.self.now.rules.max_split in
     let districts : ℕ = c.args.self.now.districts in
-    let splits : Splits = c.args.self.now.splits in
+    let splits : SplitCounts = c.args.self.now.splits in
     stayed regions after most districts c.args.unit c.args.from c.requires.step splits c.requires.stood c.if-after-unit.true
 
 pub width_of-width-requires : goal.width_of-width-requires
@@ -22,7 +22,7 @@ width_of-width-requires g c =
     let after : List ℕ = c.args.after.now in
     let most : ℕ = c.args.self.now.rules.max_split in
     let districts : ℕ = c.args.self.now.districts in
-    let splits : Splits = c.args.self.now.splits in
+    let splits : SplitCounts = c.args.self.now.splits in
     record { region = row_below regions after most districts c.args.unit c.args.from c.requires.step splits c.region_of.result c.requires.table c.requires.stood c.region_of.ensures }
 
 pub broken_after-broken-requires-clause-some : goal.broken_after-broken-requires-clause-some
@@ -31,7 +31,7 @@ broken_after-broken-requires-clause-some g c =
     let after : List ℕ = c.args.after.now in
     let most : ℕ = c.args.self.now.rules.max_split in
     let districts : ℕ = c.args.self.now.districts in
-    let splits : Splits = c.args.self.now.splits in
+    let splits : SplitCounts = c.args.self.now.splits in
     λ h. some_broken regions after most districts c.args.unit c.args.from c.requires.step splits c.region_of.result c.requires.table c.requires.stood c.region_of.ensures (ap (λ x. nat_le x most) (sym c.width_of-width.ensures) ∙ h)
 
 pub broken_after-broken-requires-clause-few : goal.broken_after-broken-requires-clause-few
@@ -40,7 +40,7 @@ broken_after-broken-requires-clause-few g c =
     let after : List ℕ = c.args.after.now in
     let most : ℕ = c.args.self.now.rules.max_split in
     let districts : ℕ = c.args.self.now.districts in
-    let splits : Splits = c.args.self.now.splits in
+    let splits : SplitCounts = c.args.self.now.splits in
     few_broken regions after most districts c.args.unit c.args.from c.requires.step splits c.region_of.result c.requires.table c.requires.stood c.region_of.ensures
 
 pub changed-requires-clause-few_in_all : goal.changed-requires-clause-few_in_all
@@ -49,7 +49,7 @@ changed-requires-clause-few_in_all g c =
     let after : List ℕ = c.args.after.now in
     let most : ℕ = c.args.self.now.rules.max_split in
     let districts : ℕ = c.args.self.now.districts in
-    let splits : Splits = c.args.self.now.splits in
+    let splits : SplitCounts = c.args.self.now.splits in
     few_in_all regions after most districts c.args.unit c.args.from c.requires.step splits c.region_of.result c.requires.table c.requires.stood c.region_of.ensures
 
 pub changed-requires-clause-few_split : goal.changed-requires-clause-few_split
@@ -58,7 +58,7 @@ changed-requires-clause-few_split g c =
     let after : List ℕ = c.args.after.now in
     let most : ℕ = c.args.self.now.rules.max_split in
     let districts : ℕ = c.args.self.now.districts in
-    let splits : Splits = c.args.self.now.splits in
+    let splits : SplitCounts = c.args.self.now.splits in
     few_split_regions regions after most districts c.args.unit c.args.from c.requires.step splits c.region_of.result c.requires.table c.requires.stood c.region_of.ensures
 
 pub changed-requires-clause-few : goal.changed-requires-clause-few
@@ -67,7 +67,7 @@ changed-requires-clause-few g c =
     let after : List ℕ = c.args.after.now in
     let most : ℕ = c.args.self.now.rules.max_split in
     let districts : ℕ = c.args.self.now.districts in
-    let splits : Splits = c.args.self.now.splits in
+    let splits : SplitCounts = c.args.self.now.splits in
     few_wide regions after most districts c.args.unit c.args.from c.requires.step splits c.region_of.result c.requires.table c.requires.stood c.region_of.ensures c.if-after-unit.false c.split_with-wide.result c.split_with-wide.ensures
 
 pub changed-requires-clause-some_in_all : goal.changed-requires-clause-some_in_all
@@ -76,7 +76,7 @@ changed-requires-clause-some_in_all g c =
     let after : List ℕ = c.args.after.now in
     let most : ℕ = c.args.self.now.rules.max_split in
     let districts : ℕ = c.args.self.now.districts in
-    let splits : Splits = c.args.self.now.splits in
+    let splits : SplitCounts = c.args.self.now.splits in
     let some = some_in_all regions after most districts c.args.unit c.args.from c.requires.step splits c.region_of.result c.requires.table c.requires.stood c.region_of.ensures c.if-after-unit.false c.split_with-wide.result c.split_with-wide.ensures in
     omega (arith, some, c.width_of-width.ensures)
 
@@ -86,7 +86,7 @@ changed-requires-clause-some_split g c =
     let after : List ℕ = c.args.after.now in
     let most : ℕ = c.args.self.now.rules.max_split in
     let districts : ℕ = c.args.self.now.districts in
-    let splits : Splits = c.args.self.now.splits in
+    let splits : SplitCounts = c.args.self.now.splits in
     let some = some_split_regions regions after most districts c.args.unit c.args.from c.requires.step splits c.region_of.result c.requires.table c.requires.stood c.region_of.ensures c.if-after-unit.false c.split_with-wide.result c.split_with-wide.ensures in
     omega (arith, some, ap (λ x. one_if (nat_lt 1 x)) c.width_of-width.ensures)
 
@@ -96,7 +96,7 @@ returns g c =
     let after : List ℕ = c.args.after.now in
     let most : ℕ = c.args.self.now.rules.max_split in
     let districts : ℕ = c.args.self.now.districts in
-    let splits : Splits = c.args.self.now.splits in
+    let splits : SplitCounts = c.args.self.now.splits in
     let wide : ℕ = c.split_with-wide.result in
     let b : ℕ = c.broken_after-broken.result in
     let is_broken : b ≡ broken_in regions most after = broken_found regions after most districts c.args.unit c.args.from c.requires.step splits c.region_of.result c.requires.table c.requires.stood c.region_of.ensures wide b c.split_with-wide.ensures

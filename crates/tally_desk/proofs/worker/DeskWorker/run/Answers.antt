@@ -1,7 +1,7 @@
 use Rattle.std.proofs.Common.{◌∙◌, List, ap, refl, subst, sym}
 use Rattle.audit_model.specs.declared.outcome.Outcome.{Outcome}
 use Rattle.claim_counter.specs.declared.record.PassRecord.{PassRecord}
-use Rattle.tally_desk.specs.Crews.{IsAtDesk}
+use Rattle.tally_desk.specs.Pools.{IsAtDesk}
 use Rattle.tally_desk.specs.Founded.{parts_of}
 use Rattle.tally_desk.specs.Passes.{view_of}
 use Rattle.tally_desk.specs.Unposted.{HoldsRest}
@@ -20,8 +20,8 @@ loop-id-init g c = record {
 pub hand_in-requires : goal.hand_in-requires
 hand_in-requires g c =
     let parts = parts_of g.C.Keeper.state c.args.desk.now.table.shared.key in
-    let right = walked_found c.args.job.now c.args.desk.now.table.shared.key.job.value c.in-Some.id c.tell-told.result c.walk-outcome.result c.requires.shared.same c.tell-told.ensures c.walk-outcome.ensures.outcome in
-    let named = walked_id c.args.job.now c.in-Some.id c.tell-told.result c.walk-outcome.result c.tell-told.ensures c.walk-outcome.ensures.outcome in
+    let right = walked_found c.args.job.now c.args.desk.now.table.shared.key.job.value c.in-Some.id c.tell-observed.result c.walk-outcome.result c.requires.shared.same c.tell-observed.ensures c.walk-outcome.ensures.outcome in
+    let named = walked_id c.args.job.now c.in-Some.id c.tell-observed.result c.walk-outcome.result c.tell-observed.ensures c.walk-outcome.ensures.outcome in
     record {
       belongs = c.in-Some.ensures.pass;
       rest = claimed_held parts c.in-Some.id (view_of c.loop-id.pass) (view_of c.claim.new.pass) c.loop-id.held.items c.walk-outcome.result c.loop-id.invariant.at_desk.holds.rest

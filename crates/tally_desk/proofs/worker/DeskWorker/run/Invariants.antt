@@ -1,7 +1,7 @@
 use Rattle.std.proofs.Common.{◌≡◌, ◌-◌, length, vec_capacity}
 use Rattle.tally_desk.specs.Founded.{parts_of}
 use Rattle.tally_desk.specs.Passes.{view_of}
-use Rattle.tally_desk.specs.Crews.{IsAtDesk}
+use Rattle.tally_desk.specs.Pools.{IsAtDesk}
 use Rattle.tally_desk.proofs.worker.DeskWorker.run.Given as goal
 
 abbrev pub invariant-loop-id : goal.invariant-loop-id

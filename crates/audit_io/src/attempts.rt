@@ -1,0 +1,42 @@
+//! The history of save attempts, which exists only in proofs.
+
+ghost use Rattle.std.specs.Prelude.{◌≡◌, List, [], ◌∷◌, ◌++◌};
+ghost use Rattle.std.specs.Borrow.{ftrue};
+ghost use Rattle.audit_model.specs.Attempts.{Try, try_of};
+
+use std::marker::Model;
+
+/// A list without run-time data, whose methods do nothing at run time.
+#[derive(Drop)]
+pub(crate) struct Attempts {
+    pub(crate) ghost items: { List Try },
+}
+
+impl Model for Attempts {
+    ghost also_owns = { λ _. ftrue };
+}
+
+// A list of attempts owns nothing, so it may cross threads.
+unsafe impl Send for Attempts {}
+
+/// A save attempt: its slot, its bytes, and its success.
+#[derive(Clone, Copy)]
+pub(crate) struct Save<'a> {
+    pub(crate) slot: u8,
+    pub(crate) bytes: &'a [u8],
+    pub(crate) succeeded: bool,
+}
+
+impl Attempts {
+    pub(crate) fn new() -> Attempts
+        ensures { result.items ≡ [] }
+    {
+        Attempts {}
+    }
+
+    pub(crate) fn and(&self, _save: &Save<'_>) -> Attempts
+        ensures { result.items ≡ self.now.items ++ try_of _save.now.slot _save.now.bytes.now _save.now.succeeded ∷ [] }
+    {
+        Attempts {}
+    }
+}

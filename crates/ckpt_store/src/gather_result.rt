@@ -1,0 +1,42 @@
+//! The result of a gathering.
+
+ghost use Rattle.std.specs.Prelude.{◌≡◌};
+ghost use Rattle.ckpt_store.specs.declared.gather_result.Ungathered.TheVariants as ungathered;
+
+use crate::finding::Finding;
+use audit_model::lists::PlainList;
+use audit_model::memory::Memory;
+
+/// A list of findings.
+pub type FindingList = PlainList<Finding>;
+
+/// The findings in the working folder and in each other folder, the total number of outcomes, and whether they were
+/// saved.
+#[derive(Drop)]
+pub struct GatherResult {
+    pub own: Finding,
+    pub folders: FindingList,
+    pub done: u32,
+    pub saved: bool,
+}
+
+/// The reason why a gathering failed.
+#[derive(Clone, Copy, Debug, PartialEq, Eq)]
+pub enum Ungathered {
+    /// Out of memory. No save was attempted.
+    Memory,
+    /// A slot of the working folder could not be loaded. No save was attempted.
+    Unread,
+    /// A slot could not be loaded because another process has locked the folder. No save was attempted.
+    Taken,
+    /// The save failed, and its slot may hold anything.
+    Unsaved,
+}
+
+impl From<Memory> for Ungathered {
+    ghost from_gives = { λ _ u. u ≡ ungathered.Memory };
+
+    fn from(_: Memory) -> Ungathered {
+        Ungathered::Memory
+    }
+}

@@ -1,0 +1,130 @@
+//! The contents of a slot's file for any job, and the newest slot.
+
+ghost use Rattle.std.specs.Prelude.{◌≡◌, ◌<◌, ℕ, List, Option, Some, IfOk, OnOk};
+ghost use Rattle.audit_model.specs.declared.fault.CkptFault.TheVariants as variant;
+ghost use Rattle.ckpt_store.specs.Holding.{HasLoaded, Holds, HoldsStored, IsLoadedFrom, generation_in, newest_in};
+ghost use Rattle.ckpt_store.specs.Looked.{HasLookCause};
+
+use crate::look::LookFault;
+use crate::slots::generation_after;
+use audit_io::keeper::{Keeper, LoadError};
+use audit_model::buffers::Bytes;
+use audit_model::fault::CkptFault;
+use audit_model::memory::Memory;
+use ckpt_format::decode::{Checkpoint, decode};
+use std::alloc::Global;
+
+/// The largest number of bytes of a checkpoint.
+pub const LIMIT: u64 = 8_000_084;
+
+/// The contents of a slot, for any job.
+#[derive(Drop)]
+pub enum SlotContent {
+    /// The file does not exist.
+    Absent,
+    /// The bytes are no checkpoint, with this fault.
+    Broken(CkptFault),
+    /// The bytes are a checkpoint.
+    Whole(Checkpoint),
+}
+
+/// The result of loading a slot.
+#[derive(Drop)]
+pub enum Loaded {
+    /// The file does not exist.
+    Absent,
+    /// The file has more bytes than a checkpoint can have.
+    Long,
+    /// The bytes of the file.
+    Bytes(Bytes),
+}
+
+/// Loads a slot.
+///
+/// # Errors
+///
+/// - `Failed`: the load failed.
+/// - `Taken`: the load failed because another process has locked the slots.
+/// - `Memory`: out of memory for the bytes.
+pub fn load_slot<C: Keeper>(alloc: Global, keeper: &mut C, slot: u8) -> Result<Loaded, LookFault>
+    requires { slot < 2 }
+    ensures loaded { IfOk result (HasLoaded (C.state keeper.old).slots slot) }
+    ensures slots { (C.state keeper.new).slots ≡ (C.state keeper.old).slots }
+    ensures cause { HasLookCause (C.state keeper.old).load_faults (C.state keeper.new).load_faults result }
+    ensures saves { (C.state keeper.new).save_faults ≡ (C.state keeper.old).save_faults }
+    ensures attempted { (C.state keeper.new).attempted ≡ (C.state keeper.old).attempted }
+{
+    let mut room = Bytes::new(alloc);
+    match keeper.load(slot, LIMIT, &mut room) {
+        Ok(true) => Ok(Loaded::Bytes(room)),
+        Ok(false) => Ok(Loaded::Absent),
+        Err(LoadError::Long(_)) => Ok(Loaded::Long),
+        Err(LoadError::Failed) => Err(LookFault::Failed),
+        Err(LoadError::Taken) => Err(LookFault::Taken),
+        Err(LoadError::Memory) => Err(LookFault::Memory),
+    }
+}
+
+/// Returns the contents of a loaded slot: nothing, a checkpoint, or bytes that are too many or have a fault.
+///
+/// # Errors
+///
+/// Out of memory for the outcomes of a checkpoint.
+pub fn held_of(alloc: Global, loaded: &Loaded) -> Result<SlotContent, Memory>
+    ensures { IfOk result (λ h. (slot : Option (List ℕ)) → IsLoadedFrom loaded.now slot → HoldsStored slot h) }
+{
+    match loaded {
+        Loaded::Absent => Ok(SlotContent::Absent),
+        Loaded::Long => Ok(SlotContent::Broken(CkptFault::TooLong(LIMIT))),
+        Loaded::Bytes(bytes) => held_in(alloc, bytes.as_slice()),
+    }
+}
+
+/// Returns the contents of a slot with these bytes.
+fn held_in(alloc: Global, bytes: &[u8]) -> Result<SlotContent, Memory>
+    ensures { IfOk result (Holds bytes.now) }
+{
+    if bytes.len() as u64 > LIMIT {
+        return Ok(SlotContent::Broken(CkptFault::TooLong(LIMIT)));
+    }
+    match decode(alloc, bytes) {
+        Ok(checkpoint) => Ok(SlotContent::Whole(checkpoint)),
+        Err(fault) => broken(fault),
+    }
+}
+
+/// Returns a broken slot with this fault, or an error if the fault is out of memory.
+fn broken(fault: CkptFault) -> Result<SlotContent, Memory>
+    ensures slot { IfOk result (λ h. h ≡ SlotContent.Broken fault) }
+    ensures known { OnOk result (fault ≡ variant.Memory → ⊥) }
+{
+    match fault {
+        CkptFault::Memory => Err(Memory),
+        fault => Ok(SlotContent::Broken(fault)),
+    }
+}
+
+impl SlotContent {
+    /// Returns the generation of a valid slot.
+    fn generation(&self) -> Option<u8>
+        ensures { result ≡ generation_in self.now }
+    {
+        match self {
+            SlotContent::Absent | SlotContent::Broken(_) => None,
+            SlotContent::Whole(checkpoint) => Some(checkpoint.generation),
+        }
+    }
+}
+
+/// Returns the number of the newest slot, or `None` if no slot is valid. Of two valid slots it is slot 1 if its
+/// generation follows that of slot 0, else slot 0.
+pub fn newest(zero: &SlotContent, one: &SlotContent) -> Option<u8>
+    ensures { result ≡ newest_in zero.now one.now }
+{
+    match (zero.generation(), one.generation()) {
+        (None, None) => None,
+        (None, Some(_)) => Some(1),
+        (Some(_), None) => Some(0),
+        (Some(zero), Some(one)) => Some(u8::from(one == generation_after(zero))),
+    }
+}

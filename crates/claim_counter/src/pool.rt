@@ -1,0 +1,38 @@
+//! The workers of a run in one part.
+
+ghost use Rattle.std.specs.Prelude.{◌≤◌, IfOk, vec_len};
+ghost use Rattle.claim_counter.specs.Pools.{HasWalkedNothing, IsPool};
+ghost use Rattle.walker.specs.Judges.{AreJudges};
+ghost use Rattle.audit_model.specs.Limits.{most_trajectories, most_workers};
+
+use crate::parts::{PartCounter, PartWorkers, make_part_workers};
+use audit_model::memory::Memory;
+use flip_guard::judge::Judge;
+use plan_core::job::Job;
+use std::alloc::Global;
+
+/// The workers, the hub, and the counter of a run in one part.
+#[derive(Drop)]
+pub struct WorkerPool<J: Judge> {
+    pub(crate) part: PartCounter,
+    pub(crate) part_workers: PartWorkers<J>,
+}
+
+/// Makes a worker for each constraint, to walk `count` trajectories of the job together. The only error is out of
+/// memory, and walking allocates nothing more. The hub is not computed yet.
+pub fn make_pool<J: Judge>(
+    alloc: Global,
+    job: &Job,
+    count: u32,
+    judges: Vec<J>,
+) -> Result<WorkerPool<J>, Memory>
+    requires count { count ≤ most_trajectories }
+    requires workers { (1 ≤ vec_len judges) × (vec_len judges ≤ most_workers) }
+    requires judges { AreJudges job.now J.judging judges.items }
+    ensures pool { IfOk result (IsPool job.now count (vec_len judges)) }
+    ensures no_hub { IfOk result (HasWalkedNothing job.now) }
+{
+    let part = PartCounter::new(alloc, count, judges.len() as u32)?;
+    let part_workers = make_part_workers(alloc, job, judges)?;
+    Ok(WorkerPool { part, part_workers })
+}

@@ -1,0 +1,10 @@
+use Rattle.std.proofs.Common.{◌≡◌, vec_capacity, vec_len}
+use Rattle.tally_desk.specs.Unposted.{AreRooms}
+use Rattle.tally_desk.proofs.pool.make_rooms.Given as goal
+
+abbrev pub invariant-loop-place : goal.invariant-loop-place
+invariant-loop-place l = record {
+  rooms : AreRooms l.setting l.workers l.held.items;
+  len : vec_len l.held ≡ l.place;
+  capacity : vec_capacity l.held ≡ l.workers;
+}

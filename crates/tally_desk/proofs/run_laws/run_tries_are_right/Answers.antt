@@ -1,5 +1,0 @@
-use Rattle.tally_desk.proofs.Holding.{run_tries_are_right}
-use Rattle.tally_desk.proofs.run_laws.run_tries_are_right.Goals as goal
-
-pub returns : goal.returns
-returns c = run_tries_are_right

@@ -1,0 +1,171 @@
+//! The workers of a run that saves while it walks.
+
+ghost use Rattle.std.specs.Prelude.{◌≡◌, ◌+◌, ◌-◌, ◌*◌, ◌<◌, ◌≤◌, ◌∷◌, [], ◌++◌, All, IfOk, vec_len};
+ghost use Rattle.tally_desk.specs.Founded.{parts_of};
+ghost use Rattle.tally_desk.specs.Passes.{IsFirstPass};
+ghost use Rattle.tally_desk.specs.Pools.{AreWalkers, IsDeskPool, IsReadyAtDesk, MaySeat};
+ghost use Rattle.tally_desk.specs.Unposted.{AreRooms, held_room, holders, room_at};
+ghost use Rattle.walker.specs.Judges.{AreJudges};
+
+use crate::desk::Desk;
+use crate::laws::posts_stay_whole;
+use crate::pass::DeskPass;
+use crate::worker::DeskWorker;
+use audit_io::keeper::Keeper;
+use audit_model::lists::UnitList;
+use audit_model::memory::Memory;
+use audit_model::outcome::Outcome;
+use audit_model::setting::Setting;
+use claim_counter::gated::GatedWalker;
+use flip_guard::judge::Judge;
+use plan_core::job::Job;
+use std::alloc::Global;
+
+/// The workers of a run that saves, and their preallocated buffers: walkers, one outcome buffer per worker, and the
+/// hub.
+#[derive(Drop)]
+pub struct DeskPool<J: Judge> {
+    pub(crate) walkers: Vec<GatedWalker<J>>,
+    pub(crate) workers: Vec<DeskWorker<J>>,
+    pub(crate) held: Vec<Vec<Outcome>>,
+    pub(crate) hub: UnitList,
+}
+
+/// The number of steps from which a trajectory counts as long. Outcomes of long trajectories are not buffered.
+const LONG_STEPS: u32 = 100_000;
+
+/// The largest capacity of one outcome buffer.
+const MOST_HELD: usize = 4096;
+
+/// The largest number of workers with an outcome buffer. With more buffering workers, the worker that saves would get
+/// too little of the processors.
+const MOST_HOLDERS: usize = 4;
+
+/// Makes a worker for each constraint, which must be that of the job. The only error is out of memory, and walking
+/// allocates nothing more.
+pub fn make_pool<J: Judge>(alloc: Global, job: &Job, judges: Vec<J>) -> Result<DeskPool<J>, Memory>
+    requires judges { AreJudges job.now J.judging judges.items }
+    ensures { IfOk result (IsDeskPool job.now (vec_len judges)) }
+{
+    let room = Vec::with_capacity(alloc, judges.len())?;
+    let hub = UnitList::zeros(alloc, job.units() as usize)?;
+    let setting = job.setting();
+    // Called for its contract: the workers together buffer few outcomes.
+    let _each = room_each(setting, judges.len());
+    let held = make_rooms(alloc, setting, judges.len())?;
+    let walkers = make_walkers(alloc, job, judges)?;
+    Ok(DeskPool {
+        walkers,
+        workers: room,
+        held,
+        hub,
+    })
+}
+
+// Returns the number of workers that have an outcome buffer.
+fn holders(workers: usize) -> usize
+    ensures { result ≡ holders workers }
+{
+    workers.min(MOST_HOLDERS)
+}
+
+// Returns the capacity of each outcome buffer. All buffers together hold fewer outcomes than are posted between two
+// saves.
+fn room_each(setting: &Setting, workers: usize) -> usize
+    ensures room { result ≡ held_room setting.now workers }
+    ensures few { holders workers * result ≤ setting.now.save_every - 1 }
+{
+    if setting.steps.max(setting.hub_steps) >= LONG_STEPS {
+        return 0;
+    }
+    let few = setting.save_every.saturating_sub(1) as usize;
+    MOST_HELD.min(few / holders(workers).max(1))
+}
+
+// Returns the buffer capacity of the worker at this place.
+fn room_at(setting: &Setting, workers: usize, place: usize) -> usize
+    ensures { result ≡ room_at setting.now workers place }
+{
+    if place < holders(workers) {
+        room_each(setting, workers)
+    } else {
+        0
+    }
+}
+
+// Makes the outcome buffers, one per worker.
+fn make_rooms(alloc: Global, setting: &Setting, workers: usize) -> Result<Vec<Vec<Outcome>>, Memory>
+    ensures count { IfOk result (λ h. vec_len h ≡ workers) }
+    ensures rooms { IfOk result (λ h. AreRooms setting.now workers h.items) }
+{
+    let mut held = Vec::with_capacity(alloc, workers)?;
+    for place in 0..workers {
+        let room = room_at(setting, workers, place);
+        held.push_reserved(Vec::with_capacity(alloc, room)?);
+    }
+    Ok(held)
+}
+
+// Makes a worker of each walker, with its own pass and buffer.
+pub(crate) fn seat<C: Keeper, J: Judge>(
+    desk: &Desk<C>,
+    mut pass: DeskPass,
+    mut walkers: Vec<GatedWalker<J>>,
+    mut workers: Vec<DeskWorker<J>>,
+    mut lists: Vec<Vec<Outcome>>,
+) -> Vec<DeskWorker<J>>
+    requires pass { IsFirstPass desk.now.table.shared.table_id (parts_of C.state desk.now.table.shared.key) pass }
+    requires pool { MaySeat (parts_of C.state desk.now.table.shared.key) walkers workers lists }
+    ensures ready { All (IsReadyAtDesk desk.now.table.shared.table_id (parts_of C.state desk.now.table.shared.key)) result.items }
+    ensures count { vec_len result ≡ vec_len walkers }
+{
+    // Called for its contract: a pass that posts what it claims has posted all its claims.
+    posts_stay_whole();
+    let Some(last) = walkers.pop() else {
+        unreachable!()
+    };
+    while let Some(walker) = walkers.pop() {
+        let part = desk.split(&mut pass);
+        let held = take_last(&mut lists);
+        workers.push_reserved(DeskWorker {
+            walker,
+            pass: part,
+            held,
+        });
+    }
+    let held = take_last(&mut lists);
+    workers.push_reserved(DeskWorker {
+        walker: last,
+        pass,
+        held,
+    });
+    workers
+}
+
+fn take_last(lists: &mut Vec<Vec<Outcome>>) -> Vec<Outcome>
+    requires { 0 < vec_len lists.old }
+    ensures items { lists.old.items ≡ lists.new.items ++ result ∷ [] }
+    ensures len { vec_len lists.new + 1 ≡ vec_len lists.old }
+{
+    let Some(last) = lists.pop() else {
+        unreachable!()
+    };
+    last
+}
+
+// Makes a walker for each constraint.
+fn make_walkers<J: Judge>(
+    alloc: Global,
+    job: &Job,
+    mut judges: Vec<J>,
+) -> Result<Vec<GatedWalker<J>>, Memory>
+    requires judges { AreJudges job.now J.judging judges.items }
+    ensures walkers { IfOk result (λ w. AreWalkers job.now w.items) }
+    ensures count { IfOk result (λ w. vec_len w ≡ vec_len judges) }
+{
+    let mut walkers = Vec::with_capacity(alloc, judges.len())?;
+    while let Some(judge) = judges.pop() {
+        walkers.push_reserved(GatedWalker::new(alloc, job, judge)?);
+    }
+    Ok(walkers)
+}
