@@ -1,4 +1,6 @@
-"""`python -m district_audit --version` tells the package's version, and which programs it calls; `verify MANIFEST` checks a manifest."""
+"""`python -m district_audit --version` tells the package's version, and which programs it calls;
+`verify MANIFEST` checks a manifest.
+"""
 import argparse
 import sys
 
@@ -11,16 +13,21 @@ from .program import found
 def main() -> int:
     if sys.argv[1:2] == ["verify"]:
         return verify_command(sys.argv[2:])
-    parser = argparse.ArgumentParser(prog="python -m district_audit", description="Tells which programs the package calls. With `verify MANIFEST` it"
-                                     " compares the files of a manifest with its hashes; `verify --help` says more.")
+    parser = argparse.ArgumentParser(
+        prog="python -m district_audit",
+        description=(
+            "Tells which programs the package calls. With `verify MANIFEST` it"
+            " compares the files of a manifest with its hashes; `verify --help` says more."
+        ),
+    )
     parser.add_argument("--version", action="version", version="district_audit " + __version__)
     parser.parse_args()
     status = 0
     for which, what in (("audit", "the auditor"), ("slots", "audit_slots, which shows progress")):
         try:
-            print("%s: %s" % (what, found(which)))
+            print(f"{what}: {found(which)}")
         except ProgramMissing as why:
-            print("%s: %s" % (what, why))
+            print(f"{what}: {why}")
             status = 1 if which == "audit" else status
     return status
 

@@ -19,8 +19,8 @@ from .graphs import is_whole
 Words = typing.Mapping[str, typing.Any]
 Call = typing.TypeVar("Call", bound=typing.Callable[..., object])
 
-MAPS, WALKS = ("check", "run", "plans"), ("run", "make", "plans")
-ALL, SAVES = ("check", "run", "make", "plans"), ("run", "make")
+MAPS, WALKS = ("check", "run", "plans", "trace"), ("run", "make", "plans", "trace")
+ALL, RUNS, SAVES = (*WALKS, "check"), ("run", "make", "plans"), ("run", "make")
 MOST_ASKS, MOST_TRAJECTORIES = 4, 100_000
 SCORES, TAILS = ("seats", "mean-median", "gap", "cut-edges"), ("low", "high")
 DIGITS = re.compile("0|[1-9][0-9]*")
@@ -32,7 +32,7 @@ class Argument:
 
     name: str
     kind: str
-    """column, count, flag, key or ask."""
+    """column, count, flag, key, ask or ids."""
     commands: tuple[str, ...]
     text: str
     least: int = 0
@@ -46,7 +46,7 @@ class Argument:
 
     @property
     def allowed(self) -> str:
-        """What is allowed, in words."""
+        """The allowed values, in words."""
         if self.kind == "count":
             unit = ", in hundredths of a percent" if self.name == "slack" else ""
             return f"{self.name} is a whole number from {self.least} to {self.most}{unit}"
@@ -56,8 +56,11 @@ class Argument:
                 "column": "the name of a column, a text",
                 "flag": "True or False",
                 "key": "64 hexadecimal digits, or 32 bytes",
-                "ask": f"1 to {MOST_ASKS} different questions, each a score ({', '.join(SCORES)}),"
-                f" a colon and a tail ({', '.join(TAILS)})",
+                "ask": (
+                    f"1 to {MOST_ASKS} different questions, each a score ({', '.join(SCORES)}),"
+                    f" a colon and a tail ({', '.join(TAILS)})"
+                ),
+                "ids": 'a number, a pair of numbers, a range, "A-B", "walks" or "ends"',
             }[self.kind]
         )
 
@@ -70,6 +73,7 @@ class Argument:
             "flag": "bool",
             "key": "str or bytes",
             "ask": "str or list of str",
+            "ids": "int, tuple, range or str",
         }[self.kind]
         shown = "" if self.default in (None, "") else f", default {self.default}"
         return kind + ("" if self.is_needed else shown or ", optional")
@@ -93,16 +97,12 @@ TABLE = {
             "district",
             "column",
             MAPS,
-            "The column of the enacted plan's districts. Left out where" " `assignment` is given.",
+            "The column of the enacted plan's districts. Left out where `assignment` is given.",
             is_needed=True,
         ),
         Argument(
-            "size",
-            "count",
-            ("make",),
-            "The size of the grid: 10 times as many rows and columns." " 1 to 30.",
-            1,
-            30,
+            "size", "count", ("make",),
+            "The size of the grid: 10 times as many rows and columns. 1 to 30.", 1, 30,
             is_needed=True,
         ),
         count(
@@ -111,23 +111,23 @@ TABLE = {
             0,
             10_000,
             500,
-            "How far a district may be from the ideal population, in"
-            " hundredths of a percent: 0 to 10000. 500 is 5 percent.",
+            (
+                "How far a district may be from the ideal population, in"
+                " hundredths of a percent: 0 to 10000. 500 is 5 percent."
+            ),
         ),
         Argument(
             "key",
             "key",
             WALKS,
-            "The key of all draws: 64 hexadecimal digits or 32 bytes, as"
-            " `key_of(text)` makes it. The same key makes the same report.",
+            (
+                "The key of all draws: 64 hexadecimal digits or 32 bytes, as"
+                " `key_of(text)` makes it. The same key makes the same report."
+            ),
             is_needed=True,
         ),
         count(
-            "walks",
-            WALKS,
-            0,
-            MOST_TRAJECTORIES,
-            1,
+            "walks", WALKS, 0, MOST_TRAJECTORIES, 1,
             "The number of outlier trajectories: 0 to 100000.",
         ),
         count("steps", WALKS, 1, 10**9, 1000, "The steps of each outlier trajectory: 1 to 10^9."),
@@ -137,7 +137,7 @@ TABLE = {
             0,
             MOST_TRAJECTORIES,
             0,
-            "The number of endpoint trajectories of the" " parallel test: 0 to 100000.",
+            "The number of endpoint trajectories of the parallel test: 0 to 100000.",
         ),
         count(
             "hub_steps",
@@ -145,24 +145,24 @@ TABLE = {
             1,
             10**9,
             1000,
-            "The steps from the enacted plan to the hub, and of"
-            " each endpoint trajectory: 1 to 10^9.",
+            (
+                "The steps from the enacted plan to the hub, and of"
+                " each endpoint trajectory: 1 to 10^9."
+            ),
         ),
         Argument(
             "ask",
             "ask",
             WALKS,
-            "The test statistics, each with its tail: 1 to 4, as"
-            ' `["seats:low", "cut-edges:high"]`.',
+            (
+                "The test statistics, each with its tail: 1 to 4, as"
+                ' `["seats:low", "cut-edges:high"]`.'
+            ),
             is_needed=True,
         ),
         count(
-            "workers",
-            WALKS,
-            1,
-            32,
-            1,
-            "The number of threads: 1 to 32. The report does not depend on" " it.",
+            "workers", RUNS, 1, 32, 1,
+            "The number of threads: 1 to 32. The report does not depend on it.",
         ),
         count(
             "budget",
@@ -170,7 +170,7 @@ TABLE = {
             0,
             MOST_TRAJECTORIES,
             MOST_TRAJECTORIES,
-            "The most trajectories that this" " run walks: 0 to 100000. Needs `save`.",
+            "The most trajectories that this run walks: 0 to 100000. Needs `save`.",
         ),
         count(
             "save",
@@ -178,41 +178,38 @@ TABLE = {
             0,
             MOST_TRAJECTORIES,
             0,
-            "A checkpoint is saved each time that so many more"
-            " trajectories are done: 0 to 100000. 0 saves nothing.",
+            (
+                "A checkpoint is saved each time that so many more"
+                " trajectories are done: 0 to 100000. 0 saves nothing."
+            ),
         ),
         Argument(
-            "resume",
-            "flag",
-            SAVES,
-            "Whether the run goes on from the newest checkpoint of its" " folder.",
-            default=False,
+            "resume", "flag", SAVES,
+            "Whether the run goes on from the newest checkpoint of its folder.", default=False,
         ),
         count(
-            "max_cut",
-            ALL,
-            0,
-            400_000,
-            400_000,
-            "The most edges between districts that a plan may" " have: 0 to 400000.",
+            "max_cut", ALL, 0, 400_000, 400_000,
+            "The most edges between districts that a plan may have: 0 to 400000.",
         ),
         Argument(
-            "shift", "flag", WALKS, "Whether the report has the histogram of seats.", default=False
+            "shift", "flag", RUNS, "Whether the report has the histogram of seats.", default=False
         ),
         count(
             "stop",
-            WALKS,
+            RUNS,
             0,
             MOST_TRAJECTORIES,
             0,
-            "The number of ends in the tail after which the"
-            " parallel test stops early: 0 to 100000. 0 stops none.",
+            (
+                "The number of ends in the tail after which the"
+                " parallel test stops early: 0 to 100000. 0 stops none."
+            ),
         ),
         Argument(
             "serial",
             "flag",
-            WALKS,
-            "Whether the serial test is made; `steps` plus 1 has to be a" " power of two.",
+            RUNS,
+            "Whether the serial test is made; `steps` plus 1 has to be a power of two.",
             default=False,
         ),
         Argument("region", "column", MAPS, "The column of regions, as counties.", default=""),
@@ -222,7 +219,7 @@ TABLE = {
             1,
             200,
             200,
-            "The most districts among which a region may be split: 1 to" " 200. Needs `region`.",
+            "The most districts among which a region may be split: 1 to 200. Needs `region`.",
         ),
         count(
             "parts",
@@ -230,15 +227,13 @@ TABLE = {
             1,
             MOST_TRAJECTORIES,
             1,
-            "The number of parts into which the trajectories"
-            " are dealt, as for several machines: 1 to 100000. Needs `save`.",
+            (
+                "The number of parts into which the trajectories"
+                " are dealt, as for several machines: 1 to 100000. Needs `save`."
+            ),
         ),
         count(
-            "part",
-            SAVES,
-            0,
-            MOST_TRAJECTORIES,
-            0,
+            "part", SAVES, 0, MOST_TRAJECTORIES, 0,
             "The part that this run walks: 0 to `parts` - 1.",
         ),
         count(
@@ -247,8 +242,10 @@ TABLE = {
             0,
             995_000,
             995_000,
-            "The most splits of regions in all; a region in k"
-            " districts counts k - 1. 0 to 995000, which limits nothing. Needs `region`.",
+            (
+                "The most splits of regions in all; a region in k"
+                " districts counts k - 1. 0 to 995000, which limits nothing. Needs `region`."
+            ),
         ),
         count(
             "max_split_regions",
@@ -256,16 +253,20 @@ TABLE = {
             0,
             5000,
             5000,
-            "The most regions that may lie in more than one"
-            " district: 0 to 5000, which limits nothing. Needs `region`.",
+            (
+                "The most regions that may lie in more than one"
+                " district: 0 to 5000, which limits nothing. Needs `region`."
+            ),
         ),
         Argument("group", "column", MAPS, "The column of a group of people, in heads.", default=""),
         Argument(
             "group_of",
             "column",
             MAPS,
-            "The column of those of whom the group may be the majority,"
-            " as all of voting age. The column of populations where it is left out.",
+            (
+                "The column of those of whom the group may be the majority,"
+                " as all of voting age. The column of populations where it is left out."
+            ),
             default="",
         ),
         count(
@@ -274,15 +275,53 @@ TABLE = {
             0,
             200,
             0,
-            "The least number of districts in which the group has a"
-            " majority: 0 to 200. Needs `group`.",
+            (
+                "The least number of districts in which the group has a"
+                " majority: 0 to 200. Needs `group`."
+            ),
         ),
         Argument(
             "source",
             "flag",
             MAPS,
-            "Whether the text has the SHA-256 of what was read, and the names" " of the columns.",
+            "Whether the text has the SHA-256 of what was read, and the names of the columns.",
             default=False,
+        ),
+        Argument(
+            "ids",
+            "ids",
+            ("trace",),
+            "The trajectories of that run, one after the other: an id, a pair of the first and the"
+            ' last, a range, or a text as "0-3", "walks" or "ends". The walks have the ids from 0,'
+            " the endpoint trajectories those behind.",
+            default=0,
+        ),
+        count(
+            "thin",
+            ("trace",),
+            1,
+            10**9,
+            1000,
+            "N: the plans after 0, N, 2N, .. steps are shown. 1 to 10^9.",
+        ),
+        count(
+            "group_share",
+            MAPS,
+            0,
+            10_000,
+            5000,
+            (
+                "The share of a district above which the group has a majority"
+                " there, in hundredths of a percent: 0 to 10000. Needs `group`."
+            ),
+        ),
+        Argument(
+            "freeze",
+            "column",
+            MAPS,
+            "The column that says which units keep their districts: true, or a whole number"
+            " above 0.",
+            default="",
         ),
     )
 }
@@ -291,45 +330,54 @@ TABLE = {
 OTHERS = {
     "graph": (
         "object",
-        "A graph of networkx or GerryChain, or anything with `nodes(data=True)` and"
-        " `adjacency()`, which is prepared as `prepare` does it. Or bytes, a path, or the answer"
-        " of `prepare`, which go to the program as they are.",
+        (
+            "A graph of networkx or GerryChain, or anything with `nodes(data=True)` and"
+            " `adjacency()`, which is prepared as `prepare` does it. Or bytes, a path, or the"
+            " answer of `prepare`, which go to the program as they are."
+        ),
     ),
     "table": (
         "dict, DataFrame, str, bytes or path",
-        "The plans: a dict from names to assignments, a"
-        " DataFrame with the units' ids as its index and a plan in each column, or the text,"
-        " bytes or path of a CSV file with the ids in its first column. Units are matched by"
-        " their ids, never by their place.",
+        (
+            "The plans: a dict from names to assignments, a"
+            " DataFrame with the units' ids as its index and a plan in each column, or the text,"
+            " bytes or path of a CSV file with the ids in its first column. Units are matched by"
+            " their ids, never by their place."
+        ),
     ),
     "districts": (
         '{"same", "any"}, default "same"',
-        "Whether a plan may have another number of" " districts than the enacted plan.",
+        "Whether a plan may have another number of districts than the enacted plan.",
     ),
     "population": ("str", "The column of populations, in people."),
     "tolerance": (
         "float, optional",
-        "How far a district may be from the ideal population, as a part"
-        " of it: 0.05 is 5 percent. In place of `slack`.",
+        (
+            "How far a district may be from the ideal population, as a part"
+            " of it: 0.05 is 5 percent. In place of `slack`."
+        ),
     ),
     "scores": (
         "str, list or dict, optional",
-        "The same as `ask`, or a dict from scores to tails:"
-        ' `{"seats": "low", "gap": ("low", "high")}`.',
+        (
+            "The same as `ask`, or a dict from scores to tails:"
+            ' `{"seats": "low", "gap": ("low", "high")}`.'
+        ),
     ),
     "elections": (
         "dict, optional",
-        "Several elections: a dict from names to pairs of columns, the"
-        " first and the second party's votes. In place of `first` and `second`.",
+        (
+            "Several elections: a dict from names to pairs of columns, the"
+            " first and the second party's votes. In place of `first` and `second`."
+        ),
     ),
     "assignment": (
         "dict, Series or Partition, optional",
-        "The enacted plan, in place of the column"
-        " `district`: the district of each unit by its id.",
+        "The enacted plan, in place of the column `district`: the district of each unit by its id.",
     ),
     "numbers": (
         '{"error", "nearest", "floor"}, optional',
-        "For numbers that are not whole, as" " for `prepare`.",
+        "For numbers that are not whole, as for `prepare`.",
     ),
     "missing": ('{"error", "zero", "drop"}, optional', "For missing values, as for `prepare`."),
     "join": ("list of pairs, optional", "Pairs of units to be made neighbors, as for `prepare`."),
@@ -340,7 +388,7 @@ OTHERS = {
     ),
     "own_region": (
         "bool, optional",
-        "Whether each unit without a region is a region of its own, as" " for `prepare`.",
+        "Whether each unit without a region is a region of its own, as for `prepare`.",
     ),
     "show_all": (
         "bool, default False",
@@ -348,46 +396,92 @@ OTHERS = {
     ),
     "strict": (
         "bool, default True",
-        "Whether an illegal plan is refused. With False the answer has" " its `faults`.",
+        "Whether an illegal plan is refused. With False the answer has its `faults`.",
     ),
     "folder": (
         "path, optional",
-        "The folder of the checkpoints. The current one where it is left" " out.",
+        "The folder of the checkpoints. The current one where it is left out.",
     ),
     "progress": (
-        "bool, default False",
-        "Whether a bar shows how many trajectories are done, which"
-        " needs `save`; without it, how long the run has taken.",
+        'bool or "steps", default False',
+        "Whether a bar shows how many trajectories are done, which needs `save`; without it, how"
+        ' long the run has taken. With "steps" it shows the steps of the first trajectory, which a'
+        " second process walks again: it takes one more processor for the time of one trajectory.",
     ),
     "program": ("path, optional", "The program, where it is not in the folders of PATH."),
     "slots": ("path, optional", "The program `audit_slots`, for a bar that asks it. Not needed."),
+    "last": (
+        "bool, default False",
+        "Whether the last plan is shown, too, where N does not divide the steps. It is no plan of"
+        " the N-step chain, and has no place in `outlier_test`.",
+    ),
 }
 
 
-# What these mean to `prepare`.
-OF_PREPARE = {
-    "graph": (
-        "object",
-        "A graph of networkx or GerryChain, or anything with `nodes(data=True)` and `adjacency()`;"
-        " the path of a file; or the bytes of a JSON file.",
-    ),
-    "numbers": (
-        '{"error", "nearest", "floor"}, default "error"',
-        "For a number that is not whole: it is refused, becomes the nearest whole number (halves"
-        " the even one), or the greatest that is not above it.",
-    ),
-    "missing": (
-        '{"error", "zero", "drop"}, default "error"',
-        "For a value that is absent, None, NaN or empty: it is refused, becomes 0 in a column of"
-        " people, votes or a group, or its unit is left out.",
-    ),
-    "join": ("list of pairs, optional", "Pairs of units to be made neighbors, as an island's."),
-    "keep": ("list of str, optional", "Further columns that stay as they are, unaudited."),
-    "fill_region": ("str or int, optional", "The region of each unit that has none."),
-    "own_region": (
-        "bool, default False",
-        "Whether each unit without a region is a region of its own.",
-    ),
+# Arguments that mean something else to one call.
+OF_CALLS: dict[str, dict[str, tuple[str, str]]] = {
+    "prepare": {
+        "graph": (
+            "object",
+            (
+                "A graph of networkx or GerryChain, or anything with `nodes(data=True)` and"
+                " `adjacency()`; the path of a file; or the bytes of a JSON file."
+            ),
+        ),
+        "numbers": (
+            '{"error", "nearest", "floor"}, default "error"',
+            (
+                "For a number that is not whole: it is refused, becomes the nearest whole number"
+                " (halves the even one), or the greatest that is not above it."
+            ),
+        ),
+        "missing": (
+            '{"error", "zero", "drop"}, default "error"',
+            (
+                "For a value that is absent, None, NaN or empty: it is refused, becomes 0 in a"
+                " column of people, votes or a group, or its unit is left out."
+            ),
+        ),
+        "join": ("list of pairs, optional", "Pairs of units to be made neighbors, as an island's."),
+        "keep": ("list of str, optional", "Further columns that stay as they are, unaudited."),
+        "fill_region": ("str or int, optional", "The region of each unit that has none."),
+        "own_region": (
+            "bool, default False",
+            "Whether each unit without a region is a region of its own.",
+        ),
+    },
+    "trace": {
+        "ask": (
+            "str or list of str, optional",
+            "The scores that the program computes for each plan, each with its tail; cut edges"
+            " where it is left out.",
+        ),
+        "scores": ("str, list or dict, optional", "The same as `ask`."),
+        "elections": (
+            "dict, optional",
+            "The columns of both parties' votes by an election's name, as"
+            ' `{"GOV18": ("G18D", "G18R")}`. One walk serves all of them. Where `first` and'
+            " `second` are left out, the program reads those of the first election.",
+        ),
+        "thin": (
+            "int, optional",
+            "N: the plans after 0, N, 2N, .. steps are shown. 1 to 10^9. Left out it is 1000, and"
+            ' with ids="ends" `hub_steps`, so that each endpoint trajectory shows its hub and its'
+            " endpoint.",
+        ),
+        "progress": ("bool, default False", "Whether a bar shows how many steps are walked."),
+    },
+    "read_trace": {
+        "text": ("path", "The file that the program wrote."),
+        "graph": (
+            "object",
+            "The graph that was traced. Where the trace has the line `source`, another graph is"
+            " refused by its SHA-256.",
+        ),
+        "elections": ("dict, optional", "As for `trace`."),
+        "ask": ("str or list of str, optional", "The questions of the text."),
+        "scores": ("str, list or dict, optional", "The same as `ask`."),
+    },
 }
 
 
@@ -395,9 +489,10 @@ def documented(function: Call) -> Call:
     """Puts a section `Parameters` in place of the line PARAMETERS of a docstring."""
     if function.__doc__:
         found = ["Parameters", "----------"]
+        own = OF_CALLS.get(function.__name__, {})
         for name in inspect.signature(function).parameters:
-            if function.__name__ == "prepare" and name in OF_PREPARE:
-                kind, text = OF_PREPARE[name]
+            if name in own:
+                kind, text = own[name]
             elif name in TABLE:
                 kind, text = TABLE[name].type, TABLE[name].text
             elif name in OTHERS:
@@ -471,9 +566,7 @@ def plain_words(command: str, given: Words) -> dict[str, typing.Any]:
     """
     named = {name: value for name, value in given.items() if value is not None}
     for other, name, change in (
-        ("population", "pop", None),
-        ("tolerance", "slack", slack_of),
-        ("scores", "ask", ask_of),
+        ("population", "pop", None), ("tolerance", "slack", slack_of), ("scores", "ask", ask_of),
     ):
         if other not in named:
             continue
@@ -499,11 +592,8 @@ def slack_of(command: str, tolerance: object) -> int:
     slack = round(10_000 * part)
     if abs(10_000 * part - slack) > 1e-6:
         refuse(
-            ValueRefused,
-            command,
-            "tolerance",
-            tolerance,
-            "tolerance is a whole number of" " hundredths of a percent",
+            ValueRefused, command, "tolerance", tolerance,
+            "tolerance is a whole number of hundredths of a percent",
             f"write tolerance={slack / 10_000:g}",
         )
     return slack
@@ -554,26 +644,32 @@ def tested_elections(
 
 
 def tested(command: str, named: Words) -> None:
-    """Refuses what the program would refuse, in its order: unknown, missing, then bad arguments."""
-    there = {name: row for name, row in TABLE.items() if command in row.commands}
+    """Refuses what the program would refuse, in its order: unknown, missing, then bad arguments.
+
+    `read_trace` calls no program. It has those arguments of `trace` that the head of the text is
+    compared with, and needs only `district`.
+    """
+    is_read = command == "read_trace"
+    there = {
+        name: row
+        for name, row in TABLE.items()
+        if ("trace" if is_read else command) in row.commands
+        and not (is_read and name in ("ids", "thin", "source"))
+    }
     test_names(command, {name: named[name] for name in named if name not in there}, there)
     for name, row in there.items():
-        if row.is_needed and name not in named:
+        if row.is_needed and name not in named and (name == "district" or not is_read):
             shown_name = "population" if name == "pop" else name
             hint = {
                 "key": ' (key_of("the announced text") makes one)',
                 "district": " (or assignment)",
                 "ask": " (or scores)",
-                "first": " (or elections)" if command == "run" else "",
-                "second": " (or elections)" if command == "run" else "",
+                "first": " (or elections)" if command in ("run", "trace") else "",
+                "second": " (or elections)" if command in ("run", "trace") else "",
             }.get(name, "")
             raise TypeRefused(
-                f"{command}: the argument {shown_name} is missing{hint}",
-                shown_name,
-                None,
-                row.allowed,
-                hint,
-                f"words: {row.word} is missing",
+                f"{command}: the argument {shown_name} is missing{hint}", shown_name, None,
+                row.allowed, hint, f"words: {row.word} is missing",
             )
     for name, row in there.items():
         if name in named:
@@ -591,6 +687,7 @@ def test_value(command: str, row: Argument, named: Words) -> None:
         "flag": test_flag,
         "key": test_key,
         "ask": test_ask,
+        "ids": test_ids,
     }[row.kind](command, row, value)
     why = beside_others(command, row.name, named)
     if why and row.name == "ends" and number(named, "ends") == 0:
@@ -604,11 +701,8 @@ def test_column(command: str, row: Argument, value: object) -> None:
         refuse(TypeRefused, command, row.name, value, row.allowed)
     if command == "plans" and row.name == "district" and "\n" in value:
         refuse(
-            ValueRefused,
-            command,
-            row.name,
-            value,
-            "its name has no line feed, since it is" " written on a line of its own",
+            ValueRefused, command, row.name, value,
+            "its name has no line feed, since it is written on a line of its own",
         )
 
 
@@ -663,11 +757,7 @@ def test_ask(command: str, row: Argument, value: object) -> None:
             refuse(TypeRefused, command, row.name, value, row.allowed)
         if "," in ask:
             refuse(
-                ValueRefused,
-                command,
-                row.name,
-                value,
-                row.allowed,
+                ValueRefused, command, row.name, value, row.allowed,
                 f"{ask!r} is several: make a list of them",
             )
         score, _, tail = ask.partition(":")
@@ -683,11 +773,38 @@ def test_ask(command: str, row: Argument, value: object) -> None:
             row.name,
             value,
             row.allowed,
-            f"these are {len(asks)}: ask"
-            f" {MOST_ASKS} in each of several calls with the same key, which walk the same plans",
+            (
+                f"these are {len(asks)}: ask {MOST_ASKS} in each of several calls with the same"
+                " key, which walk the same plans"
+            ),
         )
     if not asks:
         refuse(ValueRefused, command, row.name, value, row.allowed)
+
+
+def test_ids(command: str, row: Argument, value: object) -> None:
+    if pair_of(value, 0, 0) is None:
+        is_known = isinstance(value, (int, str, tuple, list, range))
+        refuse(ValueRefused if is_known else TypeRefused, command, row.name, value, row.allowed)
+
+
+def pair_of(ids: object, walks: int, ends: int) -> tuple[int, int] | None:
+    """Returns the first and the last of some ids; None where the value names none.
+
+    The order of both, and whether a run has them, is not tested.
+    """
+    if isinstance(ids, str):
+        named = {"walks": (0, walks - 1), "ends": (walks, walks + ends - 1)}
+        numbers = ids.split("-")
+        if len(numbers) > 2 or not all(DIGITS.fullmatch(one) for one in numbers):
+            return named.get(ids)
+        return int(numbers[0]), int(numbers[-1])
+    if isinstance(ids, range):
+        return (ids[0], ids[-1]) if ids and ids.step == 1 else None
+    pair = ids if isinstance(ids, (tuple, list)) else (ids, ids)
+    if len(pair) != 2 or not all(is_whole(one) for one in pair):
+        return None
+    return int(pair[0]), int(pair[1])
 
 
 def hint_of_ask(ask: str) -> str:
@@ -719,11 +836,7 @@ def test_sum(command: str, row: Argument, named: Words) -> None:
     why = beside_others(command, "ends", named)
     if why:
         refuse(
-            ValueRefused,
-            command,
-            "walks",
-            named.get("walks", 1),
-            *why,
+            ValueRefused, command, "walks", named.get("walks", 1), *why,
             line="words: bad value for --ends",
         )
 
@@ -804,6 +917,28 @@ def part_beside(named: Words) -> Why:
     return f"part is from 0 to parts - 1, which is {parts - 1}", ""
 
 
+def shown_by(named: Words) -> dict[str, str]:
+    """Returns the ids and the thinning of a trace, as the program takes them."""
+    ids = named.get("ids", TABLE["ids"].default)
+    walks, ends = number(named, "walks") or 0, number(named, "ends") or 0
+    first, last = pair_of(ids, walks, ends) or (0, 0)
+    other = "hub_steps" if isinstance(ids, str) and ids == "ends" else "thin"
+    thin = named.get("thin", number(named, other))
+    return {"ids": str(first) if first == last else f"{first}-{last}", "thin": str(thin)}
+
+
+def ids_beside(named: Words) -> Why:
+    walks, ends = number(named, "walks"), number(named, "ends")
+    if walks is None or ends is None or not 1 <= walks + ends <= MOST_TRAJECTORIES:
+        return None
+    first, last = pair_of(named["ids"], walks, ends) or (0, 0)
+    if 0 <= first <= last < walks + ends:
+        return None
+    known = [f"{walks} walks (0 to {walks - 1})"] if walks else ["no walks"]
+    known += [f"{ends} endpoint trajectories ({walks} to {walks + ends - 1})"] if ends else []
+    return f"ids are those of {' and '.join(known)}, the first one first", ""
+
+
 def group_of_beside(named: Words) -> Why:
     if named.get("group") or not named.get("group_of"):
         return None
@@ -814,6 +949,12 @@ def group_districts_beside(named: Words) -> Why:
     if named.get("group") or number(named, "group_districts") in (None, 0):
         return None
     return "group_districts counts districts of a group, and group is not given", ""
+
+
+def group_share_beside(named: Words) -> Why:
+    if named.get("group") or number(named, "group_share") in (None, 5000):
+        return None
+    return "group_share is the share of a group, and group is not given", ""
 
 
 BESIDE: dict[str, typing.Callable[[Words], Why]] = {
@@ -828,4 +969,6 @@ BESIDE: dict[str, typing.Callable[[Words], Why]] = {
     "max_split_regions": regions_beside("max_split_regions"),
     "group_of": group_of_beside,
     "group_districts": group_districts_beside,
+    "ids": ids_beside,
+    "group_share": group_share_beside,
 }

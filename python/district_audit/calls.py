@@ -1,6 +1,8 @@
 """The calls of the program: check, run, plans and make."""
 from __future__ import annotations
 
+import dataclasses
+import hashlib
 import os
 import pathlib
 import typing
@@ -9,7 +11,8 @@ import warnings
 from . import checkpoints
 from . import labels as naming
 from . import progress as bars
-from .arguments import ALL, TABLE, documented, plain_words, refuse, tested, tested_elections
+from .arguments import TABLE, documented, plain_words, refuse, shown_by, tested
+from .arguments import tested_elections
 from .districts import Plan, plan_of
 from .elections import ElectionReports, folder_of
 from .errors import (
@@ -21,11 +24,12 @@ from .errors import (
     PrepareRefused,
     SaveFault,
     TypeRefused,
+    ValueRefused,
     error_of,
 )
 from .preparing import Prepared, prepare
 from .program import Ended, PathLike, call, found
-from .report import PlanCheck, Report, Rules
+from .report import Audited, PlanCheck, Report, Rules
 from .results import PlanReports
 from .tables import Known, table_of
 from .values import test_labels_of
@@ -34,34 +38,38 @@ from .words import words_of
 if typing.TYPE_CHECKING:
     from .words import Ask, Key
 
-# What `prepare` takes and the program does not.
+# The arguments of `prepare` that the program does not have.
 PREPARING = ("numbers", "missing", "join", "keep", "fill_region", "own_region", "assignment")
 # Arguments of calls that are neither words of the program nor of `prepare`.
 NO_WORDS = (
-    "graph",
-    "table",
-    "districts",
-    "folder",
-    "progress",
-    "program",
-    "slots",
-    "strict",
-    "elections",
-    "unknown",
+    "graph", "table", "districts", "folder", "progress", "program", "slots", "strict", "elections",
+    "unknown", "text", "last",
 )
+
+COLUMNS = ("pop", "first", "second", "district", "region", "group", "group_of", "freeze")
 
 Elections = typing.Mapping[str, typing.Tuple[str, str]]
 
 
-class Given(typing.NamedTuple):
-    """What goes to the program."""
+@dataclasses.dataclass(frozen=True)
+class Given:
+    """The bytes and words of a call of the program."""
 
     data: bytes
     words: list[str]
     named: dict[str, typing.Any]
     """The words by their names."""
-    table: str
+    rules: dict[str, typing.Any] = dataclasses.field(default_factory=dict)
+    """The arguments of `prepare`."""
+    table: str = ""
     """The table of plans, where there is one."""
+
+    @property
+    def audited(self) -> Audited:
+        """The graph and its preparation, as a report keeps them."""
+        columns = {name: self.named[name] for name in COLUMNS if self.named.get(name)}
+        rules = {name: value for name, value in self.rules.items() if name != "assignment"}
+        return Audited(hashlib.sha256(self.data).hexdigest(), columns, rules)
 
 
 def words_in(arguments: typing.Mapping[str, typing.Any]) -> dict[str, typing.Any]:
@@ -80,18 +88,20 @@ def given(command: str, graph: object, words: typing.Mapping[str, object]) -> Gi
     rules = {name: named.pop(name) for name in PREPARING if name in named}
     if "assignment" in rules and "district" in named:
         raise PrepareRefused(
-            "district and assignment are both given: each says in which districts" " the units are"
+            "district and assignment are both given: each says in which districts the units are"
         )
     if isinstance(graph, Prepared):
         named = {**graph.columns, **named}
         if "assignment" in rules:
             named.pop("district", None)
         graph = graph.data
-    if command in ALL:
-        tested(command, {**named, "district": "assignment"} if "assignment" in rules else named)
+    tested(command, {**named, "district": "assignment"} if "assignment" in rules else named)
     if named.get("first") is not None and named.get("first") == named.get("second"):
         raise PrepareRefused(f"both parties' votes are the column {named['first']}")
     named = {name: value for name, value in named.items() if not is_default(name, value)}
+    if command == "trace":
+        shown = shown_by(named)
+        named = {**{name: named[name] for name in named if name not in shown}, **shown}
     if isinstance(graph, (bytes, bytearray, memoryview, str, os.PathLike)) and not rules:
         data = bytes_of_graph(graph)
         test_labels_of(data, named)
@@ -99,7 +109,7 @@ def given(command: str, graph: object, words: typing.Mapping[str, object]) -> Gi
         ready = ready_of(graph, named, rules)
         data = ready.data
         named.update(ready.columns)
-    return Given(data, words_of(command, named), named, "")
+    return Given(data, words_of(command, named), named, rules)
 
 
 def is_default(name: str, value: object) -> bool:
@@ -112,7 +122,7 @@ def bytes_of_graph(graph: typing.Any) -> bytes:
     """Returns the bytes of a graph that is a path or bytes."""
     if isinstance(graph, str) and graph.lstrip()[:1] == "{":
         raise PrepareRefused(
-            "the graph is a text of JSON, which is taken for a path: write" " graph.encode()"
+            "the graph is a text of JSON, which is taken for a path: write graph.encode()"
         )
     if isinstance(graph, (str, os.PathLike)):
         with open(graph, "rb") as file:
@@ -128,14 +138,10 @@ def ready_of(
         columns = {"population": named["pop"], "first": named["first"], "second": named["second"]}
     except KeyError as name:
         raise TypeError(f"the column {name} is missing") from None
-    group = {name: named[name] for name in ("group", "group_of") if named.get(name)}
+    group = {name: named[name] for name in ("group", "group_of", "freeze") if named.get(name)}
     ready = prepare(
-        graph,
-        **columns,
-        district=named.get("district"),
-        region=named.get("region") or None,
-        **group,
-        **rules,
+        graph, **columns, district=named.get("district"), region=named.get("region") or None,
+        **group, **rules,
     )
     changed = [str(change) for change in ready.changes if change.is_of_values] + ready.warnings
     if changed:
@@ -162,21 +168,38 @@ def warn_of_frozen(reports: typing.Sequence[tuple[str, Report]], level: int) -> 
     """
     said = []
     for name, report in reports:
-        moved = {walk.number: walk.moved for walk in report.walks}
-        few = [number for number, count in moved.items() if count < report.units]
-        if few:
-            number = min(few, key=lambda one: moved[one])
-            said.append(
-                f"{name and f'plan {name}: '}walk {number} changed the plan {moved[number]} times"
-                f" in {report.setting.steps} steps ({len(few)} of {len(moved)} walks fewer times"
-                f" than there are units, {report.units})"
-            )
+        steps = report.setting.steps
+        moved = {walk.number: (walk.moved, steps) for walk in report.walks}
+        few = few_moves("walk", moved, report.units)
+        said += [f"plan {name}: {few}" if name else few] if few else []
+    warn_of_few_moves(said, level + 1)
+
+
+def few_moves(what: str, moved: typing.Mapping[int, tuple[int, int]], units: int) -> str:
+    """Returns which trajectories made fewer moves than there are units, in words; '' if none.
+
+    `moved` has the moves and the steps of each trajectory by its number.
+    """
+    few = [number for number, (moves, _) in moved.items() if moves < units]
+    if not few:
+        return ""
+    number = min(few, key=lambda one: moved[one])
+    moves, steps = moved[number]
+    many = "walks" if what == "walk" else "trajectories"
+    return (
+        f"{what} {number} changed the plan {moves} times in {steps} steps ({len(few)} of"
+        f" {len(moved)} {many} fewer times than there are units, {units})"
+    )
+
+
+def warn_of_few_moves(said: list[str], level: int) -> None:
+    """Warns with these texts, if there are any."""
     if said:
-        said.append(
+        why = (
             "such walks say little about other plans, and nothing where they changed none: walk"
             " more steps, or loosen slack or the rules"
         )
-        warnings.warn(FrozenWalk("\n".join(said)), stacklevel=level)
+        warnings.warn(FrozenWalk("\n".join([*said, why])), stacklevel=level + 1)
 
 
 # ---- check
@@ -201,6 +224,8 @@ def check(
     group: str | None = None,
     group_of: str | None = None,
     group_districts: int = 0,
+    group_share: int = 5000,
+    freeze: str | None = None,
     source: bool = False,
     numbers: str | None = None,
     missing: str | None = None,
@@ -302,6 +327,8 @@ def run(
     group: str | None = None,
     group_of: str | None = None,
     group_districts: int = 0,
+    group_share: int = 5000,
+    freeze: str | None = None,
     source: bool = False,
     workers: int = 1,
     save: int = 0,
@@ -310,7 +337,7 @@ def run(
     parts: int = 1,
     part: int = 0,
     folder: PathLike | None = None,
-    progress: bool = False,
+    progress: bool | str = False,
     numbers: str | None = None,
     missing: str | None = None,
     join: object = None,
@@ -359,10 +386,7 @@ def run(
         return walked(given("run", graph, words), folder, progress, program, slots)
     if first is not None or second is not None:
         refuse(
-            TypeRefused,
-            "run",
-            "elections",
-            elections,
+            TypeRefused, "run", "elections", elections,
             "first and second are given too: each election has its own columns",
         )
     reports = []
@@ -398,7 +422,7 @@ def make(
     parts: int = 1,
     part: int = 0,
     folder: PathLike | None = None,
-    progress: bool = False,
+    progress: bool | str = False,
     program: PathLike | None = None,
     slots: PathLike | None = None,
     **unknown: object,
@@ -418,13 +442,13 @@ def make(
     named = plain_words("make", words_in(locals()))
     tested("make", named)
     named = {name: value for name, value in named.items() if not is_default(name, value)}
-    return walked(Given(b"", words_of("make", named), named, ""), folder, progress, program, slots)
+    return walked(Given(b"", words_of("make", named), named), folder, progress, program, slots)
 
 
 def walked(
     asked: Given,
     folder: PathLike | None,
-    progress: bool,
+    progress: bool | str,
     program: PathLike | None,
     slots: PathLike | None,
 ) -> Report:
@@ -436,7 +460,12 @@ def walked(
     saves = str(asked.named.get("save", 0)) != "0"
     resumes = asked.named.get("resume") in (True, "yes")
     job = Job(asked, place, saves, resumes)
-    watch = watch_of(asked, place, saves, resumes, slots) if progress else None
+    if progress not in (True, False, "steps"):
+        allowed = 'progress is True, False or "steps"'
+        refuse(ValueRefused, asked.words[0], "progress", progress, allowed)
+    watch = None
+    if progress:
+        watch = watch_of(asked, place, saves, resumes, slots, program, progress)
     job.begin()
     try:
         ended = call(path, asked.words, asked.data, folder, watch)
@@ -450,15 +479,27 @@ def walked(
         error = raised(ended, asked)
         raise job.explained(error) if isinstance(error, CheckpointRefused) else error
     report = Report.parse(ended.text)
+    if asked.data:
+        report = dataclasses.replace(report, audited=asked.audited)
     warn_of_frozen([("", report)], 4)
     return report
 
 
 def watch_of(
-    asked: Given, place: pathlib.Path, saves: bool, resumes: bool, slots: PathLike | None
+    asked: Given,
+    place: pathlib.Path,
+    saves: bool,
+    resumes: bool,
+    slots: PathLike | None,
+    program: PathLike | None,
+    kind: object,
 ) -> bars.Watch | bars.Clock:
-    """Returns what shows how far a run is."""
+    """Returns the progress display of a run."""
     total = total_of(asked)
+    if kind == "steps" and asked.data:
+        steps = int(asked.named.get("steps" if walks_of(asked) else "hub_steps", 1000))
+        words = words_of("trace", trace_words(asked.named, steps))
+        return bars.StepClock(total, steps, [found("audit", program), *words], asked.data)
     if not saves:
         return bars.Clock(total)
     if slots is None:
@@ -469,13 +510,24 @@ def watch_of(
     )
 
 
+def walks_of(asked: Given) -> int:
+    """Returns the number of outlier walks of a run."""
+    return int(asked.named.get("walks", 1))
+
+
 def total_of(asked: Given) -> int:
     """Returns the number of trajectories of a run."""
-    return int(asked.named.get("walks", 1)) + int(asked.named.get("ends", 0))
+    return walks_of(asked) + int(asked.named.get("ends", 0))
+
+
+def trace_words(named: typing.Mapping[str, typing.Any], steps: int) -> dict[str, typing.Any]:
+    """Returns the words of a trace of a run's first trajectory, at a hundred of its steps."""
+    there = {name for name, row in TABLE.items() if "trace" in row.commands}
+    return {**{name: named[name] for name in named if name in there}, "thin": max(1, steps // 100)}
 
 
 class Job:
-    """What the package keeps and tells of a run beside its checkpoints."""
+    """The package's record of a run, which lies beside its checkpoints."""
 
     def __init__(self, asked: Given, place: pathlib.Path, saves: bool, resumes: bool) -> None:
         self.asked, self.place, self.saves, self.resumes = asked, place, saves, resumes
@@ -522,8 +574,11 @@ class Job:
                 f"stopped: 0 of {total} done, and nothing was saved yet", 0, total, str(self.place)
             )
         return Interrupted(
-            f"stopped: {done} of {total} done; the same call with resume=True goes on in the same"
-            f" folder, {str(self.place.absolute())!r}; of trajectories under way nothing is kept",
+            (
+                f"stopped: {done} of {total} done; the same call with resume=True goes on in the"
+                f" same folder, {str(self.place.absolute())!r}; of trajectories under way nothing"
+                " is kept"
+            ),
             done,
             total,
             str(self.place),
@@ -577,6 +632,8 @@ def plans(
     group: str | None = None,
     group_of: str | None = None,
     group_districts: int = 0,
+    group_share: int = 5000,
+    freeze: str | None = None,
     source: bool = False,
     workers: int = 1,
     numbers: str | None = None,
@@ -613,12 +670,17 @@ def plans(
     if districts not in ("same", "any"):
         raise PrepareRefused(f'districts is "same" or "any", and not {districts!r}')
     asked = given("plans", graph, words_in(locals()))
+    audited = asked.audited
     text = table_of(table, Known.of(asked.data, asked.named.get("district")), districts)
     line = b"".join(asked.data.split(b"\n"))
-    asked = asked._replace(data=line + b"\n" + text, table=text.decode("utf-8", "surrogateescape"))
+    shown_table = text.decode("utf-8", "surrogateescape")
+    asked = dataclasses.replace(asked, data=line + b"\n" + text, table=shown_table)
     ended = call(found("audit", program), asked.words, asked.data)
     if ended.status:
         raise raised(ended, asked)
-    reports = PlanReports(Report.parse_plans(ended.text))
+    reports = PlanReports(
+        (name, dataclasses.replace(report, audited=audited))
+        for name, report in Report.parse_plans(ended.text)
+    )
     warn_of_frozen(reports, 3)
     return reports

@@ -1,8 +1,8 @@
-"""What lies in a folder of checkpoints: how many trajectories are saved, and which job they are of.
+"""Checkpoints of a folder: the number of trajectories that are saved, and the job that they are of.
 
-The checkpoints are the program's; they are read here by docs/user/FORMATS.md and never written. Beside
-them the package keeps `audit-job.json`, which has the arguments of the run, so that a refused
-checkpoint can be explained.
+The checkpoints are the program's; they are read here by docs/user/FORMATS.md and never written.
+Beside them the package keeps `audit-job.json`, which has the arguments of the run, so that a
+refused checkpoint can be explained.
 """
 from __future__ import annotations
 
@@ -41,6 +41,7 @@ NO_JOB = frozenset(
         "region",
         "group",
         "group_of",
+        "freeze",
     )
 )
 
@@ -121,6 +122,7 @@ def aspects_of(data: bytes, named: typing.Mapping[str, typing.Any]) -> dict[str,
             ("second", "the votes of the second party"),
             ("group", "the people of the group"),
             ("group_of", "the people of the group's whole"),
+            ("freeze", "the frozen units"),
         ):
             if named.get(name):
                 found[what] = digest_of([node[named[name]] for node in nodes])

@@ -18,56 +18,84 @@ from .program import found, stop
 from .report import Report
 from .values import test_labels_of
 
-PREPARE = """Turns a file that GerryChain or networkx wrote into one that the auditor accepts, and tells of everything that it changed.
+GOES_ON = "the same command with --resume yes goes on in this folder"
+NOTHING_SAVED = "nothing was saved (--save 1 saves after each trajectory)"
+# Arguments that texts of the package name, and the words of the command in their place.
+IN_WORDS = (
+    ('(choose numbers="nearest" or "floor")', "(choose --numbers nearest or floor)"),
+    ('(choose missing="zero" or "drop")', "(choose --missing zero or drop)"),
+    ('(choose missing="drop")', "(choose --missing drop)"),
+    (
+        '(choose fill_region=LABEL, own_region=True or missing="drop")',
+        "(choose --fill-region LABEL, --own-region or --missing drop)",
+    ),
+    ("(join=[(A, B)] makes", "(--join A B makes"),
+    ("(slack=", "(--slack "),
+)
+PREPARE = """Turns a file of GerryChain or networkx into one that the auditor accepts.
 
-FILE is JSON in networkx's adjacency layout (which GerryChain's Graph.to_json writes) or in its node-link layout; a name that ends with
-.graphml or .gml is read by networkx, where that is installed. Nothing else is needed but Python itself.
+It says everything that it changes. FILE is JSON in networkx's adjacency layout, which GerryChain's
+Graph.to_json writes, or in its node-link layout. A name that ends with .graphml or .gml is read by
+networkx, where that is installed. Nothing else is needed but Python itself.
 
---numbers says what becomes of a number in a column of people, of votes or of a group that is not whole:
-    error    it is refused (the default); a whole number that is written as a float, as 12.0, is none of these
+--numbers is for a number in a column of people, votes or a group that is not whole:
+    error    it is refused (the default); a whole number written as a float, as 12.0, is none
     nearest  the nearest whole number, halves to the even one
     floor    the greatest whole number that is not above it
---missing says what becomes of a value that is absent, null, NaN or an empty text:
+--missing is for a value that is absent, null, NaN or an empty text:
     error    it is refused (the default)
-    zero     0, in a column of people, of votes or of a group; a missing district or region is refused
+    zero     0, in a column of people, votes or a group; a missing district or region is refused
     drop     its unit is left out, and the unit's edges with it
-A column that no unit has is refused, whatever is said.
---slack is that of the audit, in hundredths of a percent of the ideal population, 500 if it is not given.
---region keeps a column of regions, as counties, and tells among how many districts the most split one lies, how many are split and how often in
-all; --max-split, --max-splits and --max-split-regions are those of the audit, and limit nothing if they are not given. --fill-region makes one
-region of all units that have none, --own-region makes each of them a region of its own.
---group keeps the column of a group, and tells in which districts it has a majority of --group-of, a column that is kept too, or of the people if
-that is not given; --group-districts is that of the audit, 0 if it is not given.
---join makes two units neighbours, as an island and what it belongs to; it may be said again.
---keep keeps a further column, as it is; all others are left out. --all prints every id where else the first ten are.
+A column that no unit has is always refused.
+--slack is that of the audit, in hundredths of a percent of the ideal population, 500 by default.
+--region keeps a column of regions, as counties. The notes say among how many districts the most
+split one lies, how many are split, and how often in all. --max-split, --max-splits and
+--max-split-regions are those of the audit, and limit nothing by default. --fill-region makes one
+region of all units that have none. --own-region makes each of them a region of its own.
+--group keeps the column of a group. The notes say in which districts it has a majority of
+--group-of, a column that is kept too, or by default of the people. --group-districts is that of
+the audit, 0 by default.
+--join makes two units neighbors, as an island and what it belongs to. It may be given again.
+--keep keeps a further column, as it is; all others are left out. --all prints every id where
+else the first ten are printed.
 
-The graph goes to --out, or to standard output; what was changed, and what the auditor would refuse, to standard error.
-Ends with 0 where the auditor accepts the file, with 1 where it was written and would be refused, and with 2 where it was not written.
+The graph goes to --out, or to standard output. Standard error has what was changed, and what the
+auditor would refuse. Ends with 0 where the auditor accepts the file, with 1 where it was written
+and would be refused, and with 2 where it was not written.
 """
 PICTURE = """Draws a report of the auditor as one picture, in PNG and in SVG.
 
-REPORT is a file with a report, or - for standard input; NAME.png and NAME.svg are written. matplotlib is needed.
+REPORT is a file with a report, or - for standard input. NAME.png and NAME.svg are written.
+matplotlib is needed.
 
-The picture shows, for each question and walk, which part of the visited plans is at least as extreme as the enacted plan, and the bound
-that follows; for each rank test the rank of the enacted plan among its trajectories; and, where the report has one, the histogram of seats.
-All is black, grey and white: shapes and words tell things apart. A text that is no whole report is refused.
+The picture shows, for each question and walk, which part of the visited plans is at least as
+extreme as the enacted plan, and the bound that follows. For each rank test it shows the rank of the
+enacted plan among its trajectories and, where the report has one, the histogram of seats. All is
+black, gray and white: shapes and words distinguish. A text that is no whole report is refused.
 """
 RUN = """Usage: district-audit-run WORDS < GRAPH > REPORT
 
-Runs the auditor with these words, which are those of `run`, or of `make` or `check` where that is the first of them. Standard output, status and note
-are the program's own. Where it saves and standard error is a terminal, a bar shows how far it is. Where it refuses the graph, a second line
-says in the graph's own ids and labels what its numbers stand for. Ctrl-C ends it, and tells how to go on.
+Runs the auditor with these words. They are those of `run`, or of `make` or `check` where that is
+the first of them. Standard output, status and note are the program's own. Where it saves and
+standard error is a terminal, a bar shows the progress. Where it refuses the graph, a second line
+says in the graph's own ids and labels what its numbers stand for. Ctrl-C ends it, and says how to
+go on.
 """
 
 
 def tell(text: str) -> None:
+    for argument, word in IN_WORDS:
+        text = text.replace(argument, word)
     print("prepare: " + text, file=sys.stderr)
 
 
 # ---- prepare
 
+
 def prepare_words() -> argparse.ArgumentParser:
-    parser = argparse.ArgumentParser(description=PREPARE, formatter_class=argparse.RawDescriptionHelpFormatter)
+    parser = argparse.ArgumentParser(
+        description=PREPARE, formatter_class=argparse.RawDescriptionHelpFormatter
+    )
     parser.add_argument("file")
     for column in ("pop", "first", "second", "district"):
         parser.add_argument("--" + column, required=True)
@@ -92,7 +120,8 @@ def prepare_words() -> argparse.ArgumentParser:
 
 
 def told(ready: Prepared, everything: bool) -> None:
-    """Prints what was changed, what looks wrong, what there is, and what the auditor would refuse."""
+    """Prints what was changed, what looks wrong, what there is, and what the auditor would refuse.
+    """
     for change in ready.changes:
         tell(change.text(everything))
     for warning in ready.warnings:
@@ -108,10 +137,13 @@ def prepare(words: typing.Sequence[str] | None = None) -> int:
     args = prepare_words().parse_args(words)
     try:
         ready = prepared_of(
-            args.file, population=args.pop, first=args.first, second=args.second, district=args.district, region=args.region,
-            numbers=args.numbers, missing=args.missing, join=args.join, keep=args.keep, fill_region=args.fill_region,
-            own_region=args.own_region, slack=args.slack, max_split=args.max_split, max_splits=args.max_splits, max_split_regions=args.max_split_regions,
-            group=args.group, group_of=args.group_of, group_districts=args.group_districts, show_all=args.all)
+            args.file, population=args.pop, first=args.first, second=args.second,
+            district=args.district, region=args.region, numbers=args.numbers, missing=args.missing,
+            join=args.join, keep=args.keep, fill_region=args.fill_region,
+            own_region=args.own_region, slack=args.slack, max_split=args.max_split,
+            max_splits=args.max_splits, max_split_regions=args.max_split_regions, group=args.group,
+            group_of=args.group_of, group_districts=args.group_districts, show_all=args.all,
+        )
         told(ready, args.all)
         if args.out:
             with open(args.out, "wb") as file:
@@ -125,16 +157,22 @@ def prepare(words: typing.Sequence[str] | None = None) -> int:
         for fault in some:
             tell(fault)
         said = why.why if isinstance(why, PrepareRefused) else str(why)
-        tell("not written: %s%s" % (said, ", of which these are the first" if len(some) < len(faults) else ""))
+        tell(
+            "not written:"
+            f" {said}{', of which these are the first' if len(some) < len(faults) else ''}"
+        )
         return 2
     return 1 if ready.refusals else 0
 
 
 # ---- picture
 
+
 def picture(words: typing.Sequence[str] | None = None) -> int:
     """district-audit-picture; answers the status."""
-    parser = argparse.ArgumentParser(description=PICTURE, formatter_class=argparse.RawDescriptionHelpFormatter)
+    parser = argparse.ArgumentParser(
+        description=PICTURE, formatter_class=argparse.RawDescriptionHelpFormatter
+    )
     parser.add_argument("report", metavar="REPORT")
     parser.add_argument("name", metavar="NAME")
     args = parser.parse_args(words)
@@ -147,18 +185,19 @@ def picture(words: typing.Sequence[str] | None = None) -> int:
         text = data.decode("utf-8", "surrogateescape")
         Report.parse(text).plot(args.name)
     except MissingExtra as why:
-        print("picture: not drawn: %s" % why, file=sys.stderr)
+        print(f"picture: not drawn: {why}", file=sys.stderr)
         return 3
     except ReportRefused as why:
-        print("picture: not drawn: this is no whole report: %s" % why, file=sys.stderr)
+        print(f"picture: not drawn: this is no whole report: {why}", file=sys.stderr)
         return 2
     except (OSError, ValueError) as why:
-        print("picture: not drawn: %s" % why, file=sys.stderr)
+        print(f"picture: not drawn: {why}", file=sys.stderr)
         return 2
     return 0
 
 
 # ---- run
+
 
 def value_of(words: typing.Sequence[str], name: str, default: str) -> str:
     """The value of a word, for showing alone: what the words say, the program decides."""
@@ -188,7 +227,7 @@ def called_with(words: list[str]) -> int:
     try:
         program = found("audit")
     except ProgramMissing as why:
-        print("district-audit-run: %s" % why, file=sys.stderr)
+        print(f"district-audit-run: {why}", file=sys.stderr)
         return 127
     data = b"" if words[0] == "make" else sys.stdin.buffer.read()
     if words[0] != "make":
@@ -196,14 +235,18 @@ def called_with(words: list[str]) -> int:
     watch = None
     if saves and sys.stderr.isatty():
         total, is_resumed = total_of(words), value_of(words, "--resume", "no") == "yes"
-        watch = bars.Watch(lambda: checkpoints.look_in(pathlib.Path(), total), total, is_resumed, bars.PlainBar())
+        watch = bars.Watch(
+            lambda: checkpoints.look_in(pathlib.Path(), total), total, is_resumed, bars.PlainBar()
+        )
     return passed_through([program, *words], data, watch, saves)
 
 
 def warn_of_labels(data: bytes, words: typing.Sequence[str]) -> None:
     """Warns of labels that the program takes for districts or regions of their own."""
     try:
-        test_labels_of(data, {name: value_of(words, "--" + name, "") for name in ("district", "region")})
+        test_labels_of(
+            data, {name: value_of(words, "--" + name, "") for name in ("district", "region")}
+        )
     except PrepareRefused as why:
         for fault in why.faults[:10]:
             print(f"district-audit-run: warning: {fault}", file=sys.stderr)
@@ -220,9 +263,8 @@ def passed_through(command: list[str], data: bytes, watch: bars.Watch | None, sa
             raise
         except KeyboardInterrupt:
             stop(process)
-            print("\ndistrict-audit-run: stopped; %s" % (
-                "the same command with --resume yes goes on in this folder" if saves else "nothing was saved (--save 1 saves after each trajectory)"),
-                file=sys.stderr)
+            said = GOES_ON if saves else NOTHING_SAVED
+            print(f"\ndistrict-audit-run: stopped; {said}", file=sys.stderr)
             return 130
     if watch is not None:
         watch.end()
@@ -230,7 +272,10 @@ def passed_through(command: list[str], data: bytes, watch: bars.Watch | None, sa
     sys.stderr.flush()
     if process.returncode == 2:
         line = note.decode("utf-8", "surrogateescape").removesuffix("\n")
-        names = {"district": value_of(command[1:], "--district", ""), "region": value_of(command[1:], "--region", "")}
+        names = {
+            "district": value_of(command[1:], "--district", ""),
+            "region": value_of(command[1:], "--region", ""),
+        }
         said = naming.said_in_labels(line, naming.labels_of(data, names))
         if said:
             print("district-audit-run: " + said, file=sys.stderr)
@@ -238,7 +283,7 @@ def passed_through(command: list[str], data: bytes, watch: bars.Watch | None, sa
 
 
 def noted(process: subprocess.Popen[bytes], data: bytes, watch: bars.Watch | None) -> bytes:
-    """What the program writes on standard error."""
+    """Returns the program's standard error, and shows its progress meanwhile."""
     first: bytes | None = data
     while True:
         try:

@@ -28,7 +28,7 @@ class District:
     deviation: Fraction
     """By how many people its population differs from the ideal one."""
     deviation_share: Fraction | None
-    """The same as a part of the ideal population; None where nobody lives anywhere."""
+    """The deviation as a part of the ideal population; None where nobody lives anywhere."""
     first: int
     second: int
     """The votes of both parties."""
@@ -42,13 +42,13 @@ class District:
     regions: tuple[Label, ...] | None
     """The regions in which it lies; None where no column of regions was named."""
     split_regions: int | None
-    """How many of these lie in other districts, too."""
+    """The number of these that lie in other districts, too."""
     parts: int
     """The number of its contiguous parts: 1 in a legal plan."""
 
 
 class Plan(typing.NamedTuple):
-    """What is known of a plan."""
+    """The districts, cut edges and faults of a plan."""
 
     districts: tuple[District, ...]
     """By their numbers."""
@@ -106,6 +106,7 @@ def plan_of(data: bytes, named: typing.Mapping[str, typing.Any]) -> Plan | None:
         group=named.get("group") or None,
         group_of=named.get("group_of") or None,
         group_districts=int(named.get("group_districts", 0)),
+        group_share=int(named.get("group_share", 5000)),
         show_all=True,
     )
     try:

@@ -45,11 +45,12 @@ class Effect:
 
     def __str__(self) -> str:
         """Returns the result in one sentence."""
-        return ("%s: on %d of %d walks the enacted plan is among the most extreme %s of the plans "
-                "visited (count at most %d of %d); if it were not among the most fragile %s of all "
-                "legal plans, that many walks would show so with probability at most %s" % (
-                    self.ask, self.outliers, self.walks, self.epsilon, self.most, self.plans,
-                    self.alpha, self.p))
+        return (
+            f"{self.ask}: on {self.outliers} of {self.walks} walks the enacted plan is among the"
+            f" most extreme {self.epsilon} of the plans visited (count at most {self.most} of"
+            f" {self.plans}); if it were not among the most fragile {self.alpha} of all legal"
+            f" plans, that many walks would show so with probability at most {self.p}"
+        )
 
 
 def test_effects(report: Report, epsilon: Number, alpha: Number) -> dict[str, Effect]:
@@ -61,8 +62,9 @@ def test_effects(report: Report, epsilon: Number, alpha: Number) -> dict[str, Ef
     most = math.floor(part * plans)
     if most == 0:
         raise ValueError(
-            "epsilon is %s, and a walk of %d plans cannot show less than 1/%d: take a greater "
-            "epsilon or longer walks" % (part, plans, plans))
+            f"epsilon is {part}, and a walk of {plans} plans cannot show less than 1/{plans}: take"
+            " a greater epsilon or longer walks"
+        )
     found = {}
     for ask in report.asks:
         outliers = sum(walk.ask == ask and walk.count <= most for walk in report.walks)
@@ -78,25 +80,28 @@ def exact(value: object, name: str) -> Fraction:
     ValueError for a text that is no number, and for a number out of range.
     """
     if isinstance(value, bool) or not isinstance(value, (numbers.Rational, Decimal, str)):
-        hint = ": give it as the text %r, or as a Fraction" % str(value)
-        raise TypeError("%s is a %s, and has to be exact%s" % (
-            name, type(value).__name__, hint if isinstance(value, float) else ""))
+        hint = f": give it as the text {str(value)!r}, or as a Fraction"
+        raise TypeError(
+            f"{name} is a {type(value).__name__}, and has to be"
+            f" exact{hint if isinstance(value, float) else ''}"
+        )
     try:
         found = Fraction(value)
     except (ValueError, ZeroDivisionError, OverflowError):
-        raise ValueError("%s is %r, which is no number as '0.01' or '1/100'" % (
-            name, value)) from None
+        raise ValueError(f"{name} is {value!r}, which is no number as '0.01' or '1/100'") from None
     if not 0 < found <= 1:
-        raise ValueError("%s is %s, and has to be above 0 and at most 1" % (name, found))
+        raise ValueError(f"{name} is {found}, and has to be above 0 and at most 1")
     return found
 
 
 def nine_places(billionths: int) -> Decimal:
     """Returns a number of billionths as a decimal with nine places."""
-    return Decimal("%d.%09d" % divmod(billionths, BILLION))
+    whole, rest = divmod(billionths, BILLION)
+    return Decimal(f"{whole}.{rest:09}")
 
 
 # ---- the binomial tail
+
 
 def tail_billionths(walks: int, least: int, square: Fraction) -> int:
     """Returns P(X >= least) in billionths, rounded up, for X binomial of `walks` trials.
@@ -111,15 +116,15 @@ def tail_billionths(walks: int, least: int, square: Fraction) -> int:
     if least == 0 or square >= 1:
         return BILLION
     if least == walks:
-        return ceiling_of_root(BILLION ** 2 * Fraction(square ** walks))
+        return ceiling_of_root(BILLION**2 * Fraction(square**walks))
     top, of = math.isqrt(square.numerator), math.isqrt(square.denominator)
     if Fraction(top, of) ** 2 == square:
-        scale: int = of ** walks
+        scale: int = of**walks
         return -(-tail_at(walks, least, top, of, scale, True) * BILLION // scale)
     digits = 20
     while True:
-        of, scale = 10 ** digits, 2 ** walks * 10 ** (2 * digits)
-        root = math.isqrt(square.numerator * of ** 2 // square.denominator)
+        of, scale = 10**digits, 2**walks * 10 ** (2 * digits)
+        root = math.isqrt(square.numerator * of**2 // square.denominator)
         low = tail_at(walks, least, root, of, scale, False)
         high = tail_at(walks, least, root + 1, of, scale, True)
         # The tail is above 0 and below 1. The bounds, being rounded, may reach beyond.
@@ -148,7 +153,7 @@ def head_at(walks: int, most: int, top: int, of: int, scale: int, up: bool) -> i
     The chance is at most one half, so that the first term, (1 - chance)^walks, is at least
     2^-walks and keeps its leading digits. If the scale is of^walks, every division is exact.
     """
-    term = divided(scale * (of - top) ** walks, of ** walks, up)
+    term = divided(scale * (of - top) ** walks, of**walks, up)
     total = term
     for count in range(1, most + 1):
         term = divided(term * (walks - count + 1) * top, count * (of - top), up)

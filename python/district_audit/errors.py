@@ -1,4 +1,5 @@
-"""What a call may end with in place of an answer: one exception for each status of the program, and a few of the package's own."""
+"""Exceptions of calls: one for each status of the program, and a few of the package's own.
+"""
 from __future__ import annotations
 
 import importlib
@@ -11,14 +12,15 @@ if typing.TYPE_CHECKING:
 class AuditError(Exception):
     """The program ended with another status than 0.
 
-    `status` is the program's status, and `line` the line that it wrote to standard error, without its line end. `labels` says the same in
-    the user's own labels, as 'region 5 is "Kings"', where the line has numbers and the graph was at hand; else it is empty.
+    `status` is the program's status, and `line` the line that it wrote to standard error, without
+    its line end. `labels` says the same in the user's own labels, as 'region 5 is "Kings"', where
+    the line has numbers and the graph was at hand; else it is empty.
     """
 
     status = 0
 
     def __init__(self, line: str, labels: str = "") -> None:
-        super().__init__("%s (%s)" % (line, labels) if labels else line)
+        super().__init__(f"{line} ({labels})" if labels else line)
         self.line, self.labels = line, labels
 
     def __reduce__(self) -> tuple[typing.Any, ...]:
@@ -38,18 +40,28 @@ class ArgumentRefused(WordsRefused):
     mistake, or is empty. `line` is what the program itself would write.
     """
 
-    def __init__(self, said: str, argument: str = "", given: object = None, allowed: str = "",
-                 hint: str = "", line: str = "") -> None:
+    def __init__(
+        self,
+        said: str,
+        argument: str = "",
+        given: object = None,
+        allowed: str = "",
+        hint: str = "",
+        line: str = "",
+    ) -> None:
         super().__init__(said)
         self.argument, self.given, self.allowed, self.hint = argument, given, allowed, hint
         self.line = line
 
     def __reduce__(self) -> tuple[typing.Any, ...]:
-        return type(self), (str(self), self.argument, self.given, self.allowed, self.hint, self.line)
+        return type(self), (
+            str(self), self.argument, self.given, self.allowed, self.hint, self.line,
+        )
 
 
 class ValueRefused(ArgumentRefused, ValueError):
-    """An argument has the right type and a value that is not allowed, alone or beside the others."""
+    """An argument has the right type and a value that is not allowed, alone or beside the others.
+    """
 
 
 class TypeRefused(ArgumentRefused, TypeError):
@@ -57,11 +69,11 @@ class TypeRefused(ArgumentRefused, TypeError):
 
 
 class GraphRefused(AuditError):
-    """Status 2: the graph, the table of plans, or a plan is refused, by the first fault in the order
-    of docs/user/FORMATS.md.
+    """Status 2: the graph, the table of plans, or a plan is refused, by the first fault in the
+    order of docs/user/FORMATS.md.
 
-    From `check`, `faults` has every fault of the plan in the user's labels, and `check` the table of
-    its districts; else they are empty and None.
+    From `check`, `faults` has every fault of the plan in the user's labels, and `check` the table
+    of its districts; else they are empty and None.
     """
 
     status = 2
@@ -92,13 +104,19 @@ class WriteFault(AuditError):
 
 
 class CheckpointUnreadable(AuditError):
-    """Status 6: a checkpoint is there and could not be loaded, or another run holds the folder. Nothing was changed."""
+    """Status 6: a checkpoint is there and could not be loaded, or another run holds the folder.
+
+    Nothing was changed.
+    """
 
     status = 6
 
 
 class WorkLeft(AuditError):
-    """Status 7: the budget is used up, and `done` of `total` trajectories are done. The same call with resume=True goes on."""
+    """Status 7: the budget is used up, and `done` of `total` trajectories are done.
+
+    The same call with resume=True goes on.
+    """
 
     status = 7
 
@@ -122,17 +140,23 @@ class CheckpointRefused(AuditError):
 
 
 class SaveFault(AuditError):
-    """Status 9: a checkpoint could not be saved. All else is done: `report` is the report, or None where work is left."""
+    """Status 9: a checkpoint could not be saved.
+
+    All else is done: `report` is the report, or None where work is left.
+    """
 
     status = 9
     report: Report | None = None
 
 
 class ProgramFailed(Exception):
-    """The program ended as it never does by itself, as after a signal. `status` is negative for a signal, as in `subprocess`."""
+    """The program ended as it never does by itself, as after a signal.
+
+    `status` is negative for a signal, as in `subprocess`.
+    """
 
     def __init__(self, status: int, line: str) -> None:
-        super().__init__("the program ended with status %d: %s" % (status, line or "it said nothing"))
+        super().__init__(f"the program ended with status {status}: {line or 'it said nothing'}")
         self.status, self.line = status, line
 
     def __reduce__(self) -> tuple[typing.Any, ...]:
@@ -144,22 +168,31 @@ class ProgramMissing(FileNotFoundError):
 
 
 class MissingExtra(ImportError):
-    """An optional module is not installed, or cannot be imported; the message says what it is for and how to install it.
+    """An optional module is not installed, or cannot be imported; the message says what it is for
+    and how to install it.
 
     `name` is the module, as in every ImportError, and `extra` the name of the extra that has it.
     """
 
     def __init__(self, module: str) -> None:
         self.extra, what = EXTRAS[module]
-        debian = "" if module == "gerrychain" else "Debian: apt-get install python3-%s; else: " % module
-        super().__init__("%s is missing, which %s: it is the extra `%s` (%spip install %s)" % (
-            module, what, self.extra, debian, module), name=module)
+        debian = (
+            "" if module == "gerrychain" else f"Debian: apt-get install python3-{module}; else: "
+        )
+        super().__init__(
+            (
+                f"{module} is missing, which {what}: it is the extra `{self.extra}` ({debian}pip"
+                f" install {module})"
+            ),
+            name=module,
+        )
 
     def __reduce__(self) -> tuple[typing.Any, ...]:
         return type(self), (self.name,)
 
 
-# For each optional module without which something cannot be done: the extra that has it, and what it does.
+# For each optional module without which something cannot be done: the extra that has it, and what
+# it does.
 EXTRAS = {
     "networkx": ("graphs", "reads files of GraphML and GML"),
     "pandas": ("frames", "makes tables"),
@@ -192,10 +225,13 @@ class Interrupted(KeyboardInterrupt):
 
 
 class ReportRefused(ValueError):
-    """A text is nothing that the program writes. `number` is that of the first line at which this shows, from 1."""
+    """A text is nothing that the program writes.
+
+    `number` is that of the first line at which this shows, from 1.
+    """
 
     def __init__(self, number: int, why: str) -> None:
-        super().__init__("line %d: %s" % (number, why))
+        super().__init__(f"line {number}: {why}")
         self.number, self.why = number, why
 
     def __reduce__(self) -> tuple[typing.Any, ...]:
@@ -205,16 +241,22 @@ class ReportRefused(ValueError):
 class PrepareRefused(ValueError):
     """A graph, an assignment or a table of plans is refused before the program is called.
 
-    `why` says it in one line, and `faults` has a line for each value that is refused, with the id of
-    its unit. The message is both, with the first ten faults.
+    `why` says it in one line, and `faults` has a line for each value that is refused, with the id
+    of its unit. The message is both, with the first ten faults.
     """
 
     SHOWN = 10
 
     def __init__(self, why: str, faults: typing.Sequence[str] = ()) -> None:
         self.why, self.faults = why, list(faults)
-        some = self.faults if len(self.faults) <= self.SHOWN else [
-            *self.faults[:self.SHOWN], f"and {len(self.faults) - self.SHOWN} more (see .faults)"]
+        some = (
+            self.faults
+            if len(self.faults) <= self.SHOWN
+            else [
+                *self.faults[: self.SHOWN],
+                f"and {len(self.faults) - self.SHOWN} more (see .faults)",
+            ]
+        )
         super().__init__("\n  ".join([why + ":", *some]) if some else why)
 
     def __reduce__(self) -> tuple[type[PrepareRefused], tuple[str, list[str]]]:
@@ -225,13 +267,21 @@ class FrozenWalk(UserWarning):
     """A trajectory changed the plan never, or fewer times than there are units: it says little."""
 
 
+class HeadNotCompared(UserWarning):
+    """A part of the head of a trace was not compared with the graph, for a column is not named."""
+
+
 class GraphChanged(UserWarning):
     """A call prepared a graph, and some values of it were changed; the message says which."""
 
 
 BY_STATUS: dict[int, type[AuditError]] = {
-    kind.status: kind for kind in (
-        WordsRefused, GraphRefused, MemoryRefused, ReadFault, WriteFault, CheckpointUnreadable, WorkLeft, CheckpointRefused, SaveFault)}
+    kind.status: kind
+    for kind in (
+        WordsRefused, GraphRefused, MemoryRefused, ReadFault, WriteFault, CheckpointUnreadable,
+        WorkLeft, CheckpointRefused, SaveFault,
+    )
+}
 
 
 def error_of(status: int, line: str, labels: str = "") -> Exception:

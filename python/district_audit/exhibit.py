@@ -15,9 +15,8 @@ from fractions import Fraction
 from . import exhibit_figures as figures
 from . import exhibit_text as texts
 from .effect import Effect, Number
-from .exhibit_districts import Columns, District, columns_of, districts_of
+from .exhibit_districts import Columns, District, Graph, columns_of, districts_of, graph_of
 from .exhibit_figures import escaped
-from .preparing import Prepared
 from .report import MOST_REGIONS, MOST_SPLITS, Report
 
 PathLike = typing.Union[str, "os.PathLike[str]"]
@@ -86,31 +85,44 @@ def page(plans: Named, options: Options) -> str:
     refuse_other_jobs(reports)
     refuse_half_an_effect(options)
     columns = columns_of(first, options.graph, options.columns)
+    graph = graph_of(first, options.graph, columns, len(plans) > 1)
     parties = parties_of(options, columns)
     scores = list(dict.fromkeys(ask.split(":")[0] for ask in first.asks))
     parts = [
-        "<h1>%s</h1>" % escaped(options.title),
-        "<p>%s</p>" % escaped(texts.subject(first, parties, [name for name, _ in plans])),
-        *("<p>%s</p>" % escaped(note) for note in options.notes),
-        heading("What was asked"), asked(first, parties, scores),
-        heading("How it was done"), *paragraphs(texts.methods(first)),
-        heading("Results"), *results(plans, options, parties),
-        heading("What the numbers mean"), *paragraphs(texts.theorems(first, options.alpha)),
-        heading("What this exhibit does not say"), items(texts.LIMITS),
-        heading("How to repeat it"), *provenance(plans, options, columns),
+        f"<h1>{escaped(options.title)}</h1>",
+        f"<p>{escaped(texts.subject(first, parties, [name for name, _ in plans]))}</p>",
+        *(f"<p>{escaped(note)}</p>" for note in options.notes),
+        heading("What was asked"),
+        asked(first, parties, scores),
+        heading("How it was done"),
+        *paragraphs(texts.methods(first)),
+        heading("Results"),
+        *results(plans, options, parties, graph),
+        heading("What the numbers mean"),
+        *paragraphs(texts.theorems(first, options.alpha)),
+        heading("What this exhibit does not say"),
+        items(texts.LIMITS),
+        heading("How to repeat it"),
+        *provenance(plans, options, columns, graph),
     ]
-    return ('<!DOCTYPE html>\n<html lang="en"><head><meta charset="utf-8">'
-            '<meta http-equiv="Content-Security-Policy" content="default-src \'none\'; '
-            'style-src \'unsafe-inline\'"><title>%s</title><style>%s</style></head>'
-            '<body>\n%s\n</body></html>\n' % (escaped(options.title), STYLE, "\n".join(parts)))
+    body = "\n".join(parts)
+    return (
+        '<!DOCTYPE html>\n<html lang="en"><head><meta charset="utf-8">'
+        '<meta http-equiv="Content-Security-Policy" content="default-src \'none\'; '
+        f"style-src 'unsafe-inline'\"><title>{escaped(options.title)}</title>"
+        f"<style>{STYLE}</style></head><body>\n{body}\n</body></html>\n"
+    )
 
 
 def refuse_other_jobs(reports: typing.Sequence[Report]) -> None:
     """ValueError unless the reports are of one call: the same key, map, rules and setting."""
+
     def job(report: Report) -> tuple[object, ...]:
         rules = dataclasses.replace(report.rules, majorities=None)
-        return (report.key, report.units, report.edges, report.population, rules, report.setting,
-                report.asks, report.source, report.shift is None, bool(report.serial))
+        return (
+            report.key, report.units, report.edges, report.population, rules, report.setting,
+            report.asks, report.source, report.shift is None, bool(report.serial),
+        )
 
     if any(job(report) != job(reports[0]) for report in reports):
         raise ValueError("the reports are not of one call of `plans`: make an exhibit of each")
@@ -128,45 +140,57 @@ def parties_of(options: Options, columns: typing.Mapping[str, str]) -> tuple[str
             raise ValueError("parties has to be two names, those of the first and second column")
         return options.parties[0], options.parties[1]
     if "first" in columns and "second" in columns:
-        return ("the first party (column %s)" % columns["first"],
-                "the second party (column %s)" % columns["second"])
+        return (
+            f"the first party (column {columns['first']})",
+            f"the second party (column {columns['second']})",
+        )
     return "the first party", "the second party"
 
 
 # ---- pieces of HTML
 
+
 def heading(words: str) -> str:
-    return "<h2>%s</h2>" % escaped(words)
+    return f"<h2>{escaped(words)}</h2>"
 
 
 def paragraphs(found: typing.Iterable[str]) -> list[str]:
-    return ["<p>%s</p>" % escaped(words) for words in found]
+    return [f"<p>{escaped(words)}</p>" for words in found]
 
 
 def items(found: typing.Iterable[str]) -> str:
-    return "<ul>%s</ul>" % "".join("<li>%s</li>" % escaped(words) for words in found)
+    return f"<ul>{''.join(f'<li>{escaped(words)}</li>' for words in found)}</ul>"
 
 
-def table(titles: typing.Sequence[str], rows: typing.Iterable[typing.Sequence[object]],
-          plain: int = 1, kind: str = "") -> str:
+def table(
+    titles: typing.Sequence[str],
+    rows: typing.Iterable[typing.Sequence[object]],
+    plain: int = 1,
+    kind: str = "",
+) -> str:
     """Returns a table; all columns behind the first `plain` ones hold numbers."""
-    def cells(tag: str, row: typing.Sequence[object]) -> str:
-        return "".join("<%s%s>%s</%s>" % (tag, "" if place < plain else ' class="n"', escaped(cell),
-                                          tag) for place, cell in enumerate(row))
 
-    body = "".join("<tr>%s</tr>" % cells("td", row) for row in rows)
-    return "<table%s><thead><tr>%s</tr></thead><tbody>%s</tbody></table>" % (
-        kind and ' class="%s"' % kind, cells("th", titles), body)
+    def cells(tag: str, row: typing.Sequence[object]) -> str:
+        marks = ("" if place < plain else ' class="n"' for place in range(len(row)))
+        return "".join(f"<{tag}{mark}>{escaped(cell)}</{tag}>" for mark, cell in zip(marks, row))
+
+    body = "".join(f"<tr>{cells('td', row)}</tr>" for row in rows)
+    mark = f' class="{kind}"' if kind else ""
+    head = f"<thead><tr>{cells('th', titles)}</tr></thead>"
+    return f"<table{mark}>{head}<tbody>{body}</tbody></table>"
 
 
 # ---- sections
 
+
 def asked(report: Report, parties: tuple[str, str], scores: typing.Sequence[str]) -> str:
     """Returns the definitions of the scores and the questions."""
     rows = [(ask, texts.question(ask, parties)) for ask in report.asks]
-    defined = "".join("<dt><b>%s</b></dt><dd>%s</dd>" % (escaped(score), escaped(
-        texts.definition(score, parties))) for score in scores)
-    return "<dl>%s</dl>%s" % (defined, table(("ask", "question"), rows, plain=2))
+    defined = "".join(
+        f"<dt><b>{escaped(score)}</b></dt><dd>{escaped(texts.definition(score, parties))}</dd>"
+        for score in scores
+    )
+    return f"<dl>{defined}</dl>{table(('ask', 'question'), rows, plain=2)}"
 
 
 def starts_of(report: Report) -> dict[str, Fraction]:
@@ -175,16 +199,17 @@ def starts_of(report: Report) -> dict[str, Fraction]:
     return {line.score: line.start.fraction for line in lines}
 
 
-def results(plans: Named, options: Options, parties: tuple[str, str]) -> list[str]:
+def results(
+    plans: Named, options: Options, parties: tuple[str, str], graph: Graph | None
+) -> list[str]:
     """Returns the tables and figures of each plan."""
     parts: list[str] = []
     number = 1
     for place, (name, report) in enumerate(plans):
         enacted = {score: texts.shown(score, value) for score, value in starts_of(report).items()}
-        parts += ["<h3>Plan %s</h3>" % escaped(name)] if len(plans) > 1 else []
-        if options.graph is not None and place == 0:
-            columns = columns_of(report, options.graph, options.columns)
-            parts += district_table(report, districts_of(report, options.graph, columns), parties)
+        parts += [f"<h3>Plan {escaped(name)}</h3>"] if len(plans) > 1 else []
+        if graph is not None and place == 0:
+            parts += district_table(report, districts_of(report, graph), parties, graph.is_exact)
         parts += paragraphs(texts.findings(report, enacted, parties))
         parts += [result_table(report), *paragraphs([texts.together(report)])]
         if options.epsilon is not None and options.alpha is not None and report.walks:
@@ -204,128 +229,202 @@ def result_table(report: Report) -> str:
 
     is_long = report.setting.walks > figures.MOST_ROWS
     for walk in () if is_long else report.walks:
-        rows.append(("outlier walk %d" % walk.number, walk.ask,
-                     *value(walk.score, walk.start, walk.start.fraction),
-                     "%d of %d" % (walk.count, walk.of), "bound %s" % walk.bound))
+        rows.append(
+            (
+                f"outlier walk {walk.number}", walk.ask,
+                *value(walk.score, walk.start, walk.start.fraction), f"{walk.count} of {walk.of}",
+                f"bound {walk.bound}",
+            )
+        )
     for ask in report.asks if is_long else ():
         walks = sorted((one for one in report.walks if one.ask == ask), key=lambda one: one.count)
         least, most = walks[0], walks[-1]
-        rows.append(("%d outlier walks" % len(walks), ask,
-                     *value(least.score, least.start, least.start.fraction),
-                     "%d to %d of %d" % (least.count, most.count, least.of),
-                     "bounds %s to %s" % (least.bound, most.bound)))
+        rows.append(
+            (
+                f"{len(walks)} outlier walks", ask,
+                *value(least.score, least.start, least.start.fraction),
+                f"{least.count} to {most.count} of {least.of}",
+                f"bounds {least.bound} to {most.bound}",
+            )
+        )
     for stop in report.stops:
-        rows.append(("sequential test", stop.ask,
-                     *value(stop.score, stop.start, stop.start.fraction),
-                     "%d of %d" % (stop.top, stop.of), "p %s" % stop.p))
+        rows.append(
+            (
+                "sequential test", stop.ask, *value(stop.score, stop.start, stop.start.fraction),
+                f"{stop.top} of {stop.of}", f"p {stop.p}",
+            )
+        )
     for test in report.ends:
-        rows.append(("parallel test", test.ask,
-                     *value(test.score, test.start, test.start.fraction),
-                     "rank %d of %d" % (test.rank, test.of), "p %s" % test.p))
+        rows.append(
+            (
+                "parallel test", test.ask, *value(test.score, test.start, test.start.fraction),
+                f"rank {test.rank} of {test.of}", f"p {test.p}",
+            )
+        )
     for one in report.serial:
-        rows.append(("serial test", one.ask,
-                     *value(one.score, one.start, one.start.fraction),
-                     "rank %d of %d" % (one.rank, one.of), "p %s" % one.p))
-    return table(("test", "ask", "enacted value", "in decimals", "at least as extreme", "result"),
-                 rows, plain=2, kind="results")
+        rows.append(
+            (
+                "serial test", one.ask, *value(one.score, one.start, one.start.fraction),
+                f"rank {one.rank} of {one.of}", f"p {one.p}",
+            )
+        )
+    return table(
+        ("test", "ask", "enacted value", "in decimals", "at least as extreme", "result"),
+        rows,
+        plain=2,
+        kind="results",
+    )
 
 
 def effect_table(found: typing.Mapping[str, Effect]) -> list[str]:
-    rows = [(one.ask, "%d of %d" % (one.outliers, one.walks), one.most, one.plans, one.p)
-            for one in found.values()]
+    rows = [
+        (one.ask, f"{one.outliers} of {one.walks}", one.most, one.plans, one.p)
+        for one in found.values()
+    ]
     any_one = next(iter(found.values()))
-    said = ("Effect apart from significance: epsilon %s, alpha %s. The test counts the walks on "
-            "which at most the given number of visited plans is at least as extreme as the "
-            "enacted plan." % (any_one.epsilon, any_one.alpha))
-    return [*paragraphs([said]), table(("ask", "walks that show it", "count at most", "of", "p"),
-                                       rows)]
+    said = (
+        f"Effect apart from significance: epsilon {any_one.epsilon}, alpha {any_one.alpha}. The"
+        " test counts the walks on which at most the given number of visited plans is at least as"
+        " extreme as the enacted plan."
+    )
+    return [
+        *paragraphs([said]),
+        table(("ask", "walks that show it", "count at most", "of", "p"), rows),
+    ]
 
 
-def drawings(report: Report, enacted: typing.Mapping[str, str], parties: tuple[str, str],
-             number: int, name: str) -> list[str]:
+def drawings(
+    report: Report,
+    enacted: typing.Mapping[str, str],
+    parties: tuple[str, str],
+    number: int,
+    name: str,
+) -> list[str]:
     """Returns the figures of one report, numbered from `number`."""
-    of_plan = ", plan %s" % name if name else ""
+    of_plan = f", plan {name}" if name else ""
     found: list[str] = []
-    walks, ranks, shift = (figures.walk_rows(report, enacted), figures.rank_rows(report, enacted),
-                           report.shift)
+    walks, ranks, shift = (
+        figures.walk_rows(report, enacted), figures.rank_rows(report, enacted), report.shift,
+    )
     if walks:
-        found.append(figures.walks_figure(
-            number, "Outlier walks from the enacted plan" + of_plan, walks))
+        found.append(
+            figures.walks_figure(number, "Outlier walks from the enacted plan" + of_plan, walks)
+        )
     if ranks:
-        found.append(figures.ranks_figure(
-            number + len(found), "Rank of the enacted plan" + of_plan, ranks))
+        found.append(
+            figures.ranks_figure(number + len(found), "Rank of the enacted plan" + of_plan, ranks)
+        )
     if shift is not None and max(shift.counts) > 0:
         seats = starts_of(report).get("seats")
-        title = "Districts won by %s in the visited plans%s" % (parties[0], of_plan)
-        found.append(figures.seats_figure(number + len(found), title, shift,
-                                          None if seats is None else int(seats), report.districts))
+        title = f"Districts won by {parties[0]} in the visited plans{of_plan}"
+        found.append(
+            figures.seats_figure(
+                number + len(found),
+                title,
+                shift,
+                None if seats is None else int(seats),
+                report.districts,
+            )
+        )
     return found
 
 
-def district_table(report: Report, districts: typing.Sequence[District],
-                   parties: tuple[str, str]) -> list[str]:
+def district_table(
+    report: Report,
+    districts: typing.Sequence[District],
+    parties: tuple[str, str],
+    is_exact: bool,
+) -> list[str]:
     """Returns the table of the districts of the enacted plan, and its total deviation."""
     ideal = Fraction(report.population, len(districts))
     has_group = any(one.group is not None for one in districts)
-    titles = ["district", "units", "people", "from ideal", "in %", "votes of " + parties[0],
-              "votes of " + parties[1], "share of %s, %%" % parties[0], "won by"]
+    titles = [
+        "district", "units", "people", "from ideal", "in %", "votes of " + parties[0],
+        "votes of " + parties[1], f"share of {parties[0]}, %", "won by",
+    ]
     titles += ["group, %"] if has_group else []
     rows = []
     for one in districts:
         off = one.population - ideal
         winner = parties[0] if one.is_won_by_first else parties[1]
         winner += " (tie)" if one.first == one.second else ""
-        row = [one.label, one.units, one.population, texts.decimal(off, 1, True), texts.decimal(
-            100 * off / ideal, 3, True) if ideal else "", one.first, one.second,
-            texts.ratio(one.first, one.first + one.second), winner]
+        row = [
+            one.label,
+            one.units,
+            one.population,
+            texts.decimal(off, 1, True),
+            texts.decimal(100 * off / ideal, 3, True) if ideal else "",
+            one.first,
+            one.second,
+            texts.ratio(one.first, one.first + one.second),
+            winner,
+        ]
         rows.append(row + ([texts.ratio(one.group or 0, one.whole or 0)] if has_group else []))
     people = [one.population for one in districts]
-    said = "Ideal population %s. Total deviation %d people" % (
-        texts.decimal(ideal, 1), max(people) - min(people))
-    said += ", %s percent of the ideal." % texts.decimal(
-        100 * (max(people) - min(people)) / ideal, 3) if ideal else "."
-    return ['<p class="title"><b>Table 1.</b> The districts of the enacted plan, from the graph. '
-            "These sums are the package's and not part of the proved report. Compared with the "
-            "report were the numbers of units, edges, districts and people, the scores that were "
-            "asked for, and, if the report names its source and the graph was given as it was "
-            "read, its bytes.</p>", table(titles, rows), *paragraphs([said])]
+    said = (
+        f"Ideal population {texts.decimal(ideal, 1)}. Total deviation"
+        f" {max(people) - min(people)} people"
+    )
+    said += (
+        f", {texts.decimal( 100 * (max(people) - min(people)) / ideal, 3)} percent of the ideal."
+        if ideal
+        else "."
+    )
+    return [
+        (
+            '<p class="title"><b>Table 1.</b> The districts of the enacted plan, from the graph. '
+            "These sums are the package's and not part of the proved report. "
+            f"{texts.COMPARED_BYTES if is_exact else texts.COMPARED_COUNTS}</p>"
+        ),
+        table(titles, rows),
+        *paragraphs([said]),
+    ]
 
 
 # ---- how to repeat it
 
-def provenance(plans: Named, options: Options, columns: typing.Mapping[str, str]) -> list[str]:
+
+def provenance(
+    plans: Named, options: Options, columns: typing.Mapping[str, str], graph: Graph | None
+) -> list[str]:
     """Returns the hashes, the command, and the reports in full."""
     report = plans[0][1]
-    text = "".join(("plan %s\n%s" % (name, one)) if len(plans) > 1 else str(one)
-                   for name, one in plans)
-    hashes = [("key of all draws", report.key),
-              ("SHA-256 of the report", hashlib.sha256(encoded(text)).hexdigest())]
+    text = "".join(f"plan {name}\n{one}" if len(plans) > 1 else str(one) for name, one in plans)
+    hashes = [
+        ("key of all draws", report.key),
+        ("SHA-256 of the report", hashlib.sha256(encoded(text)).hexdigest()),
+    ]
     if report.source is not None:
         what = "graph and table" if len(plans) > 1 else "graph"
-        hashes.append(("SHA-256 of the %s, %d bytes" % (what, report.source.bytes),
-                       report.source.sha256))
-    data = graph_bytes(options.graph)
-    if data is not None:
-        if report.source is not None and len(plans) == 1 and not report.source.is_of(data):
-            raise ValueError("the graph has other bytes than those that the report was made of")
-        hashes.append(("SHA-256 of the graph of Table 1, %d bytes" % len(data),
-                       hashlib.sha256(data).hexdigest()))
+        hashes.append((f"SHA-256 of the {what}, {report.source.bytes} bytes", report.source.sha256))
+    if graph is not None:
+        size, digest = len(graph.data), hashlib.sha256(graph.data).hexdigest()
+        hashes.append((f"SHA-256 of the graph of Table 1, {size} bytes", digest))
     command = options.command or command_of(report, columns, len(plans) > 1)
-    rows = ["<tr><td>%s</td><td><code>%s</code></td></tr>" % (escaped(what), escaped(value))
-            for what, value in hashes]
-    return ["<p>Whoever runs this command over the same bytes gets the same report, byte for byte, "
-            "on any machine and with any number of workers.</p>", "<pre>%s</pre>" % lines(command),
-            "<table><tbody>%s</tbody></table>" % "".join(rows),
-            *reports_in_full(text)]
+    rows = [
+        f"<tr><td>{escaped(what)}</td><td><code>{escaped(value)}</code></td></tr>"
+        for what, value in hashes
+    ]
+    return [
+        (
+            "<p>Whoever runs this command over the same bytes gets the same report, byte for byte, "
+            "on any machine and with any number of workers.</p>"
+        ),
+        f"<pre>{lines(command)}</pre>",
+        f"<table><tbody>{''.join(rows)}</tbody></table>",
+        *reports_in_full(text),
+    ]
 
 
 def reports_in_full(text: str) -> list[str]:
     """Returns the text of the reports, or its first lines if it is very long."""
     found = text.split("\n")
     if len(found) <= MOST_LINES:
-        return ["<p>The report in full:</p>", "<pre>%s</pre>" % lines(text)]
-    return ["<p>The first %d of the report's %d lines:</p>" % (MOST_LINES, len(found) - 1),
-            "<pre>%s</pre>" % lines("\n".join(found[:MOST_LINES]))]
+        return ["<p>The report in full:</p>", f"<pre>{lines(text)}</pre>"]
+    return [
+        f"<p>The first {MOST_LINES} of the report's {len(found) - 1} lines:</p>",
+        "".join(("<pre>", lines("\n".join(found[:MOST_LINES])), "</pre>")),
+    ]
 
 
 def encoded(words: str) -> bytes:
@@ -337,42 +436,47 @@ def lines(words: str) -> str:
     return "\n".join(escaped(line) for line in words.split("\n"))
 
 
-def graph_bytes(graph: object) -> bytes | None:
-    """Returns the bytes that the program reads, if the graph is given as such."""
-    if isinstance(graph, Prepared):
-        return graph.data
-    if isinstance(graph, (bytes, bytearray, memoryview)):
-        return bytes(graph)
-    if isinstance(graph, (str, os.PathLike)):
-        with open(graph, "rb") as file:
-            return file.read()
-    return None
-
-
 def command_of(report: Report, columns: typing.Mapping[str, str], is_several: bool) -> str:
     """Returns the command that makes this report; names in capitals stand for unknown columns."""
     rules, setting = report.rules, report.setting
-    words: dict[str, object] = {name: columns.get(name, "COLUMN_OF_" + name.upper())
-                                for name in ("pop", "first", "second", "district")}
-    words.update(slack=rules.slack, key=report.key, walks=setting.walks, steps=setting.steps,
-                 ends=setting.ends, hub_steps=setting.hub_steps, ask=",".join(report.asks))
+    words: dict[str, object] = {
+        name: columns.get(name, "COLUMN_OF_" + name.upper())
+        for name in ("pop", "first", "second", "district")
+    }
+    words.update(
+        slack=rules.slack, key=report.key, walks=setting.walks, steps=setting.steps,
+        ends=setting.ends, hub_steps=setting.hub_steps, ask=",".join(report.asks),
+    )
     if rules.max_cut is not None:
         words["max_cut"] = rules.max_cut
     if rules.regions is not None:
         words.update(region=columns.get("region", "COLUMN_OF_REGION"), max_split=rules.max_split)
         words.update(max_splits=MOST_SPLITS if rules.max_splits is None else rules.max_splits)
-        words.update(max_split_regions=MOST_REGIONS if rules.max_split_regions is None
-                     else rules.max_split_regions)
+        words.update(
+            max_split_regions=(
+                MOST_REGIONS if rules.max_split_regions is None else rules.max_split_regions
+            )
+        )
     if rules.group_districts is not None:
-        words.update(group=columns.get("group", "COLUMN_OF_GROUP"),
-                     group_districts=rules.group_districts)
+        words.update(
+            group=columns.get("group", "COLUMN_OF_GROUP"), group_districts=rules.group_districts
+        )
         words.update({"group_of": columns["group_of"]} if columns.get("group_of") else {})
+        words.update({} if rules.group_share is None else {"group_share": rules.group_share})
+    if rules.frozen is not None:
+        words["freeze"] = columns.get("freeze", "COLUMN_OF_FROZEN_UNITS")
     words.update({"stop": setting.stop} if setting.stop else {})
     words.update({"shift": "yes"} if report.shift is not None else {})
     words.update({"serial": "yes"} if report.serial else {})
     words.update({"source": "yes"} if report.source is not None else {})
     # One option a line, so that no printed line breaks at a hyphen.
-    said = ["--%s %s" % (name.replace("_", "-"), shlex.quote(str(value)))
-            for name, value in words.items()]
-    return " \\\n  ".join(["district-audit plans" if is_several else "district-audit run", *said,
-                          "< graph_and_table" if is_several else "< graph.json"])
+    said = [
+        f"--{name.replace('_', '-')} {shlex.quote(str(value))}" for name, value in words.items()
+    ]
+    return " \\\n  ".join(
+        [
+            "district-audit plans" if is_several else "district-audit run",
+            *said,
+            "< graph_and_table" if is_several else "< graph.json",
+        ]
+    )

@@ -12,45 +12,57 @@ import unicodedata
 from .report import SEATS, Ends, Report, Serial, Shift, Walk
 
 # A question with more walks than this has one row for all of them.
+# The greatest width of a character of a label, in the units of a figure.
+CHARACTER = 8
 MOST_ROWS = 8
 # The drawing area of a figure: its left and right end, in units of the SVG.
 LEFT, RIGHT, WIDTH = 300.0, 590.0, 900.0
-HATCH = ('<defs><pattern id="hatch" width="6" height="6" patternUnits="userSpaceOnUse" '
-         'patternTransform="rotate(45)"><rect width="6" height="6" fill="#fff"/>'
-         '<line x1="0" y1="0" x2="0" y2="6" stroke="#000" stroke-width="2"/></pattern></defs>')
+HATCH = (
+    '<defs><pattern id="hatch" width="6" height="6" patternUnits="userSpaceOnUse" '
+    'patternTransform="rotate(45)"><rect width="6" height="6" fill="#fff"/>'
+    '<line x1="0" y1="0" x2="0" y2="6" stroke="#000" stroke-width="2"/></pattern></defs>'
+)
 
 
 def escaped(value: object) -> str:
     """Returns a text for HTML: markup escaped, and invisible characters shown as code points."""
-    shown = "".join("\\u%04x" % ord(one) if unicodedata.category(one) in ("Cc", "Cf", "Cs", "Co")
-                    else one for one in str(value))
+    shown = "".join(
+        f"\\u{ord(one):04x}" if unicodedata.category(one) in ("Cc", "Cf", "Cs", "Co") else one
+        for one in str(value)
+    )
     return html.escape(shown, quote=True)
 
 
 def text(x: float, y: float, words: object, anchor: str = "start", more: str = "") -> str:
-    return '<text x="%.1f" y="%.1f" text-anchor="%s"%s>%s</text>' % (
-        x, y, anchor, more and " " + more, escaped(words))
+    return (
+        f'<text x="{x:.1f}" y="{y:.1f}"'
+        f' text-anchor="{anchor}"{more and " " + more}>{escaped(words)}</text>'
+    )
 
 
 def line(x1: float, y1: float, x2: float, y2: float, more: str = 'stroke="#000"') -> str:
-    return '<line x1="%.1f" y1="%.1f" x2="%.1f" y2="%.1f" %s/>' % (x1, y1, x2, y2, more)
+    return f'<line x1="{x1:.1f}" y1="{y1:.1f}" x2="{x2:.1f}" y2="{y2:.1f}" {more}/>'
 
 
 def rectangle(x: float, y: float, width: float, height: float, fill: str) -> str:
-    return ('<rect x="%.1f" y="%.1f" width="%.1f" height="%.1f" fill="%s" stroke="#000"/>' % (
-        x, y, width, height, fill))
+    return (
+        f'<rect x="{x:.1f}" y="{y:.1f}" width="{width:.1f}" height="{height:.1f}" fill="{fill}"'
+        ' stroke="#000"/>'
+    )
 
 
 def figure(number: int, title: str, caption: str, height: float, parts: list[str]) -> str:
     """Returns a numbered figure with its title above and its caption below."""
-    return ('<figure><figcaption class="title"><b>Figure %d.</b> %s</figcaption>'
-            '<svg viewBox="0 0 %d %d" role="img" aria-label="%s">%s%s</svg>'
-            '<figcaption>%s</figcaption></figure>' % (
-                number, escaped(title), WIDTH, math.ceil(height), escaped(title), HATCH,
-                "".join(parts), escaped(caption)))
+    name, drawn = escaped(title), "".join(parts)
+    return (
+        f'<figure><figcaption class="title"><b>Figure {number}.</b> {name}</figcaption>'
+        f'<svg viewBox="0 0 {WIDTH} {math.ceil(height)}" role="img" aria-label="{name}">{HATCH}'
+        f"{drawn}</svg><figcaption>{escaped(caption)}</figcaption></figure>"
+    )
 
 
 # ---- outlier walks
+
 
 class Row(typing.NamedTuple):
     """A row of the figure on walks: its points as fractions and bounds, and words on both sides."""
@@ -65,20 +77,23 @@ def walk_rows(report: Report, enacted: typing.Mapping[str, str]) -> list[Row]:
     rows = []
     for ask in report.asks:
         walks = [walk for walk in report.walks if walk.ask == ask]
-        name = "%s, enacted: %s" % (ask, enacted[ask.split(":")[0]])
+        name = f"{ask}, enacted: {enacted[ask.split(':')[0]]}"
         points = sorted((walk.count / walk.of, float(walk.bound)) for walk in walks)
         if len(walks) > MOST_ROWS:
             counts = sorted(walk.count for walk in walks)
-            rows.append(Row(name, points, "%d walks: counts %d to %d" % (
-                len(walks), counts[0], counts[-1])))
+            rows.append(
+                Row(name, points, f"{len(walks)} walks: counts {counts[0]} to {counts[-1]}")
+            )
         else:
             rows += [walk_row(name, walk) for walk in walks]
     return rows
 
 
 def walk_row(name: str, walk: Walk) -> Row:
-    return Row("%s (walk %d)" % (name, walk.number), [(walk.count / walk.of, float(walk.bound))],
-               "%d of %d, bound %s" % (walk.count, walk.of, walk.bound))
+    return Row(
+        f"{name} (walk {walk.number})", [(walk.count / walk.of, float(walk.bound))],
+        f"{walk.count} of {walk.of}, bound {walk.bound}",
+    )
 
 
 def walks_figure(number: int, title: str, rows: list[Row]) -> str:
@@ -92,11 +107,15 @@ def walks_figure(number: int, title: str, rows: list[Row]) -> str:
 
     bottom = 26 + 26.0 * len(rows)
     parts = []
+    # Labels that would run into each other are left out.
+    longest = CHARACTER * len(f"1/{10 ** decades:,}")
+    every = math.ceil(longest / (at(1.0) - at(0.1)))
     for power in range(decades + 1):
-        value = 10.0 ** -power
+        value = 10.0**-power
         parts.append(line(at(value), 12, at(value), bottom, 'stroke="#999" stroke-width="0.7"'))
-        parts.append(text(at(value), bottom + 16, "1" if power == 0 else "1/" + "{:,}".format(
-            10 ** power), "middle"))
+        if power % every == 0:
+            label = "1" if power == 0 else f"1/{10 ** power:,}"
+            parts.append(text(at(value), bottom + 16, label, "middle"))
     parts.append(line(at(0.05), 12, at(0.05), bottom, 'stroke="#000" stroke-dasharray="5 4"'))
     parts.append(text(at(0.05), 9, "0.05", "middle"))
     for place, row in enumerate(rows):
@@ -105,16 +124,21 @@ def walks_figure(number: int, title: str, rows: list[Row]) -> str:
         parts.append(text(RIGHT + 8, y + 4, row.words))
         for part, bound in row.points:
             size = at(bound)
-            parts.append('<path d="M %.1f %.1f l 6 6 l -6 6 l -6 -6 z" fill="#fff" stroke="#000"/>'
-                         % (size, y - 6))
-            parts.append('<circle cx="%.1f" cy="%.1f" r="4.5" fill="#000"/>' % (at(part), y))
-    caption = ("Filled circle: the fraction of the visited plans that are at least as extreme as "
-               "the enacted plan. Open diamond: the bound, which says nothing at 1 and above. The "
-               "scale is logarithmic; the dashed line is 0.05.")
+            parts.append(
+                f'<path d="M {size:.1f} {y - 6:.1f} l 6 6 l -6 6 l -6 -6 z" fill="#fff"'
+                ' stroke="#000"/>'
+            )
+            parts.append(f'<circle cx="{at(part):.1f}" cy="{y:.1f}" r="4.5" fill="#000"/>')
+    caption = (
+        "Filled circle: the fraction of the visited plans that are at least as extreme as "
+        "the enacted plan. Open diamond: the bound, which says nothing at 1 and above. The "
+        "scale is logarithmic; the dashed line is 0.05."
+    )
     return figure(number, title, caption, bottom + 24, parts)
 
 
 # ---- rank tests
+
 
 class Rank(typing.NamedTuple):
     """A row of the figure on rank tests."""
@@ -127,18 +151,26 @@ class Rank(typing.NamedTuple):
 def rank_rows(report: Report, enacted: typing.Mapping[str, str]) -> list[Rank]:
     rows = []
     for stop in report.stops:
-        rows.append(Rank("%s, sequential" % label(stop.ask, enacted), stop.top / stop.of,
-                         "value %d of %d, p %s" % (stop.top, stop.of, stop.p)))
+        rows.append(
+            Rank(
+                f"{label(stop.ask, enacted)}, sequential", stop.top / stop.of,
+                f"value {stop.top} of {stop.of}, p {stop.p}",
+            )
+        )
     tests: list[Ends | Serial] = [*report.ends, *report.serial]
     for test in tests:
         what = "parallel" if isinstance(test, Ends) else "serial"
-        rows.append(Rank("%s, %s" % (label(test.ask, enacted), what), test.rank / test.of,
-                         "rank %d of %d, p %s" % (test.rank, test.of, test.p)))
+        rows.append(
+            Rank(
+                f"{label(test.ask, enacted)}, {what}", test.rank / test.of,
+                f"rank {test.rank} of {test.of}, p {test.p}",
+            )
+        )
     return rows
 
 
 def label(ask: str, enacted: typing.Mapping[str, str]) -> str:
-    return "%s, enacted: %s" % (ask, enacted[ask.split(":")[0]])
+    return f"{ask}, enacted: {enacted[ask.split(':')[0]]}"
 
 
 def ranks_figure(number: int, title: str, rows: list[Rank]) -> str:
@@ -157,13 +189,16 @@ def ranks_figure(number: int, title: str, rows: list[Rank]) -> str:
     parts.append(line(twentieth, 4, twentieth, bottom, 'stroke="#000" stroke-dasharray="5 4"'))
     for value, words in ((0.05, "0.05"), (0.5, "0.5"), (1.0, "1")):
         parts.append(text(LEFT + width * value, bottom + 16, words, "middle"))
-    caption = ("Thick mark: the enacted plan. The hatched part left of it holds the plans that are "
-               "at least as extreme, the enacted plan among them. The most extreme plan is at the "
-               "left; the dashed line is 0.05.")
+    caption = (
+        "Thick mark: the enacted plan. The hatched part left of it holds the plans that are "
+        "at least as extreme, the enacted plan among them. The most extreme plan is at the "
+        "left; the dashed line is 0.05."
+    )
     return figure(number, title, caption, bottom + 24, parts)
 
 
 # ---- the histogram of seats
+
 
 def seats_figure(number: int, title: str, shift: Shift, seats: int | None, districts: int) -> str:
     """Returns the histogram; with `seats`, those of the enacted plan, it has whole seats below."""
@@ -177,17 +212,20 @@ def seats_figure(number: int, title: str, shift: Shift, seats: int | None, distr
         parts.append(text(x + step / 2, bottom - height - 6, percent(count, whole), "middle"))
         parts.append(text(x + step / 2, bottom + 18, SEATS[place], "middle"))
         if seats is not None:
-            parts.append(text(x + step / 2, bottom + 38, seats_at(place, seats, districts),
-                              "middle"))
+            parts.append(
+                text(x + step / 2, bottom + 38, seats_at(place, seats, districts), "middle")
+            )
     middle = left + 4.5 * step
-    parts.append('<path d="M %.1f 24 l -6 -10 l 12 0 z" fill="#000"/>' % middle)
-    said = "enacted plan" if seats is None else "enacted plan: %d of %d" % (seats, districts)
+    parts.append(f'<path d="M {middle:.1f} 24 l -6 -10 l 12 0 z" fill="#000"/>')
+    said = "enacted plan" if seats is None else f"enacted plan: {seats} of {districts}"
     parts.append(text(middle + 12, 22, said, "start", 'font-weight="bold"'))
     parts.append(text(left - 16, bottom + 18, "difference", "end"))
     parts += [] if seats is None else [text(left - 16, bottom + 38, "seats", "end")]
-    caption = ("Each bar: the share of all plans visited by the outlier walks, counted each time, "
-               "that have this many seats more or fewer than the enacted plan. Hatched: the same "
-               "number. This describes, and is no test.")
+    caption = (
+        "Each bar: the share of all plans visited by the outlier walks, counted each time, "
+        "that have this many seats more or fewer than the enacted plan. Hatched: the same "
+        "number. This describes, and is no test."
+    )
     return figure(number, title, caption, bottom + 48, parts)
 
 
@@ -195,10 +233,11 @@ def seats_at(place: int, seats: int, districts: int) -> str:
     """Returns the seats of a bar; empty if no plan can have them."""
     here = seats + place - 4
     if place == 0:
-        return "0 to %d" % here if here > 0 else "0" if here == 0 else ""
+        return f"0 to {here}" if here > 0 else "0" if here == 0 else ""
     if place == 8:
-        return "%d to %d" % (here, districts) if here < districts else str(
-            here) if here == districts else ""
+        return (
+            f"{here} to {districts}" if here < districts else str(here) if here == districts else ""
+        )
     return str(here) if 0 <= here <= districts else ""
 
 
@@ -209,4 +248,4 @@ def percent(count: int, whole: int) -> str:
     tenths = (2000 * count + whole) // (2 * whole)
     if tenths == 0:
         return "< 0.1 %"
-    return "> 99.9 %" if tenths == 1000 else "%d.%d %%" % divmod(tenths, 10)
+    return "> 99.9 %" if tenths == 1000 else f"{tenths // 10}.{tenths % 10} %"

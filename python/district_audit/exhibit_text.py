@@ -10,28 +10,37 @@ from .report import MOST_REGIONS, MOST_SPLITS, Ends, Report, Serial, Stop
 Parties = typing.Tuple[str, str]
 
 LIMITS = (
-    "Not why. A plan may be an outlier because of geography, or because of a rule that the "
-    "compared plans did not have to keep.",
+    (
+        "Not why. A plan may be an outlier because of geography, or because of a rule that the "
+        "compared plans did not have to keep."
+    ),
     "Not how large an effect is. A small bound or p-value is about surprise, not about size.",
-    "Not that a plan is fair where nothing unusual was found. A short walk sees only plans that "
-    "are close to the enacted one.",
-    "Nothing about the data. Whether the file has the true votes, people and borders, the program "
-    "cannot know.",
-    "Not that a law is kept. The rules count what the columns say; whether that is what a statute "
-    "or a court means is a legal question.",
+    (
+        "Not that a plan is fair where nothing unusual was found. A short walk sees only plans that"
+        " are close to the enacted one."
+    ),
+    (
+        "Nothing about the data. Whether the file has the true votes, people and borders, the"
+        " program cannot know."
+    ),
+    (
+        "Not that a law is kept. The rules count what the columns say; whether that is what a"
+        " statute or a court means is a legal question."
+    ),
     "Nothing about plans that break the rules above, and nothing about other ways to draw plans.",
 )
 
 
 # ---- numbers
 
+
 def decimal(value: Fraction | int, places: int, has_sign: bool = False) -> str:
     """Returns a fraction in decimals, rounded to the nearest, halves away from zero."""
     exact = Fraction(value)
-    scaled = (2 * abs(exact) * 10 ** places + 1) // 2
-    whole, rest = divmod(int(scaled), 10 ** places)
+    scaled = (2 * abs(exact) * 10**places + 1) // 2
+    whole, rest = divmod(int(scaled), 10**places)
     sign = "-" if exact < 0 and scaled else "+" if has_sign and scaled else ""
-    return sign + ("%d.%0*d" % (whole, places, rest) if places else str(whole))
+    return sign + (f"{whole}.{rest:0{places}}" if places else str(whole))
 
 
 def ratio(part: int, whole: int) -> str:
@@ -47,28 +56,37 @@ def shown(score: str, value: Fraction) -> str:
 
 
 def counted(count: int, what: str) -> str:
-    return "%s %s%s" % ("{:,}".format(count), what, "" if count == 1 else "s")
+    return f"{count:,} {what}{'' if count == 1 else 's'}"
 
 
 # ---- what was asked
+
 
 def definition(score: str, parties: Parties) -> str:
     """Returns what a score is, what its sign says, and which party a value hurts."""
     one, other = parties
     if score == "seats":
-        return ("The number of districts in which %s has more votes than %s; a tie counts for %s. "
-                "A low value hurts %s, a high value hurts %s." % (one, other, other, one, other))
+        return (
+            f"The number of districts in which {one} has more votes than {other}; a tie counts for"
+            f" {other}. A low value hurts {one}, a high value hurts {other}."
+        )
     if score == "mean-median":
-        return ("The median of the district vote shares of %s, less their mean. Below zero, %s "
-                "does worse in the middle district than on average, which hurts %s. Above zero "
-                "hurts %s." % (one, one, one, other))
+        return (
+            f"The median of the district vote shares of {one}, less their mean. Below zero,"
+            f" {one} does worse in the middle district than on average, which hurts {one}. Above"
+            f" zero hurts {other}."
+        )
     if score == "gap":
-        return ("The efficiency gap: the wasted votes of %s less those of %s, as a fraction of all "
-                "votes. Wasted are all votes for the loser of a district, and the winner's votes "
-                "beyond half. Above zero, %s wastes more, which hurts %s. Below zero hurts %s." % (
-                    other, one, other, other, one))
-    return ("The number of pairs of neighboring units that lie in different districts. Fewer cut "
-            "edges mean more compact districts. The score favors no party by itself.")
+        return (
+            f"The efficiency gap: the wasted votes of {other} less those of {one}, as a fraction of"
+            " all votes. Wasted are all votes for the loser of a district, and the winner's votes"
+            f" beyond half. Above zero, {other} wastes more, which hurts {other}. Below zero hurts"
+            f" {one}."
+        )
+    return (
+        "The number of pairs of neighboring units that lie in different districts. Fewer cut "
+        "edges mean more compact districts. The score favors no party by itself."
+    )
 
 
 def question(ask: str, parties: Parties) -> str:
@@ -76,48 +94,70 @@ def question(ask: str, parties: Parties) -> str:
     score, tail = ask.split(":")
     many = "few" if tail == "low" else "many"
     if score == "seats":
-        return "Does %s win unusually %s districts?" % (parties[0], many)
+        return f"Does {parties[0]} win unusually {many} districts?"
     if score == "cut-edges":
-        return "Does the plan cut unusually %s edges?" % many
+        return f"Does the plan cut unusually {many} edges?"
     name = "efficiency gap" if score == "gap" else "mean-median score"
-    return "Is the %s unusually %s, so that %s is hurt?" % (
-        name, tail, parties[0] if tail == "low" else parties[1])
+    return (
+        f"Is the {name} unusually {tail}, so that {parties[0] if tail == 'low' else parties[1]} is"
+        " hurt?"
+    )
 
 
 # ---- how it was done
 
+
 def subject(report: Report, parties: Parties, names: typing.Sequence[str]) -> str:
     """Returns the map in one paragraph."""
-    plans = "" if len(names) < 2 else (
-        " It audits %d plans on one map; the first is the enacted one." % len(names))
-    return ("This page presents a report of the district plan auditor about a map of %s with %s, "
-            "%s and %s. The parties compared are %s and %s.%s" % (
-                counted(report.units, "voting unit"),
-                counted(report.edges, "pair") + " of neighbors",
-                "{:,}".format(report.population) + " people",
-                counted(report.districts, "district"), parties[0], parties[1], plans))
+    plans = (
+        ""
+        if len(names) < 2
+        else (f" It audits {len(names)} plans on one map; the first is the enacted one.")
+    )
+    return (
+        "This page presents a report of the district plan auditor about a map of"
+        f" {counted(report.units, 'voting unit')} with {counted(report.edges, 'pair')} of"
+        f" neighbors, {report.population:,} people and {counted(report.districts, 'district')}. The"
+        f" parties compared are {parties[0]} and {parties[1]}.{plans}"
+    )
 
 
 def legality(report: Report) -> str:
     """Returns which plans are legal, in one sentence or more."""
     rules = report.rules
-    said = ["A plan is legal here if each district is contiguous and has %s to %s people, which is "
-            "within %s percent of the ideal" % ("{:,}".format(rules.low), "{:,}".format(rules.high),
-                                                decimal(Fraction(rules.slack, 100), 2))]
-    said += ["has at most %s" % counted(rules.max_cut, "cut edge")] if rules.max_cut is not None \
-        else []
+    said = [
+        f"A plan is legal here if each district is contiguous and has {rules.low:,} to"
+        f" {rules.high:,} people, which is within {decimal(Fraction(rules.slack, 100), 2)} percent"
+        " of the ideal"
+    ]
+    said += (
+        [f"has at most {counted(rules.max_cut, 'cut edge')}"] if rules.max_cut is not None else []
+    )
     if rules.max_split is not None and rules.max_split < report.districts:
-        said.append("each of the %s lies in at most %s" % (
-            counted(rules.regions or 0, "region"), counted(rules.max_split, "district")))
+        said.append(
+            f"each of the {counted(rules.regions or 0, 'region')} lies in at most"
+            f" {counted(rules.max_split, 'district')}"
+        )
     if rules.max_splits is not None and rules.max_splits < MOST_SPLITS:
-        said.append("regions are split at most %s in all" % counted(rules.max_splits, "time"))
+        said.append(f"regions are split at most {counted(rules.max_splits, 'time')} in all")
     if rules.max_split_regions is not None and rules.max_split_regions < MOST_REGIONS:
-        said.append("at most %s may lie in more than one district" % counted(
-            rules.max_split_regions, "region"))
+        said.append(
+            f"at most {counted( rules.max_split_regions, 'region')} may lie in more than one"
+            " district"
+        )
     if rules.group_districts is not None:
-        said.append("the group has a majority in at least %s" % counted(
-            rules.group_districts, "district"))
-    more = "" if len(said) == 1 else "; further, %s" % "; ".join(said[1:])
+        share = (
+            "a majority"
+            if rules.group_share is None
+            else f"more than {decimal(Fraction(rules.group_share, 100), 2)} percent"
+        )
+        said.append(
+            f"the group has {share} in at least {counted(rules.group_districts, 'district')}"
+        )
+    if rules.frozen is not None:
+        keep = "1 unit keeps" if rules.frozen == 1 else f"{counted(rules.frozen, 'unit')} keep"
+        said.append(f"{keep} the districts of the enacted plan")
+    more = "" if len(said) == 1 else f"; further, {'; '.join(said[1:])}"
     return said[0] + more + "."
 
 
@@ -127,59 +167,80 @@ def methods(report: Report) -> list[str]:
     found = [
         "The program changes a plan in small random steps. A step names one unit and one district "
         "at random, and moves the unit there if the resulting plan is legal; otherwise the plan "
-        "stays, and counts again. " + legality(report) + " The enacted plan meets these rules. All "
-        "random draws come from the key below."]
+        "stays, and counts again. "
+        + legality(report)
+        + " The enacted plan meets these rules. All random draws come from the key below."
+    ]
     if setting.walks:
         found.append(
-            "Outlier walks: %s of %s, from the enacted plan. For each question the program "
-            "counts how many of the %s plans visited on a walk, the enacted plan among them, are "
-            "at least as extreme as the enacted plan." % (
-                counted(setting.walks, "walk"), counted(setting.steps, "step"),
-                "{:,}".format(setting.steps + 1)))
+            f"Outlier walks: {counted(setting.walks, 'walk')} of {counted(setting.steps, 'step')},"
+            " from the enacted plan. For each question the program counts how many of the"
+            f" {setting.steps + 1:,} plans visited on a walk, the enacted plan among them, are at"
+            " least as extreme as the enacted plan."
+        )
     if setting.ends:
-        many = "1 trajectory" if setting.ends == 1 else "{:,} trajectories".format(setting.ends)
+        many = "1 trajectory" if setting.ends == 1 else f"{setting.ends:,} trajectories"
         found.append(
-            "Parallel test: from a plan that lies %s from the enacted plan, %s of as many steps "
-            "are walked. The enacted plan is ranked among their last plans; equal ones count "
-            "against it." % (counted(setting.hub_steps, "step"), many))
+            f"Parallel test: from a plan that lies {counted(setting.hub_steps, 'step')} from the"
+            f" enacted plan, {many} of as many steps are walked. The enacted plan is ranked among"
+            " their last plans; equal ones count against it."
+        )
     if setting.stop:
-        found.append("The parallel test stops as soon as %d of them are at least as extreme."
-                     % setting.stop)
+        found.append(
+            f"The parallel test stops as soon as {setting.stop} of them are at least as extreme."
+        )
     if report.serial:
         found.append(
-            "Serial test: the enacted plan is placed at random in one run of %s, which is walked "
-            "from it forward and backward. The enacted plan is ranked among all plans of the run."
-            % counted(setting.steps, "step"))
+            "Serial test: the enacted plan is placed at random in one run of"
+            f" {counted(setting.steps, 'step')}, which is walked from it forward and backward. The"
+            " enacted plan is ranked among all plans of the run."
+        )
     return found
 
 
 # ---- what it means
 
+
+COMPARED_BYTES = "The graph has the bytes that the program read for the report, by their SHA-256."
+COMPARED_COUNTS = (
+    "The report does not name the bytes that were read. Compared with it were the numbers of units,"
+    " edges, districts and people, and the scores that were asked for."
+)
+
+
 def theorems(report: Report, alpha: object) -> list[str]:
     """Returns the theorem and the assumption behind each kind of number."""
     found = [
-        "Proved by machine, about the program as its project builds it: every plan visited is "
-        "legal, every count, rank, bound and p-value is the one that its definition says, and "
-        "each step is as likely as its reverse. No statement about probability is proved by "
-        "machine: the theorems below are published ones, and the reader applies them. The draws "
-        "are those of the cipher ChaCha20 under the key, which are taken to be random; the key "
-        "has to be chosen so that nobody could choose among results.",
-        "Assumption (the null hypothesis) of every bound and p-value in the table of results: the "
-        "enacted plan was drawn at random from the legal plans that such steps can reach, each "
-        "with the same chance."]
+        (
+            "Proved by machine, about the program as its project builds it: every plan visited is"
+            " legal, every count, rank, bound and p-value is the one that its definition says, and"
+            " each step is as likely as its reverse. No statement about probability is proved by"
+            " machine: the theorems below are published ones, and the reader applies them. The"
+            " draws are those of the cipher ChaCha20 under the key, which are taken to be random;"
+            " the key has to be chosen so that nobody could choose among results."
+        ),
+        (
+            "Assumption (the null hypothesis) of every bound and p-value in the table of results:"
+            " the enacted plan was drawn at random from the legal plans that such steps can reach,"
+            " each with the same chance."
+        ),
+    ]
     if report.walks:
         found.append(
             "Bound of an outlier walk (Chikina, Frieze and Pegden, PNAS 114, 2017): under the "
             "assumption, a bound of z or less has probability at most z, however short the walk "
-            "is.")
+            "is."
+        )
     if report.ends or report.serial:
         found.append(
             "p of a parallel or serial test (Besag and Clifford, Biometrika 76, 1989): under the "
-            "assumption, a p of z or less has probability at most z.")
+            "assumption, a p of z or less has probability at most z."
+        )
     if report.stops:
         found.append(
             "p of a sequential test (Besag and Clifford, Biometrika 78, 1991): the same, if the "
-            "stopping rule was fixed before the run.")
+            "stopping rule was fixed before the run."
+        )
     if alpha is not None and report.walks:
         found.append(
             "p of the test of effect apart from significance (Chikina, Frieze, Mattingly and "
@@ -187,7 +248,8 @@ def theorems(report: Report, alpha: object) -> list[str]:
             "the enacted plan is not among the fraction alpha of all legal plans that are most "
             "fragile, then that many walks show it as so extreme with probability at most p. "
             "Fragile means likely to be among the most extreme fraction epsilon of the plans on a "
-            "walk from it. Epsilon and alpha have to be fixed before the run.")
+            "walk from it. Epsilon and alpha have to be fixed before the run."
+        )
     return found
 
 
@@ -197,16 +259,20 @@ def findings(report: Report, enacted: typing.Mapping[str, str], parties: Parties
     for ask in report.asks:
         score = ask.split(":")[0]
         numbers = [number for name, number in numbers_of(report) if name == ask]
-        found.append("%s The enacted plan has %s. The least of its %s here is %s." % (
-            question(ask, parties), enacted[score], counted(len(numbers), "number"), min(numbers)))
+        found.append(
+            f"{question(ask, parties)} The enacted plan has {enacted[score]}. The least of its"
+            f" {counted(len(numbers), 'number')} here is {min(numbers)}."
+        )
     return found
 
 
 def numbers_of(report: Report) -> list[tuple[str, Decimal]]:
     """Returns every bound and p-value of a report, with its ask."""
     tests: list[Stop | Ends | Serial] = [*report.stops, *report.ends, *report.serial]
-    return [*((walk.ask, walk.bound) for walk in report.walks),
-            *((test.ask, test.p) for test in tests)]
+    return [
+        *((walk.ask, walk.bound) for walk in report.walks),
+        *((test.ask, test.p) for test in tests),
+    ]
 
 
 def together(report: Report) -> str:
@@ -215,7 +281,9 @@ def together(report: Report) -> str:
     if len(numbers) == 1:
         return "The report has one number, and it stands by itself."
     product = min(Decimal(1), min(numbers) * len(numbers))
-    return ("The table has %d bounds and p-values. Unless one of them was named before the run as "
-            "the one that counts, multiply the least by their number (Bonferroni): %s times %d is "
-            "%s%s." % (len(numbers), min(numbers), len(numbers), product,
-                       ", which is no evidence" if product == 1 else ""))
+    return (
+        f"The table has {len(numbers)} bounds and p-values. Unless one of them was named before the"
+        " run as the one that counts, multiply the least by their number (Bonferroni):"
+        f" {min(numbers)} times {len(numbers)} is"
+        f" {product}{', which is no evidence' if product == 1 else ''}."
+    )

@@ -1,4 +1,6 @@
-"""Graphs as people have them: objects of networkx or GerryChain, files of JSON, GraphML or GML, and bytes."""
+"""Graphs as people have them: objects of networkx or GerryChain, files of JSON, GraphML or GML, and
+bytes.
+"""
 from __future__ import annotations
 
 import decimal
@@ -29,7 +31,11 @@ class Raw(typing.NamedTuple):
 def shown(ids: typing.Iterable[object], everything: bool = False) -> str:
     """Some ids, or all."""
     told = [as_json(one) for one in ids]
-    some = told if everything or len(told) <= SHOWN else told[:SHOWN] + ["and %d more" % (len(told) - SHOWN)]
+    some = (
+        told
+        if everything or len(told) <= SHOWN
+        else told[:SHOWN] + [f"and {len(told) - SHOWN} more"]
+    )
     return ", ".join(some)
 
 
@@ -49,8 +55,11 @@ def of_numpy(value: object) -> object:
 
 # ---- reading
 
+
 def raw_of(graph: object) -> Raw:
-    """A graph of any kind that `prepare` takes; PrepareRefused where it cannot be read, MissingExtra where that takes networkx."""
+    """A graph of any kind that `prepare` takes; PrepareRefused where it cannot be read,
+    MissingExtra where that takes networkx.
+    """
     if isinstance(graph, (bytes, bytearray, memoryview)):
         return of_root(parsed(bytes(graph), "the graph"), "the graph")
     if isinstance(graph, (str, os.PathLike)):
@@ -59,7 +68,10 @@ def raw_of(graph: object) -> Raw:
         return of_root(graph, "the graph")
     if hasattr(graph, "nodes") and hasattr(graph, "adjacency"):
         return of_object(graph)
-    raise PrepareRefused("a graph is an object with nodes(data=True) and adjacency(), a path, or bytes, and this is %s" % type(graph).__name__)
+    raise PrepareRefused(
+        "a graph is an object with nodes(data=True) and adjacency(), a path, or bytes, and this is"
+        f" {type(graph).__name__}"
+    )
 
 
 def of_object(graph: typing.Any) -> Raw:
@@ -75,14 +87,18 @@ def of_file(name: str) -> Raw:
     if name.endswith((".graphml", ".gml")):
         networkx = extra("networkx")
         try:
-            return of_object(networkx.read_graphml(name) if name.endswith(".graphml") else networkx.read_gml(name))
+            return of_object(
+                networkx.read_graphml(name)
+                if name.endswith(".graphml")
+                else networkx.read_gml(name)
+            )
         except Exception as error:  # networkx and its readers of XML have many
-            raise PrepareRefused("%s cannot be read: %s" % (name, error)) from error
+            raise PrepareRefused(f"{name} cannot be read: {error}") from error
     try:
         with open(name, "rb") as file:
             data = file.read()
     except OSError as error:
-        raise PrepareRefused("%s cannot be read: %s" % (name, error)) from error
+        raise PrepareRefused(f"{name} cannot be read: {error}") from error
     return of_root(parsed(data, name), name)
 
 
@@ -90,21 +106,27 @@ def parsed(data: bytes, name: str) -> object:
     try:
         return json.loads(data.decode("utf-8-sig"))
     except ValueError as error:
-        raise PrepareRefused("%s cannot be read: %s" % (name, error)) from error
+        raise PrepareRefused(f"{name} cannot be read: {error}") from error
 
 
 def of_root(root: object, name: str) -> Raw:
     """The root object of networkx's adjacency or node-link layout."""
     nodes = root.get("nodes") if isinstance(root, dict) else None
-    if not isinstance(root, dict) or not isinstance(nodes, list) or not all(isinstance(node, dict) for node in nodes):
-        raise PrepareRefused("%s is no graph of networkx: it has no list `nodes` of objects" % name)
+    if (
+        not isinstance(root, dict)
+        or not isinstance(nodes, list)
+        or not all(isinstance(node, dict) for node in nodes)
+    ):
+        raise PrepareRefused(f"{name} is no graph of networkx: it has no list `nodes` of objects")
     return Raw(nodes, list(pairs_of(root, nodes)), bool(root.get("directed")))
 
 
 def pairs_of(root: dict[str, typing.Any], nodes: list[dict[str, object]]) -> typing.Iterator[Pair]:
     if isinstance(root.get("adjacency"), list):
         if len(root["adjacency"]) != len(nodes):
-            raise PrepareRefused("%d nodes and %d adjacency entries" % (len(nodes), len(root["adjacency"])))
+            raise PrepareRefused(
+                f"{len(nodes)} nodes and {len(root['adjacency'])} adjacency entries"
+            )
         for node, entries in zip(nodes, root["adjacency"]):
             for entry in entries:
                 yield hashable(node.get("id")), hashable(entry.get("id"))
@@ -124,9 +146,11 @@ def hashable(value: object) -> object:
 
 # ---- values
 
+
 def is_missing(value: object) -> bool:
-    """Returns whether a value is absent, null, NaN, a text of nothing but white space, or what pandas
-    or numpy write for a missing value."""
+    """Returns whether a value is absent, null, NaN, a text of nothing but white space, or what
+    pandas or numpy write for a missing value.
+    """
     if value is None or isinstance(value, str) and not value.strip():
         return True
     if type(value).__name__ in ("NAType", "NaTType", "MaskedConstant"):
@@ -143,15 +167,17 @@ def is_missing(value: object) -> bool:
 
 
 def is_whole(value: object) -> bool:
-    """Whether it is a whole number, of Python or of numpy."""
+    """Returns whether a value is a whole number, of Python or of numpy."""
     return isinstance(value, numbers.Integral) and not isinstance(value, bool)
 
 
 def plain(value: object) -> Label | None:
-    """A text, or a whole number that fits 64 bits, which the auditor takes as an id or a label; else None."""
+    """A text, or a whole number that fits 64 bits, which the auditor takes as an id or a label;
+    else None.
+    """
     if isinstance(value, str):
         return str(value)
-    if is_whole(value) and -2 ** 63 <= int(typing.cast(int, value)) < 2 ** 64:
+    if is_whole(value) and -(2**63) <= int(typing.cast(int, value)) < 2**64:
         return int(typing.cast(int, value))
     return None
 
@@ -170,12 +196,16 @@ def as_text(value: object) -> str:
 
 
 def renamed(values: typing.Sequence[object]) -> tuple[typing.Callable[[object], Label], bool]:
-    """A function from raw ids or labels to those that are written, and whether they were changed: all to texts where one has to be."""
+    """A function from raw ids or labels to those that are written, and whether they were changed:
+    all to texts where one has to be.
+    """
     if all(plain(value) is not None for value in values):
         return (lambda value: typing.cast(Label, plain(value))), False
     return as_text, True
 
 
 def in_order(labels: typing.Iterable[Label]) -> list[Label]:
-    """Different labels as the auditor numbers them from 0: in rising order, whole numbers before texts."""
+    """Different labels as the auditor numbers them from 0: in rising order, whole numbers before
+    texts.
+    """
     return sorted(set(labels), key=lambda label: (isinstance(label, str), label))

@@ -8,6 +8,7 @@ import functools
 import typing
 
 from .graphs import SHOWN, Label, as_json, in_order, shown
+from .report import HALF_SHARE
 
 if typing.TYPE_CHECKING:
     from .preparing import Choices
@@ -15,7 +16,9 @@ if typing.TYPE_CHECKING:
 MOST_UNITS, MOST_EDGES, MOST_REGIONS = 100_000, 400_000, 5000
 
 
-def parts_of(members: typing.Iterable[Label], neighbours: dict[Label, list[Label]]) -> list[list[Label]]:
+def parts_of(
+    members: typing.Iterable[Label], neighbours: dict[Label, list[Label]]
+) -> list[list[Label]]:
     """The connected parts of some units, greatest first."""
     left, parts = dict.fromkeys(members), []
     while left:
@@ -32,9 +35,14 @@ def parts_of(members: typing.Iterable[Label], neighbours: dict[Label, list[Label
 
 
 class Judged:
-    """What there is, and for what the auditor would refuse it."""
+    """Counts of a prepared graph, and what the auditor would refuse it for."""
 
-    def __init__(self, rows: dict[Label, dict[str, typing.Any]], neighbours: dict[Label, list[Label]], choices: Choices) -> None:
+    def __init__(
+        self,
+        rows: dict[Label, dict[str, typing.Any]],
+        neighbours: dict[Label, list[Label]],
+        choices: Choices,
+    ) -> None:
         self.rows, self.neighbours, self.choices = rows, neighbours, choices
         self.notes: list[str] = []
         self.refusals: list[str] = []
@@ -44,7 +52,9 @@ class Judged:
             self.members.setdefault(row[choices.district], []).append(unit)
         self.districts = in_order(self.members)
         self.number = {label: i for i, label in enumerate(self.districts)}
-        self.regions = in_order(row[choices.region] for row in rows.values()) if choices.region else []
+        self.regions = (
+            in_order(row[choices.region] for row in rows.values()) if choices.region else []
+        )
         self.shown = functools.partial(shown, everything=choices.show_all)
         self.tell_parts()
         self.judge_districts()
@@ -55,60 +65,81 @@ class Judged:
             self.judge_group(choices.group, choices.whole)
 
     def named(self, district: Label) -> str:
-        return "district %s" % as_json(district)
+        return f"district {as_json(district)}"
 
     def number_of(self, district: Label) -> str:
         """The auditor's number of a district, where its label is another."""
         number = self.number[district]
-        return "" if district == number else " (the auditor's district %d)" % number
+        return "" if district == number else f" (the auditor's district {number})"
 
     def ordered(self, units: typing.Iterable[Label]) -> list[Label]:
         return sorted(units, key=self.place.__getitem__)
 
     def tell_parts(self) -> None:
-        """Units without a neighbour, other small parts of the graph, and districts that no walk can change."""
+        """Units without a neighbour, other small parts of the graph, and districts that no walk can
+        change.
+        """
         alone = [unit for unit in self.rows if not self.neighbours[unit]]
         if alone:
-            self.notes.append("units without a neighbour: %d: %s" % (len(alone), self.shown(alone)))
+            self.notes.append(f"units without a neighbour: {len(alone)}: {self.shown(alone)}")
         parts = parts_of(self.rows, self.neighbours)
         if len(parts) < 2:
             return
-        self.notes.append("the graph is in %d parts, and a district lies in one of them (--join A B makes neighbours of two units)" % len(parts))
+        self.notes.append(
+            f"the graph is in {len(parts)} parts, and a district lies in one of them (join=[(A, B)]"
+            " makes neighbours of two units)"
+        )
         small = [part for part in parts[1:] if len(part) > 1]
         for part in small[:SHOWN]:
-            self.notes.append("a part of %d units: %s" % (len(part), self.shown(self.ordered(part))))
+            self.notes.append(f"a part of {len(part)} units: {self.shown(self.ordered(part))}")
         if len(small) > SHOWN:
-            self.notes.append("and %d further small parts" % (len(small) - SHOWN))
+            self.notes.append(f"and {len(small) - SHOWN} further small parts")
         for part in parts:
             labels = {self.rows[unit][self.choices.district] for unit in part}
             if len(labels) == 1 and len(self.members[min(labels, key=str)]) == len(part):
-                self.notes.append("district %s is a part of its own, of %d units: no walk can change it" % (as_json(min(labels, key=str)), len(part)))
+                self.notes.append(
+                    f"district {as_json(min(labels, key=str))} is a part of its own, of"
+                    f" {len(part)} units: no walk can change it"
+                )
 
     def judge_districts(self) -> None:
         choices = self.choices
         for label, members in self.members.items():
             for part in parts_of(members, self.neighbours)[1:]:
-                self.refusals.append("%s is in several parts; %d of its %d units lie apart: %s%s" % (
-                    self.named(label), len(part), len(members), self.shown(self.ordered(part)), self.number_of(label)))
+                self.refusals.append(
+                    f"{self.named(label)} is in several parts; {len(part)} of its"
+                    f" {len(members)} units lie apart:"
+                    f" {self.shown(self.ordered(part))}{self.number_of(label)}"
+                )
         total = sum(row[choices.population] for row in self.rows.values())
         if self.members:
             shares = 10000 * len(self.members)
-            low, high = -(-(10000 - choices.slack) * total // shares), (10000 + choices.slack) * total // shares
+            low, high = (
+                -(-(10000 - choices.slack) * total // shares),
+                (10000 + choices.slack) * total // shares,
+            )
             for label, members in self.members.items():
                 people = sum(self.rows[unit][choices.population] for unit in members)
                 if not low <= people <= high:
-                    self.refusals.append("%s has %d people, outside %d to %d (--slack %d)%s" % (
-                        self.named(label), people, low, high, choices.slack, self.number_of(label)))
+                    self.refusals.append(
+                        f"{self.named(label)} has {people} people, outside {low} to {high}"
+                        f" (slack={choices.slack}){self.number_of(label)}"
+                    )
         edges = sum(len(those) for those in self.neighbours.values()) // 2
-        self.notes.append("%d units, %d edges, %d districts, %d people" % (len(self.rows), edges, len(self.members), total))
+        self.notes.append(
+            f"{len(self.rows)} units, {edges} edges, {len(self.members)} districts, {total} people"
+        )
 
     def judge_sizes(self) -> None:
         edges = sum(len(those) for those in self.neighbours.values()) // 2
         if not 2 <= len(self.members) <= 200:
-            self.refusals.append("%d districts, not 2 to 200" % len(self.members))
-        for count, what, most in ((len(self.rows), "units", MOST_UNITS), (edges, "edges", MOST_EDGES), (len(self.regions), "regions", MOST_REGIONS)):
+            self.refusals.append(f"{len(self.members)} districts, not 2 to 200")
+        for count, what, most in (
+            (len(self.rows), "units", MOST_UNITS), (edges, "edges", MOST_EDGES),
+            (len(self.regions), "regions", MOST_REGIONS),
+        ):
             if count > most:
-                self.refusals.append("%d %s, more than %d" % (count, what, most))
+                self.refusals.append(f"{count} {what}, more than {most}")
 
     def judge_regions(self, column: str) -> None:
         """How far the regions are split."""
@@ -119,38 +150,73 @@ class Judged:
         if not split:
             return
         widest = max(split, key=lambda label: len(split[label]))
-        self.notes.append("%d regions in %s; %s lies in the most districts, %d" % (len(split), column, as_json(widest), len(split[widest])))
+        self.notes.append(
+            f"{len(split)} regions in {column}; {as_json(widest)} lies in the most districts,"
+            f" {len(split[widest])}"
+        )
         over = [label for label, districts in split.items() if len(districts) > choices.max_split]
         if over:
             numbers = [i for i, label in enumerate(self.regions) if label in set(over)]
-            told = ", ".join(map(str, numbers[:SHOWN])) + (" and %d more" % (len(numbers) - SHOWN) if len(numbers) > SHOWN else "")
-            self.refusals.append("regions that lie in more than %d districts: %d: %s (the auditor's numbers: %s)" % (
-                choices.max_split, len(over), self.shown(over), told))
-        self.judge_splits({label: len(districts) for label, districts in split.items() if len(districts) > 1})
+            told = ", ".join(map(str, numbers[:SHOWN])) + (
+                f" and {len(numbers) - SHOWN} more" if len(numbers) > SHOWN else ""
+            )
+            self.refusals.append(
+                f"regions that lie in more than {choices.max_split} districts: {len(over)}:"
+                f" {self.shown(over)} (the auditor's numbers: {told})"
+            )
+        self.judge_splits(
+            {label: len(districts) for label, districts in split.items() if len(districts) > 1}
+        )
 
     def judge_splits(self, split: dict[Label, int]) -> None:
-        """How often regions are split in all, and how many are, by the number of districts of each that is."""
+        """How often regions are split in all, and how many are, by the number of districts of each
+        that is.
+        """
         splits = sum(split.values()) - len(split)
-        self.notes.append("%d regions lie in more than one district, with %d splits in all%s" % (len(split), splits, ": " + self.shown(in_order(split)) if split else ""))
+        self.notes.append(
+            f"{len(split)} regions lie in more than one district, with {splits} splits in"
+            f" all{': ' + self.shown(in_order(split)) if split else ''}"
+        )
         if splits > self.choices.max_splits:
-            self.refusals.append("%d splits of regions, more than %d" % (splits, self.choices.max_splits))
+            self.refusals.append(f"{splits} splits of regions, more than {self.choices.max_splits}")
         if len(split) > self.choices.max_split_regions:
-            self.refusals.append("%d regions lie in more than one district, more than %d" % (len(split), self.choices.max_split_regions))
+            self.refusals.append(
+                f"{len(split)} regions lie in more than one district, more than"
+                f" {self.choices.max_split_regions}"
+            )
 
     def judge_group(self, group: str, whole: str) -> None:
-        """In which districts a group has a majority."""
-        sums = {label: [sum(self.rows[unit][column] for unit in self.members[label]) for column in (group, whole)] for label in self.districts}
-        most = [label for label, (part, of) in sums.items() if 2 * part > of]
-        self.notes.append("%s has a majority of %s in %d of %d districts%s" % (
-            group, whole, len(most), len(sums), ": " + ", ".join("%s (%s)" % (as_json(label), percent(*sums[label])) for label in most) if most else ""))
+        """In which districts a group has more than its share."""
+        share = self.choices.group_share
+        more = "a majority" if share == HALF_SHARE else f"more than {share} of 10000"
+        sums = {
+            label: [
+                sum(self.rows[unit][column] for unit in self.members[label])
+                for column in (group, whole)
+            ]
+            for label in self.districts
+        }
+        most = [label for label, (part, of) in sums.items() if 10_000 * part > share * of]
+        parts = ", ".join(f"{as_json(label)} ({percent(*sums[label])})" for label in most)
+        self.notes.append(
+            f"{group} has {more} of {whole} in {len(most)} of {len(sums)} districts"
+            + (f": {parts}" if most else "")
+        )
         over = [unit for unit, row in self.rows.items() if row[group] > row[whole]]
         if over:
-            self.notes.append("units with more in %s than in %s: %d: %s" % (group, whole, len(over), self.shown(over)))
+            self.notes.append(
+                f"units with more in {group} than in {whole}: {len(over)}: {self.shown(over)}"
+            )
         if len(most) < self.choices.group_districts:
-            self.refusals.append("%s has a majority in %d districts, fewer than %d" % (group, len(most), self.choices.group_districts))
+            self.refusals.append(
+                f"{group} has {more} in {len(most)} districts, fewer than"
+                f" {self.choices.group_districts}"
+            )
 
 
 def percent(part: int, whole: int) -> str:
     """A part in percent, rounded down at two places."""
-    return "%d.%02d %%" % divmod(10_000 * part // whole, 100) if whole else "of nobody"
-
+    if not whole:
+        return "of nobody"
+    ones, hundredths = divmod(10_000 * part // whole, 100)
+    return f"{ones}.{hundredths:02} %"

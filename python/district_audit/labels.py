@@ -1,4 +1,4 @@
-"""What the numbers in a line of the program stand for, in the user's own ids and labels."""
+"""Translation of the numbers in a line of the program into the user's own ids and labels."""
 from __future__ import annotations
 
 import csv
@@ -22,7 +22,9 @@ class Labels(typing.NamedTuple):
 
 
 def labels_of(data: bytes, columns: typing.Mapping[str, object]) -> Labels:
-    """The ids and labels of the program's input, as far as it can be read; `columns` has the names by the words district and region."""
+    """The ids and labels of the program's input, as far as it can be read; `columns` has the names
+    by the words district and region.
+    """
     try:
         root = json.loads(data.decode("utf-8"))
         nodes = [node if isinstance(node, dict) else {} for node in root["nodes"]]
@@ -34,11 +36,15 @@ def labels_of(data: bytes, columns: typing.Mapping[str, object]) -> Labels:
         known = [label for label in labels if label is not None]
         return in_order(known) if len(known) == len(labels) else []
 
-    return Labels([node.get("id") for node in nodes], column(columns.get("district")), column(columns.get("region")))
+    return Labels(
+        [node.get("id") for node in nodes], column(columns.get("district")),
+        column(columns.get("region")),
+    )
 
 
 def where_no_json(data: bytes) -> str:
-    """Returns the line and column where bytes are no JSON to the program, and why; '' where unknown.
+    """Returns the line and column where bytes are no JSON to the program, and why; '' where
+    unknown.
 
     Python's reader takes NaN and Infinity, which are no JSON.
     """
@@ -71,7 +77,9 @@ def place_in(before: str) -> str:
 
 
 def plan_labels(table: str, name: str) -> typing.Sequence[object]:
-    """The labels of the first plan of this name in a table of plans, in their order by bytes; none where it cannot be read."""
+    """The labels of the first plan of this name in a table of plans, in their order by bytes; none
+    where it cannot be read.
+    """
     records = [row for row in csv.reader(io.StringIO(table, newline="")) if row]
     if not records or name not in records[0][1:]:
         return []
@@ -83,7 +91,8 @@ def plan_labels(table: str, name: str) -> typing.Sequence[object]:
 
 
 def said_in_labels(line: str, labels: Labels, table: str = "") -> str:
-    """What the numbers of a line stand for, as 'region 5 is "Kings"; unit 2 is "v"'; '' where nothing is known, or the label is the number.
+    """Returns the meaning of a line's numbers, as 'region 5 is "Kings"; unit 2 is "v"'; '' where
+    nothing is known, or the label is the number.
 
     `table` is the table of plans, whose labels count in a line on one of its plans.
     """
@@ -92,11 +101,16 @@ def said_in_labels(line: str, labels: Labels, table: str = "") -> str:
         labels = labels._replace(districts=plan_labels(table, kind[len("plan "):]))
     elif kind not in ("plan", "graph", "table"):
         return ""
-    lists = {"unit": labels.units, "node": labels.units, "district": labels.districts, "region": labels.regions}
+    lists = {
+        "unit": labels.units,
+        "node": labels.units,
+        "district": labels.districts,
+        "region": labels.regions,
+    }
     said = []
     for what, *found in COUNTED.findall(rest):
         known = lists[what.rstrip("s")]
         for number in (int(one) for one in found if one):
             if number < len(known) and known[number] != number:
-                said.append("%s %d is %s" % (what.rstrip("s"), number, as_json(known[number])))
+                said.append(f"{what.rstrip('s')} {number} is {as_json(known[number])}")
     return "; ".join(dict.fromkeys(said))

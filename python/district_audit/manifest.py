@@ -80,7 +80,7 @@ class Manifest:
     """When the run started, in UTC, as `2026-05-04T12:34:56+00:00`."""
     ended: str
     processors: int
-    """How many processors the machine has."""
+    """The number of the machine's processors."""
 
     def __str__(self) -> str:
         """Returns the manifest as JSON, in lines."""
@@ -114,10 +114,13 @@ class Manifest:
                 raise ManifestRefused(f"{name} is no time such as 2026-05-04T12:34:56+00:00")
         if type(value["processors"]) is not int or value["processors"] < 1:
             raise ManifestRefused("the number of processors is no whole number above 0")
-        files = {name: File.read(value[name], f"the {name}")
-                 for name in ("graph", "report", "program")}
-        return cls(tuple(command), files["graph"], files["report"], files["program"],
-                   value["package"], value["started"], value["ended"], value["processors"])
+        files = {
+            name: File.read(value[name], f"the {name}") for name in ("graph", "report", "program")
+        }
+        return cls(
+            tuple(command), files["graph"], files["report"], files["program"], value["package"],
+            value["started"], value["ended"], value["processors"],
+        )
 
 
 def now() -> str:
@@ -142,9 +145,16 @@ def graph_file(graph: object, data: bytes, report: pathlib.Path) -> File:
     return File.of(path)
 
 
-def audit_to_file(report: PathLike, graph: object, *, folder: PathLike | None = None,
-                  progress: bool = False, program: PathLike | None = None,
-                  slots: PathLike | None = None, **words: typing.Any) -> Report:
+def audit_to_file(
+    report: PathLike,
+    graph: object,
+    *,
+    folder: PathLike | None = None,
+    progress: bool = False,
+    program: PathLike | None = None,
+    slots: PathLike | None = None,
+    **words: typing.Any,
+) -> Report:
     """Audits a plan as `run` does, and writes its report and a manifest beside it.
 
     Parameters
@@ -165,13 +175,17 @@ def audit_to_file(report: PathLike, graph: object, *, folder: PathLike | None = 
     read = graph_file(graph, call.data, path)
     write(path, str(done).encode("utf-8", "surrogateescape"))
     from . import __version__
-    made = Manifest(tuple(call.words), read, File.of(path), tool, __version__, started, ended,
-                    os.cpu_count() or 1)
+
+    made = Manifest(
+        tuple(call.words), read, File.of(path), tool, __version__, started, ended,
+        os.cpu_count() or 1,
+    )
     write(path.with_name(path.name + SUFFIX), str(made).encode("utf-8"))
     return done
 
 
 # ---- the check
+
 
 class Checked(typing.NamedTuple):
     """How a file of a manifest compares: it agrees, it differs, or (None) it is not there."""
@@ -189,9 +203,15 @@ def compared(what: str, wanted: File, path: pathlib.Path | None) -> Checked:
     came = File.of(path)
     if came.sha256 == wanted.sha256 and came.bytes == wanted.bytes:
         return Checked(what, True, f"{what} {path}: agrees, sha256 {wanted.sha256}")
-    return Checked(what, False, f"{what} {path}: DIFFERS: the manifest says sha256 {wanted.sha256},"
-                                f" {wanted.bytes} bytes; the file has {came.sha256},"
-                                f" {came.bytes} bytes")
+    return Checked(
+        what,
+        False,
+        (
+            f"{what} {path}: DIFFERS: the manifest says sha256 {wanted.sha256},"
+            f" {wanted.bytes} bytes; the file has {came.sha256},"
+            f" {came.bytes} bytes"
+        ),
+    )
 
 
 def report_agrees(made: Manifest, report: Report) -> Checked:
@@ -202,12 +222,19 @@ def report_agrees(made: Manifest, report: Report) -> Checked:
     if report.source is not None and report.source.sha256 != made.graph.sha256:
         line = "words: DIFFER: the report names another source than the manifest's graph"
         return Checked("words", False, line)
-    return Checked("words", True, "words: the report's key, and its source where it names one, "
-                                  "are the manifest's")
+    return Checked(
+        "words",
+        True,
+        "words: the report's key, and its source where it names one, are the manifest's",
+    )
 
 
-def verify(manifest: PathLike, graph: PathLike | None = None, report: PathLike | None = None,
-           program: PathLike | None = None) -> list[Checked]:
+def verify(
+    manifest: PathLike,
+    graph: PathLike | None = None,
+    report: PathLike | None = None,
+    program: PathLike | None = None,
+) -> list[Checked]:
     """Compares the files of a manifest with their hashes.
 
     A file that is not named is looked for beside the manifest, by its name; for the program there
@@ -216,14 +243,20 @@ def verify(manifest: PathLike, graph: PathLike | None = None, report: PathLike |
     """
     place = pathlib.Path(manifest)
     made = Manifest.parse(place.read_text(encoding="utf-8"))
-    beside = {what: place.with_name(file.name)
-              for what, file in (("graph", made.graph), ("report", made.report))}
+    beside = {
+        what: place.with_name(file.name)
+        for what, file in (("graph", made.graph), ("report", made.report))
+    }
     named = {"graph": graph, "report": report, "program": program}
-    paths = {what: beside.get(what) if path is None else pathlib.Path(path)
-             for what, path in named.items()}
-    found_files = [compared("report", made.report, paths["report"]),
-                   compared("graph", made.graph, paths["graph"]),
-                   compared("program", made.program, paths["program"])]
+    paths = {
+        what: beside.get(what) if path is None else pathlib.Path(path)
+        for what, path in named.items()
+    }
+    found_files = [
+        compared("report", made.report, paths["report"]),
+        compared("graph", made.graph, paths["graph"]),
+        compared("program", made.program, paths["program"]),
+    ]
     text = paths["report"]
     if found_files[0].agrees and text is not None:
         read = Report.parse(text.read_bytes().decode("utf-8", "surrogateescape"))
@@ -249,12 +282,16 @@ def verify_command(words: typing.Sequence[str]) -> int:
     """The command `python -m district_audit verify`. Returns its status."""
     parser = argparse.ArgumentParser(
         prog="python -m district_audit verify",
-        description="Compares the files of a manifest with its hashes. Status 0: the report and the"
-                    " graph agree, and nothing differs; 1: something differs or is missing; 2: no"
-                    " manifest or no report.")
+        description=(
+            "Compares the files of a manifest with its hashes. Status 0: the report and the"
+            " graph agree, and nothing differs; 1: something differs or is missing; 2: no"
+            " manifest or no report."
+        ),
+    )
     parser.add_argument("manifest", help="the manifest, as REPORT.manifest.json")
-    parser.add_argument("--graph", help="the graph; by default the file of its name beside the"
-                                        " manifest")
+    parser.add_argument(
+        "--graph", help="the graph; by default the file of its name beside the manifest"
+    )
     parser.add_argument("--report", help="the report; by default the file of its name there")
     parser.add_argument("--program", help="the program; by default the one that is installed")
     named = parser.parse_args(words)
@@ -265,6 +302,8 @@ def verify_command(words: typing.Sequence[str]) -> int:
         return 2
     for one in checked:
         print(one.line)
-    counts = [sum(one.agrees is value for one in checked) for value in (True, False, None)]
-    print("%d agree, %d differ, %d not checked" % tuple(counts))
+    good, bad, open_ = (
+        sum(one.agrees is value for one in checked) for value in (True, False, None)
+    )
+    print(f"{good} agree, {bad} differ, {open_} not checked")
     return status_of(checked)

@@ -1,8 +1,9 @@
 """Draws a report as one picture, by matplotlib.
 
-The picture shows, for each question and walk, which part of the visited plans is at least as extreme as the enacted plan, and the bound
-that follows; for each rank test the rank of the enacted plan among its trajectories; and, where the report has one, the histogram of seats.
-All is black, grey and white: shapes and words tell things apart.
+The picture shows, for each question and walk, which part of the visited plans is at least as
+extreme as the enacted plan, and the bound that follows; for each rank test the rank of the enacted
+plan among its trajectories; and, where the report has one, the histogram of seats. All is black,
+grey and white: shapes and words tell things apart.
 """
 from __future__ import annotations
 
@@ -21,7 +22,9 @@ MOST_ROWS = 8
 
 
 class Row(typing.NamedTuple):
-    """A row of the walks: what stands at its left, its points as parts and bounds, and what stands at its right, in the report's digits."""
+    """A row of the walks: what stands at its left, its points as parts and bounds, and what stands
+    at its right, in the report's digits.
+    """
 
     label: str
     points: list[tuple[float, float]]
@@ -56,11 +59,14 @@ def only(report: Report, scores: Scores) -> Report:
         return line.score in wanted or line.ask in wanted
 
     found = dataclasses.replace(
-        report, walks=tuple(filter(is_wanted, report.walks)), ends=tuple(filter(is_wanted, report.ends)),
-        stops=tuple(filter(is_wanted, report.stops)), serial=tuple(filter(is_wanted, report.serial)))
+        report, walks=tuple(filter(is_wanted, report.walks)),
+        ends=tuple(filter(is_wanted, report.ends)), stops=tuple(filter(is_wanted, report.stops)),
+        serial=tuple(filter(is_wanted, report.serial)),
+    )
     if not found.asks:
-        raise ValueError(f"scores={scores!r}: the report has none of these; it has"
-                         f" {', '.join(report.asks)}")
+        raise ValueError(
+            f"scores={scores!r}: the report has none of these; it has {', '.join(report.asks)}"
+        )
     return found
 
 
@@ -69,7 +75,9 @@ def named_parties(parties: Parties) -> tuple[str, str] | None:
     if parties is None:
         return None
     if isinstance(parties, str) or len(parties) != 2:
-        raise ValueError(f"parties={parties!r}: these are the names of the first and the second party")
+        raise ValueError(
+            f"parties={parties!r}: these are the names of the first and the second party"
+        )
     return str(parties[0]), str(parties[1])
 
 
@@ -79,19 +87,30 @@ def ask_label(line: Line, parties: Parties = None) -> str:
     return f"{whose}{line.score} {line.tail}"
 
 
-def walk_rows(walks: typing.Sequence[Walk], parties: Parties = None, most: int = MOST_ROWS) -> list[Row]:
+def walk_rows(
+    walks: typing.Sequence[Walk], parties: Parties = None, most: int = MOST_ROWS
+) -> list[Row]:
     by_ask: dict[str, list[Walk]] = {}
     for walk in walks:
         by_ask.setdefault(ask_label(walk, parties), []).append(walk)
     rows = []
     for ask, found in by_ask.items():
         if len(found) <= most:
-            rows += [Row("%s, walk %d" % (ask, walk.number), [(walk.count / walk.of, float(walk.bound))],
-                         "%d of %d, bound %s" % (walk.count, walk.of, walk.bound)) for walk in found]
+            rows += [
+                Row(
+                    f"{ask}, walk {walk.number}", [(walk.count / walk.of, float(walk.bound))],
+                    f"{walk.count} of {walk.of}, bound {walk.bound}",
+                )
+                for walk in found
+            ]
         else:
             points = sorted((walk.count / walk.of, walk.bound) for walk in found)
-            rows.append(Row("%s, %d walks" % (ask, len(found)), [(part, float(bound)) for part, bound in points],
-                            "bounds %s to %s" % (points[0][1], points[-1][1])))
+            rows.append(
+                Row(
+                    f"{ask}, {len(found)} walks", [(part, float(bound)) for part, bound in points],
+                    f"bounds {points[0][1]} to {points[-1][1]}",
+                )
+            )
     return rows
 
 
@@ -99,12 +118,26 @@ def test_rows(report: Report, parties: Parties = None) -> list[Test]:
     def label(line: Line, test: str) -> str:
         return f"{ask_label(line, parties)}, {test} test"
 
-    rows = [Test(label(line, "sequential"), line.top / line.of, f"value {line.top} of {line.of}, p {line.p}")
-            for line in report.stops]
-    rows += [Test(label(line, "parallel"), line.rank / line.of, f"rank {line.rank} of {line.of}, p {line.p}")
-             for line in report.ends]
-    return rows + [Test(label(line, "serial"), line.rank / line.of, f"rank {line.rank} of {line.of}, p {line.p}")
-                   for line in report.serial]
+    rows = [
+        Test(
+            label(line, "sequential"), line.top / line.of,
+            f"value {line.top} of {line.of}, p {line.p}",
+        )
+        for line in report.stops
+    ]
+    rows += [
+        Test(
+            label(line, "parallel"), line.rank / line.of,
+            f"rank {line.rank} of {line.of}, p {line.p}",
+        )
+        for line in report.ends
+    ]
+    return rows + [
+        Test(
+            label(line, "serial"), line.rank / line.of, f"rank {line.rank} of {line.of}, p {line.p}"
+        )
+        for line in report.serial
+    ]
 
 
 def percent(count: int, whole: int) -> str:
@@ -114,11 +147,11 @@ def percent(count: int, whole: int) -> str:
     part = 100 * count / whole
     if count < whole and part >= 99.95:
         return "> 99.9 %"
-    return "%.1f %%" % part if part >= 0.05 else "< 0.1 %"
+    return f"{part:.1f} %" if part >= 0.05 else "< 0.1 %"
 
 
 def so_many(count: int, what: str) -> str:
-    return "%d %s%s" % (count, what, "" if count == 1 else "s")
+    return f"{count} {what}{'' if count == 1 else 's'}"
 
 
 def about(report: Report, parties: Parties = None) -> str:
@@ -127,15 +160,27 @@ def about(report: Report, parties: Parties = None) -> str:
     rules, setting, source = report.rules, report.setting, report.source
     limits = "".join("; " + said for said in rules.told())
     limits += "".join("\n" + said for said in ["; ".join(rules.told_further())] if said)
-    ends = "%s of %s" % (so_many(setting.ends, "end"), so_many(setting.hub_steps, "step")) if setting.ends else "no ends"
-    ends += ", a test stops after %d in its tail" % setting.stop if setting.stop else ""
-    walks = "%s of %s" % (so_many(setting.walks, "walk"), so_many(setting.steps, "step")) if setting.walks else "no walks"
-    read = "" if source is None else "\nsource sha256 %s, %d bytes" % (source.sha256, source.bytes)
-    return "%d units, %d districts, %d people; %d to %d people a district (slack %g %%)%s\n%s; %s\nkey %s%s%s" % (
-        report.units, report.districts, report.population, rules.low, rules.high, rules.slack / 100, limits, walks, ends, report.key, read, both)
+    ends = (
+        f"{so_many(setting.ends, 'end')} of {so_many(setting.hub_steps, 'step')}"
+        if setting.ends
+        else "no ends"
+    )
+    ends += f", a test stops after {setting.stop} in its tail" if setting.stop else ""
+    walks = (
+        f"{so_many(setting.walks, 'walk')} of {so_many(setting.steps, 'step')}"
+        if setting.walks
+        else "no walks"
+    )
+    read = "" if source is None else f"\nsource sha256 {source.sha256}, {source.bytes} bytes"
+    return (
+        f"{report.units} units, {report.districts} districts, {report.population} people;"
+        f" {rules.low} to {rules.high} people a district (slack"
+        f" {rules.slack / 100:g} %){limits}\n{walks}; {ends}\nkey {report.key}{read}{both}"
+    )
 
 
 # ---- drawing
+
 
 def draw_walks(axes: Axes, rows: list[Row]) -> None:
     least = min(part for row in rows for part, _ in row.points)
@@ -143,19 +188,39 @@ def draw_walks(axes: Axes, rows: list[Row]) -> None:
         # One walk: both marks on one line. Many: the parts above it, and the bounds below.
         off = 0.0 if len(points) == 1 else 0.18
         size = 6 if not off else 4
-        axes.plot([points[0][0], points[-1][1]], [place, place], color="0.75", linewidth=1, zorder=1)
-        axes.plot([part for part, _ in points], [place - off] * len(points), "o", color="black", markersize=size, zorder=3,
-                  label="part of the visited plans in the tail" if place == 0 else None)
-        axes.plot([bound for _, bound in points], [place + off] * len(points), "D", markerfacecolor="white", markeredgecolor="black",
-                  markersize=size, zorder=2, label="bound on the probability" if place == 0 else None)
+        axes.plot(
+            [points[0][0], points[-1][1]], [place, place], color="0.75", linewidth=1, zorder=1
+        )
+        axes.plot(
+            [part for part, _ in points],
+            [place - off] * len(points),
+            "o",
+            color="black",
+            markersize=size,
+            zorder=3,
+            label="part of the visited plans in the tail" if place == 0 else None,
+        )
+        axes.plot(
+            [bound for _, bound in points],
+            [place + off] * len(points),
+            "D",
+            markerfacecolor="white",
+            markeredgecolor="black",
+            markersize=size,
+            zorder=2,
+            label="bound on the probability" if place == 0 else None,
+        )
         axes.text(1.02, place, words, transform=axes.get_yaxis_transform(), va="center", fontsize=8)
     axes.set_xscale("log")
     axes.set_xlim(min(least / 2, 0.005), 2)
     for level, dashes in ((0.01, ":"), (0.05, "--")):
-        axes.axvline(level, color="0.4", linestyle=dashes, linewidth=1, label="%g" % level)
+        axes.axvline(level, color="0.4", linestyle=dashes, linewidth=1, label=f"{level:g}")
     axes.axvline(1, color="0.4", linewidth=1)
     finish(axes, [row.label for row in rows], "Outlier walks (a bound of 1 or more says nothing)")
-    axes.legend(loc="upper center", bbox_to_anchor=(0.5, 0), bbox_transform=axes.transAxes, borderaxespad=2.6, ncol=4, fontsize=8, frameon=False)
+    axes.legend(
+        loc="upper center", bbox_to_anchor=(0.5, 0), bbox_transform=axes.transAxes,
+        borderaxespad=2.6, ncol=4, fontsize=8, frameon=False,
+    )
 
 
 def draw_tests(axes: Axes, rows: list[Test]) -> None:
@@ -180,17 +245,20 @@ def draw_shift(axes: Axes, shift: Shift, parties: Parties = None) -> None:
     axes.set_xticks(range(9))
     axes.set_xticklabels(SEATS, fontsize=8)
     axes.set_ylim(0, 1.15 * max(shift.counts))
-    axes.yaxis.set_major_formatter(lambda count, _place: "%d" % count if count == int(count) else "")
+    axes.yaxis.set_major_formatter(lambda count, _place: f"{count}" if count == int(count) else "")
     axes.set_ylabel("visited plans", fontsize=8)
     axes.tick_params(axis="y", labelsize=8)
-    axes.set_title(f"{whose}'s seats in the visited plans, against the enacted plan (hatched: as many)",
-                   fontsize=9, loc="left")
+    axes.set_title(
+        f"{whose}'s seats in the visited plans, against the enacted plan (hatched: as many)",
+        fontsize=9,
+        loc="left",
+    )
     for side in ("top", "right"):
         axes.spines[side].set_visible(False)
 
 
 def finish(axes: Axes, labels: list[str], title: str) -> None:
-    """What both panels of rows have."""
+    """Draws what both panels of rows have."""
     axes.set_yticks(range(len(labels)))
     axes.set_yticklabels(labels, fontsize=8)
     axes.set_ylim(len(labels) - 0.4, -0.6)
@@ -238,8 +306,14 @@ def composed(panels: list[Panel], head: str, title: str | None = None) -> Figure
     return figure
 
 
-def draw(report: Report, *, ax: Axes | None = None, title: str | None = None, parties: Parties = None,
-         scores: Scores = None) -> Figure:
+def draw(
+    report: Report,
+    *,
+    ax: Axes | None = None,
+    title: str | None = None,
+    parties: Parties = None,
+    scores: Scores = None,
+) -> Figure:
     """Returns the figure of a report, or draws its first panel on given Axes; see `Report.plot`.
 
     MissingExtra where matplotlib is not installed.
@@ -259,8 +333,13 @@ def draw(report: Report, *, ax: Axes | None = None, title: str | None = None, pa
     return composed(panels, about(report, both), title)
 
 
-def draw_named(reports: typing.Sequence[tuple[str, Report]], what: str, title: str | None = None,
-               scores: Scores = None, parties: Parties = None) -> Figure:
+def draw_named(
+    reports: typing.Sequence[tuple[str, Report]],
+    what: str,
+    title: str | None = None,
+    scores: Scores = None,
+    parties: Parties = None,
+) -> Figure:
     """Returns a figure of several reports: a row for each name and question.
 
     MissingExtra where matplotlib is not installed.
@@ -272,15 +351,19 @@ def draw_named(reports: typing.Sequence[tuple[str, Report]], what: str, title: s
     walks, tests = [], []
     for name, report in reports:
         part = only(report, scores)
-        walks += [row._replace(label=f"{name}: {row.label.removesuffix(', walk 0')}")
-                  for row in walk_rows(part.walks, both, 1)]
+        walks += [
+            row._replace(label=f"{name}: {row.label.removesuffix(', walk 0')}")
+            for row in walk_rows(part.walks, both, 1)
+        ]
         tests += [row._replace(label=f"{name}: {row.label}") for row in test_rows(part, both)]
     first = reports[0][1]
     names = ", ".join(name for name, _ in reports)
-    head = (f"{so_many(len(reports), what)}: {names}\n{first.units} units,"
-            f" {so_many(first.setting.walks, 'walk')} of {so_many(first.setting.steps, 'step')},"
-            f" {so_many(first.setting.ends, 'end')} of {so_many(first.setting.hub_steps, 'step')}"
-            f" each\nkey {first.key}")
+    head = (
+        f"{so_many(len(reports), what)}: {names}\n{first.units} units,"
+        f" {so_many(first.setting.walks, 'walk')} of {so_many(first.setting.steps, 'step')},"
+        f" {so_many(first.setting.ends, 'end')} of {so_many(first.setting.hub_steps, 'step')}"
+        f" each\nkey {first.key}"
+    )
     head += f"\nfirst party {both[0]}, second party {both[1]}" if both else ""
     return composed(panels_of(walks, tests), head, title)
 

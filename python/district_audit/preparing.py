@@ -1,4 +1,5 @@
-"""Makes bytes that the auditor accepts of a graph as people have it, and tells of everything that was changed."""
+"""Makes bytes that the auditor accepts of a graph as people have it, and lists every change.
+"""
 from __future__ import annotations
 
 import collections
@@ -12,9 +13,30 @@ import typing
 from fractions import Fraction
 
 from . import judging
-from .arguments import OTHERS, TABLE, documented, plain_words, test_count, test_names, tested_elections
+from .arguments import (
+    OTHERS,
+    TABLE,
+    documented,
+    plain_words,
+    test_count,
+    test_names,
+    tested_elections,
+)
 from .errors import PrepareRefused, TypeRefused
-from .graphs import Label, Pair, Raw, as_json, as_text, hashable, is_missing, is_whole, of_numpy, raw_of, renamed, shown
+from .graphs import (
+    Label,
+    Pair,
+    Raw,
+    as_json,
+    as_text,
+    hashable,
+    is_missing,
+    is_whole,
+    of_numpy,
+    raw_of,
+    renamed,
+    shown,
+)
 from .values import alike_in, faults_in, kind_of, repeated, why_no_label
 
 MOST_BYTES, MOST_VALUE = 67_108_864, 1_000_000_000
@@ -45,6 +67,8 @@ class Choices:
     group_districts: int = 0
     show_all: bool = False
     elections: typing.Mapping[str, tuple[str, str]] = dataclasses.field(default_factory=dict)
+    group_share: int = 5000
+    freeze: str | None = None
 
     @property
     def whole(self) -> str:
@@ -74,27 +98,38 @@ class Change:
     moved: float = 0
     """By how much it changes the sum of its column: people or votes."""
     is_of_values: bool = False
-    """Whether what a unit has, or which units and edges there are, became another; not where the same stands otherwise written."""
+    """True if a unit's value, or the set of units and edges, became another one. False if only the
+    way of writing it changed.
+    """
 
     def text(self, everything: bool = False) -> str:
         """The change in one line, with its first ten ids or all."""
         if not self.units:
             return self.what
-        moved = ", which changes the column's sum by %.6g" % self.moved if self.moved else ""
-        return "%s: %d unit%s%s: %s" % (self.what, len(self.units), "s" if len(self.units) > 1 else "", moved, shown(self.units, everything))
+        moved = f", which changes the column's sum by {self.moved:.6g}" if self.moved else ""
+        return (
+            f"{self.what}: {len(self.units)} unit{'s' if len(self.units) > 1 else ''}{moved}:"
+            f" {shown(self.units, everything)}"
+        )
 
     def __str__(self) -> str:
         return self.text()
 
 
 class Changes:
-    """What was changed, by kind, with the ids of the units."""
+    """The changes by kind, with the ids of the units."""
 
     def __init__(self) -> None:
         self.by_kind: dict[str, Change] = {}
         self.rounded: dict[str, Fraction] = {}
 
-    def add(self, kind: str, unit: Label | None = None, difference: float = 0, is_of_values: bool = False) -> None:
+    def add(
+        self,
+        kind: str,
+        unit: Label | None = None,
+        difference: float = 0,
+        is_of_values: bool = False,
+    ) -> None:
         change = self.by_kind.setdefault(kind, Change(kind, is_of_values=is_of_values))
         change.units += [] if unit is None else [unit]
         change.moved += difference
@@ -102,16 +137,16 @@ class Changes:
 
 @dataclasses.dataclass(repr=False)
 class Prepared:
-    """What `prepare` answers. It may be taken apart as a pair: `data, changes = prepare(..)`."""
+    """The answer of `prepare`. It may be taken apart as a pair: `data, changes = prepare(..)`."""
 
     data: bytes
     """The graph for the program, as one line of JSON."""
     changes: list[Change]
-    """What was changed; each is a text under `str`."""
+    """The changes; each is a text under `str`."""
     notes: list[str]
-    """What there is: units, edges, parts, regions."""
+    """Counts of units, edges, parts and regions."""
     warnings: list[str]
-    """What is most likely a mistake."""
+    """Likely mistakes."""
     refusals: list[str]
     """For what the auditor would refuse the plan; empty where it accepts it."""
     units: list[Label]
@@ -119,10 +154,12 @@ class Prepared:
     districts: list[Label]
     """The districts' labels, in the order by which the auditor counts them from 0."""
     regions: list[Label]
-    """The same of the regions; empty where no column of regions was named."""
+    """Each region's label; empty where no column of regions was named."""
     columns: dict[str, str]
-    """The columns that were written, by the program's words: pop, first, second, district, and region,
-    group and group_of where they were named. With elections, first and second are not among them."""
+    """The columns that were written, by the program's words: pop, first, second, district, and
+    region, group, group_of and freeze where they were named. With elections, first and second are
+    not among them.
+    """
     elections: dict[str, tuple[str, str]] = dataclasses.field(default_factory=dict)
     """The columns of votes by the name of their election; empty where `elections` was left out."""
 
@@ -131,14 +168,17 @@ class Prepared:
 
     def __repr__(self) -> str:
         state = f"{len(self.refusals)} refusals" if self.refusals else "the auditor accepts it"
-        return (f"<Prepared: {len(self.units)} units, {len(self.districts)} districts,"
-                f" {len(self.changes)} changes, {len(self.warnings)} warnings; {state}>")
+        return (
+            f"<Prepared: {len(self.units)} units, {len(self.districts)} districts,"
+            f" {len(self.changes)} changes, {len(self.warnings)} warnings; {state}>"
+        )
 
     def _repr_html_(self) -> str:
         parts = [f"<p>{html.escape(repr(self)[1:-1])}</p>"]
         sections: list[tuple[str, typing.Sequence[object]]] = [
             ("What the auditor would refuse", self.refusals), ("Warnings", self.warnings),
-            ("Changes", self.changes), ("Notes", self.notes)]
+            ("Changes", self.changes), ("Notes", self.notes),
+        ]
         for title, lines in sections:
             if lines:
                 items = "".join(f"<li>{html.escape(str(line))}</li>" for line in lines)
@@ -147,16 +187,36 @@ class Prepared:
 
 
 @documented
-def prepare(graph: object, *, population: str, first: str | None = None, second: str | None = None,
-            elections: typing.Mapping[str, tuple[str, str]] | None = None,
-            district: str | None = None, assignment: object = None, region: str | None = None,
-            group: str | None = None, group_of: str | None = None, numbers: str = "error",
-            missing: str = "error", join: typing.Sequence[Pair] = (),
-            keep: typing.Sequence[str] = (), fill_region: Label | None = None,
-            own_region: bool = False, slack: int | None = None, tolerance: float | None = None,
-            max_split: int = 200, max_splits: int = 995_000, max_split_regions: int = 5000, group_districts: int = 0,
-            show_all: bool = False, **unknown: object) -> Prepared:
-    """Makes bytes that the auditor accepts of a graph, and tells of everything that was changed.
+def prepare(
+    graph: object,
+    *,
+    population: str,
+    first: str | None = None,
+    second: str | None = None,
+    elections: typing.Mapping[str, tuple[str, str]] | None = None,
+    district: str | None = None,
+    assignment: object = None,
+    region: str | None = None,
+    group: str | None = None,
+    group_of: str | None = None,
+    numbers: str = "error",
+    missing: str = "error",
+    join: typing.Sequence[Pair] = (),
+    keep: typing.Sequence[str] = (),
+    fill_region: Label | None = None,
+    own_region: bool = False,
+    slack: int | None = None,
+    tolerance: float | None = None,
+    max_split: int = 200,
+    max_splits: int = 995_000,
+    max_split_regions: int = 5000,
+    group_districts: int = 0,
+    group_share: int = 5000,
+    freeze: str | None = None,
+    show_all: bool = False,
+    **unknown: object,
+) -> Prepared:
+    """Makes bytes that the auditor accepts of a graph, and lists every change.
 
     A file is JSON in networkx's adjacency or node-link layout; GraphML and GML are read where
     networkx is installed. Columns of people, votes and a group are counts of heads. `slack` and the
@@ -178,52 +238,104 @@ def prepare(graph: object, *, population: str, first: str | None = None, second:
         An ImportError: the file can be read only by networkx, which is not installed.
     """
     test_names("prepare", unknown, (*TABLE, *OTHERS))
-    for name, value, good in (("numbers", numbers, ("error", "nearest", "floor")), ("missing", missing, ("error", "zero", "drop"))):
+    for name, value, good in (
+        ("numbers", numbers, ("error", "nearest", "floor")),
+        ("missing", missing, ("error", "zero", "drop")),
+    ):
         if value not in good:
-            raise PrepareRefused("%s is one of %s, and not %r" % (name, ", ".join(good), value))
+            raise PrepareRefused(f"{name} is one of {', '.join(good)}, and not {value!r}")
     if (district is None) == (assignment is None):
         raise PrepareRefused("either a column of districts or an assignment has to be given")
     if group_of and not group:
         raise PrepareRefused("group_of is given, and no group is")
     said = plain_words("prepare", {"slack": slack, "tolerance": tolerance})
     slack = said.get("slack", 500)
-    for name, count in (("slack", slack), ("max_split", max_split), ("max_splits", max_splits),
-                        ("max_split_regions", max_split_regions), ("group_districts", group_districts)):
+    for name, count in (
+        ("slack", slack), ("max_split", max_split), ("max_splits", max_splits),
+        ("max_split_regions", max_split_regions), ("group_districts", group_districts),
+        ("group_share", group_share),
+    ):
         test_count("prepare", TABLE[name], count)
     votes = votes_of(first, second, elections)
     fill_region = test_choices(population, votes, district, fill_region, own_region)
-    taken = {population, region, group, group_of, *(column for both in votes.values() for column in both)}
+    taken = {
+        population, region, group, group_of, freeze,
+        *(column for both in votes.values() for column in both),
+    }
     one, other = next(iter(votes.values()))
     choices = Choices(
-        population, one, other, district or free_name(taken), region, numbers, missing, assignment,
-        join, keep, fill_region, own_region, int(slack or 0), max_split, max_splits, max_split_regions, group,
-        group_of, group_districts, show_all, {} if elections is None else votes)
+        population,
+        one,
+        other,
+        district or free_name(taken),
+        region,
+        numbers,
+        missing,
+        assignment,
+        join,
+        keep,
+        fill_region,
+        own_region,
+        int(slack or 0),
+        max_split,
+        max_splits,
+        max_split_regions,
+        group,
+        group_of,
+        group_districts,
+        show_all,
+        {} if elections is None else votes,
+        group_share,
+        freeze,
+    )
     return prepared(raw_of(graph), choices)
 
 
-def votes_of(first: str | None, second: str | None,
-             elections: typing.Mapping[str, tuple[str, str]] | None) -> dict[str, tuple[str, str]]:
-    """Returns the columns of both parties' votes by the name of their election, '' where there is one."""
+def votes_of(
+    first: str | None, second: str | None, elections: typing.Mapping[str, tuple[str, str]] | None
+) -> dict[str, tuple[str, str]]:
+    """Returns the columns of both parties' votes by the name of their election, '' where there is
+    one.
+    """
     if elections is not None and (first is not None or second is not None):
-        raise PrepareRefused("elections is given, and first or second too: each election has its own columns")
+        raise PrepareRefused(
+            "elections is given, and first or second too: each election has its own columns"
+        )
     if elections is not None:
         return tested_elections(elections, False, "prepare")
     if first is None or second is None:
-        raise TypeRefused("prepare: the argument %s is missing (or elections)" % ("first" if first is None else "second"), "first")
+        raise TypeRefused(
+            (
+                f"prepare: the argument {'first' if first is None else 'second'} is missing (or"
+                " elections)"
+            ),
+            "first",
+        )
     return {"": (first, second)}
 
 
-def test_choices(population: str, votes: typing.Mapping[str, tuple[str, str]], district: str | None,
-                 fill_region: Label | None, own_region: bool) -> Label | None:
-    """Refuses what would prepare another audit than the one that is meant; returns `fill_region`."""
+def test_choices(
+    population: str,
+    votes: typing.Mapping[str, tuple[str, str]],
+    district: str | None,
+    fill_region: Label | None,
+    own_region: bool,
+) -> Label | None:
+    """Refuses what would prepare another audit than the one that is meant; returns `fill_region`.
+    """
     for first, second in votes.values():
         if first == second:
             raise PrepareRefused(f"both parties' votes are the column {first}")
         if district is not None and district in (population, first, second):
-            raise PrepareRefused(f"the column {district} is named as that of districts and of people or votes")
+            raise PrepareRefused(
+                f"the column {district} is named as that of districts and of people or votes"
+            )
     if fill_region is not None:
         if own_region:
-            raise PrepareRefused("fill_region and own_region are both given: each says what a unit without a region has")
+            raise PrepareRefused(
+                "fill_region and own_region are both given: each says what a unit without a"
+                " region has"
+            )
         fault = "is missing" if is_missing(fill_region) else why_no_label(fill_region)
         if fault:
             raise PrepareRefused(f"fill_region, which is {as_json(fill_region)}, {fault}")
@@ -240,17 +352,23 @@ def free_name(taken: typing.Collection[str | None]) -> str:
 
 # ---- columns
 
+
 def asked_for(nodes: list[dict[str, typing.Any]], choices: Choices) -> None:
     """Refuses a column that no unit has, or has a value in: most likely its name is misspelt."""
-    for column in (*choices.counted, *choices.labelled, *choices.keep):
+    frozen = [choices.freeze] if choices.freeze else []
+    for column in (*choices.counted, *choices.labelled, *choices.keep, *frozen):
         if nodes and all(is_missing(node.get(column)) for node in nodes):
             there = sorted({str(key) for node in nodes for key in node} - {"id"})
             if any(column in node for node in nodes):
-                raise PrepareRefused("no unit has a value in the column %s" % column)
-            raise PrepareRefused("no unit has a column %s; the columns are %s" % (column, ", ".join(there) or "none"))
+                raise PrepareRefused(f"no unit has a value in the column {column}")
+            raise PrepareRefused(
+                f"no unit has a column {column}; the columns are {', '.join(there) or 'none'}"
+            )
 
 
-def with_assignment(nodes: list[dict[str, typing.Any]], choices: Choices) -> list[dict[str, typing.Any]]:
+def with_assignment(
+    nodes: list[dict[str, typing.Any]], choices: Choices
+) -> list[dict[str, typing.Any]]:
     """The units with the districts of an assignment."""
     given: typing.Any = choices.assignment
     if given is None:
@@ -258,23 +376,37 @@ def with_assignment(nodes: list[dict[str, typing.Any]], choices: Choices) -> lis
     while not hasattr(given, "items") and hasattr(given, "assignment"):
         given = given.assignment
     if not hasattr(given, "items"):
-        raise PrepareRefused("an assignment is a dict from units to districts, or has items() as one, and this is %s" % type(given).__name__)
+        raise PrepareRefused(
+            "an assignment is a dict from units to districts, or has items() as one, and this is"
+            f" {type(given).__name__}"
+        )
     if hasattr(given, "columns"):
-        raise PrepareRefused("an assignment is one column, and this is a whole %s: name one of its columns" % type(given).__name__)
+        raise PrepareRefused(
+            f"an assignment is one column, and this is a whole {type(given).__name__}: name one of"
+            " its columns"
+        )
     pairs = list(given.items())
     test_units(pairs)
     left = dict(pairs)
     found = [{**node, choices.district: left.pop(hashable(node.get("id")), None)} for node in nodes]
     if left:
-        raise PrepareRefused("the assignment names what is no unit: %s%s" % (shown(left), hint_of_kind(left, nodes)))
+        raise PrepareRefused(
+            f"the assignment names what is no unit: {shown(left)}{hint_of_kind(left, nodes)}"
+        )
     return found
 
 
 def test_units(pairs: typing.Sequence[tuple[object, object]]) -> None:
     """Refuses an assignment with an id that is missing or unusable, or that stands there twice."""
     ids = [unit for unit, _ in pairs]
-    faults = [f"the id in place {place} is missing" for place, unit in enumerate(ids) if is_missing(unit)]
-    faults += [f"{as_json(unit)} is no id of a unit" for unit in ids if not is_missing(unit) and kind_of(unit) is None]
+    faults = [
+        f"the id in place {place} is missing" for place, unit in enumerate(ids) if is_missing(unit)
+    ]
+    faults += [
+        f"{as_json(unit)} is no id of a unit"
+        for unit in ids
+        if not is_missing(unit) and kind_of(unit) is None
+    ]
     if not faults:
         faults = [f"unit {as_json(unit)} has several districts" for unit in repeated(ids)]
     if faults:
@@ -287,14 +419,20 @@ def hint_of_kind(left: typing.Iterable[object], nodes: list[dict[str, typing.Any
     for one in left:
         other = by_text.get(as_text(one))
         if other is not None:
-            return f" ({as_json(one)} is a {kind_of(one)}, and the graph's {as_json(other)} a {kind_of(other)})"
+            return (
+                f" ({as_json(one)} is a {kind_of(one)}, and the graph's {as_json(other)} a"
+                f" {kind_of(other)})"
+            )
     return ""
 
 
 # ---- numbers
 
+
 def number_of(value: object, rule: str) -> tuple[int, str, Fraction]:
-    """The whole number that is written for a value, what was done to it ('' or a few words), and the value as it was."""
+    """The whole number that is written for a value, what was done to it ('' or a few words), and
+    the value as it was.
+    """
     done = ""
     if isinstance(value, str):
         try:
@@ -302,30 +440,56 @@ def number_of(value: object, rule: str) -> tuple[int, str, Fraction]:
         except ValueError:
             raise PrepareRefused("is no number") from None
         done = "texts read as numbers"
-    if isinstance(value, bool) or not isinstance(value, (numbers.Real, decimal.Decimal)) or not is_whole(value) and not math.isfinite(value):
+    if (
+        isinstance(value, bool)
+        or not isinstance(value, (numbers.Real, decimal.Decimal))
+        or not is_whole(value)
+        and not math.isfinite(value)
+    ):
         raise PrepareRefused("is no number")
-    exact = Fraction(int(value)) if is_whole(value) else Fraction(value) if isinstance(value, decimal.Decimal) else Fraction(float(value))
+    exact = (
+        Fraction(int(value))
+        if is_whole(value)
+        else Fraction(value) if isinstance(value, decimal.Decimal) else Fraction(float(value))
+    )
     if not is_whole(value):
         if exact.denominator == 1:
             done = done or "whole floats written as whole numbers"
         elif rule == "error":
-            raise PrepareRefused("is not whole (choose --numbers nearest or floor)")
+            raise PrepareRefused('is not whole (choose numbers="nearest" or "floor")')
         else:
-            done = "fractions made whole by `%s`" % rule
+            done = f"fractions made whole by `{rule}`"
     whole = round(exact) if rule == "nearest" else math.floor(exact)
     if not 0 <= whole <= MOST_VALUE:
-        raise PrepareRefused("is not from 0 to %d" % MOST_VALUE)
+        raise PrepareRefused(f"is not from 0 to {MOST_VALUE}")
     return whole, done, exact
+
+
+def flag_of(value: object) -> bool | int | None:
+    """Returns true, false or a whole number as the program takes it for a frozen unit, else None.
+    """
+    try:
+        plain = json.loads(json.dumps(value, default=of_numpy, allow_nan=False))
+    except (TypeError, ValueError):
+        return None
+    if isinstance(plain, float) and plain.is_integer():
+        plain = int(plain)
+    return plain if type(plain) in (bool, int) and 0 <= plain <= MOST_VALUE else None
 
 
 class Rows:
     """For each unit that stays, by its id, the values that are written."""
 
-    def __init__(self, choices: Choices, labels_of: dict[str, typing.Callable[[object], Label]], changes: Changes) -> None:
+    def __init__(
+        self,
+        choices: Choices,
+        labels_of: dict[str, typing.Callable[[object], Label]],
+        changes: Changes,
+    ) -> None:
         self.choices, self.labels_of, self.changes = choices, labels_of, changes
         self.rows: dict[Label, dict[str, typing.Any]] = {}
         self.faults: list[str] = []
-        # What stood there before it was made whole, for each column of numbers in which something was.
+        # The values before they were made whole, for each column of numbers that had any.
         self.before: dict[str, dict[Label, Fraction]] = {column: {} for column in choices.counted}
 
     def take(self, name: Label, node: dict[str, typing.Any]) -> None:
@@ -333,28 +497,51 @@ class Rows:
         row: dict[str, typing.Any] = {}
         stays = [self.count(name, node, column, row) for column in self.choices.counted]
         stays += [self.label(name, node, column, row) for column in self.choices.labelled]
+        if self.choices.freeze:
+            self.flag(name, node.get(self.choices.freeze), self.choices.freeze, row)
         for column in self.choices.keep:
             if column in node:
                 self.kept(name, node[column], column, row)
         if all(stays):
             self.rows[name] = row
 
+    def flag(self, name: Label, value: object, column: str, row: dict[str, typing.Any]) -> None:
+        """Writes whether a unit is frozen: true, false or a whole number."""
+        if is_missing(value):
+            self.faults.append(f"unit {as_json(name)}: {column} is missing")
+            return
+        plain = flag_of(value)
+        if plain is None:
+            self.faults.append(
+                f"unit {as_json(name)}: {column}, which is {as_json(value)}, is neither true, false"
+                " nor a whole number from 0 to 1,000,000,000"
+            )
+            return
+        row[column] = plain
+
     def kept(self, name: Label, value: object, column: str, row: dict[str, typing.Any]) -> None:
-        """Writes a value that is kept and not audited; a missing one as null, which is told."""
+        """Writes a value that is kept and not audited; a missing one as null, which is a change."""
         if is_missing(value):
             row[column] = None
-            self.changes.add(f"column {column}, which is kept: missing values written as null", name)
+            self.changes.add(
+                f"column {column}, which is kept: missing values written as null", name
+            )
             return
         try:
             row[column] = json.loads(json.dumps(value, default=of_numpy, allow_nan=False))
         except ValueError:
-            self.faults.append(f"unit {as_json(name)}: {column}, which is {as_json(value)}, cannot be kept: JSON has no such value")
+            self.faults.append(
+                f"unit {as_json(name)}: {column}, which is {as_json(value)}, cannot be kept: JSON"
+                " has no such value"
+            )
 
     def drop(self, name: Label, column: str) -> bool:
-        self.changes.add("units left out, for a missing %s" % column, name, is_of_values=True)
+        self.changes.add(f"units left out, for a missing {column}", name, is_of_values=True)
         return False
 
-    def count(self, name: Label, node: dict[str, typing.Any], column: str, row: dict[str, typing.Any]) -> bool:
+    def count(
+        self, name: Label, node: dict[str, typing.Any], column: str, row: dict[str, typing.Any]
+    ) -> bool:
         """Writes a number of people, of votes or of a group. Whether the unit stays."""
         value = node.get(column)
         if is_missing(value):
@@ -362,21 +549,27 @@ class Rows:
                 return self.drop(name, column)
             if self.choices.missing == "zero":
                 row[column] = 0
-                self.changes.add("column %s: missing values made 0" % column, name, is_of_values=True)
+                self.changes.add(f"column {column}: missing values made 0", name, is_of_values=True)
             else:
-                self.faults.append("unit %s has no %s (choose --missing zero or drop)" % (as_json(name), column))
+                self.faults.append(
+                    f'unit {as_json(name)} has no {column} (choose missing="zero" or "drop")'
+                )
             return True
         try:
             row[column], done, exact = number_of(value, self.choices.numbers)
         except PrepareRefused as why:
-            self.faults.append("unit %s: %s, which is %s, %s" % (as_json(name), column, as_json(value), why))
+            self.faults.append(f"unit {as_json(name)}: {column}, which is {as_json(value)}, {why}")
             return True
         self.before[column][name] = exact
         if done:
-            self.changes.add("column %s: %s" % (column, done), name, float(row[column] - exact), row[column] != exact)
+            self.changes.add(
+                f"column {column}: {done}", name, float(row[column] - exact), row[column] != exact
+            )
         return True
 
-    def label(self, name: Label, node: dict[str, typing.Any], column: str, row: dict[str, typing.Any]) -> bool:
+    def label(
+        self, name: Label, node: dict[str, typing.Any], column: str, row: dict[str, typing.Any]
+    ) -> bool:
         """Writes a district or a region. Whether the unit stays."""
         choices, value = self.choices, node.get(column)
         is_region = column == choices.region
@@ -384,53 +577,100 @@ class Rows:
             row[column] = self.labels_of[column](value)
         elif is_region and choices.fill_region is not None:
             row[column] = self.labels_of[column](choices.fill_region)
-            self.changes.add("column %s: missing regions made %s" % (column, as_json(row[column])), name, is_of_values=True)
+            self.changes.add(
+                f"column {column}: missing regions made {as_json(row[column])}", name,
+                is_of_values=True,
+            )
         elif is_region and choices.own_region:
-            row[column] = "no %s: unit %s" % (column, as_text(name))
-            self.changes.add("column %s: units without a region made regions of their own" % column, name, is_of_values=True)
+            row[column] = f"no {column}: unit {as_text(name)}"
+            self.changes.add(
+                f"column {column}: units without a region made regions of their own", name,
+                is_of_values=True,
+            )
         elif choices.missing == "drop":
             return self.drop(name, column)
         else:
-            way = "--fill-region LABEL, --own-region or --missing drop" if is_region else "--missing drop"
-            self.faults.append("unit %s has no %s (choose %s)" % (as_json(name), column, way))
+            way = (
+                'fill_region=LABEL, own_region=True or missing="drop"'
+                if is_region
+                else 'missing="drop"'
+            )
+            self.faults.append(f"unit {as_json(name)} has no {column} (choose {way})")
         return True
 
 
 # ---- what looks wrong
 
-def suspicions(choices: Choices, rows: dict[Label, dict[str, typing.Any]], before: dict[str, dict[Label, Fraction]]) -> list[str]:
-    """Warnings of columns that are no counts of heads, and of what was lost where fractions were made whole."""
+
+def suspicions(
+    choices: Choices,
+    rows: dict[Label, dict[str, typing.Any]],
+    before: dict[str, dict[Label, Fraction]],
+) -> list[str]:
+    """Warnings of columns that are no counts of heads, and of what was lost where fractions were
+    made whole.
+    """
     found = []
-    broken = {column for column, values in before.items() if any(value.denominator != 1 for value in values.values())}
+    broken = {
+        column
+        for column, values in before.items()
+        if any(value.denominator != 1 for value in values.values())
+    }
     people = sum(row[choices.population] for row in rows.values())
-    both = [(value, before[choices.second][unit]) for unit, value in before[choices.first].items() if unit in before[choices.second]]
-    add_up = bool(broken & {choices.first, choices.second}) and bool(both) and all(99 <= one + other <= 101 for one, other in both)
+    both = [
+        (value, before[choices.second][unit])
+        for unit, value in before[choices.first].items()
+        if unit in before[choices.second]
+    ]
+    add_up = (
+        bool(broken & {choices.first, choices.second})
+        and bool(both)
+        and all(99 <= one + other <= 101 for one, other in both)
+    )
     for column in choices.counted:
         values = {unit: value for unit, value in before[column].items() if unit in rows}
-        whole, lost = sum(values.values()), sum(abs(rows[unit][column] - value) for unit, value in values.items())
+        whole, lost = sum(values.values()), sum(
+            abs(rows[unit][column] - value) for unit, value in values.items()
+        )
         is_small = column in broken and all(value <= 100 for value in values.values())
         if is_small and all(value <= 1 for value in values.values()):
-            found.append("column %s looks like shares and not like counts: all its values are from 0 to 1, and made whole they say nothing" % column)
+            found.append(
+                f"column {column} looks like shares and not like counts: all its values are from 0"
+                " to 1, and made whole they say nothing"
+            )
         elif is_small and column != choices.population and not add_up and people > 1000 * len(rows):
-            found.append("column %s may have percentages and not counts: all its values are from 0 to 100, and a unit has %d people on average" % (
-                column, people // len(rows)))
+            found.append(
+                f"column {column} may have percentages and not counts: all its values are from 0 to"
+                f" 100, and a unit has {people // len(rows)} people on average"
+            )
         elif lost * 100 > whole:
-            found.append("column %s: making its values whole changes them by %.3g percent in all" % (column, float(100 * lost / whole) if whole else 100))
+            found.append(
+                f"column {column}: making its values whole changes them by"
+                f" {float(100 * lost / whole) if whole else 100:.3g} percent in all"
+            )
     if add_up:
-        found.append("columns %s and %s look like percentages and not like counts: they add up to 100 in each unit" % (choices.first, choices.second))
+        found.append(
+            f"columns {choices.first} and {choices.second} look like percentages and not like"
+            " counts: they add up to 100 in each unit"
+        )
     return found
 
 
 # ---- edges
 
-def neighbours_of(pairs: typing.Sequence[tuple[Label, Label]], rows: dict[Label, typing.Any], names: typing.Sequence[Label],
-                  changes: Changes) -> dict[Label, set[Label]]:
+
+def neighbours_of(
+    pairs: typing.Sequence[tuple[Label, Label]],
+    rows: dict[Label, typing.Any],
+    names: typing.Sequence[Label],
+    changes: Changes,
+) -> dict[Label, set[Label]]:
     """For each unit that stays its neighbours."""
     known, found = set(names), {unit: set() for unit in rows}  # type: ignore[var-annotated]
     for one, other in pairs:
         for end in (one, other):
             if end not in known:
-                raise PrepareRefused("an edge names %s, which is no unit" % as_json(end))
+                raise PrepareRefused(f"an edge names {as_json(end)}, which is no unit")
         if one == other:
             changes.add("edges from a unit to itself, left out", one)
         elif one in found and other in found:
@@ -439,7 +679,9 @@ def neighbours_of(pairs: typing.Sequence[tuple[Label, Label]], rows: dict[Label,
     return found
 
 
-def unit_named(said: object, name_of: typing.Callable[[object], Label], units: typing.Collection[Label]) -> Label:
+def unit_named(
+    said: object, name_of: typing.Callable[[object], Label], units: typing.Collection[Label]
+) -> Label:
     """The unit that is meant where two are joined; on a command line every id is a text."""
     tried: list[Label] = [name_of(said)] if not is_missing(said) else []
     if isinstance(said, str) and said.lstrip("-").isdigit():
@@ -447,61 +689,94 @@ def unit_named(said: object, name_of: typing.Callable[[object], Label], units: t
     for name in tried:
         if name in units:
             return name
-    raise PrepareRefused("%s, which is to be joined, is no unit" % as_json(said))
+    raise PrepareRefused(f"{as_json(said)}, which is to be joined, is no unit")
 
 
-def join(choices: Choices, neighbours: dict[Label, set[Label]], name_of: typing.Callable[[object], Label], changes: Changes) -> None:
+def join(
+    choices: Choices,
+    neighbours: dict[Label, set[Label]],
+    name_of: typing.Callable[[object], Label],
+    changes: Changes,
+) -> None:
     """Makes neighbours of the pairs that were named."""
     for pair in choices.join:
         one, other = (unit_named(end, name_of, neighbours) for end in pair)
         if one == other:
-            raise PrepareRefused("%s cannot be joined to itself" % as_json(one))
+            raise PrepareRefused(f"{as_json(one)} cannot be joined to itself")
         done = "were neighbours already" if other in neighbours[one] else "made neighbours"
-        changes.add("units %s and %s %s" % (as_json(one), as_json(other), done), is_of_values=other not in neighbours[one])
+        changes.add(
+            f"units {as_json(one)} and {as_json(other)} {done}",
+            is_of_values=other not in neighbours[one],
+        )
         neighbours[one].add(other)
         neighbours[other].add(one)
 
 
 # ---- the whole
 
+
 def names_of(raw: Raw, changes: Changes) -> tuple[list[Label], typing.Callable[[object], Label]]:
     """The ids that are written, and how they come from those of the graph."""
     ids = [node.get("id") for node in raw.nodes]
     if any(is_missing(one) for one in ids):
-        raise PrepareRefused("node %d has no id" % next(place for place, one in enumerate(ids) if is_missing(one)))
+        raise PrepareRefused(
+            f"node {next(place for place, one in enumerate(ids) if is_missing(one))} has no id"
+        )
     name_of, changed = renamed(ids + [end for pair in raw.pairs for end in pair])
     if changed:
         changes.add("ids: some are neither texts nor whole numbers, so all are written as texts")
     names = [name_of(one) for one in ids]
-    faults = [f"node {place} has {as_json(one)}, which is no id of a unit" for place, one in enumerate(ids) if kind_of(one) is None]
+    faults = [
+        f"node {place} has {as_json(one)}, which is no id of a unit"
+        for place, one in enumerate(ids)
+        if kind_of(one) is None
+    ]
     if faults:
         raise PrepareRefused(f"{len(faults)} ids are refused", faults)
     twice = [name for name, count in collections.Counter(names).items() if count > 1]
     if twice:
-        raise PrepareRefused("several units have the same id: %s" % shown(twice))
+        raise PrepareRefused(f"several units have the same id: {shown(twice)}")
     twice = typing.cast(typing.List[Label], repeated(names))
     if twice:
-        raise PrepareRefused("several units have ids that differ only in their kind, as 1 and \"1\" do: %s" % shown(twice))
+        raise PrepareRefused(
+            'several units have ids that differ only in their kind, as 1 and "1" do:'
+            f" {shown(twice)}"
+        )
     return names, name_of
 
 
-def labels_in(nodes: list[dict[str, typing.Any]], choices: Choices, changes: Changes) -> dict[str, typing.Callable[[object], Label]]:
+def labels_in(
+    nodes: list[dict[str, typing.Any]], choices: Choices, changes: Changes
+) -> dict[str, typing.Callable[[object], Label]]:
     """How the labels of each column come from those of the graph."""
     found = {}
     for column in choices.labelled:
         there = [node[column] for node in nodes if not is_missing(node.get(column))]
-        filled = [choices.fill_region] if column == choices.region and choices.fill_region is not None and len(there) < len(nodes) else []
+        filled = (
+            [choices.fill_region]
+            if column == choices.region
+            and choices.fill_region is not None
+            and len(there) < len(nodes)
+            else []
+        )
         found[column], changed = renamed([*there, *filled])
         if changed:
-            changes.add("labels in %s: some are neither texts nor whole numbers, so all are written as texts" % column)
+            changes.add(
+                f"labels in {column}: some are neither texts nor whole numbers, so all are written"
+                " as texts"
+            )
         elif is_mixed_by_choice(nodes, column, there, choices):
             found[column] = as_text
-            changes.add("labels in %s: written as texts, since those of units without a region are" % column)
+            changes.add(
+                f"labels in {column}: written as texts, since those of units without a region are"
+            )
     return found
 
 
-def is_mixed_by_choice(nodes: list[dict[str, typing.Any]], column: str, there: list[object], choices: Choices) -> bool:
-    """Whether a region that units without one get is of another kind than the other regions."""
+def is_mixed_by_choice(
+    nodes: list[dict[str, typing.Any]], column: str, there: list[object], choices: Choices
+) -> bool:
+    """Returns whether a region for units that have none is of another kind than the others."""
     if column != choices.region or len(there) == len(nodes):
         return False
     if choices.fill_region is not None:
@@ -509,8 +784,11 @@ def is_mixed_by_choice(nodes: list[dict[str, typing.Any]], column: str, there: l
     return choices.own_region and {kind_of(value) for value in there} != {"text"}
 
 
-def faults_of_labels(names: list[Label], nodes: list[dict[str, typing.Any]], choices: Choices) -> list[str]:
-    """A line for each unit whose district or region is unusable, or would be mistaken for another."""
+def faults_of_labels(
+    names: list[Label], nodes: list[dict[str, typing.Any]], choices: Choices
+) -> list[str]:
+    """A line for each unit whose district or region is unusable, or would be mistaken for another.
+    """
     faults = []
     for column in choices.labelled:
         labels = [(name, node.get(column)) for name, node in zip(names, nodes)]
@@ -530,37 +808,67 @@ def prepared(raw: Raw, choices: Choices) -> Prepared:
     for name, node in zip(names, nodes):
         taken.take(name, node)
     if not taken.faults and choices.region:
-        taken.faults += alike_in([(name, row[choices.region]) for name, row in taken.rows.items()], choices.region)
+        taken.faults += alike_in(
+            [(name, row[choices.region]) for name, row in taken.rows.items()], choices.region
+        )
     if taken.faults:
-        raise PrepareRefused("%d values are refused" % len(taken.faults), taken.faults)
+        raise PrepareRefused(f"{len(taken.faults)} values are refused", taken.faults)
     rows = taken.rows
-    found = neighbours_of([(name_of(one), name_of(other)) for one, other in raw.pairs], rows, names, changes)
+    found = neighbours_of(
+        [(name_of(one), name_of(other)) for one, other in raw.pairs], rows, names, changes
+    )
     join(choices, found, name_of, changes)
     place = {unit: i for i, unit in enumerate(rows)}
     neighbours = {unit: sorted(those, key=place.__getitem__) for unit, those in found.items()}
-    written = {*choices.counted, *choices.labelled, *choices.keep}
+    written = {*choices.counted, *choices.labelled, *choices.keep, choices.freeze}
     others = sorted({str(key) for node in nodes for key in node} - {"id", *written})
     if others:
         changes.add("columns left out: " + ", ".join(others))
     data = data_of(rows, neighbours)
     judged = judging.Judged(rows, neighbours, choices)
-    refusals = judged.refusals + (["more than %d bytes" % MOST_BYTES] if len(data) > MOST_BYTES else [])
-    columns = dict(zip(("pop", "first", "second", "district", "region"), (choices.population, choices.first, choices.second, *choices.labelled)))
+    refusals = judged.refusals + (
+        [f"more than {MOST_BYTES} bytes"] if len(data) > MOST_BYTES else []
+    )
+    columns = dict(
+        zip(
+            ("pop", "first", "second", "district", "region"),
+            (choices.population, choices.first, choices.second, *choices.labelled),
+        )
+    )
     if choices.elections:
         del columns["first"], columns["second"]
-    columns.update({name: column for name, column in (("group", choices.group), ("group_of", choices.group_of)) if column})
-    return Prepared(data, list(changes.by_kind.values()), judged.notes, suspicions(choices, rows, taken.before), refusals, list(rows),
-                    judged.districts, judged.regions, columns, dict(choices.elections))
+    columns.update(
+        {
+            name: column
+            for name, column in (
+                ("group", choices.group), ("group_of", choices.group_of),
+                ("freeze", choices.freeze),
+            )
+            if column
+        }
+    )
+    return Prepared(
+        data, list(changes.by_kind.values()), judged.notes, suspicions(choices, rows, taken.before),
+        refusals, list(rows), judged.districts, judged.regions, columns, dict(choices.elections),
+    )
 
 
-def data_of(rows: dict[Label, dict[str, typing.Any]], neighbours: dict[Label, list[Label]]) -> bytes:
+def data_of(
+    rows: dict[Label, dict[str, typing.Any]], neighbours: dict[Label, list[Label]]
+) -> bytes:
     """The graph in networkx's adjacency layout, as one line."""
     try:
-        text = json.dumps({
-            "directed": False, "multigraph": False, "graph": [],
-            "nodes": [dict(row, id=unit) for unit, row in rows.items()],
-            "adjacency": [[{"id": other} for other in those] for those in neighbours.values()],
-        }, separators=(",", ":"), allow_nan=False)
+        text = json.dumps(
+            {
+                "directed": False,
+                "multigraph": False,
+                "graph": [],
+                "nodes": [dict(row, id=unit) for unit, row in rows.items()],
+                "adjacency": [[{"id": other} for other in those] for those in neighbours.values()],
+            },
+            separators=(",", ":"),
+            allow_nan=False,
+        )
     except (TypeError, ValueError) as error:
-        raise PrepareRefused("a column that is kept has what JSON cannot say: %s" % error) from error
+        raise PrepareRefused(f"a column that is kept has what JSON cannot say: {error}") from error
     return text.encode("utf-8")

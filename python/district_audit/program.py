@@ -1,4 +1,4 @@
-"""Where the installed programs are, and one call of them."""
+"""Paths of the installed programs, and one call of them."""
 from __future__ import annotations
 
 import os
@@ -19,7 +19,8 @@ KNOWN = {
 
 
 def found(which: str, given: PathLike | None = None) -> str:
-    """The path of a program: the one that is given, or that the environment names, or that stands in the folders of PATH.
+    """The path of a program: the one that is given, or that the environment names, or that stands
+    in the folders of PATH.
 
     ProgramMissing where there is none.
     """
@@ -28,14 +29,16 @@ def found(which: str, given: PathLike | None = None) -> str:
     if named:
         path = shutil.which(named)
         if path is None:
-            raise ProgramMissing("there is no program %s" % named)
+            raise ProgramMissing(f"there is no program {named}")
         return str(pathlib.Path(path).absolute())
     for name in names:
         path = shutil.which(name)
         if path is not None:
             return str(pathlib.Path(path).absolute())
-    raise ProgramMissing("there is no %s in the folders of PATH: scripts/install.sh FOLDER leaves it in a folder, and the variable %s may name it"
-                         % (names[0], variable))
+    raise ProgramMissing(
+        f"there is no {names[0]} in the folders of PATH: scripts/install.sh FOLDER leaves it in a"
+        f" folder, and the variable {variable} may name it"
+    )
 
 
 class Ended(typing.NamedTuple):
@@ -44,28 +47,44 @@ class Ended(typing.NamedTuple):
     status: int
     """The status; negative for a signal."""
     text: str
-    """What stands on standard output."""
+    """Standard output."""
     line: str
-    """What stands on standard error, without its last line end."""
+    """Standard error, without its last line end."""
 
 
-def call(program: str, words: typing.Sequence[str], data: bytes, folder: PathLike | None = None,
-         meanwhile: typing.Callable[[subprocess.Popen[bytes]], None] | None = None) -> Ended:
+def call(
+    program: str,
+    words: typing.Sequence[str],
+    data: bytes,
+    folder: PathLike | None = None,
+    meanwhile: typing.Callable[[subprocess.Popen[bytes]], None] | None = None,
+) -> Ended:
     """Runs a program in a folder, with data on standard input, to its end.
 
-    `meanwhile` is called again and again while it runs. Where anything is raised, Ctrl-C among it, the program is stopped first.
+    `meanwhile` is called again and again while it runs. Where anything is raised, Ctrl-C among it,
+    the program is stopped first.
     """
-    with subprocess.Popen([program, *words], cwd=folder, stdin=subprocess.PIPE, stdout=subprocess.PIPE, stderr=subprocess.PIPE) as process:
+    with subprocess.Popen(
+        [program, *words], cwd=folder, stdin=subprocess.PIPE, stdout=subprocess.PIPE,
+        stderr=subprocess.PIPE,
+    ) as process:
         try:
             text, note = spoken(process, data, meanwhile)
         except BaseException:
             stop(process)
             raise
-    return Ended(process.returncode, text.decode("utf-8", "surrogateescape"), note.decode("utf-8", "surrogateescape").removesuffix("\n"))
+    return Ended(
+        process.returncode, text.decode("utf-8", "surrogateescape"),
+        note.decode("utf-8", "surrogateescape").removesuffix("\n"),
+    )
 
 
-def spoken(process: subprocess.Popen[bytes], data: bytes, meanwhile: typing.Callable[[subprocess.Popen[bytes]], None] | None) -> tuple[bytes, bytes]:
-    """What a program writes, on both outputs, until it ends."""
+def spoken(
+    process: subprocess.Popen[bytes],
+    data: bytes,
+    meanwhile: typing.Callable[[subprocess.Popen[bytes]], None] | None,
+) -> tuple[bytes, bytes]:
+    """Returns what a program writes on both outputs until it ends."""
     if meanwhile is None:
         return process.communicate(data)
     first: bytes | None = data
@@ -73,13 +92,16 @@ def spoken(process: subprocess.Popen[bytes], data: bytes, meanwhile: typing.Call
         try:
             return process.communicate(first, timeout=0.1)
         except subprocess.TimeoutExpired:
-            # What was handed in is kept by `process`: a second call goes on with it.
+            # `process` keeps its input, and a second call goes on with it.
             first = None
             meanwhile(process)
 
 
 def stop(process: subprocess.Popen[bytes]) -> None:
-    """Ends a program that we started. It saves nothing then, and what it saved before stays whole."""
+    """Ends a program that we started.
+
+    It saves nothing then, and what it saved before stays whole.
+    """
     process.terminate()
     try:
         process.wait(timeout=5)

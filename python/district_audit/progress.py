@@ -6,27 +6,37 @@ it has taken.
 """
 from __future__ import annotations
 
+import os
 import re
 import subprocess
 import sys
+import tempfile
 import time
 import typing
 
-from .program import PathLike
+from .program import PathLike, stop
 
 WIDTH = 40
+# More bytes than a line of a plan has, with a change of each unit.
+TAIL = 2_000_000
 
 
 class Bar(typing.Protocol):
-    """What draws: it is told how many of how many are done, again and again, and once that the run has ended."""
+    """A progress bar: `show` gets the count and the total again and again, and `end` is called
+    once.
+    """
 
-    def show(self, done: int, total: int) -> None: ...
+    def show(self, done: int, total: int) -> None:
+        ...
 
-    def end(self) -> None: ...
+    def end(self) -> None:
+        ...
 
 
 class PlainBar:
-    """A bar in one line of a terminal, by Python alone; elsewhere a line each time that the number changes."""
+    """A bar in one line of a terminal, by Python alone; elsewhere a line each time that the number
+    changes.
+    """
 
     def __init__(self, stream: typing.TextIO | None = None) -> None:
         self.stream = stream or sys.stderr
@@ -37,10 +47,11 @@ class PlainBar:
         if (done, total) == self.last:
             return
         self.last = done, total
-        text = "done %d of %d" % (done, total)
+        text = f"done {done} of {total}"
         if self.is_terminal:
             full = WIDTH * done // max(total, 1)
-            self.stream.write("\r[%s%s] %s " % ("#" * full, "." * (WIDTH - full), text))
+            bar = "#" * full + "." * (WIDTH - full)
+            self.stream.write(f"\r[{bar}] {text} ")
         else:
             self.stream.write(text + "\n")
         self.stream.flush()
@@ -52,7 +63,7 @@ class PlainBar:
 
 
 class TqdmBar:
-    """The same by tqdm, which also draws in notebooks."""
+    """A bar by tqdm, which also draws in notebooks."""
 
     def __init__(self, tqdm: typing.Any) -> None:
         self.tqdm = tqdm
@@ -79,18 +90,22 @@ def new_bar() -> Bar:
 
 
 class Look(typing.NamedTuple):
-    """What `audit_slots` tells."""
+    """The answer of `audit_slots`."""
 
     slots: str
     """Its lines on the slots, which change with each save."""
     done: int | None
-    """How many trajectories of this job are in the newest slot; None where no slot is of this job."""
+    """The number of this job's trajectories in the newest slot; None where no slot is of this job.
+    """
     total: int | None
 
 
 def look(program: str, words: typing.Sequence[str], data: bytes, folder: PathLike | None) -> Look:
     """Asks once how far the run in a folder is; its words are those of the run."""
-    told = subprocess.run([program, *words], cwd=folder, input=data, stdout=subprocess.PIPE, stderr=subprocess.DEVNULL, check=False)
+    told = subprocess.run(
+        [program, *words], cwd=folder, input=data, stdout=subprocess.PIPE,
+        stderr=subprocess.DEVNULL, check=False,
+    )
     text = told.stdout.decode("utf-8", "replace")
     found = re.search(r"^done: ([0-9]+) of ([0-9]+)$", text, re.MULTILINE)
     slots = "\n".join(line for line in text.splitlines() if line.startswith("slot "))
@@ -98,8 +113,9 @@ def look(program: str, words: typing.Sequence[str], data: bytes, folder: PathLik
 
 
 class Clock:
-    """Shows how long a run has taken that saves nothing: in one line of a terminal, and elsewhere in a
-    line after 10 seconds, and each time that the time has doubled."""
+    """Shows how long a run has taken that saves nothing: in one line of a terminal, and elsewhere
+    in a line after 10 seconds, and each time that the time has doubled.
+    """
 
     def __init__(self, total: int, stream: typing.TextIO | None = None) -> None:
         self.stream = stream or sys.stderr
@@ -109,12 +125,18 @@ class Clock:
         self.has_shown = False
         self.done = 0
 
+    def said(self, seconds: float) -> str:
+        return (
+            f"walking {self.total} trajectories for {seconds:.0f} s (save=1 shows how many are"
+            " done)"
+        )
+
     def __call__(self, _process: object = None) -> None:
         seconds = time.monotonic() - self.began
         if seconds < self.due:
             return
         self.due = seconds + 1 if self.is_terminal else 2 * seconds
-        text = f"walking {self.total} trajectories for {seconds:.0f} s (save=1 shows how many are done)"
+        text = self.said(seconds)
         self.stream.write(f"\r{text} " if self.is_terminal else text + "\n")
         self.stream.flush()
         self.has_shown = True
@@ -125,16 +147,72 @@ class Clock:
             self.stream.flush()
 
 
-class Watch:
-    """Looks now and then how far a run is, and draws it. A look takes as long as reading the graph does, and less than a tenth of the time
-    goes to it."""
+class StepClock(Clock):
+    """Shows the steps of a run's first trajectory, which a second process walks again beside it.
 
-    def __init__(self, ask: typing.Callable[[], Look], total: int, is_resumed: bool, bar: Bar) -> None:
+    That process runs `trace`, so it takes one more processor for the time of one trajectory, and
+    the memory of one more graph. The report does not depend on it.
+    """
+
+    def __init__(
+        self,
+        total: int,
+        steps: int,
+        command: typing.Sequence[str],
+        data: bytes,
+        stream: typing.TextIO | None = None,
+    ) -> None:
+        """`command` is the program with the words of `trace`, and `data` the graph."""
+        super().__init__(total, stream)
+        self.steps = steps
+        self.input, self.text = tempfile.TemporaryFile(), tempfile.TemporaryFile()
+        self.input.write(data)
+        self.input.seek(0)
+        self.process = subprocess.Popen(
+            list(command), stdin=self.input, stdout=self.text, stderr=subprocess.DEVNULL
+        )
+
+    def said(self, seconds: float) -> str:
+        """Returns the step of the last whole line of the trace, in words."""
+        step = self.step()
+        if step is None:
+            return super().said(seconds)
+        done = f"{step} of {self.steps} steps in {seconds:.0f} s"
+        return f"first of {self.total} trajectories: {done}"
+
+    def step(self) -> int | None:
+        """Returns the step of the last whole line of a plan; None before the first."""
+        end = self.text.seek(0, os.SEEK_END)
+        self.text.seek(max(0, end - TAIL))
+        lines = self.text.read().split(b"\n")[:-1]
+        if lines[-1:] == [b"end"]:
+            return self.steps
+        steps = [line.split(b" ")[0] for line in lines[1:] if line[:1].isdigit()]
+        return int(steps[-1]) if steps else None
+
+    def end(self) -> None:
+        """Ends the second process."""
+        if self.process.poll() is None:
+            stop(self.process)
+        self.input.close()
+        self.text.close()
+        super().end()
+
+
+class Watch:
+    """Looks now and then how far a run is, and draws it.
+
+    A look takes as long as reading the graph does, and less than a tenth of the time goes to it.
+    """
+
+    def __init__(
+        self, ask: typing.Callable[[], Look], total: int, is_resumed: bool, bar: Bar
+    ) -> None:
         self.ask, self.total, self.bar = ask, total, bar
         self.is_resumed = is_resumed
         self.due = 0.0
         self.done = 0
-        # What stood there before the run is its own only where it goes on from it.
+        # Slots from before the run are its own only where it goes on from them.
         self.before = None if is_resumed else ask().slots
 
     def __call__(self, _process: object = None) -> None:

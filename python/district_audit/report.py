@@ -1,8 +1,9 @@
 """The program's texts as values: reports, check texts, and the reports of several plans.
 
-Reading is strict: a text that the program cannot have written is refused, with the number of its line. `str` of what was read is the text
-again, byte for byte. Counts are `int`, scores `Start` (which is never shortened; its `fraction` is a `Fraction`), and bounds and p-values
-`Decimal` with the report's nine places, which are rounded up.
+Reading is strict: a text that the program cannot have written is refused, with the number of its
+line. `str` of what was read is the text again, byte for byte. Counts are `int`, scores `Start`
+(which is never shortened; its `fraction` is a `Fraction`), and bounds and p-values `Decimal` with
+the report's nine places, which are rounded up.
 """
 from __future__ import annotations
 
@@ -31,21 +32,25 @@ if typing.TYPE_CHECKING:
 
     PathLike = typing.Union[str, "os.PathLike[str]"]
 
-BILLION = 10 ** 9
-MOST_UNITS, MOST_EDGES, MOST_DISTRICTS, MOST_REGIONS, MOST_TRAJECTORIES, MOST_CUT, MOST_SLACK = 100_000, 400_000, 200, 5000, 100_000, 400_000, 10_000
+BILLION = 10**9
+MOST_UNITS, MOST_EDGES, MOST_DISTRICTS, MOST_REGIONS, MOST_TRAJECTORIES, MOST_CUT, MOST_SLACK = (
+    100_000, 400_000, 200, 5000, 100_000, 400_000, 10_000,
+)
 MOST_SPLITS, MOST_BYTES = 995_000, 67_108_864
+MOST_SHARE, HALF_SHARE = 10_000, 5000
 SCORES = ("seats", "mean-median", "gap", "cut-edges")
 TAILS = ("low", "high")
-# What the nine numbers of a line `shift` stand for.
+# The meaning of the nine numbers of a line `shift`.
 SEATS = ("-4 or fewer", "-3", "-2", "-1", "0", "+1", "+2", "+3", "+4 or more")
 
 NUMBER = "(0|[1-9][0-9]*)"
 WHOLE = "(0|-?[1-9][0-9]*)"
 NINE = r"((?:0|[1-9][0-9]*)\.[0-9]{9})"
-ASK = "(%s) (%s) start %s/%s" % ("|".join(SCORES), "|".join(TAILS), WHOLE, NUMBER)
+ASK = f"({'|'.join(SCORES)}) ({'|'.join(TAILS)}) start {WHOLE}/{NUMBER}"
 
 
 # ---- what a report has
+
 
 @dataclasses.dataclass(frozen=True)
 class Rules:
@@ -58,43 +63,71 @@ class Rules:
     high: int
     """The greatest."""
     max_cut: int | None = None
-    """How many edges between two districts a plan may have; None: any number."""
+    """The most edges between districts that a plan may have; None: any number."""
     max_split: int | None = None
     """Among how many districts a region may be split; None: there are no regions."""
     regions: int | None = None
-    """How many regions there are; None: no column of regions was named."""
+    """The number of regions; None: no column of regions was named."""
     max_splits: int | None = None
-    """How often regions may be split in all, each by one less than the number of its districts; None: this and the next are not limited."""
+    """How often regions may be split in all, each by one less than the number of its districts;
+    None: this and the next are not limited.
+    """
     max_split_regions: int | None = None
-    """How many regions may lie in more than one district."""
+    """The most regions that may lie in more than one district."""
     group_districts: int | None = None
     """In how many districts at least the group has to have a majority; None: no group was named."""
     majorities: int | None = None
     """In how many the start plan gives it one."""
+    group_share: int | None = None
+    """Above which share of a district it has one, in hundredths of a percent; None: above one half.
+    """
+    frozen: int | None = None
+    """The number of units that keep the start plan's districts; None: no column of them was named.
+    """
 
     def told(self) -> list[str]:
         """The limits on cut edges and on the districts of a region, in words."""
-        said = [] if self.max_cut is None else ["at most %d cut edges" % self.max_cut]
-        return said + ([] if self.regions is None else ["%d regions, each in at most %d districts" % (self.regions, self.max_split or 0)])
+        said = [] if self.max_cut is None else [f"at most {self.max_cut} cut edges"]
+        return said + (
+            []
+            if self.regions is None
+            else [f"{self.regions} regions, each in at most {self.max_split or 0} districts"]
+        )
 
     def told_further(self) -> list[str]:
-        """Those on splits in all, on split regions and on a group's majorities."""
+        """Those on splits in all, on split regions, on a group's majorities and on frozen units."""
         is_few = self.max_splits is not None and self.max_splits < MOST_SPLITS
         said = [f"at most {self.max_splits} splits of regions in all"] if is_few else []
         is_few = self.max_split_regions is not None and self.max_split_regions < MOST_REGIONS
-        said += [f"at most {self.max_split_regions} regions in more than one district"] if is_few else []
-        return said + ([] if self.group_districts is None else ["the group has a majority in %d districts, and has to have one in %d" % (
-            self.majorities or 0, self.group_districts)])
+        said += (
+            [f"at most {self.max_split_regions} regions in more than one district"]
+            if is_few
+            else []
+        )
+        if self.group_districts is not None:
+            one = "one" if self.group_share is None else "it"
+            share = (
+                "a majority"
+                if self.group_share is None
+                else f"more than {self.group_share} of 10000"
+            )
+            said.append(
+                f"the group has {share} in {self.majorities or 0} districts, and has to have {one}"
+                f" in {self.group_districts}"
+            )
+        return said + ([] if self.frozen is None else [f"{self.frozen} units keep their districts"])
 
 
 @dataclasses.dataclass(frozen=True)
 class Source:
-    """What was read, and which of its columns; told where `source` asks for it."""
+    """The bytes that were read and their columns, which a text names if `source` asks for it."""
 
     sha256: str
-    """The 64 hexadecimal digits of the SHA-256 of all bytes that were read; for several plans the table is among them."""
+    """The 64 hexadecimal digits of the SHA-256 of all bytes that were read; for several plans the
+    table is among them.
+    """
     bytes: int
-    """How many bytes these are."""
+    """The number of these bytes."""
     population: str
     first: str
     second: str
@@ -104,17 +137,45 @@ class Source:
     group: str | None = None
     """The column of the group; None: none was named."""
     group_of: str | None = None
-    """The column of those of whom the group may be the majority: the column of populations, where no other was named."""
+    """The column of those of whom the group may be the majority: the column of populations, where
+    no other was named.
+    """
+    freeze: str | None = None
+    """The column of frozen units; None: none was named."""
 
     def lines(self) -> list[str]:
         words = ["columns", *map(quoted, (self.population, self.first, self.second, self.district))]
         words += [] if self.region is None else ["region", quoted(self.region)]
-        words += [] if self.group is None else ["group", quoted(self.group), "of", quoted(self.group_of or "")]
-        return ["source sha256 %s bytes %d" % (self.sha256, self.bytes), " ".join(words)]
+        words += (
+            []
+            if self.group is None
+            else ["group", quoted(self.group), "of", quoted(self.group_of or "")]
+        )
+        words += [] if self.freeze is None else ["freeze", quoted(self.freeze)]
+        return [f"source sha256 {self.sha256} bytes {self.bytes}", " ".join(words)]
 
     def is_of(self, data: builtins.bytes) -> bool:
-        """Whether these are the bytes that were read."""
+        """Returns whether these are the bytes that were read."""
         return len(data) == self.bytes and hashlib.sha256(data).hexdigest() == self.sha256
+
+
+@dataclasses.dataclass(frozen=True)
+class Audited:
+    """The graph that the package sent to the program, and the arguments that prepared it.
+
+    It is no part of the report's text: a report that was read from a file has none.
+    """
+
+    sha256: str
+    """The 64 hexadecimal digits of the SHA-256 of the graph's bytes."""
+    columns: typing.Mapping[str, str]
+    """The names of the columns, by the words pop, first, second, district and so on."""
+    rules: typing.Mapping[str, typing.Any]
+    """The arguments of `prepare`, except an assignment."""
+
+    def is_of(self, data: bytes) -> bool:
+        """Returns whether these are the bytes that the program read."""
+        return hashlib.sha256(data).hexdigest() == self.sha256
 
 
 def quoted(text: str) -> str:
@@ -124,14 +185,14 @@ def quoted(text: str) -> str:
 
 @dataclasses.dataclass(frozen=True)
 class Setting:
-    """What was walked."""
+    """The numbers and lengths of the trajectories."""
 
     walks: int
-    """How many outlier trajectories."""
+    """The number of outlier trajectories."""
     steps: int
     """The steps of each."""
     ends: int
-    """How many trajectories of the parallel test."""
+    """The number of trajectories of the parallel test."""
     hub_steps: int
     """The steps to the hub, and of each of these trajectories."""
     stop: int = 0
@@ -155,12 +216,12 @@ class Start:
         return self.numerator / self.denominator
 
     def __str__(self) -> str:
-        return "%d/%d" % (self.numerator, self.denominator)
+        return f"{self.numerator}/{self.denominator}"
 
 
 @dataclasses.dataclass(frozen=True)
 class Line:
-    """What each line of a test has: its question, and the start plan's score."""
+    """A line of a test: its question, and the start plan's score."""
 
     score: str
     """seats, mean-median, gap or cut-edges."""
@@ -171,10 +232,10 @@ class Line:
     @property
     def ask(self) -> str:
         """The question, as the word --ask has it."""
-        return "%s:%s" % (self.score, self.tail)
+        return f"{self.score}:{self.tail}"
 
     def words(self) -> str:
-        return "%s %s start %s" % (self.score, self.tail, self.start)
+        return f"{self.score} {self.tail} start {self.start}"
 
 
 @dataclasses.dataclass(frozen=True)
@@ -184,11 +245,11 @@ class Walk(Line):
     number: int
     """Which trajectory, from 0."""
     moved: int
-    """How many of its steps changed the plan."""
+    """The number of its steps that changed the plan."""
     count: int
-    """How many of the visited plans, the start plan among them, are in the tail."""
+    """The number of visited plans in the tail, the start plan among them."""
     of: int
-    """How many were visited: one more than the steps."""
+    """The number of visited plans: one more than the steps."""
     bound: Decimal
     """The square root of 2 count/of, rounded up at nine places."""
 
@@ -198,7 +259,10 @@ class Walk(Line):
         return Fraction(self.count, self.of)
 
     def __str__(self) -> str:
-        return "walk %d moved %d %s count %d of %d bound %s" % (self.number, self.moved, self.words(), self.count, self.of, self.bound)
+        return (
+            f"walk {self.number} moved {self.moved} {self.words()} count {self.count} of"
+            f" {self.of} bound {self.bound}"
+        )
 
 
 @dataclasses.dataclass(frozen=True)
@@ -213,7 +277,7 @@ class Ends(Line):
     """rank/of, rounded up at nine places."""
 
     def __str__(self) -> str:
-        return "ends %s rank %d of %d p %s" % (self.words(), self.rank, self.of, self.p)
+        return f"ends {self.words()} rank {self.rank} of {self.of} p {self.p}"
 
 
 @dataclasses.dataclass(frozen=True)
@@ -229,7 +293,7 @@ class Stop(Line):
     """The value, rounded up at nine places."""
 
     def __str__(self) -> str:
-        return "stop %s place %d value %d/%d p %s" % (self.words(), self.place, self.top, self.of, self.p)
+        return f"stop {self.words()} place {self.place} value {self.top}/{self.of} p {self.p}"
 
 
 @dataclasses.dataclass(frozen=True)
@@ -239,19 +303,21 @@ class Serial(Line):
     place: int
     """The start plan's place in the run, from 0."""
     rank: int
-    """How many plans of the run, the start plan once among them, are in the tail."""
+    """The number of plans of the run in the tail, the start plan once among them."""
     of: int
-    """How many plans the run has."""
+    """The number of plans of the run."""
     p: Decimal
     """rank/of, rounded up at nine places."""
 
     def __str__(self) -> str:
-        return "serial %s place %d rank %d of %d p %s" % (self.words(), self.place, self.rank, self.of, self.p)
+        return f"serial {self.words()} place {self.place} rank {self.rank} of {self.of} p {self.p}"
 
 
 @dataclasses.dataclass(frozen=True)
 class Shift:
-    """How the seats of the first party differ from the start plan's, over all visited plans; `SEATS` names the nine numbers."""
+    """How the seats of the first party differ from the start plan's, over all visited plans;
+    `SEATS` names the nine numbers.
+    """
 
     counts: tuple[int, ...]
 
@@ -260,6 +326,7 @@ class Shift:
 
 
 # ---- reading lines
+
 
 def refuse(number: int, why: str) -> typing.NoReturn:
     raise ReportRefused(number, why)
@@ -284,13 +351,14 @@ class Reader:
         return line is not None and line.split(" ")[0] == word
 
     def take(self, form: str, example: str) -> list[str]:
-        """What the groups of a regular expression have in the next line, which all of it has to be like."""
+        """Returns the groups of a regular expression that has to match the whole next line.
+        """
         line = self.next()
         if line is None:
-            refuse(self.number, "the text ends where a line `%s` has to stand" % example)
+            refuse(self.number, f"the text ends where a line `{example}` has to stand")
         found = re.fullmatch(form, line)
         if found is None:
-            refuse(self.number, "it is not as a line `%s` is" % example)
+            refuse(self.number, f"it is not as a line `{example}` is")
         self.place += 1
         return list(found.groups())
 
@@ -320,28 +388,56 @@ class Head(typing.NamedTuple):
 
     def lines(self) -> list[str]:
         rules = self.rules
-        lines = ["units %d edges %d districts %d" % self[:3],
-                 "population %d slack %d low %d high %d" % (self.population, rules.slack, rules.low, rules.high)]
-        lines += [] if rules.max_cut is None else ["max-cut %d" % rules.max_cut]
-        lines += [] if rules.regions is None else ["max-split %d regions %d" % (rules.max_split or 0, rules.regions)]
-        lines += [] if rules.max_splits is None else ["max-splits %d max-split-regions %d" % (rules.max_splits, rules.max_split_regions or 0)]
-        return lines + ([] if rules.group_districts is None else ["group-districts %d of %d" % (rules.group_districts, rules.majorities or 0)])
+        lines = [
+            f"units {self.units} edges {self.edges} districts {self.districts}",
+            f"population {self.population} slack {rules.slack} low {rules.low} high {rules.high}",
+        ]
+        lines += [] if rules.max_cut is None else [f"max-cut {rules.max_cut}"]
+        lines += (
+            []
+            if rules.regions is None
+            else [f"max-split {rules.max_split or 0} regions {rules.regions}"]
+        )
+        lines += (
+            []
+            if rules.max_splits is None
+            else [f"max-splits {rules.max_splits} max-split-regions {rules.max_split_regions or 0}"]
+        )
+        lines += (
+            []
+            if rules.group_districts is None
+            else [f"group-districts {rules.group_districts} of {rules.majorities or 0}"]
+        )
+        lines += [] if rules.group_share is None else [f"group-share {rules.group_share}"]
+        return lines + ([] if rules.frozen is None else [f"frozen {rules.frozen}"])
 
 
 def source_of(lines: Reader) -> Source | None:
-    """What was read, where that is told."""
+    """Returns the source, if the text names one."""
     if not lines.begins("source"):
         return None
-    sha256, count = lines.take("source sha256 ([0-9a-f]{64}) bytes N".replace("N", NUMBER), "source sha256 H bytes n")
+    sha256, count = lines.take(
+        "source sha256 ([0-9a-f]{64}) bytes N".replace("N", NUMBER), "source sha256 H bytes n"
+    )
     lines.ask_that(1 <= int(count) <= MOST_BYTES, "there are no so many bytes")
-    said, = lines.take("columns (.*)", 'columns "P" "A" "B" "D"')
+    (said,) = lines.take("columns (.*)", 'columns "P" "A" "B" "D"')
     names, words = columns_in(lines, said)
-    lines.ask_that(words in ([], ["region"], ["group", "of"], ["region", "group", "of"]), "such columns are not told")
+    known = words[:-1] if words[-1:] == ["freeze"] else words
+    lines.ask_that(
+        known in ([], ["region"], ["group", "of"], ["region", "group", "of"]),
+        "such columns are not told",
+    )
     found = dict(zip(words, names[4:]))
-    lines.ask_that("" not in (found.get("region"), found.get("group")) and (found.get("of") != "" or names[0] == ""), "a column without a name is not told")
+    lines.ask_that(
+        "" not in (found.get("region"), found.get("group"), found.get("freeze"))
+        and (found.get("of") != "" or names[0] == ""),
+        "a column without a name is not told",
+    )
     population, first, second, district = names[:4]
-    return Source(sha256, int(count), population, first, second, district, found.get("region"),
-                  found.get("group"), found.get("of"))
+    return Source(
+        sha256, int(count), population, first, second, district, found.get("region"),
+        found.get("group"), found.get("of"), found.get("freeze"),
+    )
 
 
 def columns_in(lines: Reader, said: str) -> tuple[list[str], list[str]]:
@@ -357,18 +453,36 @@ def columns_in(lines: Reader, said: str) -> tuple[list[str], list[str]]:
             name, end = json.JSONDecoder().raw_decode(said, at)
         except ValueError:
             name, end = None, at
-        lines.ask_that(isinstance(name, str) and quoted(name) == said[at:end] and said[end:end + 1] in ("", " "), "it has no names as JSON texts")
+        lines.ask_that(
+            isinstance(name, str)
+            and quoted(name) == said[at:end]
+            and said[end:end + 1] in ("", " "),
+            "it has no names as JSON texts",
+        )
         names.append(name)
         at = end + 1
-    lines.ask_that(len(names) == 4 + len(words), "it has not the names of four columns, and of others with what they are")
+    lines.ask_that(
+        len(names) == 4 + len(words),
+        "it has not the names of four columns, and of others with what they are",
+    )
     return names, words
 
 
 def has_rule(lines: Reader, word: str, is_named: bool | None) -> bool:
-    """Whether the line of a rule that needs a column stands next. Where the columns are told, it stands exactly where its column is named."""
+    """Returns whether the line of a rule that needs a column stands next.
+
+    Where the columns are told, it stands exactly where its column is named.
+    """
     is_there = lines.begins(word)
     if is_named is not None and is_there != is_named:
-        refuse(lines.number, "no column is named for this rule" if is_there else "a line that begins with `%s` has to stand here" % word)
+        refuse(
+            lines.number,
+            (
+                "no column is named for this rule"
+                if is_there
+                else f"a line that begins with `{word}` has to stand here"
+            ),
+        )
     return is_there
 
 
@@ -376,42 +490,89 @@ def rules_of(lines: Reader, units: int, districts: int, source: Source | None) -
     """The rules that are set, by the names of their fields."""
     found: dict[str, int] = {}
     if lines.begins("max-cut"):
-        found["max_cut"], = lines.numbers("max-cut N", "max-cut c")
+        (found["max_cut"],) = lines.numbers("max-cut N", "max-cut c")
         lines.ask_that(found["max_cut"] < MOST_CUT, "such a limit is not written")
     if has_rule(lines, "max-split", None if source is None else source.region is not None):
         most, regions = lines.numbers("max-split N regions N", "max-split s regions q")
-        lines.ask_that(1 <= most <= MOST_DISTRICTS and 1 <= regions <= min(MOST_REGIONS, units), "the limit or the number of regions is out of range")
+        lines.ask_that(
+            1 <= most <= MOST_DISTRICTS and 1 <= regions <= min(MOST_REGIONS, units),
+            "the limit or the number of regions is out of range",
+        )
         found.update(max_split=most, regions=regions)
         if lines.begins("max-splits"):
-            splits, split_regions = lines.numbers("max-splits N max-split-regions N", "max-splits s max-split-regions k")
-            lines.ask_that(splits <= MOST_SPLITS and split_regions <= MOST_REGIONS and (splits, split_regions) != (MOST_SPLITS, MOST_REGIONS),
-                           "such limits are not written")
+            splits, split_regions = lines.numbers(
+                "max-splits N max-split-regions N", "max-splits s max-split-regions k"
+            )
+            lines.ask_that(
+                splits <= MOST_SPLITS
+                and split_regions <= MOST_REGIONS
+                and (splits, split_regions) != (MOST_SPLITS, MOST_REGIONS),
+                "such limits are not written",
+            )
             found.update(max_splits=splits, max_split_regions=split_regions)
     if has_rule(lines, "group-districts", None if source is None else source.group is not None):
         least, majorities = lines.numbers("group-districts N of N", "group-districts m of t")
-        lines.ask_that(least <= majorities <= districts, "the start plan does not give the group so many districts, or there are no so many")
+        lines.ask_that(
+            least <= majorities <= districts,
+            "the start plan does not give the group so many districts, or there are no so many",
+        )
         found.update(group_districts=least, majorities=majorities)
+        if lines.begins("group-share"):
+            (found["group_share"],) = lines.numbers("group-share N", "group-share p")
+            lines.ask_that(
+                found["group_share"] <= MOST_SHARE and found["group_share"] != HALF_SHARE,
+                "such a share is not written",
+            )
+    if has_rule(lines, "frozen", None if source is None else source.freeze is not None):
+        (found["frozen"],) = lines.numbers("frozen N", "frozen n")
+        lines.ask_that(found["frozen"] <= units, "there are no so many units")
     return found
 
 
 def head_of(lines: Reader, source: Source | None) -> Head:
-    units, edges, districts = lines.numbers("units N edges N districts N", "units n edges e districts D")
-    lines.ask_that(2 <= districts <= MOST_DISTRICTS and districts <= units <= MOST_UNITS, "there are no so many units or districts")
-    lines.ask_that(units - districts <= edges <= min(MOST_EDGES, units * (units - 1) // 2), "contiguous districts have another number of edges")
-    population, slack, low, high = lines.numbers("population N slack N low N high N", "population t slack b low l high h")
-    lines.ask_that(population <= BILLION * units and slack <= MOST_SLACK, "population or slack is too great")
+    units, edges, districts = lines.numbers(
+        "units N edges N districts N", "units n edges e districts D"
+    )
+    lines.ask_that(
+        2 <= districts <= MOST_DISTRICTS and districts <= units <= MOST_UNITS,
+        "there are no so many units or districts",
+    )
+    lines.ask_that(
+        units - districts <= edges <= min(MOST_EDGES, units * (units - 1) // 2),
+        "contiguous districts have another number of edges",
+    )
+    population, slack, low, high = lines.numbers(
+        "population N slack N low N high N", "population t slack b low l high h"
+    )
+    lines.ask_that(
+        population <= BILLION * units and slack <= MOST_SLACK, "population or slack is too great"
+    )
     shares = 10_000 * districts
-    lines.ask_that(low == -(-(10_000 - slack) * population // shares) and high == (10_000 + slack) * population // shares and low <= high,
-                   "the bounds are not those of the population and the slack")
-    return Head(units, edges, districts, population, Rules(slack, low, high, **rules_of(lines, units, districts, source)))
+    lines.ask_that(
+        low == -(-(10_000 - slack) * population // shares)
+        and high == (10_000 + slack) * population // shares
+        and low <= high,
+        "the bounds are not those of the population and the slack",
+    )
+    return Head(
+        units, edges, districts, population,
+        Rules(slack, low, high, **rules_of(lines, units, districts, source)),
+    )
 
 
 def setting_of(lines: Reader) -> Setting:
-    walks, steps, ends, hub_steps = lines.numbers("walks N steps N ends N hub-steps N", "walks M steps k ends m hub-steps r")
-    lines.ask_that(1 <= walks + ends <= MOST_TRAJECTORIES and 1 <= steps <= BILLION and 1 <= hub_steps <= BILLION, "a number is out of range")
+    walks, steps, ends, hub_steps = lines.numbers(
+        "walks N steps N ends N hub-steps N", "walks M steps k ends m hub-steps r"
+    )
+    lines.ask_that(
+        1 <= walks + ends <= MOST_TRAJECTORIES
+        and 1 <= steps <= BILLION
+        and 1 <= hub_steps <= BILLION,
+        "a number is out of range",
+    )
     stop = 0
     if lines.begins("stop") and len((lines.next() or "").split(" ")) == 2:
-        stop, = lines.numbers("stop N", "stop h")
+        (stop,) = lines.numbers("stop N", "stop h")
         lines.ask_that(1 <= stop <= MOST_TRAJECTORIES and ends >= 1, "no test stops so")
     return Setting(walks, steps, ends, hub_steps, stop)
 
@@ -419,7 +580,7 @@ def setting_of(lines: Reader) -> Setting:
 def rounded_up(top: int, of: int) -> Decimal:
     """top/of, rounded up at nine places, as the report writes it."""
     whole, rest = divmod(-(-top * BILLION // of), BILLION)
-    return Decimal("%d.%09d" % (whole, rest))
+    return Decimal(f"{whole}.{rest:09}")
 
 
 def bound_of(count: int, of: int) -> Decimal:
@@ -427,11 +588,14 @@ def bound_of(count: int, of: int) -> Decimal:
     least = -(-2 * count * BILLION * BILLION // of)
     root = math.isqrt(least)
     whole, rest = divmod(root if root * root >= least else root + 1, BILLION)
-    return Decimal("%d.%09d" % (whole, rest))
+    return Decimal(f"{whole}.{rest:09}")
 
 
 class Tests:
-    """The lines of the tests. All have the same questions, in the same order, and the same start."""
+    """The lines of the tests.
+
+    All have the same questions, in the same order, and the same start.
+    """
 
     def __init__(self, lines: Reader, head: Head, setting: Setting) -> None:
         self.lines, self.head, self.setting = lines, head, setting
@@ -439,49 +603,75 @@ class Tests:
         self.asks = self.asked()
 
     def asked(self) -> list[tuple[str, str]]:
-        """The questions, from the lines of the first trajectory, or of the first test where nothing is walked from the start."""
+        """The questions, from the lines of the first trajectory, or of the first test where nothing
+        is walked from the start.
+        """
         first = "walk 0 " if self.setting.walks else "stop " if self.setting.stop else "ends "
         asks: list[tuple[str, str]] = []
         for number, line in enumerate(self.lines.lines[self.lines.place:], self.lines.number):
-            found = re.search(" (%s) (%s) start " % ("|".join(SCORES), "|".join(TAILS)), line)
+            found = re.search(f" ({'|'.join(SCORES)}) ({'|'.join(TAILS)}) start ", line)
             if not line.startswith(first) or found is None:
                 break
             if (found[1], found[2]) in asks or len(asks) == 4:
                 refuse(number, "a question is asked twice, or there are more than four")
             asks.append((found[1], found[2]))
         if not asks:
-            refuse(self.lines.number, "a line that begins with `%s` has to stand here" % first.strip())
+            refuse(
+                self.lines.number, f"a line that begins with `{first.strip()}` has to stand here"
+            )
         return asks
 
     def line(self, ask: tuple[str, str], form: str, example: str) -> tuple[Start, list[str]]:
-        """The next line: the start's score, and what stands before and behind it. In the form A stands for the question, N for a number and
-        Z for a number with nine places."""
-        at = form[:form.index("A")].count("N")
-        words = self.lines.take(form.replace("N", NUMBER).replace("Z", NINE).replace("A", ASK), example)
+        """The next line: the start's score, and what stands before and behind it.
+
+        In the form A stands for the question, N for a number and Z for a number with nine places.
+        """
+        at = form[: form.index("A")].count("N")
+        words = self.lines.take(
+            form.replace("N", NUMBER).replace("Z", NINE).replace("A", ASK), example
+        )
         score, tail, top, below = words[at:at + 4]
-        self.lines.ask_that((score, tail) == ask, "it is %s:%s's turn here" % ask)
+        self.lines.ask_that((score, tail) == ask, f"it is {ask[0]}:{ask[1]}'s turn here")
         return self.start(score, int(top), int(below)), words[:at] + words[at + 4:]
 
     def start(self, score: str, top: int, below: int) -> Start:
         """The start's score, where it is one that a legal plan of this report may have."""
         head, start = self.head, Start(top, below)
         if score in ("seats", "cut-edges"):
-            most = head.districts if score == "seats" else head.edges if head.rules.max_cut is None else min(head.edges, head.rules.max_cut)
+            most = (
+                head.districts
+                if score == "seats"
+                else (
+                    head.edges
+                    if head.rules.max_cut is None
+                    else min(head.edges, head.rules.max_cut)
+                )
+            )
             is_good = below == 1 and 0 <= top <= most
         elif score == "mean-median":
             is_good = below == 2 * head.districts * BILLION and abs(top) <= below
         else:
-            is_good = 0 < below <= 4 * BILLION * head.units and below % 2 == 0 and 2 * abs(top) <= below
+            is_good = (
+                0 < below <= 4 * BILLION * head.units and below % 2 == 0 and 2 * abs(top) <= below
+            )
         self.lines.ask_that(is_good, "no plan has such a score")
-        self.lines.ask_that(self.starts.setdefault(score, start) == start, "the start has another score than above")
+        self.lines.ask_that(
+            self.starts.setdefault(score, start) == start, "the start has another score than above"
+        )
         return start
 
-    def both_tails(self, found: typing.Sequence[Line], counts: typing.Sequence[int], least: int) -> None:
-        """Where a score is asked for in both tails, each plan is in one of them, and one that is equal in both."""
+    def both_tails(
+        self, found: typing.Sequence[Line], counts: typing.Sequence[int], least: int
+    ) -> None:
+        """Refuses counts of both tails of a score that leave out a plan: each is in one, an equal
+        one in both.
+        """
         for one, count in zip(found, counts):
             for other, others in zip(found, counts):
                 if one.score == other.score and one.tail == "low" and other.tail == "high":
-                    self.lines.ask_that(count + others >= least, "some plan is in neither tail of %s" % one.score)
+                    self.lines.ask_that(
+                        count + others >= least, f"some plan is in neither tail of {one.score}"
+                    )
 
     def walks(self) -> tuple[Walk, ...]:
         found: list[Walk] = []
@@ -493,45 +683,71 @@ class Tests:
         """The lines of one trajectory."""
         found: list[Walk] = []
         for ask in self.asks:
-            start, words = self.line(ask, "walk N moved N A count N of N bound Z", "walk j moved v SCORE TAIL start x/y count c of q bound z")
+            start, words = self.line(
+                ask, "walk N moved N A count N of N bound Z",
+                "walk j moved v SCORE TAIL start x/y count c of q bound z",
+            )
             of_walk, moved, count, of = map(int, words[:4])
             walk = Walk(*ask, start, of_walk, moved, count, of, Decimal(words[4]))
             found.append(walk)
-            self.lines.ask_that(walk.number == number, "it is walk %d's turn here" % number)
-            self.lines.ask_that(walk.moved == found[0].moved and walk.moved <= self.setting.steps, "no such number of steps moved")
-            self.lines.ask_that(walk.of == self.setting.steps + 1 and 1 <= walk.count <= walk.of, "no so many plans are visited")
-            self.lines.ask_that(walk.moved > 0 or walk.count == walk.of, "nothing moved, and so all plans are the start")
-            self.lines.ask_that(walk.bound == bound_of(walk.count, walk.of), "the bound is not that of the count")
+            self.lines.ask_that(walk.number == number, f"it is walk {number}'s turn here")
+            self.lines.ask_that(
+                walk.moved == found[0].moved and walk.moved <= self.setting.steps,
+                "no such number of steps moved",
+            )
+            self.lines.ask_that(
+                walk.of == self.setting.steps + 1 and 1 <= walk.count <= walk.of,
+                "no so many plans are visited",
+            )
+            self.lines.ask_that(
+                walk.moved > 0 or walk.count == walk.of,
+                "nothing moved, and so all plans are the start",
+            )
+            self.lines.ask_that(
+                walk.bound == bound_of(walk.count, walk.of), "the bound is not that of the count"
+            )
         self.both_tails(found, [walk.count for walk in found], self.setting.steps + 2)
         return found
 
     def shift(self, walks: tuple[Walk, ...]) -> Shift:
         counts = self.lines.numbers("shift" + 9 * " N", "shift " + " ".join("c" * 9))
         setting = self.setting
-        self.lines.ask_that(sum(counts) == setting.walks * (setting.steps + 1) and counts[4] >= setting.walks,
-                            "the numbers do not add up to the plans that are visited")
+        self.lines.ask_that(
+            sum(counts) == setting.walks * (setting.steps + 1) and counts[4] >= setting.walks,
+            "the numbers do not add up to the plans that are visited",
+        )
         for tail, part in (("low", counts[:5]), ("high", counts[4:])):
             told = [walk.count for walk in walks if walk.ask == "seats:" + tail]
-            self.lines.ask_that(not told or sum(told) == sum(part), "the numbers are not those of the lines on seats:%s" % tail)
+            self.lines.ask_that(
+                not told or sum(told) == sum(part),
+                f"the numbers are not those of the lines on seats:{tail}",
+            )
         return Shift(tuple(counts))
 
     def stops(self) -> tuple[Stop, ...]:
         found, enough, ends = [], self.setting.stop, self.setting.ends
         for ask in self.asks:
-            start, words = self.line(ask, "stop A place N value N/N p Z", "stop SCORE TAIL start x/y place l value t/o p z")
+            start, words = self.line(
+                ask, "stop A place N value N/N p Z",
+                "stop SCORE TAIL start x/y place l value t/o p z",
+            )
             place, top, of = map(int, words[:3])
             stop = Stop(*ask, start, place, top, of, Decimal(words[3]))
             early = stop.top == enough and stop.of == stop.place and enough <= stop.place <= ends
             late = 1 <= stop.top <= enough and stop.of == ends + 1 and stop.place == ends
             self.lines.ask_that(early or late, "no test stops so")
-            self.lines.ask_that(stop.p == rounded_up(stop.top, stop.of), "p is not that of the value")
+            self.lines.ask_that(
+                stop.p == rounded_up(stop.top, stop.of), "p is not that of the value"
+            )
             found.append(stop)
         return tuple(found)
 
     def ends(self) -> tuple[Ends, ...]:
         found, of = [], self.setting.ends + 1
         for ask in self.asks:
-            start, words = self.line(ask, "ends A rank N of N p Z", "ends SCORE TAIL start x/y rank g of q p z")
+            start, words = self.line(
+                ask, "ends A rank N of N p Z", "ends SCORE TAIL start x/y rank g of q p z"
+            )
             one = Ends(*ask, start, int(words[0]), int(words[1]), Decimal(words[2]))
             self.rank_that_is(one.rank, one.of, of, one.p)
             found.append(one)
@@ -541,11 +757,18 @@ class Tests:
     def serial(self) -> tuple[Serial, ...]:
         found, of = [], self.setting.steps + 1
         for ask in self.asks:
-            start, words = self.line(ask, "serial A place N rank N of N p Z", "serial SCORE TAIL start x/y place t rank g of q p z")
-            one = Serial(*ask, start, int(words[0]), int(words[1]), int(words[2]), Decimal(words[3]))
+            start, words = self.line(
+                ask, "serial A place N rank N of N p Z",
+                "serial SCORE TAIL start x/y place t rank g of q p z",
+            )
+            one = Serial(
+                *ask, start, int(words[0]), int(words[1]), int(words[2]), Decimal(words[3])
+            )
             found.append(one)
             self.lines.ask_that(of & of - 1 == 0, "a serial run has a power of two of plans")
-            self.lines.ask_that(one.place == found[0].place and one.place < of, "the start has no such place")
+            self.lines.ask_that(
+                one.place == found[0].place and one.place < of, "the start has no such place"
+            )
             self.rank_that_is(one.rank, one.of, of, one.p)
         self.both_tails(found, [one.rank for one in found], of + 1)
         return tuple(found)
@@ -557,21 +780,40 @@ class Tests:
 
 def asked(test: str, line: Line) -> dict[str, object]:
     """Returns what each row of a frame has: the test, the question, and the start's score."""
-    return {"test": test, "ask": line.ask, "score": line.score, "tail": line.tail, "start": line.start}
+    return {
+        "test": test,
+        "ask": line.ask,
+        "score": line.score,
+        "tail": line.tail,
+        "start": line.start,
+    }
 
 
 # ---- the texts
 
+
 def with_decimal(row: typing.Sequence[object]) -> list[object]:
-    """Returns a row whose score has its decimals beside the fraction, where it is no whole number."""
-    return [f"{cell} = {cell.decimal:.6g}" if isinstance(cell, Start) and cell.denominator != 1 else cell
-            for cell in row]
+    """Returns a row whose score has its decimals beside the fraction, where it is no whole number.
+    """
+    return [
+        (
+            f"{cell} = {cell.decimal:.6g}"
+            if isinstance(cell, Start) and cell.denominator != 1
+            else cell
+        )
+        for cell in row
+    ]
 
 
 def table(rows: typing.Iterable[typing.Sequence[object]], titles: typing.Sequence[str]) -> str:
     """Returns a plain table in HTML."""
-    cells = "".join("<tr>%s</tr>" % "".join("<td>%s</td>" % html.escape("" if cell is None else str(cell)) for cell in row) for row in rows)
-    return "<table><thead><tr>%s</tr></thead><tbody>%s</tbody></table>" % ("".join("<th>%s</th>" % html.escape(title) for title in titles), cells)
+
+    def row_of(tag: str, row: typing.Sequence[object]) -> str:
+        texts = ("" if cell is None else str(cell) for cell in row)
+        return f"<tr>{''.join(f'<{tag}>{html.escape(text)}</{tag}>' for text in texts)}</tr>"
+
+    body = "".join(row_of("td", row) for row in rows)
+    return f"<table><thead>{row_of('th', titles)}</thead><tbody>{body}</tbody></table>"
 
 
 @dataclasses.dataclass(frozen=True, repr=False)
@@ -588,17 +830,17 @@ class PlanCheck:
     population: int
     rules: Rules
     source: Source | None = None
-    """What was read; None where that is not told."""
+    """The bytes and columns that were read; None if the text does not name them."""
     table: tuple[District, ...] = dataclasses.field(default=(), compare=False)
     """The districts, by their numbers. The package computes them; a text alone has none."""
     cut_edges: int | None = dataclasses.field(default=None, compare=False)
-    """How many edges lie between two districts; None of a text alone."""
+    """The number of edges between districts; None of a text alone."""
     faults: tuple[str, ...] = ()
     """Every fault of the plan, in the user's labels; empty where the program found it legal."""
 
     @property
     def is_legal(self) -> bool:
-        """Whether the program found the plan legal."""
+        """Returns whether the program found the plan legal."""
         return not self.faults
 
     def with_plan(self, plan: Plan) -> PlanCheck:
@@ -608,10 +850,13 @@ class PlanCheck:
     @classmethod
     def of_plan(cls, plan: Plan, edges: int, rules: Rules) -> PlanCheck:
         """Returns what is known of a plan that the program refused."""
-        units, population = (sum(getattr(one, name) for one in plan.districts)
-                             for name in ("units", "population"))
-        return cls(units, edges, len(plan.districts), population, rules, None, plan.districts,
-                   plan.cut_edges, plan.faults)
+        units, population = (
+            sum(getattr(one, name) for one in plan.districts) for name in ("units", "population")
+        )
+        return cls(
+            units, edges, len(plan.districts), population, rules, None, plan.districts,
+            plan.cut_edges, plan.faults,
+        )
 
     def to_frame(self, exact: bool = False) -> pandas.DataFrame:
         """Returns a pandas DataFrame with a row for each district.
@@ -620,33 +865,45 @@ class PlanCheck:
         `second`, `group` and `group_of` are counts; `deviation` is in people, and `deviation_share`
         a part of the ideal population; `first_share` is the first party's part of both parties'
         votes, `group_share` the group's part of `group_of`; `regions` is the number of regions in
-        which the district lies, and `split_regions` how many of these lie in others, too; `parts` is
-        the number of its contiguous parts. Shares are floats; with exact=True they are Fraction.
+        which the district lies, and `split_regions` how many of these lie in others, too; `parts`
+        is the number of its contiguous parts. Shares are floats; with exact=True they are Fraction.
 
         MissingExtra, an ImportError, where pandas is not installed.
         """
         from . import districts
-        frame = extra("pandas").DataFrame(districts.rows_of(self.table, exact),
-                                          columns=list(districts.COLUMNS))
-        whole = [name for name in districts.COLUMNS
-                 if name not in ("district", "deviation") and not name.endswith("share")]
+
+        frame = extra("pandas").DataFrame(
+            districts.rows_of(self.table, exact), columns=list(districts.COLUMNS)
+        )
+        whole = [
+            name
+            for name in districts.COLUMNS
+            if name not in ("district", "deviation") and not name.endswith("share")
+        ]
         return frame.astype({name: "Int64" for name in whole})
 
     def __repr__(self) -> str:
         state = "legal" if self.is_legal else f"{len(self.faults)} faults"
-        return (f"<PlanCheck: {state}, {self.units} units, {self.districts} districts,"
-                f" {self.population} people>")
+        return (
+            f"<PlanCheck: {state}, {self.units} units, {self.districts} districts,"
+            f" {self.population} people>"
+        )
 
     def _repr_html_(self) -> str:
         from . import districts
+
         rules = self.rules
-        about = (f"{self.units} units, {self.edges} edges, {self.districts} districts,"
-                 f" {self.population} people; {rules.low} to {rules.high} people a district")
+        about = (
+            f"{self.units} units, {self.edges} edges, {self.districts} districts,"
+            f" {self.population} people; {rules.low} to {rules.high} people a district"
+        )
         about += "" if self.cut_edges is None else f"; {self.cut_edges} cut edges"
         faults = "".join(f"<li>{html.escape(fault)}</li>" for fault in self.faults)
         titles, rows = districts.shown_rows(self.table)
         state = f"The plan is refused:<ul>{faults}</ul>" if faults else "The plan is legal."
-        return f"<p>{html.escape(about)}</p><div>{state}</div>" + (table(rows, titles) if rows else "")
+        return f"<p>{html.escape(about)}</p><div>{state}</div>" + (
+            table(rows, titles) if rows else ""
+        )
 
     @classmethod
     def parse(cls, text: str) -> PlanCheck:
@@ -662,7 +919,12 @@ class PlanCheck:
         if self.faults:
             return "\n".join(["the plan is refused:", *self.faults, ""])
         head = Head(self.units, self.edges, self.districts, self.population, self.rules)
-        return "\n".join(["plan-check 1", *([] if self.source is None else self.source.lines()), *head.lines(), "end", ""])
+        return "\n".join(
+            [
+                "plan-check 1", *([] if self.source is None else self.source.lines()),
+                *head.lines(), "end", "",
+            ]
+        )
 
 
 def finish(lines: Reader) -> None:
@@ -674,9 +936,14 @@ def finish(lines: Reader) -> None:
 
 COLUMNS = ("test", "walk", "ask", "start", "moved", "place", "count", "of", "bound", "p")
 # The columns of a frame, each with one meaning, and those of them that are whole numbers.
-FRAME = ("test", "walk", "ask", "score", "tail", "start", "moved", "visited", "in_tail", "share", "bound",
-         "rank", "of", "stopped_after", "start_place", "p")
-WHOLE_COLUMNS = ("walk", "moved", "visited", "in_tail", "rank", "of", "stopped_after", "start_place")
+FRAME = (
+    "test", "walk", "ask", "score", "tail", "start", "moved", "visited", "in_tail", "share",
+    "bound", "rank", "of", "stopped_after", "start_place", "p",
+)
+FLOAT_COLUMNS = ("start", "share", "bound", "p")
+WHOLE_COLUMNS = (
+    "walk", "moved", "visited", "in_tail", "rank", "of", "stopped_after", "start_place",
+)
 
 
 @dataclasses.dataclass(frozen=True, repr=False)
@@ -703,11 +970,15 @@ class Report:
     serial: tuple[Serial, ...]
     """The serial tests, one for each question; empty where it was not asked for."""
     source: Source | None = None
-    """What was read; None where that is not told."""
+    """The bytes and columns that were read; None if the text does not name them."""
+    audited: Audited | None = dataclasses.field(default=None, compare=False)
+    """The graph of the call that made this report; None for a text that was read."""
 
     @classmethod
     def parse(cls, text: str) -> Report:
-        """The report as a value; ReportRefused, with the number of the line, where the program cannot have written the text."""
+        """The report as a value; ReportRefused, with the number of the line, where the program
+        cannot have written the text.
+        """
         lines = Reader(lines_of(text))
         report = cls.read(lines)
         if lines.next() is not None:
@@ -716,10 +987,13 @@ class Report:
 
     @classmethod
     def parse_plans(cls, text: str) -> list[tuple[str, Report]]:
-        """The text of `plans`: for each plan its name and its report, in order. Names may be equal."""
+        """The text of `plans`: for each plan its name and its report, in order.
+
+        Names may be equal.
+        """
         lines, found = Reader(lines_of(text)), []
         while lines.next() is not None:
-            name, = lines.take("plan (.*)", "plan NAME")
+            (name,) = lines.take("plan (.*)", "plan NAME")
             found.append((name, cls.read(lines)))
         if not found:
             refuse(1, "there is no plan")
@@ -728,9 +1002,9 @@ class Report:
     @classmethod
     def read(cls, lines: Reader) -> Report:
         """The next report of some lines."""
-        version, = lines.take("district-audit ([12])", "district-audit 1")
+        (version,) = lines.take("district-audit ([12])", "district-audit 1")
         source = source_of(lines)
-        key, = lines.take("key ([0-9a-f]{64})", "key K")
+        (key,) = lines.take("key ([0-9a-f]{64})", "key K")
         head, setting = head_of(lines, source), setting_of(lines)
         tests = Tests(lines, head, setting)
         walks = tests.walks()
@@ -744,9 +1018,17 @@ class Report:
     def __str__(self) -> str:
         setting = self.setting
         head = Head(self.units, self.edges, self.districts, self.population, self.rules)
-        lines = ["district-audit %d" % (1 if self.shift is None else 2), *([] if self.source is None else self.source.lines()), "key " + self.key, *head.lines(),
-                 "walks %d steps %d ends %d hub-steps %d" % (setting.walks, setting.steps, setting.ends, setting.hub_steps)]
-        lines += ["stop %d" % setting.stop] if setting.stop else []
+        lines = [
+            f"district-audit {1 if self.shift is None else 2}",
+            *([] if self.source is None else self.source.lines()),
+            "key " + self.key,
+            *head.lines(),
+            (
+                f"walks {setting.walks} steps {setting.steps} ends {setting.ends} hub-steps"
+                f" {setting.hub_steps}"
+            ),
+        ]
+        lines += [f"stop {setting.stop}"] if setting.stop else []
         lines += map(str, self.walks)
         lines += [] if self.shift is None else [str(self.shift)]
         lines += map(str, (*self.stops, *self.ends, *self.serial))
@@ -758,39 +1040,68 @@ class Report:
         return tuple(dict.fromkeys(line.ask for line in (*self.walks, *self.stops, *self.ends)))
 
     def rows(self) -> list[tuple[object, ...]]:
-        """A row for each line of a test, with the columns `COLUMNS`; what a test does not have is None."""
+        """A row for each line of a test, with the columns `COLUMNS`; what a test does not have is
+        None.
+        """
         rows: list[tuple[object, ...]] = []
-        rows += [("walk", it.number, it.ask, it.start, it.moved, None, it.count, it.of, it.bound, None) for it in self.walks]
-        rows += [("stop", None, it.ask, it.start, None, it.place, it.top, it.of, None, it.p) for it in self.stops]
-        rows += [("ends", None, it.ask, it.start, None, None, it.rank, it.of, None, it.p) for it in self.ends]
-        return rows + [("serial", None, it.ask, it.start, None, it.place, it.rank, it.of, None, it.p) for it in self.serial]
+        rows += [
+            (
+                "walk", walk.number, walk.ask, walk.start, walk.moved, None, walk.count, walk.of,
+                walk.bound, None,
+            )
+            for walk in self.walks
+        ]
+        rows += [
+            ("stop", None, one.ask, one.start, None, one.place, one.top, one.of, None, one.p)
+            for one in self.stops
+        ]
+        rows += [
+            ("ends", None, one.ask, one.start, None, None, one.rank, one.of, None, one.p)
+            for one in self.ends
+        ]
+        return rows + [
+            ("serial", None, one.ask, one.start, None, one.place, one.rank, one.of, None, one.p)
+            for one in self.serial
+        ]
 
     def named_rows(self) -> list[dict[str, object]]:
         """Returns a row for each line of a test, by the names in `FRAME`."""
         rows: list[dict[str, object]] = []
         for walk in self.walks:
-            rows.append(dict(walk=walk.number, moved=walk.moved, visited=walk.of, in_tail=walk.count,
-                             share=walk.part, bound=walk.bound, **asked("walk", walk)))
+            rows.append(
+                dict(
+                    walk=walk.number, moved=walk.moved, visited=walk.of, in_tail=walk.count,
+                    share=walk.part, bound=walk.bound, **asked("walk", walk),
+                )
+            )
         for stop in self.stops:
-            rows.append(dict(rank=stop.top, of=stop.of, stopped_after=stop.place, p=stop.p,
-                             **asked("stop", stop)))
+            rows.append(
+                dict(
+                    rank=stop.top, of=stop.of, stopped_after=stop.place, p=stop.p,
+                    **asked("stop", stop),
+                )
+            )
         for one in self.ends:
             rows.append(dict(rank=one.rank, of=one.of, p=one.p, **asked("ends", one)))
         for run in self.serial:
-            rows.append(dict(rank=run.rank, of=run.of, start_place=run.place, p=run.p,
-                             **asked("serial", run)))
+            rows.append(
+                dict(
+                    rank=run.rank, of=run.of, start_place=run.place, p=run.p, **asked("serial", run)
+                )
+            )
         return rows
 
     def to_frame(self, exact: bool = False) -> pandas.DataFrame:
         """Returns a pandas DataFrame with a row for each line of a test.
 
         `test` is walk, stop, ends or serial; `ask` is `score`, a colon and `tail`; `start` is the
-        enacted plan's score. Of a walk: `walk` is its number, `moved` the number of steps that changed
-        the plan, `visited` the number of plans visited, `in_tail` how many of them are as extreme as
-        the enacted plan, itself among them, `share` their part, and `bound` the report's bound. Of
-        the other tests: `rank` of `of` is the enacted plan's rank, and `p` the p-value; of a test
-        that stops early these are the two numbers of its value, and `stopped_after` the number of
-        ends that it took; `start_place` is the enacted plan's place in a serial run, from 0.
+        enacted plan's score. Of a walk: `walk` is its number, `moved` the number of steps that
+        changed the plan, `visited` the number of plans visited, `in_tail` how many of them are as
+        extreme as the enacted plan, itself among them, `share` their part, and `bound` the report's
+        bound. Of the other tests: `rank` of `of` is the enacted plan's rank, and `p` the p-value;
+        of a test that stops early these are the two numbers of its value, and `stopped_after` the
+        number of ends that it took; `start_place` is the enacted plan's place in a serial run, from
+        0.
 
         Whole numbers are nullable integers (Int64): what a test does not have is NA. Scores, bounds
         and p-values are floats; with exact=True they are Fraction and Decimal.
@@ -805,7 +1116,10 @@ class Report:
             return float(value) if isinstance(value, (Fraction, Decimal)) and not exact else value
 
         rows = [[plain(row.get(name)) for name in FRAME] for row in self.named_rows()]
-        return pandas.DataFrame(rows, columns=list(FRAME)).astype({name: "Int64" for name in WHOLE_COLUMNS})
+        kinds = {name: "Int64" for name in WHOLE_COLUMNS}
+        # A column without a value would else be one of objects, which nothing compares.
+        kinds.update({} if exact else {name: "float64" for name in FLOAT_COLUMNS})
+        return pandas.DataFrame(rows, columns=list(FRAME)).astype(kinds)
 
     def effect(self, epsilon: Number, alpha: Number) -> dict[str, Effect]:
         """Returns, for each ask, the test that separates an effect's size from its significance.
@@ -843,11 +1157,19 @@ class Report:
         """
         return test_effects(self, epsilon, alpha)
 
-    def exhibit(self, path: PathLike, *, title: str = "Outlier test of a districting plan",
-                parties: tuple[str, str] | None = None, graph: object = None,
-                columns: typing.Mapping[str, str] | None = None, command: str | None = None,
-                notes: typing.Sequence[str] = (), epsilon: Number | None = None,
-                alpha: Number | None = None) -> None:
+    def exhibit(
+        self,
+        path: PathLike,
+        *,
+        title: str = "Outlier test of a districting plan",
+        parties: tuple[str, str] | None = None,
+        graph: object = None,
+        columns: typing.Mapping[str, str] | None = None,
+        command: str | None = None,
+        notes: typing.Sequence[str] = (),
+        epsilon: Number | None = None,
+        alpha: Number | None = None,
+    ) -> None:
         """Writes the report as one self-contained page of HTML, for a court.
 
         The page has the questions and definitions, the methods, the numbers, figures, the theorems
@@ -863,10 +1185,12 @@ class Report:
         parties : tuple of two str
             The names of the parties, in the order of the columns `first` and `second`.
         graph : Prepared, bytes, path, or a graph of networkx or GerryChain
-            The graph of the report, for a table of the enacted plan's districts.
+            The graph of the report, for a table of the enacted plan's districts. It is compared
+            with the report byte by byte, an object after it is prepared as for the run, if the
+            report is that of a call of this package or has the line `source`.
         columns : dict
             The columns by the words pop, first, second, district, region, group and group_of; if
-            left out, those of a Prepared graph or of the report's own line.
+            left out, those of the report's own line or of the call that made it.
         command : str
             The command to print; if left out, it is written from the report.
         notes : sequence of str
@@ -874,15 +1198,22 @@ class Report:
         epsilon, alpha : Fraction, Decimal, str or int
             With both, the page has the test of `effect` too.
 
-        ValueError if the graph or its bytes are not those of the report.
+        ValueError if the graph is not that of the report.
         """
         from . import exhibit
+
         options = exhibit.Options(title, parties, graph, columns, command, notes, epsilon, alpha)
         exhibit.write(path, [("", self)], options)
 
-    def plot(self, name: str | None = None, *, ax: matplotlib.axes.Axes | None = None, title: str | None = None,
-             parties: typing.Sequence[str] | None = None,
-             scores: typing.Sequence[str] | str | None = None) -> matplotlib.figure.Figure:
+    def plot(
+        self,
+        name: str | None = None,
+        *,
+        ax: matplotlib.axes.Axes | None = None,
+        title: str | None = None,
+        parties: typing.Sequence[str] | None = None,
+        scores: typing.Sequence[str] | str | None = None,
+    ) -> matplotlib.figure.Figure:
         """Draws the report, and returns the matplotlib figure.
 
         Parameters
@@ -906,6 +1237,7 @@ class Report:
             An ImportError, where matplotlib is not installed.
         """
         from . import picture
+
         figure = picture.draw(self, ax=ax, title=title, parties=parties, scores=scores)
         if name is not None:
             picture.save(figure, name)
@@ -915,14 +1247,28 @@ class Report:
         setting = self.setting
         walked = [f"{setting.walks} walks of {setting.steps} steps"] if setting.walks else []
         walked += [f"{setting.ends} ends of {setting.hub_steps} steps"] if setting.ends else []
-        return (f"<Report: {self.units} units, {self.districts} districts, {', '.join(walked)};"
-                f" {', '.join(self.asks)}; key {self.key[:8]}..>")
+        return (
+            f"<Report: {self.units} units, {self.districts} districts, {', '.join(walked)};"
+            f" {', '.join(self.asks)}; key {self.key[:8]}..>"
+        )
 
     def _repr_html_(self) -> str:
         rules = self.rules
-        about = "%d units, %d edges, %d districts, %d people; %s; key %s" % (
-            self.units, self.edges, self.districts, self.population,
-            "; ".join(["%d to %d people a district" % (rules.low, rules.high), *rules.told(), *rules.told_further()]), self.key)
-        about += "" if self.source is None else "; source sha256 %s, %d bytes" % (self.source.sha256, self.source.bytes)
-        shift = "" if self.shift is None else table([self.shift.counts], ["seats " + word for word in SEATS])
-        return "<p>%s</p>%s%s" % (html.escape(about), table(map(with_decimal, self.rows()), COLUMNS), shift)
+        limits = [
+            f"{rules.low} to {rules.high} people a district", *rules.told(), *rules.told_further()
+        ]
+        about = (
+            f"{self.units} units, {self.edges} edges, {self.districts} districts,"
+            f" {self.population} people; {'; '.join(limits)}; key {self.key}"
+        )
+        about += (
+            ""
+            if self.source is None
+            else f"; source sha256 {self.source.sha256}, {self.source.bytes} bytes"
+        )
+        shift = (
+            ""
+            if self.shift is None
+            else table([self.shift.counts], ["seats " + word for word in SEATS])
+        )
+        return f"<p>{html.escape(about)}</p>{table(map(with_decimal, self.rows()), COLUMNS)}{shift}"

@@ -18,7 +18,7 @@ class NamedReports(typing.List[Pair]):
     """A list of pairs, a name and a report, which also finds a report by its name."""
 
     what = "report"
-    """What the names stand for: the title of their column."""
+    """The title of the column of names."""
 
     @property
     def names(self) -> list[str]:

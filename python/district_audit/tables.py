@@ -228,7 +228,9 @@ def padded(labels: typing.Sequence[object]) -> list[str]:
 def written(plans: list[Named]) -> bytes:
     """Returns plans, which have the same units, as CSV."""
     by_unit = [
-        dict(zip(map(as_text, (unit for unit, _ in labels)), padded([label for _, label in labels])))
+        dict(
+            zip(map(as_text, (unit for unit, _ in labels)), padded([label for _, label in labels]))
+        )
         for _, labels in plans
     ]
     for (name, _), plan in zip(plans, by_unit):

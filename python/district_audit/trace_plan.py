@@ -64,8 +64,8 @@ class UnitTable:
         root = json.loads(data.decode("utf-8"))
         self.rows: list[dict[str, typing.Any]] = root["nodes"]
         self.adjacency: list[list[dict[str, typing.Any]]] = root["adjacency"]
-        self.numbers = str(rules.get("numbers", "error"))
-        self.missing = str(rules.get("missing", "error"))
+        self.numbers = str(rules.get("numbers") or "error")
+        self.missing = str(rules.get("missing") or "error")
         written_ids = [row["id"] for row in self.rows]
         written = in_order(row[district] for row in self.rows)
         number = {label: place for place, label in enumerate(written)}

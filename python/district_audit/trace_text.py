@@ -43,7 +43,7 @@ class TraceHead:
     asks: tuple[Line, ...]
     """For each ask its score, its tail and the enacted plan's value."""
     source: Source | None = None
-    """What was read; None where the trace does not tell."""
+    """The bytes and columns that were read; None if the trace does not name them."""
 
 
 # ---- where the lines come from
@@ -136,7 +136,7 @@ class Trajectory(typing.NamedTuple):
 
 
 class Shown(typing.NamedTuple):
-    """What a line of a plan says."""
+    """A line of a plan."""
 
     step: int
     moves: int
@@ -244,7 +244,9 @@ class Text:
 
 
 def plan_line(asks: int) -> re.Pattern[str]:
-    """Returns the form of a line of a plan with so many scores: step, moves, scores, changes."""
+    """Returns the form of a line of a plan with this number of scores: step, moves, scores,
+    changes.
+    """
     number = "(?:0|[1-9][0-9]*)"
     return re.compile(f"({number}) ({number})((?: (?:0|-?[1-9][0-9]*)){{{asks}}})"
                       f"((?: {number}:{number})*)")

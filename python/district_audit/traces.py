@@ -9,27 +9,28 @@ from __future__ import annotations
 import collections.abc
 import operator
 import os
-import re
 import time
 import typing
 from fractions import Fraction
 
 from . import progress as bars
 from . import scores as score_functions
-from .calls import Given, given
+from .arguments import documented, tested_elections
+from .calls import Given, few_moves, given, warn_of_few_moves, words_in
 from .errors import extra
 from .program import PathLike, found
+from .trace_head import compared
 from .trace_plan import Plan, UnitTable, places_of
 from .trace_text import FileLines, Lines, ProgramLines, Shown, Text, Trajectory, plan_line
 
 if typing.TYPE_CHECKING:
     import pandas
-    from typing_extensions import Unpack
 
-    from .words import CheckWords, TraceWords
+    from .words import Ask, Key
 
 Words = typing.Mapping[str, typing.Any]
 Ids = typing.Union[int, str, range, typing.Tuple[int, int]]
+"""An id, a text as "0-3", "walks" or "ends", a range, or the first and the last id."""
 Elections = typing.Mapping[str, typing.Tuple[str, str]]
 Score = typing.Callable[["Sample"], object]
 Scores = typing.Union[typing.Mapping[str, Score], typing.Sequence[typing.Union[str, Score]]]
@@ -87,11 +88,11 @@ class Sample:
         self.step = shown.step
         """The number of steps from the first plan of the trajectory."""
         self.moves = shown.moves
-        """How many of these steps changed the plan."""
+        """The number of these steps that changed the plan."""
         self.numerators = shown.numerators
         """The numerator of each ask's score, in the order of the asks."""
         self.is_last = shown.step == trajectory.steps
-        """Whether it is the trajectory's last plan."""
+        """True for the trajectory's last plan."""
         self._plan, self._turn = plan, plan.turn
 
     def __repr__(self) -> str:
@@ -162,41 +163,52 @@ class Trace(typing.Iterator[Sample]):
     the iterator raises `TraceRefused` or the status's exception.
     """
 
-    def __init__(self, lines: Lines, sent: Given, graph: object, words: Words,
-                 **wanted: typing.Any) -> None:
-        """`graph` and `words` are those of the call, and `sent` what they came to. `wanted` has
-        ids, elections, last and progress, as `trace` and `read_trace` give them."""
+    def __init__(self, lines: Lines, sent: Given, graph: object, words: Words, *,
+                 ids: tuple[int, int] | None = None, elections: Elections | None = None,
+                 last: bool = False, progress: bool = False, is_read: bool = False) -> None:
+        """`graph` and `words` are those of the call, and `sent` is what they came to. `ids` are the
+        first and the last that were asked for. `is_read` is true for a text that was written
+        before, whose head is compared with the graph."""
         self.lines = lines
         self.text = Text(lines)
+        self.elections: dict[str, tuple[str, str]] = dict(elections or {})
+        """The columns of both parties' votes in each election, by its name."""
+        self.unchecked: tuple[str, ...] = ()
+        """A text for each part of a read trace's head that could not be compared with the graph."""
         try:
             # The program's own refusal of a graph comes before whatever this finds in it.
             self.head, line = self.text.head()
             self.trajectory = self.text.trajectory(line, self.head, None)
-            if "district" not in sent.named:
-                raise TypeError("the column district is missing")
             self.table = UnitTable(sent.data, graph, sent.named["district"], words)
-            self.check(sent.data, wanted.get("ids"))
-            self.elections: dict[str, tuple[str, str]] = dict(wanted.get("elections") or {})
-            """The columns of both parties' votes in each election, by its name."""
+            self.election = self.read_columns(sent.named)
+            self.check(sent.data, ids)
+            self.plan = Plan(self.table, self.table.start)
             for columns in self.elections.values():
-                # A missing column or value is told now, and not after a walk of hours.
+                # A missing column or value is reported now, and not after a walk of hours.
                 for column in columns:
                     self.table.column(column)
+            if is_read:
+                self.unchecked = compared(self, sent.named, words)
         except BaseException:
             lines.close()
             raise
-        self.election = (str(sent.named.get("first", "")), str(sent.named.get("second", "")))
-        """The columns of both parties' votes that the program read."""
-        self.last: bool = wanted.get("last", False)
-        self.final_id: int | None = wanted["ids"][1] if wanted.get("ids") else None
+        self.last = last
+        self.final_id = None if ids is None else ids[1]
         self.form = plan_line(len(self.head.asks))
-        self.bar = Bar(self.steps_in_all()) if wanted.get("progress") else None
+        self.bar = Bar(self.steps_in_all()) if progress else None
         self.hub: Shown | None = None
         self.done = 0
         """The steps of the trajectories that were read to their ends."""
+        self.moved: dict[int, tuple[int, int]] = {}
+        """The moves and the steps of each of these trajectories."""
         self.is_closed = False
-        self.plan = Plan(self.table, self.table.start)
         self.begin(self.trajectory)
+
+    def read_columns(self, named: Words) -> tuple[str, str]:
+        """Returns the columns of both parties' votes that the program read; '' if unknown."""
+        if self.head.source is not None:
+            return self.head.source.first, self.head.source.second
+        return str(named.get("first", "")), str(named.get("second", ""))
 
     def check(self, data: bytes, ids: tuple[int, int] | None) -> None:
         """Refuses a head that is not one of this graph, or not of the ids that were asked for."""
@@ -272,11 +284,14 @@ class Trace(typing.Iterator[Sample]):
                     return Sample(self, self.plan, self.trajectory, shown)
                 continue
             self.done += self.trajectory.steps
+            self.moved[self.trajectory.id] = self.before.moves, self.trajectory.steps
             line = self.text.line("the line `end`")
             if line == "end":
                 self.text.ask_that(self.final_id in (None, self.trajectory.id),
                                    f"not all trajectories up to {self.final_id} are there")
                 self.text.end()
+                few = few_moves("trajectory", self.moved, self.head.units)
+                warn_of_few_moves([few] if few else [], 3)
                 return None
             self.begin(self.text.trajectory(line, self.head, self.trajectory))
         return None
@@ -437,106 +452,176 @@ class Bar:
 
 # ---- the calls
 
-def ids_of(ids: Ids, walks: int, ends: int) -> tuple[int, int]:
-    """Returns the first and the last id."""
-    named = {"walks": (0, walks - 1), "ends": (walks, walks + ends - 1)}
-    if isinstance(ids, str):
-        found_ids = re.fullmatch("([0-9]+)(?:-([0-9]+))?", ids)
-        if ids not in named and found_ids is None:
-            raise ValueError(f"ids is a number, a range, 'A-B', 'walks' or 'ends', and not {ids!r}")
-        first, last = named[ids] if found_ids is None else (
-            int(found_ids[1]), int(found_ids[2] or found_ids[1]))
-    elif isinstance(ids, range):
-        if ids.step != 1 or not ids:
-            raise ValueError(f"a range of ids has at least one id and leaves none out, not {ids}")
-        first, last = ids[0], ids[-1]
-    else:
-        first, last = ids if isinstance(ids, tuple) else (ids, ids)
-    if not 0 <= first <= last < walks + ends:
-        raise ValueError(f"the ids {ids!r} are not within those of {walks} walks (0 to {walks - 1})"
-                         f" and {ends} endpoint trajectories ({walks} to {walks + ends - 1})")
-    return first, last
-
-
-def trace(graph: object, *, ids: Ids = 0, thin: int | None = None,
-          elections: Elections | None = None, last: bool = False, progress: bool = False,
-          program: PathLike | None = None, **words: Unpack[TraceWords]) -> Trace:
+@documented
+def trace(
+    graph: object,
+    *,
+    ids: Ids = 0,
+    thin: int | None = None,
+    population: str | None = None,
+    first: str | None = None,
+    second: str | None = None,
+    elections: Elections | None = None,
+    district: str | None = None,
+    assignment: object = None,
+    key: Key | None = None,
+    ask: Ask | None = None,
+    scores: object = None,
+    walks: int = 1,
+    steps: int = 1000,
+    ends: int = 0,
+    hub_steps: int = 1000,
+    slack: int | None = None,
+    tolerance: float | None = None,
+    max_cut: int = 400_000,
+    region: str | None = None,
+    max_split: int = 200,
+    max_splits: int = 995_000,
+    max_split_regions: int = 5000,
+    group: str | None = None,
+    group_of: str | None = None,
+    group_districts: int = 0,
+    group_share: int = 5000,
+    freeze: str | None = None,
+    source: bool = False,
+    last: bool = False,
+    progress: bool = False,
+    numbers: str | None = None,
+    missing: str | None = None,
+    join: object = None,
+    keep: object = None,
+    fill_region: object = None,
+    own_region: bool | None = None,
+    program: PathLike | None = None,
+    pop: str | None = None,
+    **unknown: object,
+) -> Trace:
     """Walks trajectories of a run and returns an iterator of the plans at every N-th step.
 
-    Parameters
-    ----------
-    graph, words
-        As for `run`: the columns, the rules, `key`, `walks`, `steps`, `ends`, `hub_steps` and
-        `ask`. Of the words of `run` those that do not say the job are not taken (`workers`,
-        `budget`, `save`, `resume`, `shift`, `stop`, `serial`, `parts`, `part`). `ask` may be left
-        out: the program computes cut edges then, since it has to be asked for something.
-    ids
-        The trajectories of that run, one after the other: an id, a tuple of the first and the last,
-        a range, a text as "0-3", "walks" or "ends". The walks have the ids from 0, the endpoint
-        trajectories those behind.
-    thin
-        N: 1 to 10^9. The plans after 0, N, 2N, .. steps are shown. Left out it is 1000, and with
-        ids="ends" `hub_steps`, so that each endpoint trajectory shows its hub and its endpoint.
-    elections
-        The columns of both parties' votes by an election's name, as
-        {"GOV18": ("G18D", "G18R")}. One walk serves all of them. Where `first` and `second` are
-        left out, the program reads those of the first. KeyError where no unit has a column, and
-        ValueError with the unit's id where a value is missing, negative or not whole.
-    last
-        Whether the last plan is shown, too, where N does not divide the steps. It is no plan of the
-        N-step chain, and has no place in `outlier_test`.
-    progress
-        Whether a bar shows how far the trace is.
-    program
-        The path of the program, where it is not in the folders of PATH.
+    PARAMETERS
 
-    Returns a `Trace`, which yields a `Sample` for each plan and holds no more than one plan. An
-    object of networkx or GerryChain is prepared as for `run`. The program walks as fast as it is
-    read: it waits while the samples are not taken.
+    The other arguments of `run` (`workers`, `budget`, `save`, `resume`, `shift`, `stop`, `serial`,
+    `parts`, `part`) are no part of the job, and are not taken.
 
-    The exceptions are those of `check`, at the call or, where the program ends with another status
-    than 0 or its text is not whole, at the sample at which this shows; TraceRefused, too.
+    Returns
+    -------
+    Trace
+        It yields a `Sample` for each plan and holds no more than one plan. The program walks as
+        fast as it is read: it waits while the samples are not taken.
+
+    Raises
+    ------
+    ValueRefused, TypeRefused, GraphRefused, PrepareRefused, MemoryRefused, ReadFault, WriteFault,
+    ProgramMissing
+        As for `check`, at the call; or, where the program ends with another status than 0, at the
+        sample at which this shows.
+    TraceRefused
+        The program's text is not whole.
+    KeyError
+        No unit has a column of an election.
+    ValueError
+        A value in such a column is missing, negative or not whole.
+
+    Warns
+    -----
+    FrozenWalk
+        At the end of the trace, if a trajectory changed the plan never, or fewer times than there
+        are units.
+    GraphChanged
+        Values of a graph were changed where it was prepared.
     """
-    said = with_elections(words, elections)
-    if said.get("ask") is None:
-        said["ask"] = "cut-edges:low"
-    walks, ends = (1 if said.get("walks") is None else said["walks"]), said.get("ends") or 0
-    first, final = ids_of(ids, int(walks), int(ends))
-    if thin is None:
-        thin = int(said.get("hub_steps") or 1000) if ids == "ends" else 1000
-    said["ids"] = str(first) if first == final else f"{first}-{final}"
-    said["thin"] = thin
-    sent = given("trace", graph, said)
-    return Trace(ProgramLines(found("audit", program), sent), sent, graph, said,
-                 ids=(first, final), elections=elections, last=last, progress=progress)
+    words = with_elections("trace", words_in(locals()), elections)
+    if words["ask"] is None and words["scores"] is None:
+        words["ask"] = "cut-edges:low"
+    sent = given("trace", graph, words)
+    shown_ids = [int(one) for one in sent.named["ids"].split("-")]
+    return Trace(ProgramLines(found("audit", program), sent), sent, graph, words,
+                 ids=(shown_ids[0], shown_ids[-1]), elections=elections, last=last,
+                 progress=progress)
 
 
-def with_elections(words: typing.Mapping[str, typing.Any], elections: Elections | None
+def with_elections(command: str, words: Words, elections: Elections | None
                    ) -> dict[str, typing.Any]:
     """Returns the words, with the columns of the first election where none are named."""
-    said = dict(words)
-    if elections and said.get("first") is None and said.get("second") is None:
-        said["first"], said["second"] = next(iter(elections.values()))
-    return said
+    named = dict(words)
+    if elections is not None:
+        columns = tested_elections(elections, False, command)
+        if named["first"] is None and named["second"] is None:
+            named["first"], named["second"] = next(iter(columns.values()))
+    return named
 
 
-def read_trace(text: PathLike, graph: object, *, elections: Elections | None = None,
-               last: bool = False, **words: Unpack[CheckWords]) -> Trace:
+@documented
+def read_trace(
+    text: PathLike,
+    graph: object,
+    *,
+    population: str | None = None,
+    first: str | None = None,
+    second: str | None = None,
+    elections: Elections | None = None,
+    district: str | None = None,
+    assignment: object = None,
+    key: Key | None = None,
+    ask: Ask | None = None,
+    scores: object = None,
+    walks: int | None = None,
+    steps: int | None = None,
+    ends: int | None = None,
+    hub_steps: int | None = None,
+    slack: int | None = None,
+    tolerance: float | None = None,
+    max_cut: int | None = None,
+    region: str | None = None,
+    max_split: int | None = None,
+    max_splits: int | None = None,
+    max_split_regions: int | None = None,
+    group: str | None = None,
+    group_of: str | None = None,
+    group_districts: int | None = None,
+    group_share: int | None = None,
+    freeze: str | None = None,
+    last: bool = False,
+    numbers: str | None = None,
+    missing: str | None = None,
+    join: object = None,
+    keep: object = None,
+    fill_region: object = None,
+    own_region: bool | None = None,
+    pop: str | None = None,
+    **unknown: object,
+) -> Trace:
     """Reads a trace that the program wrote to a file, and returns an iterator as `trace` does.
 
-    Parameters
-    ----------
-    text
-        The path of the file.
-    graph, words
-        The graph that was traced, and the columns `first`, `second` and `district`, as for `trace`.
-        Where the trace tells its source, another graph is refused by its SHA-256.
-    elections, last
-        As for `trace`.
+    The head of the text is compared with the graph: units, edges, districts, population, the number
+    of regions, the group's majorities, and the enacted plan's value of each score. What else is
+    given, as `key`, `steps` or `slack`, is compared with the text, too. `Trace.unchecked` says what
+    could not be compared: without the line `source` a text of another graph with the same totals
+    passes.
 
-    TraceRefused where it is no whole trace of this graph, OSError where it cannot be read.
+    PARAMETERS
+
+    Returns
+    -------
+    Trace
+
+    Raises
+    ------
+    TraceRefused
+        It is no whole trace of this graph.
+    ValueRefused, TypeRefused, PrepareRefused
+        As for `check`.
+    OSError
+        The file cannot be read.
+
+    Warns
+    -----
+    HeadNotCompared
+        A column that the comparison needs is not named.
+    FrozenWalk
+        As for `trace`.
     """
-    said = with_elections(words, elections)
-    sent = given("trace", graph, said)
-    return Trace(FileLines(open(os.fspath(text), "rb")), sent, graph, said, elections=elections,
-                 last=last)
+    words = words_in(locals())
+    sent = given("read_trace", graph, with_elections("read_trace", words, elections))
+    return Trace(FileLines(open(os.fspath(text), "rb")), sent, graph, words, elections=elections,
+                 last=last, is_read=True)

@@ -1,4 +1,4 @@
-"""What the tests share: the real program, and what to do where something is not installed."""
+"""Helpers of the tests: the real program, and the handling of what is not installed."""
 import contextlib
 import importlib.util
 import json
@@ -6,47 +6,50 @@ import os
 import pathlib
 import re
 import stat
-import sys
 import tempfile
+import typing
 import unittest
 import warnings
 
+import district_audit
+
 TOP = pathlib.Path(__file__).resolve().parent.parent.parent
-sys.path.insert(0, str(TOP / "python"))
-import district_audit  # noqa: E402
-
 EXAMPLES = TOP / "examples"
-CASES = TOP / "crates" / "audit_cases"
+CASES = TOP / "crates" / "case_runner"
 KEY = "0" * 64
-WORDS = dict(pop="pop", first="a", second="b", district="d", slack=5000)
-COLUMNS = dict(population="pop", first="a", second="b", district="d")
-WALK = dict(WORDS, key=KEY, walks=12, steps=8, ask="gap:low")
+WORDS: typing.Dict[str, typing.Any] = dict(
+    pop="pop", first="a", second="b", district="d", slack=5000
+)
+COLUMNS: typing.Dict[str, typing.Any] = dict(population="pop", first="a", second="b", district="d")
+WALK: typing.Dict[str, typing.Any] = dict(WORDS, key=KEY, walks=12, steps=8, ask="gap:low")
 
 
-def lacking(what):
-    """What is missing fails where the variable CI is set, and is skipped and counted elsewhere."""
+def lacking(what: typing.Any) -> None:
+    """Fails where the variable CI is set; elsewhere skips the test, which is counted."""
     if os.environ.get("CI"):
-        raise AssertionError("%s is missing, and CI is set" % what)
-    raise unittest.SkipTest("%s is missing" % what)
+        raise AssertionError(f"{what} is missing, and CI is set")
+    raise unittest.SkipTest(f"{what} is missing")
 
 
-def needs(module):
+def needs(module: typing.Any) -> typing.Any:
     """The module, or what `lacking` does."""
     if importlib.util.find_spec(module) is None:
         lacking(module)
     return importlib.import_module(module)
 
 
-def built(crate, variable):
+def built(crate: typing.Any, variable: typing.Any) -> typing.Any:
     """The real program that the test command leaves in out/, or the one that a variable names."""
     path = os.environ.get(variable) or str(TOP / "crates" / crate / "out" / crate)
     if not os.access(path, os.X_OK):
-        lacking("the program of crates/%s" % crate)
+        lacking(f"the program of crates/{crate}")
     return path
 
 
-def slots(folder):
-    """The program that tells of slots, which goes by the name under which it is called: a link in the folder, or what a variable names."""
+def slots(folder: typing.Any) -> typing.Any:
+    """Returns the program `audit_slots`: a link of that name in the folder, or what a variable
+    names.
+    """
     if os.environ.get("DISTRICT_AUDIT_SLOTS"):
         return os.environ["DISTRICT_AUDIT_SLOTS"]
     link = pathlib.Path(folder) / "audit_slots"
@@ -57,7 +60,7 @@ def slots(folder):
 class FolderCase(unittest.TestCase):
     """Tests that each have an empty folder."""
 
-    def setUp(self):
+    def setUp(self) -> None:
         # Walks of a few steps, as tests take them, change few units.
         warnings.simplefilter("ignore", district_audit.FrozenWalk)
         room = tempfile.TemporaryDirectory()
@@ -68,76 +71,104 @@ class FolderCase(unittest.TestCase):
 class ProgramCase(FolderCase):
     """Tests that call the real program."""
 
-    def setUp(self):
+    def setUp(self) -> None:
         super().setUp()
         self.program = built("audit_program", "DISTRICT_AUDIT")
 
-    def with_little_memory(self):
+    def with_little_memory(self) -> typing.Any:
         """A program that gets too little memory; a build with the address sanitizer reserves
         terabytes, and is refused what it asks for in another way."""
         if b"AddressSanitizer" in pathlib.Path(self.program).read_bytes():
-            few = "allocator_may_return_null=1:max_allocation_size_mb=1:log_path=%s" % (self.folder / "log")
-            return self.wrapper("ASAN_OPTIONS=%s exec PROGRAM" % few)
+            few = f"allocator_may_return_null=1:max_allocation_size_mb=1:log_path={self.folder}/log"
+            return self.wrapper(f"ASAN_OPTIONS={few} exec PROGRAM")
         return self.wrapper("ulimit -v 60000; exec PROGRAM")
 
-    def wrapper(self, line):
-        """A program that runs the real one under other circumstances; in the line, PROGRAM stands for it with its words."""
+    def wrapper(self, line: typing.Any) -> str:
+        """A program that runs the real one under other circumstances; in the line, PROGRAM stands
+        for it with its words.
+        """
         path = self.folder / "wrapper"
-        path.write_text("#!/bin/sh\n%s\n" % line.replace("PROGRAM", "'%s' \"$@\"" % self.program))
+        call = line.replace("PROGRAM", f"'{self.program}' \"$@\"")
+        path.write_text(f"#!/bin/sh\n{call}\n")
         path.chmod(path.stat().st_mode | stat.S_IXUSR)
         return str(path)
 
 
 class StandInGraph:
-    """What GerryChain documents of its Graph that the package uses, and nothing else; GerryChain itself is not tested here."""
+    """A stand-in with only the parts of GerryChain's documented Graph that the package uses."""
 
-    def __init__(self, root):
+    def __init__(self, root: typing.Any) -> None:
         self.root = root
 
-    def nodes(self, data=False):
+    def nodes(self, data: bool = False) -> typing.List[typing.Any]:
         assert data is True
-        return [(node["id"], {key: value for key, value in node.items() if key != "id"}) for node in self.root["nodes"]]
+        return [
+            (node["id"], {key: value for key, value in node.items() if key != "id"})
+            for node in self.root["nodes"]
+        ]
 
-    def adjacency(self):
+    def adjacency(self) -> typing.Iterator[typing.Any]:
         for node, entries in zip(self.root["nodes"], self.root["adjacency"]):
             yield node["id"], {entry["id"]: {} for entry in entries}
 
 
 class StandInAssignment:
-    """What GerryChain documents of a Partition's assignment that the package uses: items()."""
+    """A stand-in for a Partition's assignment, of which the package uses items()."""
 
-    def __init__(self, districts):
+    def __init__(self, districts: typing.Any) -> None:
         self.districts = districts
 
-    def items(self):
+    def items(self) -> typing.Any:
         return self.districts.items()
 
 
 class StandInPartition:
-    """What GerryChain documents of a Partition that the package uses: its assignment."""
+    """A stand-in for a Partition, of which the package uses the assignment."""
 
-    def __init__(self, districts):
+    def __init__(self, districts: typing.Any) -> None:
         self.assignment = StandInAssignment(districts)
 
 
-def example(name):
+def example(name: typing.Any) -> typing.Any:
     return json.loads((EXAMPLES / "data" / name).read_text(encoding="utf-8"))
 
 
-def readme_report():
+def readme_report() -> typing.Any:
     """The report that the README prints, which a court's reader would copy."""
     text = (TOP / "README.md").read_text(encoding="utf-8")
-    return next(block for block in re.findall("^```\\w*\n(.*?)^```$", text, re.DOTALL | re.MULTILINE) if block.startswith("district-audit") and "ends seats" in block)
+    return next(
+        block
+        for block in re.findall("^```\\w*\n(.*?)^```$", text, re.DOTALL | re.MULTILINE)
+        if block.startswith("district-audit") and "ends seats" in block
+    )
 
 
-def groups_report():
-    """The report on groups.json that examples/README.md prints, with each rule set and the source told; the plain model prints it."""
+def groups_report() -> typing.Any:
+    """The report on groups.json that examples/README.md prints, with each rule set and the source
+    told; the plain model prints it.
+    """
     text = (EXAMPLES / "README.md").read_text(encoding="utf-8").split("\n## groups.json\n")[1]
-    return next(block for block in re.findall("^```\\w*\n(.*?)^```$", text, re.DOTALL | re.MULTILINE) if block.startswith("district-audit"))
+    return next(
+        block
+        for block in re.findall("^```\\w*\n(.*?)^```$", text, re.DOTALL | re.MULTILINE)
+        if block.startswith("district-audit")
+    )
+
+
+def anything(value: object) -> typing.Any:
+    """Returns a value of a type that no checker judges, such as one that a call has to refuse."""
+    return value
+
+
+def found_in(form: str, text: str) -> re.Match[str]:
+    """Returns where a text has a form, which it has to have."""
+    found = re.search(form, text)
+    assert found is not None, f"{form} is not in the text"
+    return found
 
 
 @contextlib.contextmanager
-def environment(**values):
+def environment(**values: typing.Any) -> typing.Iterator[typing.Any]:
     """Variables of the environment, for a while; None takes one away."""
     before = {name: os.environ.get(name) for name in values}
     try:

@@ -3,22 +3,32 @@ import inspect
 import pickle
 import random
 import re
+import typing
 import unittest
 
 import common
+from common import anything
 import district_audit
 from district_audit import arguments, program, words
 
 CYCLE = common.EXAMPLES / "data" / "cycle.json"
-BASE = dict(common.COLUMNS, slack=5000, key=common.KEY, steps=8, ask="gap:low")
+BASE: typing.Dict[str, typing.Any] = dict(
+    common.COLUMNS, slack=5000, key=common.KEY, steps=8, ask="gap:low"
+)
 
 
 class Refusals(common.ProgramCase):
     """None of these calls the program: it is one that does not exist."""
 
-    def refused(self, said, kind=ValueError, call=district_audit.run, **words):
+    def refused(
+        self,
+        said: typing.Any,
+        kind: typing.Any = ValueError,
+        call: typing.Any = district_audit.run,
+        **words: typing.Any,
+    ) -> typing.Any:
         parts = [CYCLE] if call is not district_audit.make else []
-        parts += [{}] if call is district_audit.plans else []
+        parts += anything([{}]) if call is district_audit.plans else []
         with self.assertRaises(kind) as caught:
             call(*parts, program="/there/is/none", **words)
         error = caught.exception
@@ -28,7 +38,7 @@ class Refusals(common.ProgramCase):
         self.assertEqual(error.status, 1)
         return error
 
-    def test_likely_mistakes(self):
+    def test_likely_mistakes(self) -> None:
         """For each: what was given, the kind of error, what is said, and what would be right."""
         slack = "slack is a whole number from 0 to 10000, in hundredths of a percent"
         ask = (
@@ -41,7 +51,7 @@ class Refusals(common.ProgramCase):
             (
                 {"slack": 0.05},
                 TypeError,
-                f"run(slack=0.05): {slack}; for 5 percent write slack=500 or" " tolerance=0.05",
+                f"run(slack=0.05): {slack}; for 5 percent write slack=500 or tolerance=0.05",
             ),
             ({"slack": -1}, ValueError, f"run(slack=-1): {slack}"),
             ({"slack": True}, TypeError, f"run(slack=True): {slack}"),
@@ -49,50 +59,52 @@ class Refusals(common.ProgramCase):
             (
                 {"steps": 1e6},
                 TypeError,
-                "run(steps=1000000.0): steps is a whole number from 1 to"
-                " 1000000000; write steps=1000000",
+                (
+                    "run(steps=1000000.0): steps is a whole number from 1 to"
+                    " 1000000000; write steps=1000000"
+                ),
             ),
             (
-                {"steps": 0},
-                ValueError,
+                {"steps": 0}, ValueError,
                 "run(steps=0): steps is a whole number from 1 to 1000000000",
             ),
             (
-                {"stepz": 9},
-                TypeError,
+                {"stepz": 9}, TypeError,
                 "run(stepz=9): run has no argument stepz; did you mean steps?",
             ),
             ({"size": 3}, TypeError, "run(size=3): run has no argument size (only make)"),
             (
                 {"ask": five},
                 ValueError,
-                f"run(ask=['gap:low', 'gap:high', 'seats:low', 'seats:high',"
-                f" 'cut-e...): {ask}; these are 5: ask 4 in each of several calls with the same"
-                " key,"
-                " which walk the same plans",
+                (
+                    "run(ask=['gap:low', 'gap:high', 'seats:low', 'seats:high',"
+                    f" 'cut-e...): {ask}; these are 5: ask 4 in each of several calls with the same"
+                    " key,"
+                    " which walk the same plans"
+                ),
             ),
             (
-                {"ask": "gap"},
-                ValueError,
-                f"run(ask='gap'): {ask}; 'gap': did you mean gap:low or" " gap:high?",
+                {"ask": "gap"}, ValueError,
+                f"run(ask='gap'): {ask}; 'gap': did you mean gap:low or gap:high?",
             ),
             (
                 {"ask": "cut_edges:low"},
                 ValueError,
-                f"run(ask='cut_edges:low'): {ask};" " 'cut_edges:low': did you mean cut-edges:low?",
+                f"run(ask='cut_edges:low'): {ask}; 'cut_edges:low': did you mean cut-edges:low?",
             ),
             ({"ask": []}, ValueError, f"run(ask=[]): {ask}"),
             ({"ask": 7}, TypeError, f"run(ask=7): {ask}"),
             (
-                {"ask": "gap:low,gap:low"},
-                ValueError,
-                f"run(ask='gap:low,gap:low'): {ask}; 'gap:low' is" " there twice",
+                {"ask": "gap:low,gap:low"}, ValueError,
+                f"run(ask='gap:low,gap:low'): {ask}; 'gap:low' is there twice",
             ),
             (
                 {"parts": 2},
                 ValueError,
-                "run(parts=2): parts above 1 needs save, since what a part"
-                " finds is gathered later; write save=1",
+                (
+                    "run(parts=2): parts above 1 needs save, since what a part"
+                    " finds is gathered later; write save=1"
+                ),
             ),
             ({"part": 1}, ValueError, "run(part=1): part is from 0 to parts - 1, which is 0"),
             ({"max_split": 2}, ValueError, f"run(max_split=2): max_split {needs}"),
@@ -100,122 +112,141 @@ class Refusals(common.ProgramCase):
             (
                 {"group_districts": 2},
                 ValueError,
-                "run(group_districts=2): group_districts counts"
-                " districts of a group, and group is not given",
+                (
+                    "run(group_districts=2): group_districts counts"
+                    " districts of a group, and group is not given"
+                ),
+            ),
+            (
+                {"group_share": 4000},
+                ValueError,
+                "run(group_share=4000): group_share is the share of a group, and group is not"
+                " given",
             ),
             (
                 {"group_of": "v"},
                 ValueError,
-                "run(group_of='v'): group_of says of whom the group is a"
-                " part, and group is not given",
+                (
+                    "run(group_of='v'): group_of says of whom the group is a"
+                    " part, and group is not given"
+                ),
             ),
             (
                 {"key": "tomorrow"},
                 ValueError,
-                "run(key='tomorrow'): key is 64 hexadecimal digits, or"
-                " 32 bytes; key=key_of('tomorrow') makes a key of any text",
+                (
+                    "run(key='tomorrow'): key is 64 hexadecimal digits, or"
+                    " 32 bytes; key=key_of('tomorrow') makes a key of any text"
+                ),
             ),
             (
                 {"key": b"1"},
                 ValueError,
-                "run(key=b'1'): key is 64 hexadecimal digits, or 32 bytes;" " these are 1 bytes",
+                "run(key=b'1'): key is 64 hexadecimal digits, or 32 bytes; these are 1 bytes",
             ),
             (
                 {"key": None},
                 TypeError,
-                'run: the argument key is missing (key_of("the announced' ' text") makes one)',
+                'run: the argument key is missing (key_of("the announced text") makes one)',
             ),
             ({"population": None}, TypeError, "run: the argument population is missing"),
             (
-                {"district": None},
-                TypeError,
+                {"district": None}, TypeError,
                 "run: the argument district is missing (or assignment)",
             ),
             ({"population": 3}, TypeError, "run(pop=3): pop is the name of a column, a text"),
             (
                 {"walks": 0},
                 ValueError,
-                "run(walks=0): walks and ends together are 1 to 100000;"
-                " walks=1 walks one outlier trajectory",
+                (
+                    "run(walks=0): walks and ends together are 1 to 100000;"
+                    " walks=1 walks one outlier trajectory"
+                ),
             ),
             (
                 {"budget": 0},
                 ValueError,
-                "run(budget=0): without save, a budget below the 1"
-                " trajectories would lose its work; save=1 saves after each trajectory",
+                (
+                    "run(budget=0): without save, a budget below the 1"
+                    " trajectories would lose its work; save=1 saves after each trajectory"
+                ),
             ),
             (
                 {"stop": 2},
                 ValueError,
-                "run(stop=2): stop needs a parallel test; ends=99 makes one of"
-                " 99 endpoint trajectories",
+                (
+                    "run(stop=2): stop needs a parallel test; ends=99 makes one of"
+                    " 99 endpoint trajectories"
+                ),
             ),
             (
                 {"stop": 2, "ends": 9, "save": 1},
                 ValueError,
-                "run(stop=2): a test that stops early" " saves nothing; leave out save and resume",
+                "run(stop=2): a test that stops early saves nothing; leave out save and resume",
             ),
             (
                 {"serial": True, "steps": 1000},
                 ValueError,
-                "run(serial=True): the serial test needs"
-                " steps plus 1 to be a power of two; write steps=511 or steps=1023",
+                (
+                    "run(serial=True): the serial test needs"
+                    " steps plus 1 to be a power of two; write steps=511 or steps=1023"
+                ),
             ),
             ({"resume": 1}, TypeError, "run(resume=1): resume is True or False; write resume=True"),
             (
-                {"pop": "pop"},
-                TypeError,
+                {"pop": "pop"}, TypeError,
                 "run(population='pop'): pop is given too, and says the same",
             ),
             (
-                {"scores": "gap:low"},
-                TypeError,
-                "run(scores='gap:low'): ask is given too, and says the" " same",
+                {"scores": "gap:low"}, TypeError,
+                "run(scores='gap:low'): ask is given too, and says the same",
             ),
             (
-                {"tolerance": 0.05},
-                TypeError,
-                "run(tolerance=0.05): slack is given too, and says the" " same",
+                {"tolerance": 0.05}, TypeError,
+                "run(tolerance=0.05): slack is given too, and says the same",
             ),
             (
                 {"slack": None, "tolerance": 5},
                 ValueError,
-                "run(tolerance=5): tolerance is a number"
-                " from 0 to 1, as 0.05 for 5 percent; for 5 percent write tolerance=0.05",
+                (
+                    "run(tolerance=5): tolerance is a number"
+                    " from 0 to 1, as 0.05 for 5 percent; for 5 percent write tolerance=0.05"
+                ),
             ),
             (
                 {"slack": None, "tolerance": 0.00123},
                 ValueError,
-                "run(tolerance=0.00123): tolerance is"
-                " a whole number of hundredths of a percent; write tolerance=0.0012",
+                (
+                    "run(tolerance=0.00123): tolerance is"
+                    " a whole number of hundredths of a percent; write tolerance=0.0012"
+                ),
             ),
             (
                 {"slack": None, "tolerance": float("nan")},
                 ValueError,
-                "run(tolerance=nan): tolerance is" " a number from 0 to 1, as 0.05 for 5 percent",
+                "run(tolerance=nan): tolerance is a number from 0 to 1, as 0.05 for 5 percent",
             ),
         ):
             with self.subTest(given=given):
-                error = self.refused(said, kind, **{**BASE, **given})
-                name = next(iter(given)) if len(given) == 1 else error.argument
+                error = self.refused(said, kind, **{**BASE, **anything(given)})
+                name = next(iter(anything(given))) if len(anything(given)) == 1 else error.argument
                 self.assertIn(error.argument, {name, "pop", "population", "walks"})
 
-    def test_other_calls(self):
+    def test_other_calls(self) -> None:
         for call, given, said in (
             (
                 district_audit.check,
                 {"walks": 2},
-                "check(walks=2): check has no argument walks (only" " run, make, plans)",
+                "check(walks=2): check has no argument walks (only run, make, plans, trace)",
             ),
             (
-                district_audit.plans,
-                {"save": 2},
-                "plans(save=2): plans has no argument save (only run," " make)",
+                district_audit.plans, {"save": 2},
+                "plans(save=2): plans has no argument save (only run, make)",
             ),
             (
                 district_audit.make,
                 {"region": "c"},
-                "make(region='c'): make has no argument region (only" " check, run, plans)",
+                "make(region='c'): make has no argument region (only check, run, plans, trace)",
             ),
         ):
             needed = {
@@ -225,25 +256,26 @@ class Refusals(common.ProgramCase):
             }[call]
             base = {name: value for name, value in BASE.items() if name not in needed}
             with self.subTest(call=call):
-                self.refused(said, TypeError, call=call, **{**base, **given})
+                self.refused(said, TypeError, call=call, **{**base, **anything(given)})
 
-    def test_values_of_numpy_are_those_of_python(self):
+    def test_values_of_numpy_are_those_of_python(self) -> None:
         numpy = common.needs("numpy")
-        given = {
+        given: typing.Dict[str, typing.Any] = {
             **BASE,
             "slack": numpy.int64(5000),
             "steps": numpy.int32(8),
             "shift": numpy.bool_(True),
         }
-        wanted = district_audit.run(CYCLE, program=self.program, **{**BASE, "shift": True})
+        wanted = district_audit.run(
+            CYCLE, program=self.program, **anything({**BASE, "shift": True})
+        )
         self.assertEqual(district_audit.run(CYCLE, program=self.program, **given), wanted)
 
-    def test_what_stands_in_place_of_others(self):
+    def test_what_stands_in_place_of_others(self) -> None:
         base = {name: value for name, value in BASE.items() if name not in ("slack", "ask")}
         for tolerance, scores in (
             (0.5, {"gap": "low", "seats": ("low", "high")}),
-            (0.5, ["gap:low", "seats:low", "seats:high"]),
-            (0.5, "gap:low,seats:low,seats:high"),
+            (0.5, ["gap:low", "seats:low", "seats:high"]), (0.5, "gap:low,seats:low,seats:high"),
         ):
             found = district_audit.run(
                 CYCLE, program=self.program, tolerance=tolerance, scores=scores, **base
@@ -256,18 +288,14 @@ class Refusals(common.ProgramCase):
 
 
 # For the drawn arguments: values that are good, at an end, past it, or of no use.
-DRAWN = {
+DRAWN: typing.Dict[str, typing.List[typing.Any]] = {
     "slack": [0, 500, 10000, 10001, -1, "7", "07", "x"],
     "walks": [0, 1, 2, 100000, 100001],
     "steps": [1, 7, 8, 1000, 0, 10**9, 10**9 + 1],
     "ends": [0, 1, 3, 99999, 100000, 100001],
     "hub_steps": [1, 5, 0],
     "ask": [
-        "gap:low",
-        "seats:low,seats:high",
-        "",
-        "gap:mid",
-        "gap:low,gap:low",
+        "gap:low", "seats:low,seats:high", "", "gap:mid", "gap:low,gap:low",
         "gap:low,gap:high,seats:low,seats:high",
         "gap:low,gap:high,seats:low,seats:high,cut-edges:low",
     ],
@@ -288,9 +316,13 @@ DRAWN = {
     "group": ["", "g"],
     "group_of": ["", "w"],
     "group_districts": [0, 1, 200, 201],
+    "group_share": [5000, 0, 10000, 10001],
+    "freeze": ["", "f"],
     "source": [True, False],
     "size": [1, 30, 0, 31],
     "key": [common.KEY, common.KEY[1:], "F" * 64, "g" * 64],
+    "ids": ["0", 0, "0-0", "0-1", "1", "1-0", "0-3", 100000, "00", "0-", "-0", "0-1-2", "x", ""],
+    "thin": [1, 7, "5", 10**9, 0, 10**9 + 1, "07", "x"],
     "stepz": [1],
     "pop": ["p", ""],
     "first": ["a"],
@@ -302,7 +334,7 @@ DRAWN = {
 class Program(common.ProgramCase):
     """The package refuses exactly the arguments that the program refuses, by the same line."""
 
-    def verdicts(self, command, named):
+    def verdicts(self, command: typing.Any, named: typing.Any) -> typing.Any:
         """The lines of the package and of the program; '' where the words are taken.
 
         The graph is no JSON, so the program walks nothing.
@@ -317,7 +349,7 @@ class Program(common.ProgramCase):
         line = program.call(self.program, words.words_of(command, named), b"[").line
         return own, line if line.startswith("words: ") else ""
 
-    def test_drawn_arguments(self):
+    def test_drawn_arguments(self) -> None:
         chance = random.Random(57)
         seen = set()
         for number in range(400):
@@ -340,23 +372,18 @@ class Program(common.ProgramCase):
                 seen.add(own)
         self.assertGreater(len(seen), 25, "the drawn arguments are too much alike")
 
-    def test_one_bad_value_after_the_other(self):
+    def test_one_bad_value_after_the_other(self) -> None:
         """Each value of each argument beside good ones; no chance is in it."""
-        good = {
-            "run": {
-                **{name: DRAWN[name][0] for name in ("pop", "first", "second", "district")},
-                "key": common.KEY,
-                "ask": "gap:low",
-            }
-        }
-        for name, values in DRAWN.items():
-            for value in values:
-                named = {**good["run"], name: value}
-                with self.subTest(name=name, value=value):
-                    own, line = self.verdicts("run", named)
-                    self.assertEqual(own, line)
+        columns = {name: DRAWN[name][0] for name in ("pop", "first", "second", "district")}
+        good: typing.Dict[str, typing.Any] = {**columns, "key": common.KEY, "ask": "gap:low"}
+        for command in ("run", "trace"):
+            for name, values in DRAWN.items():
+                for value in values:
+                    with self.subTest(command=command, name=name, value=value):
+                        own, line = self.verdicts(command, {**good, name: value})
+                        self.assertEqual(own, line)
 
-    def test_steps_of_a_serial_test(self):
+    def test_steps_of_a_serial_test(self) -> None:
         """Each number of steps up to 40, of which 1, 3, 7, 15 and 31 are good."""
         base = {name: DRAWN[name][0] for name in ("pop", "first", "second", "district")}
         taken = []
@@ -369,39 +396,42 @@ class Program(common.ProgramCase):
 
 
 class Signatures(unittest.TestCase):
-    """What `run?` shows: each argument with its default, and what it means."""
+    """Signatures as `run?` shows them: each argument with its default and its meaning."""
 
     CALLS = {
         "check": district_audit.check,
         "run": district_audit.run,
         "plans": district_audit.plans,
         "make": district_audit.make,
+        "trace": district_audit.trace,
     }
+    # Arguments whose default is None, in place of a text or a number.
+    NONE = ("slack", "region", "group", "group_of", "freeze")
+    # Defaults of a call that are not the program's.
+    OWN = {("trace", "ask"): None, ("trace", "thin"): None}
 
-    def test_each_word_of_the_program_is_an_argument_with_its_default(self):
+    def test_each_word_of_the_program_is_an_argument_with_its_default(self) -> None:
         for command, call in self.CALLS.items():
-            there = inspect.signature(call).parameters
+            there = inspect.signature(anything(call)).parameters
             for name, row in arguments.TABLE.items():
                 with self.subTest(command=command, name=name):
                     self.assertEqual(name in there, command in row.commands)
-                    if name in there and name not in ("slack", "region", "group", "group_of"):
-                        self.assertEqual(
-                            there[name].default, None if row.is_needed else row.default
-                        )
+                    if name in there and name not in self.NONE:
+                        default = None if row.is_needed else row.default
+                        default = self.OWN.get((command, name), default)
+                        self.assertEqual(there[name].default, default)
 
-    def test_the_table_is_that_of_the_formats(self):
+    def test_the_table_is_that_of_the_formats(self) -> None:
         """The ranges and defaults are those of docs/user/FORMATS.md."""
         text = (common.TOP / "docs" / "user" / "FORMATS.md").read_text(encoding="utf-8")
         rows = re.findall(
             r"^\| `--([a-z-]+)` \| ([a-z, ]+) \| (.*) \| (.*) \|$", text, re.MULTILINE
         )
-        # The words that only `trace` takes are tested with its reader.
-        named = {name.replace("-", "_"): rest for name, *rest in rows if rest[0] != "trace"}
+        named = {name.replace("-", "_"): rest for name, *rest in rows}
         self.assertEqual(list(named), list(arguments.TABLE))
         for name, (commands, value, default) in named.items():
             row = arguments.TABLE[name]
             wanted = arguments.ALL if commands == "all" else tuple(commands.split(", "))
-            wanted = tuple(command for command in wanted if command != "trace")
             with self.subTest(name=name):
                 self.assertEqual(set(row.commands), set(wanted))
                 if row.kind == "count" and name != "part":
@@ -409,33 +439,29 @@ class Signatures(unittest.TestCase):
                 if row.kind == "count" and not row.is_needed:
                     self.assertEqual(default, str(row.default))
 
-    def test_each_argument_has_its_meaning(self):
-        for call in self.CALLS.values():
-            text = inspect.getdoc(call)
+    def test_each_argument_has_its_meaning(self) -> None:
+        for call in (*self.CALLS.values(), district_audit.read_trace):
+            text = inspect.getdoc(call) or ""
             self.assertIn("\nParameters\n----------\n", text)
-            for name in inspect.signature(call).parameters:
+            for name in inspect.signature(anything(call)).parameters:
                 with self.subTest(call=call.__name__, name=name):
                     self.assertEqual(name != "unknown", f"\n{name} : " in text)
 
 
 class Pickling(unittest.TestCase):
-    def test_exceptions(self):
+    def test_exceptions(self) -> None:
         try:
-            district_audit.run(CYCLE, **{**BASE, "slack": 0.05})
+            district_audit.run(CYCLE, **anything({**BASE, "slack": 0.05}))
         except district_audit.TypeRefused as why:
-            found = [why]
+            found: typing.List[BaseException] = [why]
         refused = district_audit.GraphRefused("plan: no votes", "labels")
         refused.faults = ["one", "two"]
         other = district_audit.CheckpointRefused("checkpoint: other job", "steps was 1 and is 2")
         other.differs = ["steps was 1 and is 2"]
         found += [
-            refused,
-            other,
-            district_audit.WorkLeft("stopped: 5 of 12 done"),
-            district_audit.ProgramFailed(-9, ""),
-            district_audit.MissingExtra("pandas"),
-            district_audit.ReportRefused(3, "why"),
-            district_audit.PrepareRefused("why", ["a"]),
+            refused, other, district_audit.WorkLeft("stopped: 5 of 12 done"),
+            district_audit.ProgramFailed(-9, ""), district_audit.MissingExtra("pandas"),
+            district_audit.ReportRefused(3, "why"), district_audit.PrepareRefused("why", ["a"]),
             district_audit.Interrupted("stopped", 3, 9, "folder"),
         ]
         for error in found:
@@ -446,7 +472,7 @@ class Pickling(unittest.TestCase):
                     (type(error), str(error), error.__dict__),
                 )
 
-    def test_answers(self):
+    def test_answers(self) -> None:
         report = district_audit.Report.parse(common.readme_report())
         ready = district_audit.prepare(CYCLE, **common.COLUMNS)
         named = district_audit.PlanReports([("d", report)])

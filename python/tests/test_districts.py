@@ -1,6 +1,7 @@
 """The table of the districts and every fault of a plan, beside what the program says."""
 import json
 import random
+import typing
 import unittest
 import xml.dom.minidom
 from fractions import Fraction
@@ -9,17 +10,21 @@ import common
 import district_audit
 from district_audit import GraphRefused, PlanCheck
 
-WORDS = dict(common.COLUMNS, slack=1000, region="county", group="bvap", group_of="vap")
+WORDS: typing.Dict[str, typing.Any] = dict(
+    common.COLUMNS, slack=1000, region="county", group="bvap", group_of="vap"
+)
 
 
 class Tables(common.ProgramCase):
-    def test_each_number_is_counted_from_the_file(self):
+    def test_each_number_is_counted_from_the_file(self) -> None:
         nodes = common.example("groups.json")["nodes"]
-        plan = district_audit.check(common.EXAMPLES / "data" / "groups.json", program=self.program, **WORDS)
+        plan = district_audit.check(
+            common.EXAMPLES / "data" / "groups.json", program=self.program, **WORDS
+        )
         self.assertTrue(plan.is_legal)
         self.assertEqual([one.label for one in plan.table], [1, 2, 3, 4])
         ideal = Fraction(sum(node["pop"] for node in nodes), 4)
-        split = {}
+        split: typing.Dict[typing.Any, typing.Any] = {}
         for node in nodes:
             split.setdefault(node["county"], set()).add(node["d"])
         for number, one in enumerate(plan.table):
@@ -38,24 +43,22 @@ class Tables(common.ProgramCase):
             self.assertEqual(one.first_share, Fraction(sums["a"], sums["a"] + sums["b"]))
             self.assertEqual((one.group, one.group_of), (sums["bvap"], sums["vap"]))
             self.assertEqual(one.group_share, Fraction(sums["bvap"], sums["vap"]))
-            self.assertEqual(set(one.regions), {node["county"] for node in there})
+            self.assertEqual(set(one.regions or ()), {node["county"] for node in there})
             self.assertEqual(
-                one.split_regions, sum(len(split[county]) > 1 for county in set(one.regions))
+                one.split_regions, sum(len(split[county]) > 1 for county in set(one.regions or ()))
             )
         self.assertEqual(sum(one.population for one in plan.table), plan.population)
         report = district_audit.run(
-            common.EXAMPLES / "data" / "groups.json",
-            program=self.program,
-            **WORDS,
-            key=common.KEY,
-            ask="cut-edges:low",
-            steps=1,
+            common.EXAMPLES / "data" / "groups.json", program=self.program, **WORDS, key=common.KEY,
+            ask="cut-edges:low", steps=1,
         )
         self.assertEqual(plan.cut_edges, report.walks[0].start.numerator)
 
-    def test_frame(self):
+    def test_frame(self) -> None:
         common.needs("pandas")
-        plan = district_audit.check(common.EXAMPLES / "data" / "groups.json", program=self.program, **WORDS)
+        plan = district_audit.check(
+            common.EXAMPLES / "data" / "groups.json", program=self.program, **WORDS
+        )
         frame = plan.to_frame()
         self.assertEqual(list(frame["district"]), [1, 2, 3, 4])
         self.assertEqual(
@@ -69,38 +72,37 @@ class Tables(common.ProgramCase):
         ).to_frame()
         self.assertTrue(bare["group"].isna().all() and bare["regions"].isna().all())
 
-    def test_pages_and_short_texts(self):
-        plan = district_audit.check(common.EXAMPLES / "data" / "groups.json", program=self.program, **WORDS)
+    def test_pages_and_short_texts(self) -> None:
+        plan = district_audit.check(
+            common.EXAMPLES / "data" / "groups.json", program=self.program, **WORDS
+        )
         page = plan._repr_html_()
-        xml.dom.minidom.parseString("<page>%s</page>" % page)
+        xml.dom.minidom.parseString(f"<page>{page}</page>")
         self.assertEqual(page.count("<tr>"), 1 + 4)
         self.assertIn("<td>30,184</td><td>+26.8</td><td>+0.09 %</td>", page)
         self.assertEqual(repr(plan), "<PlanCheck: legal, 120 units, 4 districts, 120629 people>")
         ready = district_audit.prepare(
-            common.EXAMPLES / "data" / "rough.json",
-            population="TOTPOP",
-            first="DEM",
-            second="REP",
-            district="CD",
-            numbers="nearest",
-            missing="zero",
+            common.EXAMPLES / "data" / "rough.json", population="TOTPOP", first="DEM", second="REP",
+            district="CD", numbers="nearest", missing="zero",
         )
         self.assertLess(len(repr(ready)), 120)
-        xml.dom.minidom.parseString("<page>%s</page>" % ready._repr_html_())
+        xml.dom.minidom.parseString(f"<page>{ready._repr_html_()}</page>")
         self.assertIn("missing values made 0", ready._repr_html_())
         report = district_audit.Report.parse(common.readme_report())
         self.assertEqual(
             repr(report),
-            "<Report: 300 units, 6 districts, 2 walks of 100000 steps, 99 ends of 10000 steps;"
-            " seats:low, gap:high, cut-edges:low; key 2b7e1516..>",
+            (
+                "<Report: 300 units, 6 districts, 2 walks of 100000 steps, 99 ends of 10000 steps;"
+                " seats:low, gap:high, cut-edges:low; key 2b7e1516..>"
+            ),
         )
         self.assertIn("<td>-600/60000 = -0.01</td>", report._repr_html_())
 
 
 class Faults(common.ProgramCase):
-    def faults(self, root, **words):
+    def faults(self, root: typing.Any, **words: typing.Any) -> typing.Any:
         graph = json.dumps(root).encode()
-        said = dict(common.WORDS, **words)
+        said: typing.Dict[str, typing.Any] = dict(common.WORDS, **words)
         try:
             answer = district_audit.check(graph, program=self.program, **said)
         except GraphRefused as why:
@@ -113,16 +115,18 @@ class Faults(common.ProgramCase):
         )
         return answer
 
-    def test_every_fault_is_told(self):
+    def test_every_fault_is_told(self) -> None:
         error = self.faults(common.example("apart.json"), slack=500)
         self.assertEqual(error.line, "plan: district 0 has population 2, outside 3 to 2")
         self.assertEqual(
             error.faults,
             [
-                'district 1 is in several parts; 1 of its 2 units lie apart: "w" (the auditor\'s'
-                " district 0)",
-                "district 1 has 2 people, outside 3 to 2 (--slack 500) (the auditor's district 0)",
-                "district 2 has 3 people, outside 3 to 2 (--slack 500) (the auditor's district 1)",
+                (
+                    'district 1 is in several parts; 1 of its 2 units lie apart: "w" (the'
+                    " auditor's district 0)"
+                ),
+                "district 1 has 2 people, outside 3 to 2 (slack=500) (the auditor's district 0)",
+                "district 2 has 3 people, outside 3 to 2 (slack=500) (the auditor's district 1)",
             ],
         )
         for fault in error.faults:
@@ -130,10 +134,10 @@ class Faults(common.ProgramCase):
         self.assertIn("the plan is refused:\n", str(error.check))
         self.assertNotIn("plan-check", str(error.check))
         self.assertEqual([one.parts for one in error.check.table], [2, 1])
-        xml.dom.minidom.parseString("<page>%s</page>" % error.check._repr_html_())
+        xml.dom.minidom.parseString(f"<page>{error.check._repr_html_()}</page>")
         self.assertEqual(repr(error.check), "<PlanCheck: 3 faults, 4 units, 2 districts, 5 people>")
 
-    def test_a_graph_that_is_refused_is_no_plan(self):
+    def test_a_graph_that_is_refused_is_no_plan(self) -> None:
         apart = common.example("apart.json")
         apart["nodes"][0]["a"] = 0.5
         for data in (b"[", b'{"nodes": [], "adjacency": []}', json.dumps(apart).encode()):
@@ -141,7 +145,7 @@ class Faults(common.ProgramCase):
                 with self.assertRaises(GraphRefused):
                     district_audit.check(data, program=self.program, strict=strict, **common.WORDS)
 
-    def test_drawn_plans(self):
+    def test_drawn_plans(self) -> None:
         """A plan has a fault exactly where the program refuses it, and it is of the same kind."""
         chance = random.Random(5)
         refused = legal = 0
@@ -151,7 +155,7 @@ class Faults(common.ProgramCase):
             straight = chance.random() < 0.6
             nodes = [
                 {
-                    "id": "u%d" % place,
+                    "id": f"u{place}",
                     "pop": chance.randrange(1, 4),
                     "a": chance.randrange(0, 2),
                     "b": chance.randrange(0, 2),
@@ -176,18 +180,16 @@ class Faults(common.ProgramCase):
             ]
             root = {
                 "nodes": nodes,
-                "adjacency": [[{"id": "u%d" % other} for other in others] for others in near],
+                "adjacency": [[{"id": f"u{other}"} for other in others] for others in near],
             }
             if len({node["d"] for node in nodes}) < 2:
                 continue
-            words = dict(
+            words: typing.Dict[str, typing.Any] = dict(
                 slack=chance.choice([3000, 10000, 10000]),
-                max_cut=chance.choice([4, 400000, 400000]),
-                region="county",
+                max_cut=chance.choice([4, 400000, 400000]), region="county",
                 max_split=chance.choice([1, 2, 2]),
                 max_splits=chance.choice([0, 2, 995000, 995000]),
-                max_split_regions=chance.choice([0, 2, 5000, 5000]),
-                group="g",
+                max_split_regions=chance.choice([0, 2, 5000, 5000]), group="g",
                 group_districts=chance.choice([0, 0, 1]),
             )
             with self.subTest(number=number, root=root, words=words):

@@ -1,32 +1,34 @@
 """Tests of the effect test: exact tails, and the theorem on chains that are enumerated whole."""
 import itertools
 import math
+import typing
 import unittest
 from decimal import Decimal
 from fractions import Fraction
 
-from common import EXAMPLES, KEY, ProgramCase, WORDS, example, readme_report
+from common import EXAMPLES, KEY, ProgramCase, WORDS, anything, example, readme_report
 
 import district_audit
 from district_audit import effect
 
-DRAWS = 2 ** 64
+DRAWS = 2**64
 
 
 # ---- the exact tail of a binomial whose chance is a square root, in numbers a + b sqrt(x)
 
-def times(one, other, x):
+
+def times(one: typing.Any, other: typing.Any, x: typing.Any) -> typing.Any:
     return (one[0] * other[0] + one[1] * other[1] * x, one[0] * other[1] + one[1] * other[0])
 
 
-def powers(base, most, x):
+def powers(base: typing.Any, most: typing.Any, x: typing.Any) -> typing.Any:
     found = [(Fraction(1), Fraction(0))]
     for _ in range(most):
         found.append(times(found[-1], base, x))
     return found
 
 
-def exact_tail(walks, least, x):
+def exact_tail(walks: typing.Any, least: typing.Any, x: typing.Any) -> typing.Any:
     """P(X >= least) as a pair (a, b) that stands for a + b sqrt(x)."""
     success = powers((Fraction(0), Fraction(1)), walks, x)
     failure = powers((Fraction(1), Fraction(-1)), walks, x)
@@ -35,20 +37,23 @@ def exact_tail(walks, least, x):
     return tuple(sum(way * term[part] for way, term in zip(ways, terms)) for part in (0, 1))
 
 
-def reaches(billionths, pair, x):
-    """Whether a number of billionths is at least a + b sqrt(x), decided by signs and squares."""
-    left, root = Fraction(billionths, 10 ** 9) - pair[0], pair[1]
+def reaches(billionths: typing.Any, pair: typing.Any, x: typing.Any) -> bool:
+    """Returns whether a number of billionths is at least a + b sqrt(x), by signs and squares."""
+    left, root = Fraction(billionths, 10**9) - pair[0], pair[1]
     if root >= 0:
-        return left >= 0 and left ** 2 >= root ** 2 * x
-    return left >= 0 or left ** 2 <= root ** 2 * x
+        return bool(left >= 0 and left**2 >= root**2 * x)
+    return bool(left >= 0 or left**2 <= root**2 * x)
 
 
 # ---- a plain model of the chain: every legal plan, and the draws that lead from one to another
 
+
 class Chain:
     """All legal plans of a small map, and the number of draws from each to each."""
 
-    def __init__(self, votes, edges, districts, slack):
+    def __init__(
+        self, votes: typing.Any, edges: typing.Any, districts: typing.Any, slack: typing.Any
+    ) -> None:
         self.votes, self.edges, self.districts, self.slack = votes, edges, districts, slack
         every = itertools.product(range(districts), repeat=len(votes))
         self.plans = [plan for plan in every if self.is_legal(plan)]
@@ -62,10 +67,10 @@ class Chain:
                 row[there] = row.get(there, 0) + DRAWS // pairs
             self.ways.append(row)
 
-    def members(self, plan, district):
+    def members(self, plan: typing.Any, district: typing.Any) -> typing.Set[typing.Any]:
         return {unit for unit, label in enumerate(plan) if label == district}
 
-    def is_legal(self, plan):
+    def is_legal(self, plan: typing.Any) -> bool:
         total = sum(unit[0] for unit in self.votes)
         for district in range(self.districts):
             members = self.members(plan, district)
@@ -75,39 +80,52 @@ class Chain:
                 return False
         return True
 
-    def is_connected(self, members):
+    def is_connected(self, members: typing.Any) -> bool:
         seen = {min(members)}
         for _ in members:
-            seen |= {end for edge in self.edges for end in edge
-                     if set(edge) <= members and set(edge) & seen}
-        return seen == members
+            seen |= {
+                end
+                for edge in self.edges
+                for end in edge
+                if set(edge) <= members and set(edge) & seen
+            }
+        return bool(seen == members)
 
-    def value(self, score, plan):
-        sums = [[sum(self.votes[unit][party] for unit in self.members(plan, district))
-                 for party in (1, 2)] for district in range(self.districts)]
+    def value(self, score: typing.Any, plan: typing.Any) -> typing.Any:
+        sums = [
+            [
+                sum(self.votes[unit][party] for unit in self.members(plan, district))
+                for party in (1, 2)
+            ]
+            for district in range(self.districts)
+        ]
         if score == "seats":
             return sum(first > second for first, second in sums)
         if score == "cut-edges":
             return sum(plan[one] != plan[other] for one, other in self.edges)
         if score == "gap":
-            return sum((2 * second - (first - second)) if first > second
-                       else (second - first - 2 * first) for first, second in sums)
-        shares = sorted(first * 10 ** 9 // (first + second) for first, second in sums)
+            return sum(
+                (2 * second - (first - second)) if first > second else (second - first - 2 * first)
+                for first, second in sums
+            )
+        shares = sorted(first * 10**9 // (first + second) for first, second in sums)
         middle = shares[(self.districts - 1) // 2] + shares[self.districts // 2]
         return self.districts * middle - 2 * sum(shares)
 
-    def is_extreme(self, score, tail, start):
+    def is_extreme(
+        self, score: typing.Any, tail: typing.Any, start: typing.Any
+    ) -> typing.List[typing.Any]:
         """For each plan whether it is at least as extreme as the start."""
         values = [self.value(score, plan) for plan in self.plans]
         if tail == "low":
             return [value <= values[start] for value in values]
         return [value >= values[start] for value in values]
 
-    def counts(self, extreme, start, steps):
+    def counts(self, extreme: typing.Any, start: typing.Any, steps: typing.Any) -> typing.Any:
         """For each count of extreme visits the number of DRAWS ** steps walks that have it."""
         now = {(start, 1): 1}
         for _ in range(steps):
-            after = {}
+            after: typing.Dict[typing.Any, typing.Any] = {}
             for (plan, count), many in now.items():
                 for other, ways in self.ways[plan].items():
                     key = (other, count + extreme[other])
@@ -119,28 +137,33 @@ class Chain:
         return found
 
 
-def chain_of(name, slack):
+def chain_of(name: typing.Any, slack: typing.Any) -> typing.Any:
     """The chain of an example's file."""
     root = example(name)
     place = {node["id"]: i for i, node in enumerate(root["nodes"])}
-    edges = {frozenset((place[node["id"]], place[entry["id"]]))
-             for node, entries in zip(root["nodes"], root["adjacency"]) for entry in entries}
+    edges = {
+        frozenset((place[node["id"]], place[entry["id"]]))
+        for node, entries in zip(root["nodes"], root["adjacency"])
+        for entry in entries
+    }
     votes = [(node["pop"], node["a"], node["b"]) for node in root["nodes"]]
     return Chain(votes, [tuple(sorted(edge)) for edge in edges], 2, slack)
 
 
-def grid_of_six(districts):
+def grid_of_six(districts: typing.Any) -> typing.Any:
     votes = [(1, 3, 1), (1, 1, 2), (1, 1, 2), (1, 2, 1), (1, 4, 1), (1, 1, 3)]
     return Chain(votes, [(0, 1), (1, 2), (3, 4), (4, 5), (0, 3), (1, 4), (2, 5)], districts, 5000)
 
 
-def binomial_tail(walks, least, chance):
-    return sum(math.comb(walks, n) * chance ** n * (1 - chance) ** (walks - n)
-               for n in range(least, walks + 1))
+def binomial_tail(walks: typing.Any, least: typing.Any, chance: typing.Any) -> typing.Any:
+    return sum(
+        math.comb(walks, n) * chance**n * (1 - chance) ** (walks - n)
+        for n in range(least, walks + 1)
+    )
 
 
 class TailTests(unittest.TestCase):
-    def test_textbook_values(self):
+    def test_textbook_values(self) -> None:
         # 56 of the 1024 sequences of ten coins have eight heads or more.
         self.assertEqual(effect.tail_billionths(10, 8, Fraction(1, 4)), 54_687_500)
         # Three dice: 1 - (5/6)^3 = 91/216.
@@ -148,33 +171,36 @@ class TailTests(unittest.TestCase):
         # The square root of one half is 0.70710678118..
         self.assertEqual(effect.tail_billionths(1, 1, Fraction(1, 2)), 707_106_782)
 
-    def test_a_tail_that_is_a_whole_number_of_billionths_is_not_raised(self):
+    def test_a_tail_that_is_a_whole_number_of_billionths_is_not_raised(self) -> None:
         self.assertEqual(effect.tail_billionths(3, 1, Fraction(1, 100)), 271_000_000)
         self.assertEqual(effect.tail_billionths(2, 2, Fraction(1, 500)), 2_000_000)
         self.assertEqual(effect.tail_billionths(4, 4, Fraction(1, 1000)), 1_000)
 
-    def test_ends_of_the_range(self):
-        self.assertEqual(effect.tail_billionths(5, 0, Fraction(1, 7)), 10 ** 9)
-        self.assertEqual(effect.tail_billionths(5, 5, Fraction(1)), 10 ** 9)
-        self.assertEqual(effect.tail_billionths(5, 3, Fraction(7, 2)), 10 ** 9)
-        self.assertEqual(effect.tail_billionths(400, 399, Fraction(1, 10 ** 6)), 1)
-        self.assertEqual(effect.tail_billionths(400, 1, Fraction(1, 2)), 10 ** 9)
-        self.assertEqual(effect.tail_billionths(400, 2, Fraction(4, 5)), 10 ** 9)
+    def test_ends_of_the_range(self) -> None:
+        self.assertEqual(effect.tail_billionths(5, 0, Fraction(1, 7)), 10**9)
+        self.assertEqual(effect.tail_billionths(5, 5, Fraction(1)), 10**9)
+        self.assertEqual(effect.tail_billionths(5, 3, Fraction(7, 2)), 10**9)
+        self.assertEqual(effect.tail_billionths(400, 399, Fraction(1, 10**6)), 1)
+        self.assertEqual(effect.tail_billionths(400, 1, Fraction(1, 2)), 10**9)
+        self.assertEqual(effect.tail_billionths(400, 2, Fraction(4, 5)), 10**9)
 
-    def test_rounded_tails_enclose_the_exact_one(self):
+    def test_rounded_tails_enclose_the_exact_one(self) -> None:
         for walks, top, scale in itertools.product((1, 5, 9), (1, 3, 5, 6, 9), (7, 1000)):
             for least in range(1, walks + 1):
                 exact = scale * binomial_tail(walks, least, Fraction(top, 10))
                 bounds = [effect.tail_at(walks, least, top, 10, scale, up) for up in (False, True)]
                 self.assertLessEqual(bounds[0], exact)
                 self.assertLessEqual(exact, bounds[1])
-                whole = 10 ** walks
-                self.assertEqual(effect.tail_at(walks, least, top, 10, whole, True),
-                                 whole * exact / scale)
+                whole = 10**walks
+                self.assertEqual(
+                    effect.tail_at(walks, least, top, 10, whole, True), whole * exact / scale
+                )
 
-    def test_every_tail_is_the_exact_ceiling(self):
-        squares = [Fraction(1, 3), Fraction(2, 1001), Fraction(9, 100), Fraction(1, 7 ** 6),
-                   Fraction(3, 4), Fraction(1, 4), Fraction(999, 1000), Fraction(2, 10 ** 9 + 7)]
+    def test_every_tail_is_the_exact_ceiling(self) -> None:
+        squares = [
+            Fraction(1, 3), Fraction(2, 1001), Fraction(9, 100), Fraction(1, 7**6), Fraction(3, 4),
+            Fraction(1, 4), Fraction(999, 1000), Fraction(2, 10**9 + 7),
+        ]
         for walks, square in itertools.product((1, 2, 3, 4, 7, 8, 13), squares):
             for least in range(1, walks + 1):
                 found = effect.tail_billionths(walks, least, square)
@@ -194,11 +220,13 @@ class TheoremTests(unittest.TestCase):
         "six": (lambda: grid_of_six(2), 18),
     }
 
-    def holds(self, chain, chances, steps, others):
+    def holds(
+        self, chain: typing.Any, chances: typing.Any, steps: typing.Any, others: typing.Any
+    ) -> None:
         """Checks both inequalities; `chances` has p(s) of each plan times DRAWS ** steps."""
-        whole, plans = DRAWS ** steps, len(chances)
-        squares = sum(chance ** 2 for chance in chances)
-        self.assertLessEqual(squares * (steps + 1), (2 * others + 1) * plans * whole ** 2)
+        whole, plans = DRAWS**steps, len(chances)
+        squares = sum(chance**2 for chance in chances)
+        self.assertLessEqual(squares * (steps + 1), (2 * others + 1) * plans * whole**2)
         for chance in set(chances):
             # The plan is not among any lesser fraction of the most fragile than this one.
             alpha = Fraction(sum(other >= chance for other in chances), plans)
@@ -206,64 +234,73 @@ class TheoremTests(unittest.TestCase):
             self.assertLessEqual(Fraction(chance, whole) ** 2, square)
             for least in (1, 2, 3):
                 tail = binomial_tail(3, least, Fraction(chance, whole))
-                bound = Fraction(effect.tail_billionths(3, least, square), 10 ** 9)
+                bound = Fraction(effect.tail_billionths(3, least, square), 10**9)
                 self.assertLessEqual(tail, bound)
 
-    def test_each_chain_each_ask_up_to_eight_steps(self):
+    def test_each_chain_each_ask_up_to_eight_steps(self) -> None:
         for name, (make, plans) in self.CHAINS.items():
-            chain = make()
+            chain = anything(make)()
             self.assertEqual(len(chain.plans), plans, name)
-            for score, tail in itertools.product(("seats", "gap", "mean-median", "cut-edges"),
-                                                 ("low", "high")):
+            for score, tail in itertools.product(
+                ("seats", "gap", "mean-median", "cut-edges"), ("low", "high")
+            ):
                 tails = [chain.is_extreme(score, tail, start) for start in range(plans)]
                 for steps in (1, 2, 3, 5, 8):
                     found = [chain.counts(tails[start], start, steps) for start in range(plans)]
                     for others in range(steps + 1):
                         with self.subTest(name=name, ask=(score, tail), k=steps, l=others):
-                            self.holds(chain, [sum(one[:others + 2]) for one in found], steps,
-                                       others)
+                            self.holds(
+                                chain, [sum(one[: others + 2]) for one in found], steps, others
+                            )
 
-    def test_the_chain_is_symmetric(self):
+    def test_the_chain_is_symmetric(self) -> None:
         for name, (make, _) in self.CHAINS.items():
-            chain = make()
+            chain = anything(make)()
             for here, row in enumerate(chain.ways):
                 self.assertEqual(sum(row.values()), DRAWS)
-                self.assertTrue(all(chain.ways[there][here] == many
-                                    for there, many in row.items()), name)
+                self.assertTrue(
+                    all(chain.ways[there][here] == many for there, many in row.items()), name
+                )
 
-    def test_half_the_bound_is_refused_by_these_chains(self):
+    def test_half_the_bound_is_refused_by_these_chains(self) -> None:
         # With l others in place of 2 l + 1 the mean is too great where all visits are extreme.
         chain, steps, others = chain_of("path.json", 5000), 3, 3
-        whole = DRAWS ** steps
+        whole = DRAWS**steps
         extreme = [True] * len(chain.plans)
-        chances = [sum(chain.counts(extreme, start, steps)[:others + 2])
-                   for start in range(len(chain.plans))]
-        self.assertGreater(sum(chance ** 2 for chance in chances) * (steps + 1),
-                           others * len(chances) * whole ** 2)
+        chances = [
+            sum(chain.counts(extreme, start, steps)[: others + 2])
+            for start in range(len(chain.plans))
+        ]
+        self.assertGreater(
+            sum(chance**2 for chance in chances) * (steps + 1), others * len(chances) * whole**2
+        )
 
 
 class ReportTests(unittest.TestCase):
-    def setUp(self):
+    def setUp(self) -> None:
         self.report = district_audit.Report.parse(readme_report())
 
-    def test_the_readme_report_by_hand(self):
+    def test_the_readme_report_by_hand(self) -> None:
         # epsilon 1/10000 of 100001 plans: counts up to 10. Cut edges have counts 2 and 9.
         found = self.report.effect("0.0001", "0.05")
         self.assertEqual(list(found), ["seats:low", "gap:high", "cut-edges:low"])
-        self.assertEqual([(one.most, one.outliers) for one in found.values()],
-                         [(10, 0), (10, 0), (10, 2)])
+        self.assertEqual(
+            [(one.most, one.outliers) for one in found.values()], [(10, 0), (10, 0), (10, 2)]
+        )
         # Both walks: the square of sqrt(2 * 0.0001 / 0.05) is 0.004.
         self.assertEqual(found["cut-edges:low"].p, Decimal("0.004000000"))
         self.assertEqual(found["seats:low"].p, 1)
 
-    def test_a_count_equal_to_the_limit_counts_and_one_more_does_not(self):
-        least = [self.report.effect(Fraction(most, 100001), 1)["cut-edges:low"].outliers
-                 for most in (1, 2, 8, 9)]
+    def test_a_count_equal_to_the_limit_counts_and_one_more_does_not(self) -> None:
+        least = [
+            self.report.effect(Fraction(most, 100001), 1)["cut-edges:low"].outliers
+            for most in (1, 2, 8, 9)
+        ]
         self.assertEqual(least, [0, 1, 1, 2])
-        below = Fraction(9, 100001) - Fraction(1, 10 ** 30)
+        below = Fraction(9, 100001) - Fraction(1, 10**30)
         self.assertEqual(self.report.effect(below, 1)["cut-edges:low"].outliers, 1)
 
-    def test_one_walk_of_two_by_hand(self):
+    def test_one_walk_of_two_by_hand(self) -> None:
         # q = sqrt(2 * 2/100001 / 0.1) = 0.0199999000007..; one walk of two or both: 2 q - q^2,
         # so 0.0399998000015 - 0.00039999600004.
         found = self.report.effect(Fraction(2, 100001), "1/10")["cut-edges:low"]
@@ -273,46 +310,51 @@ class ReportTests(unittest.TestCase):
         self.assertFalse(reaches(int(found.p.scaleb(9)) - 1, tail, square))
         self.assertEqual(found.p, Decimal("0.039599805"))
 
-    def test_numbers_are_taken_exactly_in_each_form(self):
+    def test_numbers_are_taken_exactly_in_each_form(self) -> None:
         forms = (Fraction(1, 10000), "1/10000", "0.0001", "1e-4", Decimal("0.0001"))
-        self.assertEqual(len({self.report.effect(form, "0.05")["cut-edges:low"]
-                              for form in forms}), 1)
+        self.assertEqual(
+            len({self.report.effect(anything(form), "0.05")["cut-edges:low"] for form in forms}), 1
+        )
 
-    def test_what_is_refused(self):
+    def test_what_is_refused(self) -> None:
         for value in (0.0001, 1e-4, None, True, [1]):
             with self.assertRaises(TypeError):
-                self.report.effect(value, "0.05")
+                self.report.effect(anything(value), "0.05")
             with self.assertRaises(TypeError):
-                self.report.effect("0.01", value)
-        for value in ("0", "1.1", "-1/2", "x", "1/0", Decimal("NaN"), Decimal("Infinity"), 2, 0):
+                self.report.effect("0.01", anything(value))
+        for value in anything(
+            ("0", "1.1", "-1/2", "x", "1/0", Decimal("NaN"), Decimal("Infinity"), 2, 0)
+        ):
             with self.assertRaises(ValueError):
-                self.report.effect(value, "0.05")
+                self.report.effect(anything(value), "0.05")
             with self.assertRaises(ValueError):
-                self.report.effect("0.01", value)
+                self.report.effect("0.01", anything(value))
         with self.assertRaisesRegex(TypeError, "epsilon is a float.*'0.0001'"):
-            self.report.effect(0.0001, "0.05")
+            self.report.effect(anything(0.0001), "0.05")
         with self.assertRaisesRegex(ValueError, "1/100001"):
             self.report.effect(Fraction(1, 100002), 1)
 
-    def test_a_report_without_walks_is_refused(self):
+    def test_a_report_without_walks_is_refused(self) -> None:
         lines = readme_report().splitlines()
         lines = [line.replace("walks 2", "walks 0") for line in lines if line[:5] != "walk "]
         report = district_audit.Report.parse("\n".join(lines + [""]))
         with self.assertRaisesRegex(ValueError, "no outlier walks"):
             report.effect("0.01", "0.05")
 
-    def test_it_is_one_sentence(self):
+    def test_it_is_one_sentence(self) -> None:
         said = str(self.report.effect("0.0001", "0.05")["cut-edges:low"])
         self.assertIn("on 2 of 2 walks", said)
         self.assertIn("0.004000000", said)
 
 
 class ProgramTests(ProgramCase):
-    def test_counts_of_walks_have_the_exact_distribution(self):
+    def test_counts_of_walks_have_the_exact_distribution(self) -> None:
         """2000 walks of the real program against p(s): each chance within five deviations."""
         walks, steps = 2000, 5
-        words = dict(WORDS, key=KEY, walks=walks, steps=steps, ask="gap:low,cut-edges:high",
-                     program=self.program)
+        words: typing.Dict[str, typing.Any] = dict(
+            WORDS, key=KEY, walks=walks, steps=steps, ask="gap:low,cut-edges:high",
+            program=self.program,
+        )
         report = district_audit.run(str(EXAMPLES / "data" / "cycle.json"), **words)
         chain = chain_of("cycle.json", 5000)
         start = chain.plans.index((0, 0, 1, 1))
@@ -320,8 +362,9 @@ class ProgramTests(ProgramCase):
             score, tail = ask.split(":")
             exact = chain.counts(chain.is_extreme(score, tail, start), start, steps)
             for most in range(1, steps + 1):
-                chance = Fraction(sum(exact[:most + 1]), DRAWS ** steps)
+                chance = Fraction(sum(exact[: most + 1]), DRAWS**steps)
                 found = report.effect(Fraction(most, steps + 1), 1)[ask].outliers
                 with self.subTest(ask=ask, most=most, chance=float(chance)):
-                    self.assertLessEqual((found - walks * chance) ** 2,
-                                         25 * walks * chance * (1 - chance))
+                    self.assertLessEqual(
+                        (found - walks * chance) ** 2, 25 * walks * chance * (1 - chance)
+                    )

@@ -7,101 +7,140 @@ import re
 import shlex
 import subprocess
 import tempfile
+import typing
 import unittest
 
-from common import EXAMPLES, FolderCase, KEY, ProgramCase, TOP, WORDS, groups_report, readme_report
+import common
+from common import (
+    EXAMPLES,
+    FolderCase,
+    KEY,
+    ProgramCase,
+    TOP,
+    WORDS,
+    anything,
+    groups_report,
+    readme_report,
+)
 
 import district_audit
 from district_audit import Report, exhibit
 
 VOID = {"meta"}
-COLUMNS = dict(pop="TOTPOP", first="DEM", second="REP", district="CD")
+COLUMNS: typing.Dict[str, typing.Any] = dict(pop="TOTPOP", first="DEM", second="REP", district="CD")
 
 
 class Page(html.parser.HTMLParser):
-    """What a page has: its tags in order, its attributes, its words, and whether it is balanced."""
+    """A parsed page: its tags in order, its attributes and words, and whether it is balanced."""
 
-    def __init__(self, text):
+    def __init__(self, text: typing.Any) -> None:
         super().__init__()
+        self.attributes: typing.List[typing.Any]
+        self.open: typing.List[typing.Any]
+        self.tags: typing.List[typing.Any]
+        self.words: typing.List[typing.Any]
         self.tags, self.attributes, self.words, self.open, self.faults = [], [], [], [], []
         self.feed(text)
         self.close()
         self.faults += self.open
 
-    def handle_starttag(self, tag, attrs):
+    def handle_starttag(self, tag: typing.Any, attrs: typing.Any) -> None:
         self.tags.append(tag)
         self.attributes += attrs
         if tag not in VOID:
             self.open.append(tag)
 
-    def handle_startendtag(self, tag, attrs):
+    def handle_startendtag(self, tag: typing.Any, attrs: typing.Any) -> None:
         self.tags.append(tag)
         self.attributes += attrs
 
-    def handle_endtag(self, tag):
+    def handle_endtag(self, tag: typing.Any) -> None:
         if not self.open or self.open.pop() != tag:
             self.faults.append(tag)
 
-    def handle_data(self, data):
+    def handle_data(self, data: typing.Any) -> None:
         self.words.append(data)
 
     @property
-    def text(self):
+    def text(self) -> str:
         return " ".join(" ".join(self.words).split())
 
 
-def guide_report(word):
+def guide_report(word: typing.Any) -> typing.Any:
     """The report of the guide with a line that begins so."""
     text = (TOP / "docs" / "user" / "GUIDE.md").read_text(encoding="utf-8")
     blocks = re.findall("^```\\w*\n(.*?)^```$", text, re.DOTALL | re.MULTILINE)
-    return next(block for block in blocks
-                if block.startswith("district-audit") and "\n" + word in block)
+    return next(
+        block for block in blocks if block.startswith("district-audit") and "\n" + word in block
+    )
 
 
-def shift_report():
+def shift_report() -> typing.Any:
     """The README's report with a histogram: 200002 plans, 44391 + 59205 of them seats:low."""
     text = readme_report().replace("district-audit 1", "district-audit 2")
     low = 44391 + 59205
     counts = [0, 0, 36, 15005, low - 15041, 89526, 6880, 0, 0]
-    return text.replace("ends seats", "shift %s\nends seats" % " ".join(map(str, counts)), 1)
+    return text.replace("ends seats", f"shift {' '.join(map(str, counts))}\nends seats", 1)
 
 
-def ends_report():
+def ends_report() -> str:
     """The README's report with the parallel test alone."""
-    lines = [line.replace("walks 2", "walks 0") for line in readme_report().splitlines()
-             if not line.startswith("walk ")]
+    lines = [
+        line.replace("walks 2", "walks 0")
+        for line in readme_report().splitlines()
+        if not line.startswith("walk ")
+    ]
     return "\n".join(lines + [""])
 
 
-def many_walks_report():
+def many_walks_report() -> str:
     """A report of nine walks, more than are shown one by one."""
     lines = readme_report().replace("walks 2", "walks 9").splitlines()
-    walks = [line.replace("walk 1", "walk %d" % number) for number in range(2, 9)
-             for line in lines if line.startswith("walk 1 ")]
+    walks = [
+        line.replace("walk 1", f"walk {number}")
+        for number in range(2, 9)
+        for line in lines
+        if line.startswith("walk 1 ")
+    ]
     place = next(i for i, line in enumerate(lines) if line.startswith("ends "))
     return "\n".join(lines[:place] + walks + lines[place:] + [""])
 
 
-TEXTS = {"both tests": readme_report(), "rules": groups_report(), "serial": guide_report("serial "),
-         "stop": guide_report("stop "), "seats": shift_report(), "ends": ends_report(),
-         "many walks": many_walks_report()}
+TEXTS = {
+    "both tests": readme_report(),
+    "rules": groups_report(),
+    "serial": guide_report("serial "),
+    "stop": guide_report("stop "),
+    "seats": shift_report(),
+    "ends": ends_report(),
+    "many walks": many_walks_report(),
+}
 
 
-def page_of(text, name="", **options):
+def page_of(text: typing.Any, name: str = "", **options: typing.Any) -> typing.Any:
     return exhibit.page([(name, Report.parse(text))], exhibit.Options(**options))
 
 
 class ExhibitTests(FolderCase):
-    def check_alone(self, text):
+    def check_alone(self, text: typing.Any) -> typing.Any:
         """The page is whole, and nothing in it refers to anything outside of it."""
         page = Page(text)
         self.assertEqual(page.faults, [])
-        self.assertFalse(set(page.tags) & {
-            "script", "link", "img", "image", "iframe", "object", "embed", "base", "form", "a",
-            "use", "video", "audio", "source", "foreignobject"})
+        self.assertFalse(
+            set(page.tags)
+            & {
+                "script", "link", "img", "image", "iframe", "object", "embed", "base", "form", "a",
+                "use", "video", "audio", "source", "foreignobject",
+            }
+        )
         for name, value in page.attributes:
-            self.assertNotIn(name, ("src", "href", "xlink:href", "srcset", "action", "data",
-                                    "background", "poster", "style"))
+            self.assertNotIn(
+                name,
+                (
+                    "src", "href", "xlink:href", "srcset", "action", "data", "background", "poster",
+                    "style",
+                ),
+            )
             self.assertFalse(name.startswith("on"), name)
             self.assertNotRegex(value or "", "url\\((?!#hatch\\))")
         self.assertNotRegex(text, "(?i)://|@import|javascript:|<!ENTITY")
@@ -109,27 +148,37 @@ class ExhibitTests(FolderCase):
         self.assertIn(("content", "default-src 'none'; style-src 'unsafe-inline'"), page.attributes)
         return page
 
-    def test_each_kind_of_report(self):
+    def test_each_kind_of_report(self) -> None:
         for name, text in TEXTS.items():
             with self.subTest(name):
                 report = Report.parse(text)
                 page = self.check_alone(page_of(text))
-                for heading in ("What was asked", "How it was done", "Results", "What the numbers "
-                                "mean", "What this exhibit does not say", "How to repeat it"):
+                for heading in (
+                    "What was asked", "How it was done", "Results", "What the numbers mean",
+                    "What this exhibit does not say", "How to repeat it",
+                ):
                     self.assertIn(heading, page.text)
                 for ask in report.asks:
                     self.assertIn(ask, page.text)
-                for number in (report.key, "%d to" % report.rules.low):
+                for number in (report.key, f"{report.rules.low} to"):
                     self.assertIn(number, page.text.replace(",", ""))
                 self.assertIn(text, "".join(page.words))
 
-    def test_theorems_are_those_of_the_tests_in_the_report(self):
-        named = {"both tests": ("PNAS", "76"), "serial": ("PNAS", "76"), "stop": ("PNAS", "78"),
-                 "ends": ("76",), "seats": ("PNAS", "76"), "many walks": ("PNAS", "76")}
+    def test_theorems_are_those_of_the_tests_in_the_report(self) -> None:
+        named = {
+            "both tests": ("PNAS", "76"),
+            "serial": ("PNAS", "76"),
+            "stop": ("PNAS", "78"),
+            "ends": ("76",),
+            "seats": ("PNAS", "76"),
+            "many walks": ("PNAS", "76"),
+        }
         for name, wanted in named.items():
             text = Page(page_of(TEXTS[name])).text
-            for word, sign in (("PNAS", "Frieze and Pegden, PNAS 114"),
-                               ("76", "Biometrika 76"), ("78", "Biometrika 78")):
+            for word, sign in (
+                ("PNAS", "Frieze and Pegden, PNAS 114"), ("76", "Biometrika 76"),
+                ("78", "Biometrika 78"),
+            ):
                 self.assertEqual(sign in text, word in wanted, (name, word))
             self.assertIn("Assumption (the null hypothesis)", text)
             self.assertNotIn("Mattingly", text)
@@ -137,50 +186,70 @@ class ExhibitTests(FolderCase):
         self.assertIn("Mattingly", text)
         self.assertIn("0.004000000", text)
 
-    def test_figures_have_titles_parties_and_the_enacted_value(self):
+    def test_figures_have_titles_parties_and_the_enacted_value(self) -> None:
         text = page_of(TEXTS["seats"], parties=("Blue", "Green"))
         page = Page(text)
         self.assertEqual(page.tags.count("svg"), 3)
         self.assertEqual(re.findall("Figure ([0-9]+)", page.text), ["1", "2", "3"])
-        for words in ("Districts won by Blue", "enacted plan: 3 of 6", "seats:low, enacted: 3",
-                      "gap:high, enacted: -1.000 %", "cut-edges:low, enacted: 125", "44.3 %",
-                      "so that Green is hurt", "Does Blue win unusually few districts?"):
+        for words in (
+            "Districts won by Blue", "enacted plan: 3 of 6", "seats:low, enacted: 3",
+            "gap:high, enacted: -1.000 %", "cut-edges:low, enacted: 125", "44.3 %",
+            "so that Green is hurt", "Does Blue win unusually few districts?",
+        ):
             self.assertIn(words, page.text)
 
-    def test_numbers_beside_each_other(self):
+    def test_numbers_beside_each_other(self) -> None:
         """Bonferroni's product, and fractions with decimals."""
         text = Page(page_of(TEXTS["both tests"])).text
         self.assertIn("0.006324524 times 9 is 0.056920716", text)
         self.assertIn("-600/60000 -1.000 %", text)
 
-    def test_many_walks_have_one_row(self):
+    def test_many_walks_have_one_row(self) -> None:
         text = Page(page_of(TEXTS["many walks"])).text
         self.assertIn("9 outlier walks cut-edges:low 125/1 125 2 to 9 of 100001", text)
         self.assertNotIn("outlier walk 1", text)
 
-    def test_every_label_is_escaped(self):
-        bad = ["<script>alert(1)</script>", "A & \"B\"", "'><img src=x onerror=y>", "]]> <!-- -->",
-               "x\u202ey\x07z", "</pre></title></style>", "{{x}} %s %d", "\udc80"]
-        plain = Page(page_of(TEXTS["both tests"], parties=("A", "B"), title="T", notes=["n"],
-                             command="c"))
+    def test_labels_of_an_axis_do_not_meet(self) -> None:
+        """At most 8 units a character of 13 px; the scale is from 1 to a part of 10^2 to 10^9."""
+        from district_audit import exhibit_figures as figures
+
+        for power in range(2, 10):
+            row = figures.Row("name", [(10.0**-power, 0.5)], "words")
+            drawn = figures.walks_figure(1, "title", [row])
+            found = re.findall(r'<text x="([\d.]+)" [^>]*>(1(?:/[\d,]+)?)</text>', drawn)
+            self.assertGreater(len(found), 1)
+            ends = sorted((float(x) - 4 * len(word), float(x) + 4 * len(word)) for x, word in found)
+            for (_, end), (begin, _) in zip(ends, ends[1:]):
+                self.assertLessEqual(end, begin, f"10^-{power}: {found}")
+
+    def test_every_label_is_escaped(self) -> None:
+        bad = [
+            "<script>alert(1)</script>", 'A & "B"', "'><img src=x onerror=y>", "]]> <!-- -->",
+            "x\u202ey\x07z", "</pre></title></style>", "{{x}} %s %d", "\udc80",
+        ]
+        plain = Page(
+            page_of(TEXTS["both tests"], parties=("A", "B"), title="T", notes=["n"], command="c")
+        )
         for label in bad:
             with self.subTest(label):
-                text = page_of(TEXTS["both tests"], parties=(label, label), title=label,
-                               notes=[label], command=label)
+                text = page_of(
+                    TEXTS["both tests"], parties=(label, label), title=label, notes=[label],
+                    command=label,
+                )
                 page = Page(text)
                 self.assertEqual(page.tags, plain.tags)
                 self.assertEqual(page.faults, [])
                 self.assertGreaterEqual(page.text.count(" ".join(shown(label).split())), 8)
                 text.encode("utf-8")
 
-    def test_columns_districts_and_plans_are_escaped(self):
-        bad = "<b>&'\" onload=\"x"
+    def test_columns_districts_and_plans_are_escaped(self) -> None:
+        bad = '<b>&\'" onload="x'
         graph = json.loads((EXAMPLES / "data" / "grid.json").read_text(encoding="utf-8"))
         for node in graph["nodes"]:
             node[bad] = node.pop("DEM")
             node["CD"] = bad + node["CD"]
         report = Report.parse(readme_report())
-        columns = dict(COLUMNS, first=bad)
+        columns: typing.Dict[str, typing.Any] = dict(COLUMNS, first=bad)
         data = json.dumps(graph).encode("utf-8")
         options = exhibit.Options(graph=data, columns=columns)
         text = exhibit.page([(bad, report), (bad + "2", report)], options)
@@ -188,37 +257,42 @@ class ExhibitTests(FolderCase):
         self.assertNotIn("b", page.tags[page.tags.index("body"):page.tags.index("h2")])
         self.assertEqual(page.text.count("Plan " + bad), 2)
         self.assertIn(shlex.quote(bad), page.text)
-        self.assertIn("the first party (column %s)" % bad, page.text)
+        self.assertIn(f"the first party (column {bad})", page.text)
 
-    def test_the_district_table(self):
+    def test_the_district_table(self) -> None:
         graph = json.loads((EXAMPLES / "data" / "grid.json").read_text(encoding="utf-8"))
         report = Report.parse(readme_report())
         path = self.folder / "exhibit.html"
-        report.exhibit(path, graph=EXAMPLES / "data" / "grid.json", columns=COLUMNS, parties=("X", "Y"))
+        report.exhibit(
+            path, graph=EXAMPLES / "data" / "grid.json", columns=COLUMNS, parties=("X", "Y")
+        )
         page = self.check_alone(path.read_text(encoding="utf-8"))
         for label in sorted({node["CD"] for node in graph["nodes"]}):
             nodes = [node for node in graph["nodes"] if node["CD"] == label]
-            people, first, second = (sum(node[column] for node in nodes)
-                                     for column in ("TOTPOP", "DEM", "REP"))
-            share = "%.2f" % (100 * first / (first + second))
-            off = "%+.1f" % (people - 5000) if people != 5000 else "0.0"
-            percent = "%+.3f" % ((people - 5000) / 50) if people != 5000 else "0.000"
-            self.assertIn("%s %d %d %s %s %d %d %s %s" % (
-                label, len(nodes), people, off, percent, first, second, share,
-                "X" if first > second else "Y"), page.text)
+            people, first, second = (
+                sum(node[column] for node in nodes) for column in ("TOTPOP", "DEM", "REP")
+            )
+            share = f"{100 * first / (first + second):.2f}"
+            off = f"{people - 5000:+.1f}" if people != 5000 else "0.0"
+            percent = f"{(people - 5000) / 50:+.3f}" if people != 5000 else "0.000"
+            more = "X" if first > second else "Y"
+            row = f"{label} {len(nodes)} {people} {off} {percent} {first} {second} {share} {more}"
+            self.assertIn(row, page.text)
         self.assertIn("SHA-256 of the graph of Table 1, 61049 bytes", page.text)
 
-    def test_another_graph_is_refused(self):
+    def test_another_graph_is_refused(self) -> None:
         report, options = Report.parse(readme_report()), dict(columns=COLUMNS)
         graph = json.loads((EXAMPLES / "data" / "grid.json").read_text(encoding="utf-8"))
         first, last = graph["nodes"][0], graph["nodes"][-1]
         self.assertNotEqual(first["CD"], last["CD"])
 
-        def refused(why, change):
+        def refused(why: typing.Any, change: typing.Any) -> None:
             other = json.loads(json.dumps(graph))
             change(other)
             with self.assertRaisesRegex(ValueError, why):
-                report.exhibit(self.folder / "x.html", graph=json.dumps(other).encode(), **options)
+                report.exhibit(
+                    self.folder / "x.html", graph=json.dumps(other).encode(), **anything(options)
+                )
             self.assertFalse((self.folder / "x.html").exists())
 
         refused("people", lambda other: other["nodes"][0].update(TOTPOP=1))
@@ -230,141 +304,258 @@ class ExhibitTests(FolderCase):
         with self.assertRaisesRegex(ValueError, "names of the columns"):
             report.exhibit(self.folder / "x.html", graph=EXAMPLES / "data" / "grid.json")
 
-    def test_options_that_do_not_belong_together(self):
+    def test_options_that_do_not_belong_together(self) -> None:
         report = Report.parse(readme_report())
-        for wrong in (dict(epsilon="0.1"), dict(alpha="0.1"), dict(parties=("A",)),
-                      dict(parties="AB"), dict(epsilon="2", alpha="1")):
+        for wrong in (
+            dict(epsilon="0.1"), dict(alpha="0.1"), dict(parties=("A",)), dict(parties="AB"),
+            dict(epsilon="2", alpha="1"),
+        ):
             with self.assertRaises(ValueError):
-                report.exhibit(self.folder / "x.html", **wrong)
+                report.exhibit(self.folder / "x.html", **anything(wrong))
         with self.assertRaisesRegex(ValueError, "one call"):
             exhibit.page([("a", report), ("b", Report.parse(groups_report()))], exhibit.Options())
         with self.assertRaisesRegex(ValueError, "needs a report"):
             exhibit.page([], exhibit.Options())
 
-    def test_each_ask_names_the_party_that_it_hurts(self):
+    def test_each_ask_names_the_party_that_it_hurts(self) -> None:
         from district_audit import exhibit_text as texts
+
         parties = ("Blue", "Green")
         for score, words in (
-                ("seats", "A low value hurts Blue, a high value hurts Green."),
-                ("seats", "a tie counts for Green"),
-                ("mean-median", "Below zero, Blue does worse in the middle district"),
-                ("mean-median", "which hurts Blue. Above zero hurts Green."),
-                ("gap", "the wasted votes of Green less those of Blue"),
-                ("gap", "Above zero, Green wastes more, which hurts Green. Below zero hurts Blue."),
-                ("cut-edges", "The score favors no party by itself.")):
+            ("seats", "A low value hurts Blue, a high value hurts Green."),
+            ("seats", "a tie counts for Green"),
+            ("mean-median", "Below zero, Blue does worse in the middle district"),
+            ("mean-median", "which hurts Blue. Above zero hurts Green."),
+            ("gap", "the wasted votes of Green less those of Blue"),
+            ("gap", "Above zero, Green wastes more, which hurts Green. Below zero hurts Blue."),
+            ("cut-edges", "The score favors no party by itself."),
+        ):
             self.assertIn(words, texts.definition(score, parties))
         for ask, words in (
-                ("seats:low", "Does Blue win unusually few districts?"),
-                ("seats:high", "Does Blue win unusually many districts?"),
-                ("gap:low", "unusually low, so that Blue is hurt?"),
-                ("gap:high", "unusually high, so that Green is hurt?"),
-                ("mean-median:low", "unusually low, so that Blue is hurt?"),
-                ("mean-median:high", "unusually high, so that Green is hurt?"),
-                ("cut-edges:low", "Does the plan cut unusually few edges?"),
-                ("cut-edges:high", "Does the plan cut unusually many edges?")):
+            ("seats:low", "Does Blue win unusually few districts?"),
+            ("seats:high", "Does Blue win unusually many districts?"),
+            ("gap:low", "unusually low, so that Blue is hurt?"),
+            ("gap:high", "unusually high, so that Green is hurt?"),
+            ("mean-median:low", "unusually low, so that Blue is hurt?"),
+            ("mean-median:high", "unusually high, so that Green is hurt?"),
+            ("cut-edges:low", "Does the plan cut unusually few edges?"),
+            ("cut-edges:high", "Does the plan cut unusually many edges?"),
+        ):
             self.assertIn(words, texts.question(ask, parties))
 
-    def test_decimals_are_rounded_to_the_nearest(self):
+    def test_decimals_are_rounded_to_the_nearest(self) -> None:
         from fractions import Fraction
         from district_audit import exhibit_text as texts
-        for value, places, wanted in ((Fraction(1, 3), 3, "0.333"), (Fraction(2, 3), 3, "0.667"),
-                                      (Fraction(-1, 2), 0, "-1"), (Fraction(5), 1, "5.0"),
-                                      (Fraction(-1, 10 ** 6), 3, "0.000"),
-                                      (Fraction(19995, 10000), 3, "2.000")):
+
+        for value, places, wanted in (
+            (Fraction(1, 3), 3, "0.333"), (Fraction(2, 3), 3, "0.667"), (Fraction(-1, 2), 0, "-1"),
+            (Fraction(5), 1, "5.0"), (Fraction(-1, 10**6), 3, "0.000"),
+            (Fraction(19995, 10000), 3, "2.000"),
+        ):
             self.assertEqual(texts.decimal(value, places), wanted)
         self.assertEqual(texts.decimal(Fraction(1, 8), 2, True), "+0.13")
 
 
-def shown(label):
+def shown(label: typing.Any) -> typing.Any:
     """A label as a page shows it: what cannot be seen is a code point."""
     for hidden in "\u202e\x07\udc80":
-        label = label.replace(hidden, "\\u%04x" % ord(hidden))
+        label = label.replace(hidden, f"\\u{ord(hidden):04x}")
     return label
 
 
 class ProgramTests(ProgramCase):
-    def printed_command(self, page):
+    def printed_command(self, page: typing.Any) -> typing.Any:
         return next(words for words in page.words if words.startswith("district-audit "))
 
-    def repeats(self, name, columns, **words):
+    def repeats(self, name: typing.Any, columns: typing.Any, **words: typing.Any) -> None:
         """The command that an exhibit prints makes the report again, byte for byte."""
-        report = district_audit.run(str(EXAMPLES / "data" / name), program=self.program, key=KEY, **columns,
-                                    **words)
+        report = district_audit.run(
+            str(EXAMPLES / "data" / name), program=self.program, key=KEY, **columns, **words
+        )
         path = self.folder / "exhibit.html"
         report.exhibit(path, graph=EXAMPLES / "data" / name, columns=columns)
         command = self.printed_command(Page(path.read_text(encoding="utf-8")))
         room = pathlib.Path(tempfile.mkdtemp(dir=self.folder))
         (room / "district-audit").symlink_to(self.program)
         (room / "graph.json").symlink_to(EXAMPLES / "data" / name)
-        again = subprocess.run(["sh", "-c", command], cwd=room, stdout=subprocess.PIPE, check=True,
-                               env=dict(os.environ, PATH="%s:%s" % (room, os.environ["PATH"])))
+        again = subprocess.run(
+            ["sh", "-c", command], cwd=room, stdout=subprocess.PIPE, check=True,
+            env=dict(os.environ, PATH=f"{room}:{os.environ['PATH']}"),
+        )
         self.assertEqual(again.stdout.decode(), str(report))
 
-    def test_the_command_makes_the_report_again(self):
+    def test_the_command_makes_the_report_again(self) -> None:
         plain = {key: value for key, value in WORDS.items() if key != "slack"}
         self.repeats("cycle.json", plain, slack=5000, steps=127, ask="gap:low", serial=True)
-        self.repeats("cycle.json", plain, slack=5000, walks=0, ends=30, stop=3, ask="gap:low",
-                     hub_steps=20, max_cut=4)
-        self.repeats("cycle.json", plain, slack=5000, walks=12, steps=8, shift=True, source=True,
-                     ask="seats:low,cut-edges:high")
-        self.repeats("groups.json", dict(plain, region="county", group="bvap", group_of="vap"),
-                     steps=500, ends=9, hub_steps=50, ask="mean-median:low", max_splits=2,
-                     max_split=3, group_districts=1, source=True)
+        self.repeats(
+            "cycle.json", plain, slack=5000, walks=0, ends=30, stop=3, ask="gap:low", hub_steps=20,
+            max_cut=4,
+        )
+        self.repeats(
+            "cycle.json", plain, slack=5000, walks=12, steps=8, shift=True, source=True,
+            ask="seats:low,cut-edges:high",
+        )
+        self.repeats(
+            "groups.json", dict(plain, region="county", group="bvap", group_of="vap"), steps=500,
+            ends=9, hub_steps=50, ask="mean-median:low", max_splits=2, max_split=3,
+            group_districts=1, source=True,
+        )
 
-    def test_the_worked_example_of_signs(self):
+    def test_the_worked_example_of_signs(self) -> None:
         """The values of docs/user/READING_A_REPORT.md, by hand: 90, 45 and 45 votes of 100 each."""
         votes = [(90, 10), (45, 55), (45, 55)]
-        graph = {"directed": False, "multigraph": False, "graph": [],
-                 "nodes": [dict(id=i, pop=100, a=a, b=b, d=i) for i, (a, b) in enumerate(votes)],
-                 "adjacency": [[{"id": 1}], [{"id": 0}, {"id": 2}], [{"id": 1}]]}
+        graph = {
+            "directed": False,
+            "multigraph": False,
+            "graph": [],
+            "nodes": [dict(id=i, pop=100, a=a, b=b, d=i) for i, (a, b) in enumerate(votes)],
+            "adjacency": [[{"id": 1}], [{"id": 0}, {"id": 2}], [{"id": 1}]],
+        }
         data = json.dumps(graph).encode()
         asks = "seats:low,mean-median:low,gap:low,cut-edges:low"
         for first, second, seats, sign in (("a", "b", 1, -1), ("b", "a", 2, 1)):
-            columns = dict(pop="pop", first=first, second=second, district="d")
-            report = district_audit.run(data, program=self.program, key=KEY, steps=1, ask=asks,
-                                        **columns)
+            columns: typing.Dict[str, typing.Any] = dict(
+                pop="pop", first=first, second=second, district="d"
+            )
+            report = district_audit.run(
+                data, program=self.program, key=KEY, steps=1, ask=asks, **columns
+            )
             found = {walk.score: str(walk.start) for walk in report.walks}
-            self.assertEqual(found, {"seats": "%d/1" % seats, "cut-edges": "2/1",
-                                     "mean-median": "%d/6000000000" % (sign * 900_000_000),
-                                     "gap": "%d/600" % (sign * 220)})
+            self.assertEqual(
+                found,
+                {
+                    "seats": f"{seats}/1",
+                    "cut-edges": "2/1",
+                    "mean-median": f"{sign * 900_000_000}/6000000000",
+                    "gap": f"{sign * 220}/600",
+                },
+            )
             page = Page(exhibit.page([("", report)], exhibit.Options(graph=data, columns=columns)))
-            for words in ("%+d.000 %%" % (sign * 15), "%s36.667 %%" % "+-"[sign < 0]):
+            for words in (f"{sign * 15:+}.000 %", f"{'+-'[sign < 0]}36.667 %"):
                 self.assertIn(words, page.text)
 
-    def test_other_bytes_than_those_of_the_source_are_refused(self):
+    def test_other_bytes_than_those_of_the_source_are_refused(self) -> None:
         data = (EXAMPLES / "data" / "cycle.json").read_bytes()
-        report = district_audit.run(data, program=self.program, key=KEY, steps=8, ask="gap:low",
-                                    source=True, **WORDS)
-        report.exhibit(self.folder / "x.html", graph=data)
-        with self.assertRaisesRegex(ValueError, "other bytes"):
-            report.exhibit(self.folder / "x.html", graph=data + b"\n")
+        report = district_audit.run(
+            data, program=self.program, key=KEY, steps=8, ask="gap:low", source=True, **WORDS
+        )
+        for one in (report, Report.parse(str(report))):
+            one.exhibit(self.folder / "x.html", graph=data)
+            with self.assertRaisesRegex(ValueError, "other bytes"):
+                one.exhibit(self.folder / "x.html", graph=data + b"\n")
 
-    def test_columns_are_those_of_the_source(self):
+    def test_a_graph_in_memory_is_compared_by_its_bytes(self) -> None:
+        """No score is asked that tells the votes, and the report does not name its source."""
+        root = json.loads((EXAMPLES / "data" / "cycle.json").read_bytes())
+        words: typing.Dict[str, typing.Any] = dict(
+            WORDS, key=KEY, steps=8, ask="cut-edges:low", program=self.program
+        )
+        report = district_audit.run(common.StandInGraph(root), **words)
+        other = json.loads(json.dumps(root))
+        one, two = other["nodes"][:2]
+        self.assertNotEqual(one["a"], two["a"])
+        one["a"], two["a"] = two["a"], one["a"]
+        path = self.folder / "x.html"
+        for graph in (
+            common.StandInGraph(root),
+            district_audit.prepare(common.StandInGraph(root), **common.COLUMNS),
+        ):
+            report.exhibit(path, graph=graph)
+            text = Page(path.read_text(encoding="utf-8")).text
+            self.assertIn("The graph has the bytes that the program read", text)
+        for graph in (
+            common.StandInGraph(other),
+            district_audit.prepare(common.StandInGraph(other), **common.COLUMNS),
+            json.dumps(root).encode(),
+        ):
+            with self.assertRaisesRegex(ValueError, "other bytes"):
+                report.exhibit(self.folder / "y.html", graph=graph)
+        self.assertFalse((self.folder / "y.html").exists())
+        alone = Report.parse(str(report))
+        self.assertEqual((alone, alone.audited), (report, None))
+        alone.exhibit(path, graph=common.StandInGraph(other), columns=common.COLUMNS)
+        text = Page(path.read_text(encoding="utf-8")).text
+        self.assertIn("The report does not name the bytes that were read", text)
+
+    def test_a_graph_in_memory_is_prepared_as_for_the_run(self) -> None:
+        """Votes are made whole by the rule of the call, and a further pair is joined."""
+        root = json.loads((EXAMPLES / "data" / "cycle.json").read_bytes())
+        root["nodes"][0]["a"] += 0.4
+        ids = [node["id"] for node in root["nodes"]]
+        words: typing.Dict[str, typing.Any] = dict(
+            WORDS, key=KEY, steps=8, ask="cut-edges:low", program=self.program
+        )
+        with self.assertWarns(district_audit.GraphChanged):
+            report = district_audit.run(
+                common.StandInGraph(root), numbers="floor", join=[(ids[0], ids[2])], **words
+            )
+        path = self.folder / "x.html"
+        report.exhibit(path, graph=common.StandInGraph(root))
+        self.assertIn("bytes that the program read", Page(path.read_text(encoding="utf-8")).text)
+
+    def test_a_graph_that_was_prepared_before(self) -> None:
+        """Its votes are not whole: what `prepare` answered was audited, and not the object."""
+        root = json.loads((EXAMPLES / "data" / "cycle.json").read_bytes())
+        root["nodes"][0]["a"] += 0.4
+        graph = common.StandInGraph(root)
+        ready = district_audit.prepare(graph, numbers="floor", **common.COLUMNS)
+        report = district_audit.run(
+            ready, slack=5000, key=KEY, steps=8, ask="cut-edges:low", program=self.program
+        )
+        report.exhibit(self.folder / "x.html", graph=ready)
+        with self.assertRaisesRegex(ValueError, "the answer of `prepare` that was audited"):
+            report.exhibit(self.folder / "y.html", graph=graph)
+
+    def test_plans_are_compared_with_the_graph(self) -> None:
+        root = json.loads((EXAMPLES / "data" / "cycle.json").read_bytes())
+        table = {"other": {node["id"]: node["d"] for node in root["nodes"]}}
+        words: typing.Dict[str, typing.Any] = dict(
+            WORDS, key=KEY, steps=8, ask="cut-edges:low", program=self.program
+        )
+        reports = district_audit.plans(common.StandInGraph(root), table, **words)
+        path = self.folder / "x.html"
+        district_audit.exhibit_plans(path, reports, graph=common.StandInGraph(root))
+        self.assertIn("bytes that the program read", Page(path.read_text(encoding="utf-8")).text)
+        root["nodes"][0]["a"], root["nodes"][0]["b"] = 5, 7
+        with self.assertRaisesRegex(ValueError, "other bytes"):
+            district_audit.exhibit_plans(path, reports, graph=common.StandInGraph(root))
+
+    def test_columns_are_those_of_the_source(self) -> None:
         """Another election's votes are never shown as those of the report."""
         graph = json.loads((EXAMPLES / "data" / "grid.json").read_bytes())
         for node in graph["nodes"]:
             node["A"], node["B"] = node["REP"], node["DEM"]
-        words = dict(population="TOTPOP", district="CD", slack=1000)
-        ready = district_audit.prepare(json.dumps(graph).encode(), first="A", second="B",
-                                       keep=["DEM", "REP"], **words)
-        report = district_audit.run(ready, first="DEM", second="REP", key=KEY, steps=50,
-                                    ask="cut-edges:low", source=True, program=self.program,
-                                    slack=1000)
+        words: typing.Dict[str, typing.Any] = dict(population="TOTPOP", district="CD", slack=1000)
+        ready = district_audit.prepare(
+            json.dumps(graph).encode(), first="A", second="B", keep=["DEM", "REP"], **words
+        )
+        report = district_audit.run(
+            ready, first="DEM", second="REP", key=KEY, steps=50, ask="cut-edges:low", source=True,
+            program=self.program, slack=1000,
+        )
         with tempfile.TemporaryDirectory() as folder:
             path = pathlib.Path(folder) / "page.html"
             report.exhibit(path, graph=ready, parties=("D", "R"))
             self.assertIn("--first DEM", Page(path.read_text(encoding="utf-8")).text)
             with self.assertRaises(ValueError):
-                report.exhibit(path, graph=ready, columns=dict(
-                    pop="TOTPOP", first="REP", second="DEM", district="CD"))
+                report.exhibit(
+                    path, graph=ready,
+                    columns=dict(pop="TOTPOP", first="REP", second="DEM", district="CD"),
+                )
 
-    def test_several_plans(self):
-        table = {"kept": {"w": 1, "x": 1, "y": 2, "z": 2},
-                 "turned": {"w": 1, "x": 2, "y": 2, "z": 1}}
-        plans = district_audit.plans(str(EXAMPLES / "data" / "cycle.json"), table, program=self.program,
-                                     key=KEY, steps=8, ask="gap:low", ends=9, **WORDS)
+    def test_several_plans(self) -> None:
+        table = {
+            "kept": {"w": 1, "x": 1, "y": 2, "z": 2},
+            "turned": {"w": 1, "x": 2, "y": 2, "z": 1},
+        }
+        plans = district_audit.plans(
+            str(EXAMPLES / "data" / "cycle.json"), table, program=self.program, key=KEY, steps=8,
+            ask="gap:low", ends=9, **WORDS,
+        )
         path = self.folder / "exhibit.html"
-        district_audit.exhibit_plans(path, plans, graph=EXAMPLES / "data" / "cycle.json", columns=WORDS)
+        district_audit.exhibit_plans(
+            path, plans, graph=EXAMPLES / "data" / "cycle.json", columns=WORDS
+        )
         page = Page(path.read_text(encoding="utf-8"))
         self.assertEqual(page.faults, [])
         self.assertEqual(re.findall("Figure ([0-9]+)", page.text), list("123456"))

@@ -48,23 +48,30 @@ class Manifests(common.ProgramCase):
         report = self.folder / "report"
         self.assertEqual(value["format"], "district-audit manifest 1")
         self.assertEqual(value["command"][0], "run")
-        self.assertEqual(value["graph"], {"name": "cycle.json", "sha256": digest(CYCLE),
-                                          "bytes": CYCLE.stat().st_size})
-        self.assertEqual(value["report"], {"name": "report", "sha256": digest(report),
-                                           "bytes": report.stat().st_size})
+        self.assertEqual(
+            value["graph"],
+            {"name": "cycle.json", "sha256": digest(CYCLE), "bytes": CYCLE.stat().st_size},
+        )
+        self.assertEqual(
+            value["report"],
+            {"name": "report", "sha256": digest(report), "bytes": report.stat().st_size},
+        )
         self.assertEqual(value["program"]["sha256"], digest(pathlib.Path(self.program)))
         self.assertEqual(value["package"], district_audit.__version__)
         self.assertEqual(value["processors"], os.cpu_count())
-        started, ended = (datetime.datetime.fromisoformat(value[one])
-                          for one in ("started", "ended"))
+        started, ended = (
+            datetime.datetime.fromisoformat(value[one]) for one in ("started", "ended")
+        )
         self.assertTrue(before <= started <= ended)
         self.assertNotIn(str(self.folder), json.dumps(value))
 
     def test_the_words_make_the_report_again(self) -> None:
         """The words with the graph on standard input write the report, byte for byte."""
         value = json.loads(self.audited().read_text(encoding="utf-8"))
-        done = subprocess.run([self.program, *value["command"]], input=CYCLE.read_bytes(),
-                              capture_output=True, check=True)
+        done = subprocess.run(
+            [self.program, *value["command"]], input=CYCLE.read_bytes(), capture_output=True,
+            check=True,
+        )
         self.assertEqual(done.stdout, (self.folder / "report").read_bytes())
 
     def test_a_graph_that_is_no_file_is_kept(self) -> None:
@@ -81,8 +88,11 @@ class Manifests(common.ProgramCase):
     def test_each_changed_file_is_found(self) -> None:
         """One byte more in the graph, in the report or in the program."""
         path = self.audited()
-        files = {"graph": CYCLE, "report": self.folder / "report",
-                 "program": pathlib.Path(self.program)}
+        files: typing.Dict[str, typing.Any] = {
+            "graph": CYCLE,
+            "report": self.folder / "report",
+            "program": pathlib.Path(self.program),
+        }
         for what, file in files.items():
             other = self.folder / f"other {what}"
             other.write_bytes(file.read_bytes() + b" ")
@@ -130,14 +140,22 @@ class Manifests(common.ProgramCase):
         path = self.audited()
         text = path.read_text(encoding="utf-8")
         value = json.loads(text)
-        broken = ["", "{", "[]", "{}", text[:-4], json.dumps({**value, "more": 1}),
-                  json.dumps({**value, "format": "district-audit manifest 2"}),
-                  json.dumps({**value, "command": []}), json.dumps({**value, "command": [1]}),
-                  json.dumps({**value, "processors": True}),
-                  json.dumps({**value, "started": "now"}),
-                  json.dumps({**value, "report": {**value["report"], "name": "../report"}}),
-                  json.dumps({**value, "graph": {**value["graph"], "sha256": "0"}}),
-                  json.dumps({**value, "program": {**value["program"], "bytes": -1}})]
+        broken = [
+            "",
+            "{",
+            "[]",
+            "{}",
+            text[:-4],
+            json.dumps({**value, "more": 1}),
+            json.dumps({**value, "format": "district-audit manifest 2"}),
+            json.dumps({**value, "command": []}),
+            json.dumps({**value, "command": [1]}),
+            json.dumps({**value, "processors": True}),
+            json.dumps({**value, "started": "now"}),
+            json.dumps({**value, "report": {**value["report"], "name": "../report"}}),
+            json.dumps({**value, "graph": {**value["graph"], "sha256": "0"}}),
+            json.dumps({**value, "program": {**value["program"], "bytes": -1}}),
+        ]
         for one in broken:
             path.write_text(one, encoding="utf-8")
             self.assertEqual(self.verified(path, "--graph", CYCLE)[0], 2, one[:80])
@@ -156,13 +174,18 @@ class Manifests(common.ProgramCase):
     def test_the_command(self) -> None:
         path = self.audited()
         call = [sys.executable, "-m", "district_audit", "verify"]
-        where = {**os.environ, "PYTHONPATH": str(common.TOP / "python"),
-                 "DISTRICT_AUDIT": self.program}
-        done = subprocess.run([*call, path, "--graph", CYCLE], env=where, capture_output=True,
-                              text=True, check=False)
+        where = {
+            **os.environ,
+            "PYTHONPATH": str(common.TOP / "python"),
+            "DISTRICT_AUDIT": self.program,
+        }
+        done = subprocess.run(
+            [*call, path, "--graph", CYCLE], env=where, capture_output=True, text=True, check=False
+        )
         self.assertEqual((done.returncode, done.stderr), (0, ""))
-        done = subprocess.run([*call, "--help"], env=where, capture_output=True, text=True,
-                              check=False)
+        done = subprocess.run(
+            [*call, "--help"], env=where, capture_output=True, text=True, check=False
+        )
         self.assertEqual(done.returncode, 0)
         self.assertIn("usage: python -m district_audit verify", done.stdout)
 

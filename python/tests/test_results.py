@@ -1,28 +1,25 @@
 """Several elections, several plans, frames, and pictures of them."""
 import json
+import re
+import typing
 import unittest
 import xml.dom.minidom
 from decimal import Decimal
 from fractions import Fraction
 
 import common
+from common import anything
 import district_audit
 from district_audit import ElectionReports, NamedReports, PlanReports, Report, checkpoints
 
-WORDS = dict(
-    population="TOTPOP",
-    district="CD",
-    slack=1000,
-    key=common.KEY,
-    steps=300,
-    walks=2,
-    ends=3,
+WORDS: typing.Dict[str, typing.Any] = dict(
+    population="TOTPOP", district="CD", slack=1000, key=common.KEY, steps=300, walks=2, ends=3,
     hub_steps=50,
 )
 ELECTIONS = {"GOV18": ("DEM", "REP"), "SEN20": ("D2", "R2")}
 
 
-def root():
+def root() -> typing.Any:
     """The grid with a second election, in which every other unit votes the other way round."""
     found = common.example("grid.json")
     for place, node in enumerate(found["nodes"]):
@@ -32,12 +29,13 @@ def root():
 
 
 class Elections(common.ProgramCase):
-    def run_with(self, graph, **words):
+    def run_with(self, graph: typing.Any, **words: typing.Any) -> typing.Any:
         return district_audit.run(
-            graph, program=self.program, **{**WORDS, "ask": "gap:high,cut-edges:low", **words}
+            graph, program=self.program,
+            **anything({**WORDS, "ask": "gap:high,cut-edges:low", **words}),
         )
 
-    def test_each_is_the_run_of_its_columns(self):
+    def test_each_is_the_run_of_its_columns(self) -> None:
         data = json.dumps(root()).encode()
         found = self.run_with(data, elections=ELECTIONS)
         self.assertIsInstance(found, ElectionReports)
@@ -45,13 +43,13 @@ class Elections(common.ProgramCase):
         for name, (first, second) in ELECTIONS.items():
             self.assertEqual(found[name], self.run_with(data, first=first, second=second))
         self.assertNotEqual(found["GOV18"], found["SEN20"])
-        # The same plans are visited: each walk moved as often, and cut edges have the same lines.
+        # Equal plans are visited: each walk moved as often, and the lines of cut edges are equal.
         for one, other in zip(found["GOV18"].walks, found["SEN20"].walks):
             self.assertEqual(one.moved, other.moved)
             if one.score == "cut-edges":
                 self.assertEqual(one, other)
 
-    def test_graphs_of_each_kind(self):
+    def test_graphs_of_each_kind(self) -> None:
         wanted = self.run_with(json.dumps(root()).encode(), elections=ELECTIONS)
         self.assertEqual(self.run_with(common.StandInGraph(root()), elections=ELECTIONS), wanted)
         columns = {name: WORDS[name] for name in ("population", "district")}
@@ -63,18 +61,18 @@ class Elections(common.ProgramCase):
             self.run_with(ready)
         self.assertIn("the argument first is missing (or elections)", str(caught.exception))
 
-    def test_votes_of_each_election_are_tested(self):
+    def test_votes_of_each_election_are_tested(self) -> None:
         bad = root()
         bad["nodes"][7]["R2"] = None
         with self.assertRaises(district_audit.PrepareRefused) as caught:
             district_audit.prepare(bad, population="TOTPOP", district="CD", elections=ELECTIONS)
         self.assertEqual(
-            caught.exception.faults, ["unit 7 has no R2 (choose --missing zero or drop)"]
+            caught.exception.faults, ['unit 7 has no R2 (choose missing="zero" or "drop")']
         )
         with self.assertRaises(district_audit.PrepareRefused):
             self.run_with(common.StandInGraph(bad), elections=ELECTIONS)
 
-    def test_checkpoints_have_a_folder_each(self):
+    def test_checkpoints_have_a_folder_each(self) -> None:
         data = json.dumps(root()).encode()
         with self.assertRaises(district_audit.WorkLeft):
             self.run_with(data, elections=ELECTIONS, save=1, budget=2, folder=self.folder)
@@ -84,17 +82,11 @@ class Elections(common.ProgramCase):
         for name in ("GOV18", "SEN20"):
             self.assertEqual(checkpoints.look_in(self.folder / name, 5).done, 5)
 
-    def test_what_is_no_election(self):
+    def test_what_is_no_election(self) -> None:
         data = json.dumps(root()).encode()
         for elections in (
-            {},
-            [],
-            "GOV18",
-            {"GOV18": "DEM"},
-            {"GOV18": ("DEM",)},
-            {1: ("DEM", "REP")},
-            {"": ("DEM", "REP")},
-            {"x": (1, 2)},
+            {}, [], "GOV18", {"GOV18": "DEM"}, {"GOV18": ("DEM",)}, {1: ("DEM", "REP")},
+            {"": ("DEM", "REP")}, {"x": (1, 2)},
         ):
             with self.subTest(elections=elections), self.assertRaises(TypeError) as caught:
                 self.run_with(data, elections=elections)
@@ -112,21 +104,21 @@ class Elections(common.ProgramCase):
                 root(), population="TOTPOP", district="CD", elections=ELECTIONS, first="DEM"
             )
 
-    def test_one_table(self):
+    def test_one_table(self) -> None:
         common.needs("pandas")
         found = self.run_with(json.dumps(root()).encode(), elections=ELECTIONS)
         frame = found.to_frame()
         self.assertEqual(list(frame.columns)[:2], ["election", "test"])
         self.assertEqual(list(frame["election"]), ["GOV18"] * 6 + ["SEN20"] * 6)
-        self.assertIn("Bonferroni", ElectionReports.__doc__)
+        self.assertIn("Bonferroni", ElectionReports.__doc__ or "")
 
 
 class Named(unittest.TestCase):
-    def setUp(self):
+    def setUp(self) -> None:
         self.report = Report.parse(common.readme_report())
         self.other = Report.parse(common.groups_report())
 
-    def test_names_and_places(self):
+    def test_names_and_places(self) -> None:
         found = PlanReports([("CD", self.report), ("new", self.other)])
         self.assertEqual(found["new"], self.other)
         self.assertEqual(found[0], ("CD", self.report))
@@ -142,45 +134,31 @@ class Named(unittest.TestCase):
         with self.assertRaises(KeyError):
             PlanReports([("CD", self.report), ("CD", self.other)])["CD"]
         self.assertEqual(repr(found), "<PlanReports of 2: CD, new>")
-        xml.dom.minidom.parseString("<page>%s</page>" % found._repr_html_())
+        xml.dom.minidom.parseString(f"<page>{found._repr_html_()}</page>")
 
-    def test_frames(self):
+    def test_frames(self) -> None:
         """Each column has one meaning, and what a test does not have is NA."""
         pandas = common.needs("pandas")
         frame = NamedReports([("one", self.report), ("two", self.other)]).to_frame()
         self.assertEqual(
             list(frame.columns),
             [
-                "report",
-                "test",
-                "walk",
-                "ask",
-                "score",
-                "tail",
-                "start",
-                "moved",
-                "visited",
-                "in_tail",
-                "share",
-                "bound",
-                "rank",
-                "of",
-                "stopped_after",
-                "start_place",
-                "p",
+                "report", "test", "walk", "ask", "score", "tail", "start", "moved", "visited",
+                "in_tail", "share", "bound", "rank", "of", "stopped_after", "start_place", "p",
             ],
         )
         for name in (
-            "walk",
-            "moved",
-            "visited",
-            "in_tail",
-            "rank",
-            "of",
-            "stopped_after",
-            "start_place",
+            "walk", "moved", "visited", "in_tail", "rank", "of", "stopped_after", "start_place",
         ):
             self.assertEqual(str(frame[name].dtype), "Int64", name)
+        walks = district_audit.Report.parse(
+            re.sub(r"^ends (seats|gap|cut).*\n", "", str(self.report), flags=re.MULTILINE).replace(
+                "ends 99", "ends 0"
+            )
+        ).to_frame()
+        for name in ("start", "share", "bound", "p"):
+            self.assertEqual(str(walks[name].dtype), "float64", name)
+        self.assertEqual((walks.p < 0.05).sum(), 0)
         one = self.report.to_frame()
         walk, ends = one.iloc[2], one.iloc[8]
         self.assertEqual(
@@ -202,12 +180,12 @@ class Named(unittest.TestCase):
 
 
 class Pictures(common.FolderCase):
-    def setUp(self):
+    def setUp(self) -> None:
         super().setUp()
         self.matplotlib = common.needs("matplotlib")
         self.report = Report.parse(common.readme_report())
 
-    def words(self, figure):
+    def words(self, figure: typing.Any) -> str:
         """All words of a figure: those on it, the titles and the names of rows."""
         found = [text.get_text() for text in figure.texts]
         for axes in figure.axes:
@@ -218,25 +196,22 @@ class Pictures(common.FolderCase):
             found += [text.get_text() for text in axes.texts]
         return "\n".join(found)
 
-    def test_title_parties_and_scores(self):
+    def test_title_parties_and_scores(self) -> None:
         said = self.words(
             self.report.plot(
-                title="Exhibit A",
-                parties=("Democrats", "Republicans"),
+                title="Exhibit A", parties=("Democrats", "Republicans"),
                 scores=["seats", "cut-edges:low"],
             )
         )
         for words in (
-            "Exhibit A",
-            "first party Democrats, second party Republicans",
-            "Democrats seats low, walk 0",
-            "cut-edges low, parallel test",
+            "Exhibit A", "first party Democrats, second party Republicans",
+            "Democrats seats low, walk 0", "cut-edges low, parallel test",
         ):
             self.assertIn(words, said)
         self.assertNotIn("gap", said)
         self.assertIn("gap high, walk 1", self.words(self.report.plot()))
 
-    def test_title_leaves_the_head_alone(self):
+    def test_title_leaves_the_head_alone(self) -> None:
         figure = self.report.plot(title="Exhibit A", parties=("A", "B"))
         drawn = figure.canvas.get_renderer()
         title, head = (text.get_window_extent(drawn) for text in figure.texts)
@@ -244,7 +219,7 @@ class Pictures(common.FolderCase):
         self.assertGreater(head.y0, figure.axes[0]._left_title.get_window_extent(drawn).y1)
         self.assertLess(title.y1, figure.bbox.y1)
 
-    def test_axes_that_are_given(self):
+    def test_axes_that_are_given(self) -> None:
         from matplotlib.figure import Figure
 
         figure = Figure()
@@ -256,7 +231,7 @@ class Pictures(common.FolderCase):
         )
         self.assertEqual(axes.get_title(loc="left"), "Here")
 
-    def test_what_is_no_score_or_party(self):
+    def test_what_is_no_score_or_party(self) -> None:
         for words, why in (
             (dict(scores=["sets"]), "'sets' is none of"),
             (dict(scores="mean-median"), "the report has none of these"),
@@ -264,20 +239,17 @@ class Pictures(common.FolderCase):
             (dict(parties=("D",)), "the first and the second party"),
         ):
             with self.subTest(words=words), self.assertRaises(ValueError) as caught:
-                self.report.plot(**words)
+                self.report.plot(**anything(words))
             self.assertIn(why, str(caught.exception))
 
-    def test_several_plans(self):
+    def test_several_plans(self) -> None:
         name = str(self.folder / "plans")
         found = PlanReports([("CD", self.report), ("new", Report.parse(common.groups_report()))])
         said = self.words(
             found.plot(name, title="Two plans", scores="cut-edges", parties=("D", "R"))
         )
         for words in (
-            "Two plans",
-            "2 plans: CD, new",
-            "CD: cut-edges low, 2 walks",
-            "new: cut-edges low",
+            "Two plans", "2 plans: CD, new", "CD: cut-edges low, 2 walks", "new: cut-edges low",
             "CD: cut-edges low, parallel test",
         ):
             self.assertIn(words, said)

@@ -2,10 +2,12 @@
 import itertools
 import math
 import random
+import typing
 import unittest
 from fractions import Fraction
 
 import common
+from common import anything
 import district_audit
 import trace_model
 from district_audit import compactness, scores
@@ -16,28 +18,22 @@ LABELS = ("one", "two", "three", "four")
 # voting age, and counties: Ash in three districts, Birch in two, Cedar in one.
 ROWS = (
     (
-        (30, 20, 21, 50, "Ash"),
-        (20, 30, 20, 40, "Ash"),
-        (28, 22, 30, 40, "Ash"),
+        (30, 20, 21, 50, "Ash"), (20, 30, 20, 40, "Ash"), (28, 22, 30, 40, "Ash"),
         (10, 40, 20, 25, "Cedar"),
     ),
     (
-        (40, 10, 30, 50, "Ash"),
-        (25, 25, 30, 60, "Birch"),
-        (20, 30, 10, 40, "Birch"),
+        (40, 10, 30, 50, "Ash"), (25, 25, 30, 60, "Birch"), (20, 30, 10, 40, "Birch"),
         (30, 20, 10, 25, "Cedar"),
     ),
 )
 
 
-def graph_of(rows):
+def graph_of(rows: typing.Any) -> typing.Dict[typing.Any, typing.Any]:
     """The rows as a graph in networkx's adjacency layout."""
     places = [(row, column) for row in range(len(rows)) for column in range(len(rows[0]))]
     nodes = [
         dict(
-            zip(("a", "b", "bvap", "vap", "county"), rows[row][column]),
-            id=f"{row}{column}",
-            pop=1,
+            zip(("a", "b", "bvap", "vap", "county"), rows[row][column]), id=f"{row}{column}", pop=1,
             d=LABELS[column],
         )
         for row, column in places
@@ -62,7 +58,14 @@ def graph_of(rows):
 class ScoreCase(common.FolderCase):
     """Tests on samples of hand-made graphs."""
 
-    def trace(self, root, lines="0 0 6", steps=1, start=6, **more):
+    def trace(
+        self,
+        root: typing.Any,
+        lines: str = "0 0 6",
+        steps: int = 1,
+        start: int = 6,
+        **more: typing.Any,
+    ) -> typing.Any:
         """A trace of a graph, whose lines of plans are given."""
         nodes, labels = root["nodes"], {node["d"] for node in root["nodes"]}
         edges = {
@@ -90,7 +93,7 @@ class ScoreCase(common.FolderCase):
             path, trace_model.written(root), **trace_model.COLUMNS, **more
         )
 
-    def sample(self, rows=ROWS, **more):
+    def sample(self, rows: typing.Any = ROWS, **more: typing.Any) -> typing.Any:
         """The sample of the enacted plan."""
         return next(self.trace(graph_of(rows), "0 0 6\n1 0 6", **more))
 
@@ -102,7 +105,7 @@ class ByHand(ScoreCase):
     The auditor's order of districts is that of their labels: four, one, three, two.
     """
 
-    def test_shares(self):
+    def test_shares(self) -> None:
         sample = self.sample()
         self.assertEqual(sample.totals("a"), {"one": 70, "two": 45, "three": 48, "four": 40})
         self.assertEqual(list(sample.totals("a")), ["four", "one", "three", "two"])
@@ -128,7 +131,7 @@ class ByHand(ScoreCase):
             with self.assertRaises(IndexError):
                 scores.highest_share(sample, k)
 
-    def test_seats_and_gap(self):
+    def test_seats_and_gap(self) -> None:
         """Wasted by the first: 20 + 45 + 48 + 40 = 153; by the second: 30 + 5 + 2 + 10 = 47; of
         400."""
         self.assertEqual(
@@ -136,7 +139,7 @@ class ByHand(ScoreCase):
         )
         self.assertEqual(scores.efficiency_gap(self.sample()), Fraction(47 - 153, 400))
 
-    def test_a_tie_is_the_seconds(self):
+    def test_a_tie_is_the_seconds(self) -> None:
         """50 to 50 in one district: the first wastes 50, the second none; elsewhere 20 and 30."""
         rows = (
             ((25, 25, 0, 1, "A"), (30, 20, 0, 1, "A")),
@@ -147,13 +150,13 @@ class ByHand(ScoreCase):
         self.assertEqual((scores.seats(sample), scores.seats(sample, ("b", "a"))), (1, 0))
         self.assertEqual(scores.efficiency_gap(sample), Fraction(0 + 30 - 50 - 20, 200))
 
-    def test_mean_median(self):
+    def test_mean_median(self) -> None:
         """The mean share is 2.03/4 = .5075, and the median (.45 + .48)/2 = .465."""
         self.assertEqual(
             scores.mean_median(self.sample()), Fraction(465, 1000) - Fraction(5075, 10000)
         )
 
-    def test_mean_median_rounds_shares_down(self):
+    def test_mean_median_rounds_shares_down(self) -> None:
         """Shares 1/3, 1/2, 2/3: rounded down at nine places the mean is 1.499999999/3."""
         rows = (((1, 2, 0, 1, "A"), (1, 1, 0, 1, "A"), (2, 1, 0, 1, "A")),)
         sample = next(self.trace(graph_of(rows), "0 0 2\n1 0 2", start=2))
@@ -162,7 +165,7 @@ class ByHand(ScoreCase):
             Fraction(1, 2) - Fraction(333333333 + 500000000 + 666666666, 3 * 10**9),
         )
 
-    def test_partisan_bias(self):
+    def test_partisan_bias(self) -> None:
         """Above the mean share .5075 is one of four: 1/4 - 1/2. In the other party's view three:
         1/4."""
         self.assertEqual(
@@ -170,21 +173,22 @@ class ByHand(ScoreCase):
             (Fraction(-1, 4), Fraction(1, 4)),
         )
 
-    def test_declination(self):
+    def test_declination(self) -> None:
         """Lost are .40, .45, .48, with the mean 133/300, and won is .70: the slopes are
         (1 - 266/300) 4/3 = 34/225 and (1.4 - 1) 4 = 8/5, the tangent (8/5 - 34/225)/(1 + 272/1125).
         """
         sample = self.sample()
         self.assertEqual(scores.declination_tangent(sample), Fraction(1630, 1397))
         self.assertAlmostEqual(
-            scores.declination(sample), 2 / math.pi * (math.atan(1.6) - math.atan(34 / 225)), 12
+            anything(scores.declination(sample)),
+            2 / math.pi * (math.atan(1.6) - math.atan(34 / 225)), 12,
         )
         self.assertEqual(scores.declination_tangent(sample, ("b", "a")), Fraction(-1630, 1397))
         rows = tuple(tuple((cell[0] + 90, *cell[1:]) for cell in row) for row in ROWS)
         self.assertIsNone(scores.declination_tangent(self.sample(rows)))
         self.assertIsNone(scores.declination(self.sample(rows)))
 
-    def test_the_tangent_orders_as_the_declination(self):
+    def test_the_tangent_orders_as_the_declination(self) -> None:
         dice, found = random.Random(3), []
         for _ in range(60):
             rows = tuple(
@@ -208,25 +212,20 @@ class ByHand(ScoreCase):
         for (_, low), (_, high) in zip(found, found[1:]):
             self.assertLessEqual(low, high + 1e-9)
 
-    def test_competitive(self):
+    def test_competitive(self) -> None:
         """The margins are .40, .10, .04 and .20 of the votes; a margin that is met exactly
         counts."""
         sample = self.sample()
         for margin, count in (
-            (0, 0),
-            (0.04, 1),
-            ("0.0399", 0),
-            (0.1, 2),
-            (Fraction(99, 1000), 1),
-            (Fraction(1, 5), 3),
-            (1, 4),
+            (0, 0), (0.04, 1), ("0.0399", 0), (0.1, 2), (Fraction(99, 1000), 1),
+            (Fraction(1, 5), 3), (1, 4),
         ):
-            self.assertEqual(scores.competitive(sample, margin), count, margin)
+            self.assertEqual(scores.competitive(sample, anything(margin)), count, margin)
         for margin in (-0.1, 5, "x"):
             with self.assertRaises(ValueError):
-                scores.competitive(sample, margin)
+                scores.competitive(sample, anything(margin))
 
-    def test_majorities(self):
+    def test_majorities(self) -> None:
         """The group is 51 of 100, 50 of 100, 40 of 80 and 30 of 50 in districts one to four."""
         sample = self.sample()
         self.assertEqual(
@@ -240,20 +239,20 @@ class ByHand(ScoreCase):
         )
         self.assertEqual(scores.majorities(sample, "bvap", "vap"), 2)
         for part, count in ((0.6, 0), (0.59, 1), (0.51, 1), ("0.5099", 2), (Fraction(2, 5), 4)):
-            self.assertEqual(scores.majorities(sample, "bvap", "vap", part), count, part)
+            self.assertEqual(scores.majorities(sample, "bvap", "vap", anything(part)), count, part)
 
-    def test_counties(self):
+    def test_counties(self) -> None:
         """Ash lies in three districts and Birch in two: split 2 + 1 times."""
         self.assertEqual(
             (scores.splits(self.sample(), "county"), scores.split_regions(self.sample(), "county")),
             (3, 2),
         )
 
-    def test_cut_edges(self):
+    def test_cut_edges(self) -> None:
         """Three edges between columns in each of two rows."""
         self.assertEqual(scores.cut_edges(self.sample()), 6)
 
-    def test_after_moves(self):
+    def test_after_moves(self) -> None:
         """Unit 10 goes to district two, and then unit 11 to three. In the first row 3 edges are
         cut, in
         the second 11-12 and 12-13, and then 10-11 and 12-13; between the rows 00-10, and then
@@ -265,9 +264,7 @@ class ByHand(ScoreCase):
         trace = self.trace(graph_of(ROWS), "0 0 6\n1 1 6 4:3\n2 2 7 5:2", steps=2)
         found = [
             (
-                scores.cut_edges(sample),
-                sample.totals("a"),
-                scores.splits(sample, "county"),
+                scores.cut_edges(sample), sample.totals("a"), scores.splits(sample, "county"),
                 scores.split_regions(sample, "county"),
             )
             for sample in trace
@@ -281,7 +278,7 @@ class ByHand(ScoreCase):
             ],
         )
 
-    def test_no_votes(self):
+    def test_no_votes(self) -> None:
         """Without votes a share is one half, and there is no gap."""
         rows = tuple(tuple((0, 0, 0, 0, "A") for _ in row) for row in ROWS)
         sample = self.sample(rows)
@@ -293,13 +290,12 @@ class ByHand(ScoreCase):
         with self.assertRaises(ValueError):
             scores.efficiency_gap(sample)
 
-    def test_elections(self):
+    def test_elections(self) -> None:
         root = graph_of(ROWS)
         sample = next(self.trace(root, "0 0 6\n1 0 6", elections={"turned": ("b", "a")}))
         self.assertEqual(
             (
-                scores.seats(sample),
-                scores.seats(sample, "turned"),
+                scores.seats(sample), scores.seats(sample, "turned"),
                 scores.seats(sample, ("b", "a")),
             ),
             (1, 3, 3),
@@ -349,11 +345,11 @@ class ByHand(ScoreCase):
 class Compactness(ScoreCase):
     """Areas, boundaries and circles, where shapely is installed."""
 
-    def setUp(self):
+    def setUp(self) -> None:
         super().setUp()
         common.needs("shapely")
 
-    def squares(self):
+    def squares(self) -> typing.Dict[typing.Any, typing.Any]:
         from shapely.geometry import box
 
         return {
@@ -362,7 +358,7 @@ class Compactness(ScoreCase):
             for column in range(4)
         }
 
-    def test_rectangles(self):
+    def test_rectangles(self) -> None:
         """A district of one by two: 4 pi 2/6^2, and 2 over the circle with the radius sqrt(5)/2."""
         sample, shapes = self.sample(), compactness.Shapes(self.squares())
         for label, score in compactness.polsby_popper(sample, shapes).items():
@@ -370,14 +366,14 @@ class Compactness(ScoreCase):
         for label, score in compactness.reock(sample, shapes).items():
             self.assertAlmostEqual(score, 2 / (math.pi * 5 / 4), 12, label)
 
-    def test_shapes_of_a_frame(self):
+    def test_shapes_of_a_frame(self) -> None:
         """The column of a frame whose index are the ids has items(), as a dict."""
         pandas = common.needs("pandas")
         shapes = compactness.Shapes(pandas.Series(self.squares(), dtype=object))
         wanted = compactness.polsby_popper(self.sample(), compactness.Shapes(self.squares()))
         self.assertEqual(compactness.polsby_popper(self.sample(), shapes), wanted)
 
-    def test_a_corner(self):
+    def test_a_corner(self) -> None:
         """Unit 10 goes to district two, three squares in an L: perimeter 8; and one square is
         left."""
         trace = self.trace(graph_of(ROWS), "0 0 6\n1 1 6 4:3")
@@ -392,7 +388,7 @@ class Compactness(ScoreCase):
         self.assertAlmostEqual(found[1][1]["two"], 3 / (math.pi * 2), 12)
         self.assertEqual(found[0][0]["four"], found[1][0]["four"])
 
-    def test_walks_against_unions(self):
+    def test_walks_against_unions(self) -> None:
         """Along a walk over rough quadrilaterals the scores are those of each district's union,
         with the
         circle found among all pairs and triples of corners; and a plan has one score, however it
@@ -453,14 +449,16 @@ class Compactness(ScoreCase):
                 ours,
             )
 
-    def test_circles(self):
+    def test_circles(self) -> None:
         dice = random.Random(4)
         for count in (1, 2, 3, 4, 5, 8, 12):
             for _ in range(30):
                 points = [
-                    (dice.randint(0, 6), dice.randint(0, 6))
-                    if count < 6
-                    else (dice.random(), dice.random())
+                    (
+                        (dice.randint(0, 6), dice.randint(0, 6))
+                        if count < 6
+                        else (dice.random(), dice.random())
+                    )
                     for _ in range(count)
                 ]
                 x, y, radius = compactness.least_circle(points)
@@ -473,14 +471,14 @@ class Compactness(ScoreCase):
                     points,
                 )
 
-    def test_a_unit_without_a_shape(self):
+    def test_a_unit_without_a_shape(self) -> None:
         squares = self.squares()
         del squares["12"]
         with self.assertRaisesRegex(ValueError, 'unit "12" has no shape'):
             compactness.reock(self.sample(), compactness.Shapes(squares))
 
 
-def slow_radius(points):
+def slow_radius(points: typing.Any) -> typing.Any:
     """The radius of the least circle around some points, among all circles through two or three."""
     points = list(dict.fromkeys(points))
     found = [(points[0], 0.0)]

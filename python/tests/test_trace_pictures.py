@@ -4,10 +4,12 @@ import io
 import os
 import re
 import statistics
+import typing
 import unittest
 from fractions import Fraction
 
 import common
+from common import anything
 import district_audit
 from district_audit import trace_pictures
 from trace_model import tracing_program
@@ -16,11 +18,11 @@ GUIDE = common.TOP / "docs" / "user" / "TRACES.md"
 
 
 class Pictures(common.FolderCase):
-    def setUp(self):
+    def setUp(self) -> None:
         super().setUp()
         common.needs("matplotlib")
 
-    def saved(self, draw):
+    def saved(self, draw: typing.Any) -> typing.Any:
         """The texts of a picture's SVG; both files are there, in grey alone, and the same each
         time."""
         both = []
@@ -39,7 +41,7 @@ class Pictures(common.FolderCase):
         )
         return re.sub("<[^>]*>", "", svg)
 
-    def test_histogram(self):
+    def test_histogram(self) -> None:
         values = [Fraction(7, 2), *[Fraction(n % 11, 2) for n in range(100)]]
         text = self.saved(
             lambda name: trace_pictures.histogram(values, title="Title", label="Label", name=name)
@@ -55,7 +57,7 @@ class Pictures(common.FolderCase):
             [(1.5, 1), (2.5, 2), (3.5, 0), (4.5, 1)],
         )
 
-    def test_boxes(self):
+    def test_boxes(self) -> None:
         rows = [[Fraction(k, 100), Fraction(100 + k, 300)] for k in range(101)]
         text = self.saved(
             lambda name: trace_pictures.box_plot(
@@ -87,11 +89,11 @@ class Pictures(common.FolderCase):
                 )
         for bad in ([], [[1, 2], [1]], [[1, None]]):
             with self.assertRaises(ValueError):
-                trace_pictures.box_plot(bad)
+                trace_pictures.box_plot(anything(bad))
         with self.assertRaises(ValueError):
             trace_pictures.box_plot([[1, 2]], enacted=[1])
 
-    def test_running(self):
+    def test_running(self) -> None:
         walks = {3: [(0, 5), (10, 7)], 4: [(0, 5), (10, 4)]}
         text = self.saved(lambda name: trace_pictures.running(walks, label="Label", name=name))
         for word in ("trajectory 3", "trajectory 4", "enacted plan 5", "Label", "steps"):
@@ -105,22 +107,22 @@ class Pictures(common.FolderCase):
         )
         for bad in ({}, {0: []}, {0: [(0, float("nan"))]}):
             with self.assertRaises(ValueError):
-                trace_pictures.running(bad)
+                trace_pictures.running(anything(bad))
 
 
 class Guide(common.FolderCase):
-    def test_its_code_prints_what_it_says(self):
+    def test_its_code_prints_what_it_says(self) -> None:
         """Each block of code is run, in order and in one folder, and prints the text behind it."""
         for module in ("pandas", "matplotlib"):
             common.needs(module)
         program = tracing_program()
         (self.folder / "examples").symlink_to(common.EXAMPLES)
         blocks = re.findall(
-            "^```(python|text)\n(.*?)^```$",
-            GUIDE.read_text(encoding="utf-8"),
+            "^```(python|text)\n(.*?)^```$", GUIDE.read_text(encoding="utf-8"),
             re.DOTALL | re.MULTILINE,
         )
         self.assertGreaterEqual(len(blocks), 7)
+        names: typing.Dict[typing.Any, typing.Any]
         names, wanted, said = {}, [], []
         before = os.getcwd()
         os.chdir(self.folder)
@@ -141,13 +143,13 @@ class Guide(common.FolderCase):
             for end in (".png", ".svg"):
                 self.assertGreater((self.folder / (name + end)).stat().st_size, 1000)
 
-    def test_it_names_what_there_is(self):
+    def test_it_names_what_there_is(self) -> None:
         text = GUIDE.read_text(encoding="utf-8")
         listed = text.split("## The scores at hand")[1].split("`district_audit.compactness`")[0]
         there = {
             name
-            for name, it in vars(district_audit.scores).items()
-            if callable(it) and getattr(it, "__module__", "") == "district_audit.scores"
+            for name, value in vars(district_audit.scores).items()
+            if callable(value) and getattr(value, "__module__", "") == "district_audit.scores"
         }
         named = set(re.findall("`([a-z_]+)`", listed))
         self.assertLessEqual(named, there)

@@ -1,15 +1,19 @@
 """Traces of the real program and of the plain model: every sample is as the model says."""
 import os
+import typing
 import unittest
 from fractions import Fraction
 
 import common
+from common import anything
 import district_audit
 import trace_model
 from district_audit import scores
 from trace_model import TextCase, drawn_jobs, tracing_program
 
-GRID = dict(population="TOTPOP", first="DEM", second="REP", district="CD")
+GRID: typing.Dict[str, typing.Any] = dict(
+    population="TOTPOP", first="DEM", second="REP", district="CD"
+)
 # The number of jobs that are drawn for each of the tests against the model.
 JOBS = int(os.environ.get("TRACE_JOBS", "30"))
 
@@ -17,7 +21,15 @@ JOBS = int(os.environ.get("TRACE_JOBS", "30"))
 class AgainstTheModel(TextCase):
     """Every sample of drawn jobs has the plan, the moves and the scores of the plain model."""
 
-    def compare(self, trace, root, job, first, last, thin):
+    def compare(
+        self,
+        trace: typing.Any,
+        root: typing.Any,
+        job: typing.Any,
+        first: typing.Any,
+        last: typing.Any,
+        thin: typing.Any,
+    ) -> None:
         labels = sorted({node["d"] for node in root["nodes"]})
         ids = [node["id"] for node in root["nodes"]]
         wanted = [
@@ -43,7 +55,14 @@ class AgainstTheModel(TextCase):
         self.assertEqual(samples, len(wanted))
         self.assertIsNone(next(trace, None))
 
-    def compare_scores(self, sample, root, assignment, job, plan):
+    def compare_scores(
+        self,
+        sample: typing.Any,
+        root: typing.Any,
+        assignment: typing.Any,
+        job: typing.Any,
+        plan: typing.Any,
+    ) -> None:
         hand = trace_model.scores_by_hand(root, assignment)
         ours = {
             "cut_edges": scores.cut_edges(sample),
@@ -57,36 +76,30 @@ class AgainstTheModel(TextCase):
             ours["competitive " + name] = scores.competitive(sample, 0.1, election)
         self.assertEqual(ours, hand)
         for score, function in (
-            ("seats", scores.seats),
-            ("mean-median", scores.mean_median),
-            ("gap", scores.efficiency_gap),
-            ("cut-edges", scores.cut_edges),
+            ("seats", scores.seats), ("mean-median", scores.mean_median),
+            ("gap", scores.efficiency_gap), ("cut-edges", scores.cut_edges),
         ):
             self.assertEqual(
-                function(sample), Fraction(job.value(plan, score), job.denominator(score))
+                anything(function)(sample), Fraction(job.value(plan, score), job.denominator(score))
             )
 
-    def test_texts_of_drawn_jobs(self):
+    def test_texts_of_drawn_jobs(self) -> None:
         for root, words, job, first, last, thin in drawn_jobs(1, JOBS):
             text = trace_model.text_of(job, first, last, thin)
             with self.subTest(words=words, ids=(first, last), thin=thin):
                 self.compare(self.read(text, root, words, last=True), root, job, first, last, thin)
 
-    def test_the_program_on_drawn_jobs(self):
+    def test_the_program_on_drawn_jobs(self) -> None:
         program = tracing_program()
         for root, words, job, first, last, thin in drawn_jobs(2, JOBS):
             with self.subTest(words=words, ids=(first, last), thin=thin):
                 trace = district_audit.trace(
-                    trace_model.written(root),
-                    ids=(first, last),
-                    thin=thin,
-                    last=True,
-                    program=program,
-                    **words,
+                    trace_model.written(root), ids=(first, last), thin=thin, last=True,
+                    program=program, **words,
                 )
                 self.compare(trace, root, job, first, last, thin)
 
-    def test_real_maps(self):
+    def test_real_maps(self) -> None:
         """On the counties of North Carolina and the tracts of upstate New York the program's plans
         are
         the model's, and the package's scores the program's."""
@@ -95,10 +108,7 @@ class AgainstTheModel(TextCase):
             (
                 common.EXAMPLES / "data" / "nc.json",
                 dict(
-                    population="BIR74",
-                    first="WBIR74",
-                    second="NWBIR74",
-                    district="PLAN11",
+                    population="BIR74", first="WBIR74", second="NWBIR74", district="PLAN11",
                     slack=1000,
                 ),
                 300,
@@ -106,12 +116,8 @@ class AgainstTheModel(TextCase):
             (
                 common.EXAMPLES / "data" / "ny8.json",
                 dict(
-                    population="POP8",
-                    first="OWNING",
-                    second="OTHERS",
-                    district="PLAN8",
-                    slack=1000,
-                    region="COUNTY",
+                    population="POP8", first="OWNING", second="OTHERS", district="PLAN8",
+                    slack=1000, region="COUNTY",
                 ),
                 60,
             ),
@@ -120,16 +126,11 @@ class AgainstTheModel(TextCase):
             ready = district_audit.prepare(
                 path,
                 numbers="nearest",
-                **{name: column for name, column in columns.items() if name != "slack"},
+                **anything({name: column for name, column in columns.items() if name != "slack"}),
             )
-            words = dict(
-                key=district_audit.key_of(path.name),
-                walks=1,
-                steps=steps,
-                ends=1,
-                hub_steps=steps,
-                ask="seats:low,mean-median:high,gap:low,cut-edges:low",
-                slack=columns["slack"],
+            words: typing.Dict[str, typing.Any] = dict(
+                key=district_audit.key_of(path.name), walks=1, steps=steps, ends=1, hub_steps=steps,
+                ask="seats:low,mean-median:high,gap:low,cut-edges:low", slack=columns["slack"],
             )
             job = trace_model.job_of(
                 {**{name: column for name, column in ready.columns.items()}, **words}, ready.data
@@ -169,20 +170,14 @@ class AgainstTheModel(TextCase):
 class Tests(common.ProgramCase):
     """Tests on samples come to what the program's own report says."""
 
-    def setUp(self):
+    def setUp(self) -> None:
         super().setUp()
         self.program = tracing_program()
 
-    def test_at_each_step_they_are_the_reports(self):
-        words = dict(
-            GRID,
-            slack=1000,
-            key=district_audit.key_of("each step"),
-            walks=2,
-            steps=3000,
-            ends=9,
-            hub_steps=400,
-            ask=["seats:low", "mean-median:high", "gap:high", "cut-edges:low"],
+    def test_at_each_step_they_are_the_reports(self) -> None:
+        words: typing.Dict[str, typing.Any] = dict(
+            GRID, slack=1000, key=district_audit.key_of("each step"), walks=2, steps=3000, ends=9,
+            hub_steps=400, ask=["seats:low", "mean-median:high", "gap:high", "cut-edges:low"],
             program=self.program,
         )
         graph = common.EXAMPLES / "data" / "grid.json"
@@ -193,10 +188,10 @@ class Tests(common.ProgramCase):
             "gap": scores.efficiency_gap,
             "cut-edges": scores.cut_edges,
         }
-        values = {}
+        values: typing.Dict[typing.Any, typing.Any] = {}
         for sample in district_audit.trace(graph, ids="walks", thin=1, **words):
             for score, function in functions.items():
-                values.setdefault((sample.id, score), []).append(function(sample))
+                values.setdefault((sample.id, score), []).append(anything(function)(sample))
         moves = {}
         for sample in district_audit.trace(graph, ids="walks", thin=3000, **words):
             moves[sample.id] = sample.moves
@@ -208,42 +203,28 @@ class Tests(common.ProgramCase):
             )
         trace = district_audit.trace(graph, ids="ends", **words)
         self.assertEqual(trace.trajectory.thin, 400)
-        ends = {score: [function(trace.enacted)] for score, function in functions.items()}
+        ends = {score: [anything(function)(trace.enacted)] for score, function in functions.items()}
         for sample in trace:
             if sample.is_last:
                 for score, function in functions.items():
-                    ends[score].append(function(sample))
+                    ends[score].append(anything(function)(sample))
         for end in report.ends:
-            test = district_audit.rank_test(ends[end.score], end.tail)
-            self.assertEqual((test.rank, test.of, test.p), (end.rank, end.of, end.p))
+            ranked = district_audit.rank_test(ends[end.score], end.tail)
+            self.assertEqual((ranked.rank, ranked.of, ranked.p), (end.rank, end.of, end.p))
 
-    def test_a_networkx_graph_with_pairs_as_ids(self):
+    def test_a_networkx_graph_with_pairs_as_ids(self) -> None:
         networkx = common.needs("networkx")
         graph = networkx.grid_2d_graph(4, 6)
         for (row, column), data in graph.nodes(data=True):
             data.update(
-                pop=1,
-                a=(5 * row + column) % 4,
-                b="2",
-                x=row * column,
-                d=1.0 + column // 2,
+                pop=1, a=(5 * row + column) % 4, b="2", x=row * column, d=1.0 + column // 2,
                 county=(row // 2, "c"),
             )
         trace = district_audit.trace(
-            graph,
-            program=self.program,
-            population="pop",
-            first="a",
-            second="b",
-            district="d",
-            slack=5000,
-            key=common.KEY,
-            steps=200,
-            thin=10,
-            ask="cut-edges:low",
-            source=True,
+            graph, program=self.program, population="pop", first="a", second="b", district="d",
+            slack=5000, key=common.KEY, steps=200, thin=10, ask="cut-edges:low", source=True,
         )
-        self.assertEqual(trace.head.source.population, "pop")
+        self.assertEqual(anything(trace.head.source).population, "pop")
         moved = 0
         for sample in trace:
             assignment = dict(sample.assignment)
@@ -284,10 +265,12 @@ class Tests(common.ProgramCase):
                 sample.totals("votes")
         self.assertGreater(moved, 2)
 
-    def test_an_assignment_in_place_of_a_column(self):
+    def test_an_assignment_in_place_of_a_column(self) -> None:
         root = common.example("grid.json")
         own = {node["id"]: "plan " + node["CD"] for node in root["nodes"]}
-        words = dict(GRID, slack=1000, key=common.KEY, steps=100, thin=50, program=self.program)
+        words: typing.Dict[str, typing.Any] = dict(
+            GRID, slack=1000, key=common.KEY, steps=100, thin=50, program=self.program
+        )
         plain = [
             dict(sample.assignment)
             for sample in district_audit.trace(common.EXAMPLES / "data" / "grid.json", **words)
@@ -303,8 +286,10 @@ class Tests(common.ProgramCase):
             given, [{unit: "plan " + label for unit, label in one.items()} for one in plain]
         )
 
-    def test_refusals_of_the_program_come_at_the_call(self):
-        words = dict(trace_model.COLUMNS, slack=5000, key=common.KEY, program=self.program)
+    def test_refusals_of_the_program_come_at_the_call(self) -> None:
+        words: typing.Dict[str, typing.Any] = dict(
+            trace_model.COLUMNS, slack=5000, key=common.KEY, program=self.program
+        )
         data = trace_model.written(trace_model.PATH)
         for kind, line, changed in (
             (district_audit.WordsRefused, "words: bad value for --slack", dict(slack=20000)),
@@ -312,25 +297,24 @@ class Tests(common.ProgramCase):
             (district_audit.WordsRefused, "words: bad value for --thin", dict(thin=0)),
             (district_audit.WordsRefused, "words: unknown name --workers", dict(workers=2)),
             (
-                district_audit.GraphRefused,
-                "plan: district 0 has population 2, outside 3 to 1",
+                district_audit.GraphRefused, "plan: district 0 has population 2, outside 3 to 1",
                 dict(slack=0, district="pop"),
             ),
         ):
             with self.subTest(line=line):
                 with self.assertRaises(kind) as caught:
-                    district_audit.trace(data, **{**words, **changed})
+                    district_audit.trace(data, **{**words, **anything(changed)})
                 if kind is district_audit.WordsRefused:
                     self.assertEqual(caught.exception.line, line)
 
-    def test_closing_ends_the_program(self):
+    def test_closing_ends_the_program(self) -> None:
         """Closed by hand, by a `with` block, and by leaving the loop."""
-        words = dict(
+        words: typing.Dict[str, typing.Any] = dict(
             GRID, slack=1000, key=common.KEY, steps=10**9, thin=100, program=self.program
         )
         for way in ("close", "with", "leave"):
             trace = district_audit.trace(common.EXAMPLES / "data" / "grid.json", **words)
-            process = trace.lines.process
+            process = anything(trace.lines).process
             if way == "with":
                 with trace:
                     next(trace)
@@ -345,36 +329,24 @@ class Tests(common.ProgramCase):
                 del trace, _sample
             self.assertIsNotNone(process.poll(), way)
 
-    def test_a_program_that_is_killed(self):
+    def test_a_program_that_is_killed(self) -> None:
         trace = district_audit.trace(
-            common.EXAMPLES / "data" / "grid.json",
-            steps=10**9,
-            thin=100000,
-            **GRID,
-            slack=1000,
-            key=common.KEY,
-            program=self.program,
+            common.EXAMPLES / "data" / "grid.json", steps=10**9, thin=100000, **GRID, slack=1000,
+            key=common.KEY, program=self.program,
         )
         next(trace)
-        trace.lines.process.kill()
+        anything(trace.lines).process.kill()
         with self.assertRaises(district_audit.ProgramFailed) as caught:
             for _ in trace:
                 pass
         self.assertEqual(caught.exception.status, -9)
 
-    def test_one_walk_serves_all_elections(self):
+    def test_one_walk_serves_all_elections(self) -> None:
         common.needs("pandas")
         elections = {"A": ("DEM", "REP"), "B": ("REP", "DEM")}
         trace = district_audit.trace(
-            common.EXAMPLES / "data" / "grid.json",
-            elections=elections,
-            population="TOTPOP",
-            district="CD",
-            slack=1000,
-            key=common.KEY,
-            steps=400,
-            thin=100,
-            program=self.program,
+            common.EXAMPLES / "data" / "grid.json", elections=elections, population="TOTPOP",
+            district="CD", slack=1000, key=common.KEY, steps=400, thin=100, program=self.program,
         )
         frame = trace.to_frame(
             ["seats", "efficiency_gap", "cut_edges", lambda sample: sample.moves], exact=True
@@ -382,27 +354,15 @@ class Tests(common.ProgramCase):
         self.assertEqual(
             list(frame.columns),
             [
-                "id",
-                "step",
-                "moves",
-                "seats A",
-                "seats B",
-                "efficiency_gap A",
-                "efficiency_gap B",
-                "cut_edges",
-                "<lambda>",
+                "id", "step", "moves", "seats A", "seats B", "efficiency_gap A", "efficiency_gap B",
+                "cut_edges", "<lambda>",
             ],
         )
         self.assertEqual(list(frame.step), [0, 100, 200, 300, 400])
         self.assertEqual(list(frame["<lambda>"]), list(frame.moves))
         again = district_audit.trace(
-            common.EXAMPLES / "data" / "grid.json",
-            **GRID,
-            slack=1000,
-            key=common.KEY,
-            steps=400,
-            thin=100,
-            program=self.program,
+            common.EXAMPLES / "data" / "grid.json", **GRID, slack=1000, key=common.KEY, steps=400,
+            thin=100, program=self.program,
         )
         gaps = [
             (scores.efficiency_gap(sample), scores.efficiency_gap(sample, ("REP", "DEM")))

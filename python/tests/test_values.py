@@ -4,81 +4,55 @@ import fractions
 import json
 import subprocess
 import sys
+import typing
 import unittest
 
 import common
+from common import anything
 import district_audit
 from district_audit import PrepareRefused, values
 
 UNITS = list("stuvwxyz")
-PLAN = dict(zip(UNITS, [1, 1, 1, 1, 2, 2, 2, 2]))
-WORDS = dict(common.COLUMNS, slack=5000, key=common.KEY, ask="gap:low", steps=16)
+PLAN: typing.Dict[str, typing.Any] = dict(zip(UNITS, [1, 1, 1, 1, 2, 2, 2, 2]))
+WORDS: typing.Dict[str, typing.Any] = dict(
+    common.COLUMNS, slack=5000, key=common.KEY, ask="gap:low", steps=16
+)
 
 
 # They stand for pandas' missing values, by the name of their type.
 NA, NAT = type("NAType", (), {})(), type("NaTType", (), {})()
-# What is a missing value to people, and has to be to the package, in place of a label.
+# Values that people take for missing labels, as the package has to.
 MISSING = [
-    float("nan"),
-    None,
-    NA,
-    NAT,
-    "",
-    " ",
-    "\t",
-    "\u00a0",
-    decimal.Decimal("nan"),
-    decimal.Decimal("sNaN"),
-    complex("nan"),
+    float("nan"), None, NA, NAT, "", " ", "\t", "\u00a0", decimal.Decimal("nan"),
+    decimal.Decimal("sNaN"), complex("nan"),
 ]
 # Texts that other programs write for one.
 TEXTS = ["nan", "NaN", "<NA>", "NA", "N/A", "NaT", "None", "null", " nan "]
-# What is no label.
+# Values that are no labels.
 NO_LABELS = [
-    True,
-    False,
-    1.5,
-    float("inf"),
-    2.0**54,
-    b"1",
-    [float("nan")],
-    {},
-    {1},
-    object(),
-    fractions.Fraction(1, 2),
-    [True],
-    ([1, None],),
+    True, False, 1.5, float("inf"), 2.0**54, b"1", [float("nan")], {}, {1}, object(),
+    fractions.Fraction(1, 2), [True], ([1, None],),
 ]
 # Labels that differ from 1 in kind alone, and those that are the same at a glance.
 MIXED = [1.0, "1", decimal.Decimal(1), fractions.Fraction(1)]
 ALIKE = [
-    ("1", "01"),
-    ("1", "1.0"),
-    ("A", "A "),
-    ("A", " A"),
-    ("A B", "A  B"),
-    ("A B", "A\u00a0B"),
-    ("\u00e9", "e\u0301"),
-    ("-1", "-01"),
-    ("0", "-0"),
-    ("1", "+1"),
+    ("1", "01"), ("1", "1.0"), ("A", "A "), ("A", " A"), ("A B", "A  B"), ("A B", "A\u00a0B"),
+    ("\u00e9", "e\u0301"), ("-1", "-01"), ("0", "-0"), ("1", "+1"),
 ]
 
 
-def of_numpy():
+def of_numpy() -> typing.List[typing.Any]:
     """Missing values of numpy and pandas, where these are installed."""
     numpy, pandas = common.needs("numpy"), common.needs("pandas")
     return [
-        numpy.nan,
-        numpy.float32("nan"),
-        numpy.datetime64("NaT"),
-        pandas.NA,
-        pandas.NaT,
+        numpy.nan, numpy.float32("nan"), numpy.datetime64("NaT"), pandas.NA, pandas.NaT,
         numpy.ma.masked,
     ]
 
 
-def root_of(labels, column="d", units=UNITS, **more):
+def root_of(
+    labels: typing.Any, column: str = "d", units: typing.Any = UNITS, **more: typing.Any
+) -> typing.Dict[typing.Any, typing.Any]:
     """A cycle whose units have these labels in a column; d is the plan in any case."""
     nodes = [
         {"id": unit, "pop": 1, "a": 1, "b": 2, "d": PLAN[name]} for unit, name in zip(units, UNITS)
@@ -89,7 +63,7 @@ def root_of(labels, column="d", units=UNITS, **more):
     return {"nodes": nodes, "adjacency": adjacency}
 
 
-def with_one(label, place=3):
+def with_one(label: typing.Any, place: int = 3) -> typing.Any:
     """The labels of the plan, with another one in a place."""
     found = list(PLAN.values())
     found[place] = label
@@ -97,62 +71,43 @@ def with_one(label, place=3):
 
 
 class Values(unittest.TestCase):
-    def test_kinds(self):
+    def test_kinds(self) -> None:
         for value, kind in (
-            (1, "whole number"),
-            (2**80, "whole number"),
-            ("1", "text"),
-            (1.0, "float"),
-            ((0, "a"), "tuple"),
-            ((0.5, (1, 2)), "tuple"),
-            (True, None),
-            (1.5, None),
-            ((float("nan"),), None),
-            ((None,), None),
-            (2.0**53, "float"),
-            (b"", None),
+            (1, "whole number"), (2**80, "whole number"), ("1", "text"), (1.0, "float"),
+            ((0, "a"), "tuple"), ((0.5, (1, 2)), "tuple"), (True, None), (1.5, None),
+            ((float("nan"),), None), ((None,), None), (2.0**53, "float"), (b"", None),
         ):
             with self.subTest(value=value):
                 self.assertEqual(values.kind_of(value), kind)
 
-    def test_what_differs_is_left_alone(self):
+    def test_what_differs_is_left_alone(self) -> None:
         """Labels that look different stay: none of these pairs is refused."""
         for one, other in (
-            ("1", "10"),
-            ("A", "B"),
-            ("A", "a"),
-            ("1", "-1"),
-            ("1.0", "1.01"),
-            ("01a", "1a"),
-            ("0", "00 0"),
-            ("1", "1e0"),
-            ("AB", "A B"),
+            ("1", "10"), ("A", "B"), ("A", "a"), ("1", "-1"), ("1.0", "1.01"), ("01a", "1a"),
+            ("0", "00 0"), ("1", "1e0"), ("AB", "A B"),
         ):
             with self.subTest(one=one, other=other):
                 self.assertEqual(values.faults_in([("s", one), ("t", other)], "d"), [])
         self.assertEqual(values.faults_in([("s", 1), ("t", -1)], "d"), [])
         self.assertEqual(values.faults_in([("s", 1.0), ("t", 2.0)], "d"), [])
 
-    def test_alike(self):
+    def test_alike(self) -> None:
         for one, other in ALIKE:
             with self.subTest(one=one, other=other):
                 self.assertEqual(
                     values.faults_in([("s", one), ("t", one), ("u", other)], "d"),
                     [
-                        'unit "u": d, which is %s, differs from %s only in how it is written'
-                        % (
-                            json.dumps(other, ensure_ascii=False),
-                            json.dumps(one, ensure_ascii=False),
-                        )
+                        f'unit "u": d, which is {json.dumps(other, ensure_ascii=False)}, differs'
+                        f" from {json.dumps(one, ensure_ascii=False)} only in how it is written"
                     ],
                 )
 
-    def test_repeated(self):
+    def test_repeated(self) -> None:
         self.assertEqual(values.repeated([1, "1", 2, 1.0, "x", "x"]), [1, "x"])
 
 
 class Case(common.ProgramCase):
-    def refused(self, call, *parts):
+    def refused(self, call: typing.Any, *parts: typing.Any) -> typing.Any:
         """A call is refused by a line that names the unit v and has these parts."""
         with self.assertRaises(PrepareRefused) as caught:
             call()
@@ -166,13 +121,13 @@ class Case(common.ProgramCase):
         self.assertIn('unit "v"', str(caught.exception))
         return caught.exception
 
-    def calls(self, labels):
+    def calls(self, labels: typing.Any) -> typing.Dict[typing.Any, typing.Any]:
         """Each way by which labels of units come into the package."""
         plan = dict(zip(UNITS, labels))
         graph = common.StandInGraph(root_of(list(PLAN.values())))
         bare = {name: column for name, column in WORDS.items() if name != "district"}
         columns = {name: column for name, column in common.COLUMNS.items() if name != "district"}
-        said = dict(program=self.program)
+        said: typing.Dict[str, typing.Any] = dict(program=self.program)
         return {
             "column": lambda: district_audit.check(
                 common.StandInGraph(root_of(labels)), **said, **common.COLUMNS, slack=5000
@@ -206,44 +161,44 @@ class Case(common.ProgramCase):
 
 
 class Inputs(Case):
-    def test_the_plan_itself_is_taken_everywhere(self):
+    def test_the_plan_itself_is_taken_everywhere(self) -> None:
         for name, call in self.calls(list(PLAN.values())).items():
             with self.subTest(input=name):
                 call()
 
-    def test_missing_values(self):
+    def test_missing_values(self) -> None:
         for value in MISSING + of_numpy():
             for name, call in self.calls(with_one(value)).items():
                 with self.subTest(value=value, input=name):
                     self.refused(call, "has no ")
 
-    def test_texts_of_missing_values(self):
+    def test_texts_of_missing_values(self) -> None:
         for value in TEXTS:
             for name, call in self.calls([str(label) for label in with_one(value)]).items():
                 with self.subTest(value=value, input=name):
                     self.refused(call, "reads as a missing value")
 
-    def test_no_labels(self):
+    def test_no_labels(self) -> None:
         for value in NO_LABELS + [common.needs("numpy").bool_(True)]:
             for name, call in self.calls(with_one(value)).items():
                 with self.subTest(value=value, input=name):
                     self.refused(call, " is ")
 
-    def test_mixed_kinds(self):
+    def test_mixed_kinds(self) -> None:
         numpy = common.needs("numpy")
         for value in MIXED + [numpy.float64(1), numpy.str_("1")]:
             for name, call in self.calls(with_one(value)).items():
                 with self.subTest(value=value, input=name):
                     self.refused(call, "where 7 labels are whole numbers")
 
-    def test_labels_that_look_alike(self):
+    def test_labels_that_look_alike(self) -> None:
         for one, other in ALIKE:
             labels = [one, one, one, other, "x", "x", "x", "x"]
             for name, call in self.calls(labels).items():
                 with self.subTest(labels=labels, input=name):
                     self.refused(call, "only in how it is written")
 
-    def test_numbers_of_numpy_are_whole_numbers_to_all(self):
+    def test_numbers_of_numpy_are_whole_numbers_to_all(self) -> None:
         numpy = common.needs("numpy")
         for name, call in self.calls(
             [
@@ -254,7 +209,7 @@ class Inputs(Case):
             with self.subTest(input=name):
                 call()
 
-    def test_floats_that_are_whole_stand_for_their_digits(self):
+    def test_floats_that_are_whole_stand_for_their_digits(self) -> None:
         for name, call in self.calls([float(label) for label in PLAN.values()]).items():
             with self.subTest(input=name):
                 call()
@@ -267,7 +222,7 @@ class Inputs(Case):
             ["labels in d: some are neither texts nor whole numbers, so all are written as texts"],
         )
 
-    def test_missing_counts(self):
+    def test_missing_counts(self) -> None:
         """A missing number is refused by unit id unless a rule is named."""
         for value in MISSING + of_numpy():
             for column in ("pop", "a", "b", "g"):
@@ -276,11 +231,13 @@ class Inputs(Case):
                     root["nodes"][3][column] = value
                     more = {"group": "g"} if column == "g" else {}
                     self.refused(
-                        lambda: district_audit.prepare(root, **common.COLUMNS, **more),
-                        "has no %s (choose --missing zero or drop)" % column,
+                        lambda: district_audit.prepare(
+                            root, **anything({**common.COLUMNS, **more})
+                        ),
+                        f'has no {column} (choose missing="zero" or "drop")',
                     )
 
-    def test_a_rule_for_missing_values_is_no_rule_for_labels(self):
+    def test_a_rule_for_missing_values_is_no_rule_for_labels(self) -> None:
         self.assertEqual(
             district_audit.prepare(root_of(with_one(None)), **common.COLUMNS, missing="drop").units,
             list("stuwxyz"),
@@ -296,7 +253,7 @@ class Inputs(Case):
 class Files(Case):
     """Bytes and files, which go to the program as they are, are tested all the same."""
 
-    def calls_of(self, data):
+    def calls_of(self, data: typing.Any) -> typing.Iterator[typing.Any]:
         path = self.folder / "graph.json"
         path.write_bytes(data)
         for graph in (data, path, str(path)):
@@ -306,15 +263,11 @@ class Files(Case):
             yield lambda: district_audit.run(graph, program=self.program, **WORDS)
             yield lambda: district_audit.plans(graph, {"one": PLAN}, program=self.program, **WORDS)
 
-    def test_what_the_program_takes_and_people_do_not(self):
+    def test_what_the_program_takes_and_people_do_not(self) -> None:
         """The program takes each of these, and finds three districts where there are two."""
         for value, rest in (
-            ("1", PLAN.values()),
-            ("", "AAAABBBB"),
-            (" ", "AAAABBBB"),
-            ("NaN", "AAAABBBB"),
-            ("A ", "AAAABBBB"),
-            ("01", "11112222"),
+            ("1", PLAN.values()), ("", "AAAABBBB"), (" ", "AAAABBBB"), ("NaN", "AAAABBBB"),
+            ("A ", "AAAABBBB"), ("01", "11112222"),
         ):
             labels = list(rest)
             labels[3] = value
@@ -323,17 +276,8 @@ class Files(Case):
                 told = district_audit.program.call(
                     self.program,
                     [
-                        "check",
-                        "--pop",
-                        "pop",
-                        "--first",
-                        "a",
-                        "--second",
-                        "b",
-                        "--district",
-                        "d",
-                        "--slack",
-                        "10000",
+                        "check", "--pop", "pop", "--first", "a", "--second", "b", "--district", "d",
+                        "--slack", "10000",
                     ],
                     data,
                 )
@@ -341,7 +285,7 @@ class Files(Case):
                 for call in self.calls_of(data):
                     self.refused(call, "d")
 
-    def test_regions(self):
+    def test_regions(self) -> None:
         data = json.dumps(root_of(["k", "k", "k", "", "l", "l", "l", "l"], "county")).encode()
         self.refused(
             lambda: district_audit.check(
@@ -351,7 +295,7 @@ class Files(Case):
         )
         district_audit.check(data, program=self.program, **common.COLUMNS, slack=5000)
 
-    def test_another_column_of_what_was_prepared(self):
+    def test_another_column_of_what_was_prepared(self) -> None:
         ready = district_audit.prepare(
             root_of([1, 1, 1, "1", 2, 2, 2, 2], "other"), **common.COLUMNS, keep=["other"]
         )
@@ -360,7 +304,7 @@ class Files(Case):
             "other",
         )
 
-    def test_the_command_warns(self):
+    def test_the_command_warns(self) -> None:
         data = json.dumps(root_of([1, 1, 1, "1", 2, 2, 2, 2])).encode()
         told = subprocess.run(
             [
@@ -391,8 +335,10 @@ class Files(Case):
         )
         self.assertEqual(
             told.stderr.decode(),
-            'district-audit-run: warning: unit "v": d, which is "1", is a text,'
-            " where 7 labels are whole numbers\n",
+            (
+                'district-audit-run: warning: unit "v": d, which is "1", is a text,'
+                " where 7 labels are whole numbers\n"
+            ),
         )
 
 
@@ -401,21 +347,18 @@ class UnitsCase(Case):
 
     GRAPH = root_of(list(PLAN.values()))
 
-    def no(self, why, call):
+    def no(self, why: typing.Any, call: typing.Any) -> None:
         with self.assertRaises(PrepareRefused) as caught:
             call()
         self.assertIn(why, str(caught.exception))
 
-    def plans(self, table, graph=None, **said):
+    def plans(self, table: typing.Any, graph: typing.Any = None, **said: typing.Any) -> typing.Any:
         return district_audit.plans(
-            common.StandInGraph(self.GRAPH if graph is None else graph),
-            table,
-            program=self.program,
-            **WORDS,
-            **said,
+            common.StandInGraph(self.GRAPH if graph is None else graph), table,
+            program=self.program, **WORDS, **said,
         )
 
-    def prepared(self, assignment, graph=None):
+    def prepared(self, assignment: typing.Any, graph: typing.Any = None) -> typing.Any:
         columns = {name: column for name, column in common.COLUMNS.items() if name != "district"}
         return district_audit.prepare(
             self.GRAPH if graph is None else graph, **columns, assignment=assignment
@@ -425,13 +368,13 @@ class UnitsCase(Case):
 class Units(UnitsCase):
     """Ids: of the graph, of assignments, and of tables."""
 
-    def pairs(self, pairs):
-        """What has items() with an id twice, as a Series with a repeated index has."""
+    def pairs(self, pairs: typing.Any) -> typing.Any:
+        """An assignment whose items() have an id twice, as of a Series with a repeated index."""
         stand_in = common.StandInAssignment({})
-        stand_in.items = lambda: list(pairs)
+        stand_in.items = lambda: list(pairs)  # type: ignore[assignment]
         return stand_in
 
-    def test_units_that_are_missing_or_none_of_the_graph(self):
+    def test_units_that_are_missing_or_none_of_the_graph(self) -> None:
         few = {unit: label for unit, label in PLAN.items() if unit != "v"}
         self.no('plan two: unit "v" has no label', lambda: self.plans({"one": PLAN, "two": few}))
         self.no(
@@ -448,7 +391,7 @@ class Units(UnitsCase):
             lambda: self.prepared({**PLAN, "none": 1}),
         )
 
-    def test_ids_that_stand_there_twice(self):
+    def test_ids_that_stand_there_twice(self) -> None:
         twice = self.pairs([*PLAN.items(), ("v", 2)])
         self.no('plan one: unit "v" has several labels', lambda: self.plans({"one": twice}))
         self.no('unit "v" has several districts', lambda: self.prepared(twice))
@@ -457,7 +400,7 @@ class Units(UnitsCase):
         self.no("plan one: unit 3 has several labels", lambda: self.plans({"one": mixed}, numbered))
         self.no("unit 3 has several districts", lambda: self.prepared(mixed, numbered))
 
-    def test_ids_of_another_kind(self):
+    def test_ids_of_another_kind(self) -> None:
         numbered = root_of(list(PLAN.values()), units=list(range(8)))
         texts = {str(place): label for place, label in enumerate(PLAN.values())}
         self.no('the assignment names what is no unit: "0"', lambda: self.prepared(texts, numbered))
@@ -472,7 +415,7 @@ class Units(UnitsCase):
             self.plans({"one": floats}, numbered), self.plans({"one": texts}, numbered)
         )
 
-    def test_ids_that_are_none(self):
+    def test_ids_that_are_none(self) -> None:
         for one in (None, float("nan"), "", NA):
             self.no(
                 "the id in place 8 is missing",
@@ -486,7 +429,7 @@ class Units(UnitsCase):
             self.no("no id of a unit", lambda: self.plans({"one": {**PLAN, one: 1}}))
             self.no("no id of a unit", lambda: self.prepared({**PLAN, one: 1}))
 
-    def test_ids_of_the_graph(self):
+    def test_ids_of_the_graph(self) -> None:
         for one in (True, 0.5, {}):
             self.no(
                 "node 3 has",
@@ -501,12 +444,12 @@ class Units(UnitsCase):
             ),
         )
 
-    def test_plans_that_are_none(self):
+    def test_plans_that_are_none(self) -> None:
         self.no("this seems to be one assignment", lambda: self.plans(PLAN))
         self.no("a table has 1 to 16 plans, and this one has 0", lambda: self.plans({}))
         self.no(
             "a table has 1 to 16 plans, and this one has 17",
-            lambda: self.plans({"p%d" % place: PLAN for place in range(17)}),
+            lambda: self.plans({f"p{place}": PLAN for place in range(17)}),
         )
         self.no("a table of plans is a dict", lambda: self.plans(7))
         self.no(
@@ -518,16 +461,16 @@ class Units(UnitsCase):
         )
         for name in (None, float("nan"), True, 1.5):
             self.no("a plan's name is a text", lambda: self.plans({name: PLAN}))
-        for name in ("Plan A", "\u00e9", "x" * 101, "a\nb"):
-            self.no("and so no spaces", lambda: self.plans({name: PLAN}))
+        for word in ("Plan A", "\u00e9", "x" * 101, "a\nb"):
+            self.no("and so no spaces", lambda: self.plans({word: PLAN}))
 
-    def test_an_assignment_is_one_column(self):
-        frame = common.StandInAssignment({"one": PLAN})
+    def test_an_assignment_is_one_column(self) -> None:
+        frame = common.anything(common.StandInAssignment({"one": PLAN}))
         frame.columns = ["one"]
         self.no("name one of its columns", lambda: self.prepared(frame))
         self.no("name one of its columns", lambda: self.plans({"one": frame}))
 
-    def test_both_ways_to_say_the_districts(self):
+    def test_both_ways_to_say_the_districts(self) -> None:
         ready = district_audit.prepare(self.GRAPH, **common.COLUMNS)
         for graph in (ready, common.StandInGraph(self.GRAPH)):
             words = (
@@ -536,36 +479,35 @@ class Units(UnitsCase):
             self.no(
                 "district and assignment are both given",
                 lambda: district_audit.check(
-                    graph,
-                    program=self.program,
-                    slack=5000,
-                    **{**words, "district": "d"},
+                    graph, program=self.program, slack=5000, **anything({**words, "district": "d"}),
                     assignment=PLAN,
                 ),
             )
 
-    def test_both_parties_are_one_column(self):
+    def test_both_parties_are_one_column(self) -> None:
         self.no(
             "both parties' votes are the column a",
-            lambda: district_audit.prepare(self.GRAPH, **{**common.COLUMNS, "second": "a"}),
+            lambda: district_audit.prepare(
+                self.GRAPH, **anything({**common.COLUMNS, "second": "a"})
+            ),
         )
         self.no(
             "both parties' votes are the column a",
             lambda: district_audit.check(
-                json.dumps(self.GRAPH).encode(),
-                program=self.program,
-                **{**common.COLUMNS, "second": "a"},
-                slack=5000,
+                json.dumps(self.GRAPH).encode(), program=self.program,
+                **anything({**common.COLUMNS, "second": "a"}), slack=5000,
             ),
         )
         self.no(
             "the column a is named as that of districts",
-            lambda: district_audit.prepare(self.GRAPH, **{**common.COLUMNS, "district": "a"}),
+            lambda: district_audit.prepare(
+                self.GRAPH, **anything({**common.COLUMNS, "district": "a"})
+            ),
         )
 
-    def test_regions_that_are_filled(self):
+    def test_regions_that_are_filled(self) -> None:
         root = root_of([1, 1, None, None, 2, 2, 2, 2], "county")
-        said = dict(common.COLUMNS, region="county")
+        said: typing.Dict[str, typing.Any] = dict(common.COLUMNS, region="county")
         self.assertEqual(district_audit.prepare(root, **said, fill_region=3).regions, [1, 2, 3])
         self.assertEqual(district_audit.prepare(root, **said, fill_region="2").regions, ["1", "2"])
         self.assertEqual(
@@ -586,8 +528,8 @@ class Units(UnitsCase):
             lambda: district_audit.prepare(root, **said, fill_region="02"),
         )
 
-    def test_columns_that_are_kept(self):
-        """They are not audited: a missing value is null, which is told."""
+    def test_columns_that_are_kept(self) -> None:
+        """They are not audited: a missing value is null, which is listed as a change."""
         numpy = common.needs("numpy")
         root = root_of(PLAN.values())
         for node, value in zip(
@@ -616,10 +558,12 @@ class Counts(UnitsCase):
 
     THREE = dict(zip(UNITS, [1, 1, 1, 2, 2, 2, 3, 3]))
 
-    def test_another_number_of_districts(self):
+    def test_another_number_of_districts(self) -> None:
         self.no(
-            "plan two has 3 districts, and the enacted plan has 2"
-            ' (districts="any" takes it all the same)',
+            (
+                "plan two has 3 districts, and the enacted plan has 2"
+                ' (districts="any" takes it all the same)'
+            ),
             lambda: self.plans({"one": PLAN, "two": self.THREE}),
         )
         found = self.plans({"one": PLAN, "two": self.THREE}, districts="any")
@@ -629,16 +573,16 @@ class Counts(UnitsCase):
             lambda: self.plans({"one": PLAN}, districts=3),
         )
 
-    def test_a_column_of_ids_among_the_plans(self):
+    def test_a_column_of_ids_among_the_plans(self) -> None:
         ids = {unit: unit for unit in UNITS}
         self.no(
             "if this column has the units' ids, make it the index: frame.set_index('id')",
             lambda: self.plans({"id": ids}),
         )
 
-    def test_tables_as_csv(self):
+    def test_tables_as_csv(self) -> None:
         rows = [(unit, label, self.THREE[unit]) for unit, label in PLAN.items()]
-        text = "id,one,two\n" + "".join("%s,%s,%s\n" % row for row in rows)
+        text = "id,one,two\n" + "".join(f"{unit},{one},{two}\n" for unit, one, two in rows)
         path = self.folder / "plans.csv"
         for table in (text, text.encode(), "\ufeff" + text, text.replace("\n", "\r\n")):
             self.no("plan two has 3 districts", lambda: self.plans(table))
@@ -647,8 +591,7 @@ class Counts(UnitsCase):
             ("v,1,2", "v,,2", 'plan one: unit "v" has no label'),
             ("v,1,2", "v, ,2", 'plan one: unit "v" has no label'),
             (
-                "v,1,2",
-                "v,NA,2",
+                "v,1,2", "v,NA,2",
                 'plan one: unit "v": label, which is "NA", reads as a missing value',
             ),
             ("v,1,2", "v,nan,2", "reads as a missing value"),
@@ -667,10 +610,10 @@ class Counts(UnitsCase):
                 self.assertIn(old, text)
                 changed = text.replace(old, new)
                 path.write_text(changed, encoding="utf-8")
-                for table in (changed, changed.encode(), path, str(path)):
-                    self.no(why, lambda: self.plans(table, districts="any"))
+                for file in (changed, changed.encode(), path, str(path)):
+                    self.no(why, lambda: self.plans(file, districts="any"))
 
-    def test_a_table_that_the_program_refuses_is_left_to_it(self):
+    def test_a_table_that_the_program_refuses_is_left_to_it(self) -> None:
         for text, line in (
             ("id,one\ns\n", "table: record 1 is unreadable"),
             ("id\n", "table: no header"),
@@ -681,18 +624,20 @@ class Counts(UnitsCase):
 
 
 class Frames(UnitsCase):
-    """The same of pandas: the call that was the first to audit five districts of a map of four."""
+    """Missing values of pandas: such a call once audited five districts of a map of four."""
 
-    def setUp(self):
+    def setUp(self) -> None:
         super().setUp()
         self.pandas = common.needs("pandas")
 
-    def frame(self, labels, index=UNITS, dtype=object):
+    def frame(
+        self, labels: typing.Any, index: typing.Any = UNITS, dtype: typing.Any = object
+    ) -> typing.Any:
         return self.pandas.DataFrame(
             {"one": list(PLAN.values()), "two": self.pandas.Series(labels, dtype=dtype)}
         ).set_axis(index)
 
-    def test_one_nan_in_a_frame(self):
+    def test_one_nan_in_a_frame(self) -> None:
         for value in (float("nan"), None, self.pandas.NA):
             for dtype in (
                 (object, "float64", "Int64") if value is not self.pandas.NA else (object, "Int64")
@@ -709,13 +654,13 @@ class Frames(UnitsCase):
             lambda: self.plans(self.frame(with_one(float("nan"))).astype(str)),
         )
 
-    def test_good_frames_of_each_type(self):
+    def test_good_frames_of_each_type(self) -> None:
         wanted = self.plans({"one": PLAN, "two": PLAN})
         for dtype in (object, "int8", "float64", "Int64", "string", "category"):
             with self.subTest(dtype=dtype):
                 self.assertEqual(self.plans(self.frame(list(PLAN.values()), dtype=dtype)), wanted)
 
-    def test_the_index(self):
+    def test_the_index(self) -> None:
         good = list(PLAN.values())
         self.no(
             'unit "v" has several labels',
@@ -730,7 +675,7 @@ class Frames(UnitsCase):
         self.no('unit "v" has several districts', lambda: self.prepared(series))
         self.no("name one of its columns", lambda: self.prepared(self.frame(good)))
 
-    def test_two_columns_of_one_name(self):
+    def test_two_columns_of_one_name(self) -> None:
         frame = self.frame(list(PLAN.values()))
         frame.columns = ["one", "one"]
         self.no('several plans of the table have the same name: "one"', lambda: self.plans(frame))

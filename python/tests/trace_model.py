@@ -1,25 +1,24 @@
-"""What tests of traces share: a text, drawn jobs, and traces and scores by the plain model."""
+"""Helpers of tests of traces: a text, drawn jobs, and traces and scores by the plain model."""
 import json
-import pathlib
 import random
 import statistics
 import subprocess
-import sys
+import typing
 from fractions import Fraction
 
 import common
 import district_audit
-
-sys.path.insert(0, str(common.TOP / "tests" / "oracle"))
-import model  # noqa: E402
+from tests.oracle import model
 
 SCORES = ["seats", "mean-median", "gap", "cut-edges"]
-COLUMNS = dict(pop="pop", first="a", second="b", district="d")
+COLUMNS: typing.Dict[str, typing.Any] = dict(pop="pop", first="a", second="b", district="d")
 
 # A path of four units in two districts: a walk of five steps, in two of which unit 1 moves there
-# and
-# back, and two endpoint trajectories, whose hub has unit 2 moved.
-PATH = {
+# and back, and two endpoint trajectories, whose hub has unit 2 moved. The scores are worked by
+# hand. In ppqq both districts are tied, 4 to 4, and so are the second party's: twice the gap's
+# votes are (4 - 12) + (4 - 12) = -16. In pqqq they are (6 - 3) + (6 - 15) = -6, and in pppq
+# (6 - 12) + (6 - 4) = -4.
+PATH: typing.Dict[str, typing.Any] = {
     "directed": False,
     "multigraph": False,
     "graph": [],
@@ -28,10 +27,7 @@ PATH = {
         for name, a, label in zip("wxyz", (3, 1, 0, 4), ("p", "p", "q", "q"))
     ],
     "adjacency": [
-        [{"id": "x"}],
-        [{"id": "w"}, {"id": "y"}],
-        [{"id": "x"}, {"id": "z"}],
-        [{"id": "y"}],
+        [{"id": "x"}], [{"id": "w"}, {"id": "y"}], [{"id": "x"}, {"id": "z"}], [{"id": "y"}],
     ],
 }
 TEXT = """district-trace 1
@@ -40,23 +36,23 @@ units 4 edges 3 districts 2
 population 4 slack 5000 low 1 high 3
 walks 1 steps 5 ends 2 hub-steps 2
 ask seats low start 0/1
-ask gap high start -2/32
+ask gap high start -16/32
 trace id 0 steps 5 thin 2
-0 0 0 -2
-2 1 1 6 1:1
-4 2 0 -2 1:0
-5 3 1 6 1:1
+0 0 0 -16
+2 1 1 -6 1:1
+4 2 0 -16 1:0
+5 3 1 -6 1:1
 trace id 1 steps 2 thin 2
-0 0 0 -2 2:0
-2 1 0 -2 2:1
+0 0 1 -4 2:0
+2 1 0 -16 2:1
 trace id 2 steps 2 thin 2
-0 0 0 -2 2:0
-2 0 0 -2
+0 0 1 -4 2:0
+2 0 1 -4
 end
 """
 
 
-def drawn_graph(dice):
+def drawn_graph(dice: typing.Any) -> typing.Dict[typing.Any, typing.Any]:
     """A connected graph with a legal plan of contiguous districts, columns of counties, a group and
     a second election, ids of both kinds, and the root object of its JSON."""
     rows, columns = dice.randint(2, 5), dice.randint(3, 6)
@@ -91,7 +87,7 @@ def drawn_graph(dice):
                 "bvap": dice.randint(0, 9),
             }
         )
-    entries = {place: [] for place in places}
+    entries: typing.Any = {place: [] for place in places}
     for one, other in pairs:
         entries[one].append({"id": ids[other]})
         entries[other].append({"id": ids[one]})
@@ -104,22 +100,16 @@ def drawn_graph(dice):
     }
 
 
-def drawn_words(dice, steps=120):
+def drawn_words(dice: typing.Any, steps: int = 120) -> typing.Any:
     """The words of a run, as keyword arguments of the package."""
     asks = [
         f"{score}:{dice.choice(['low', 'high'])}"
         for score in dice.sample(SCORES, dice.randint(1, 4))
     ]
-    words = dict(
-        COLUMNS,
-        slack=dice.choice([3000, 5000, 9000]),
-        key=dice.randbytes(32).hex(),
-        walks=dice.randint(1, 3),
-        steps=dice.randint(1, steps),
-        ends=dice.randint(0, 3),
-        hub_steps=dice.randint(1, steps),
-        ask=",".join(asks),
-        max_cut=dice.choice([400000, 30]),
+    words: typing.Dict[str, typing.Any] = dict(
+        COLUMNS, slack=dice.choice([3000, 5000, 9000]), key=dice.randbytes(32).hex(),
+        walks=dice.randint(1, 3), steps=dice.randint(1, steps), ends=dice.randint(0, 3),
+        hub_steps=dice.randint(1, steps), ask=",".join(asks), max_cut=dice.choice([400000, 30]),
     )
     if dice.random() < 0.5:
         words.update(
@@ -130,7 +120,7 @@ def drawn_words(dice, steps=120):
     return words
 
 
-def job_of(words, data):
+def job_of(words: typing.Any, data: typing.Any) -> typing.Any:
     """The model's job; model.Refused where the plan or the words are refused."""
     given = [
         part
@@ -140,7 +130,7 @@ def job_of(words, data):
     return model.job_of(model.Setting(["run", *given]), data)
 
 
-def visited(job, number):
+def visited(job: typing.Any, number: typing.Any) -> typing.List[typing.Any]:
     """The plans and the moves of a trajectory: a list of both after each step, and how many
     steps."""
     setting, plan = job.setting, tuple(job.plan)
@@ -155,11 +145,11 @@ def visited(job, number):
     return list(zip(plans, moves))
 
 
-def shown_steps(steps, thin):
+def shown_steps(steps: typing.Any, thin: typing.Any) -> typing.List[typing.Any]:
     return [*range(0, steps, thin), steps]
 
 
-def text_of(job, first, last, thin):
+def text_of(job: typing.Any, first: typing.Any, last: typing.Any, thin: typing.Any) -> str:
     """The trace of some trajectories."""
     setting, start = job.setting, tuple(job.plan)
     lines = [
@@ -167,8 +157,10 @@ def text_of(job, first, last, thin):
         *model.origin_lines(job),
         "key " + setting.key.hex(),
         *model.head(job),
-        f"walks {setting.walks} steps {setting.steps} ends {setting.ends} "
-        f"hub-steps {setting.hub_steps}",
+        (
+            f"walks {setting.walks} steps {setting.steps} ends {setting.ends} "
+            f"hub-steps {setting.hub_steps}"
+        ),
     ]
     lines += [
         f"ask {score} {tail} start {job.value(start, score)}/{job.denominator(score)}"
@@ -195,7 +187,7 @@ def text_of(job, first, last, thin):
     return "\n".join([*lines, "end", ""])
 
 
-def scores_by_hand(root, assignment):
+def scores_by_hand(root: typing.Any, assignment: typing.Any) -> typing.Any:
     """Scores of a plan from its graph, each by its plain definition, by the names of the tests."""
     nodes = root["nodes"]
     labels = sorted(set(assignment.values()))
@@ -203,7 +195,7 @@ def scores_by_hand(root, assignment):
         label: [node for node in nodes if assignment[node["id"]] == label] for label in labels
     }
 
-    def total(column):
+    def total(column: typing.Any) -> typing.List[typing.Any]:
         return [sum(node[column] for node in by_label[label]) for label in labels]
 
     found = {}
@@ -232,7 +224,7 @@ def scores_by_hand(root, assignment):
         for other in others
     }
     found["cut_edges"] = sum(len({of[unit] for unit in edge}) == 2 for edge in edges)
-    counties = {}
+    counties: typing.Dict[typing.Any, typing.Any] = {}
     for node in nodes:
         counties.setdefault(node["county"], set()).add(of[node["id"]])
     found["splits"] = sum(len(those) - 1 for those in counties.values())
@@ -241,11 +233,11 @@ def scores_by_hand(root, assignment):
     return found
 
 
-def written(root):
+def written(root: typing.Any) -> bytes:
     return json.dumps(root).encode("utf-8")
 
 
-def drawn_jobs(seed, count):
+def drawn_jobs(seed: typing.Any, count: typing.Any) -> typing.Iterator[typing.Any]:
     """Drawn graphs with words that the model takes, the model's job, and ids and a thinning."""
     dice = random.Random(seed)
     while count:
@@ -260,16 +252,12 @@ def drawn_jobs(seed, count):
         yield root, words, job, first, last, dice.choice([1, 2, 7, 50, 1000])
 
 
-def tracing_program():
+def tracing_program() -> typing.Any:
     """The real program, which has to know `trace` with `--ids`."""
     program = common.built("audit_program", "DISTRICT_AUDIT")
     told = subprocess.run(
-        [program, "trace", "--ids", "0"],
-        stdin=subprocess.DEVNULL,
-        stdout=subprocess.DEVNULL,
-        stderr=subprocess.PIPE,
-        text=True,
-        check=False,
+        [program, "trace", "--ids", "0"], stdin=subprocess.DEVNULL, stdout=subprocess.DEVNULL,
+        stderr=subprocess.PIPE, text=True, check=False,
     )
     if "unknown" in told.stderr:
         common.lacking("the command `trace --ids` of the program")
@@ -279,7 +267,13 @@ def tracing_program():
 class TextCase(common.FolderCase):
     """Tests that read traces from files."""
 
-    def read(self, text, graph=None, words=None, **more):
+    def read(
+        self,
+        text: typing.Any,
+        graph: typing.Any = None,
+        words: typing.Any = None,
+        **more: typing.Any,
+    ) -> typing.Any:
         path = self.folder / "trace"
         path.write_bytes(text if isinstance(text, bytes) else text.encode("utf-8"))
         data = written(PATH if graph is None else graph)
