@@ -1,1 +1,1 @@
-"""Measurements of time and memory; docs/user/GUIDE.md has the tables that they print."""
+"""Measurements of time and memory; docs/dev/MEASUREMENTS.md has the tables that they print."""

@@ -1,18 +1,22 @@
-"""What an audit costs: runs a program on graphs of several sizes and writes a table in Markdown, and times beside it.
+"""Measures the cost of an audit: runs a program on graphs of several sizes, and writes a table in
+Markdown with its times.
 
 Usage: python3 -m bench.cost_table PROGRAM [--steps N] [--most UNITS] [--maps FOLDER] [--into FILE]
        python3 -m bench.cost_table workers PROGRAM [--plain OTHER] [--steps N] [--into FILE]
-PROGRAM is the built auditor. Each row is one graph: its units, edges and districts, how long it takes to the first step (read, judged,
-with one worker ready), what a million further steps of one walk take (measured over N, ten million where nothing is said), both in
-seconds of the processor, what each worker beyond the first adds to the start, and the most memory with one worker. The graphs are grids
-of `make`; the tracts of ny8.json with two districts and with eight, and with `--maps` the counties that real_maps.py made in FOLDER, with
-two and with thirteen; and grids with both diagonals, which the script writes as files, with texts as ids. With `--most` graphs with more
-units are left out. Below the table stands what 10^9 steps take by it.
-`workers` walks 16 trajectories of N steps (ten million) on the grid of size 10, by one worker and by four, and tells how many times as
-fast the four are, by the clock; with `--plain` the same of OTHER, which takes the same words, in turns with the program, so that what the
-machine has to do otherwise is the same for both.
-With `--into` what is written stands in FILE in place of what is between the lines BEGIN and END below, each with its kind. Takes the best
-of three runs each; ends with 1 where a program does not end with 0.
+PROGRAM is the built auditor. Each row is one graph: its units, edges and districts, how long it
+takes to the first step (read, judged, with one worker ready), what a million further steps of one
+walk take (measured over N, ten million where nothing is said), both in seconds of the processor,
+what each worker beyond the first adds to the start, and the most memory with one worker. The graphs
+are grids of `make`; the tracts of ny8.json with two districts and with eight, and with `--maps` the
+counties that real_maps.py made in FOLDER, with two and with thirteen; and grids with both
+diagonals, which the script writes as files, with texts as ids. With `--most` graphs with more units
+are left out. Below the table stands what 10^9 steps take by it. `workers` walks 16 trajectories of
+N steps (ten million) on the grid of size 10, by one worker and by four, and tells how many times as
+fast the four are, by the clock; with `--plain` the same of OTHER, which takes the same words, in
+turns with the program, so that what the machine has to do otherwise is the same for both. With
+`--into` what is written stands in FILE in place of what is between the lines BEGIN and END below,
+each with its kind. Takes the best of three runs each; ends with 1 where a program does not end with
+0.
 """
 import argparse
 import json
@@ -26,27 +30,48 @@ import typing
 
 from tests.places import DATA, package_command, package_environment
 
-BEGIN = {"table": "<!-- written by bench/cost_table.py -->", "workers": "<!-- written by bench/cost_table.py workers -->"}
+BEGIN = {
+    "table": "<!-- written by bench/cost_table.py -->",
+    "workers": "<!-- written by bench/cost_table.py workers -->",
+}
 END = "<!-- end of what it wrote -->"
 TRACTS = "--pop POP8 --first OWNING --second OTHERS --numbers nearest --missing zero"
 KEY = ["--key", "0" * 64, "--slack", "1000", "--ask", "cut-edges:low,gap:high"]
 COLUMNS = ["--pop", "pop", "--first", "a", "--second", "b", "--district", "d"]
 
 
-def crossed(rows, columns, districts):
-    """The bytes of a grid with both diagonals of each square: texts as ids, bands of rows as districts."""
+def crossed(rows: typing.Any, columns: typing.Any, districts: typing.Any) -> bytes:
+    """The bytes of a grid with both diagonals of each square: texts as ids, bands of rows as
+    districts.
+    """
     names = [[f"p{row * columns + column}" for column in range(columns)] for row in range(rows)]
     nodes, near = [], []
     for row in range(rows):
         for column in range(columns):
             unit = row * columns + column
-            nodes.append({"id": names[row][column], "pop": 100, "a": 37 * unit % 101, "b": 53 * unit % 97, "d": str(row * districts // rows)})
-            near.append([{"id": names[r][c]} for r in range(max(0, row - 1), min(rows, row + 2))
-                         for c in range(max(0, column - 1), min(columns, column + 2)) if (r, c) != (row, column)])
-    return json.dumps({"directed": False, "multigraph": False, "graph": [], "nodes": nodes, "adjacency": near}).encode()
+            nodes.append(
+                {
+                    "id": names[row][column],
+                    "pop": 100,
+                    "a": 37 * unit % 101,
+                    "b": 53 * unit % 97,
+                    "d": str(row * districts // rows),
+                }
+            )
+            near.append(
+                [
+                    {"id": names[r][c]}
+                    for r in range(max(0, row - 1), min(rows, row + 2))
+                    for c in range(max(0, column - 1), min(columns, column + 2))
+                    if (r, c) != (row, column)
+                ]
+            )
+    return json.dumps(
+        {"directed": False, "multigraph": False, "graph": [], "nodes": nodes, "adjacency": near}
+    ).encode()
 
 
-def once(program, words, data):
+def once(program: typing.Any, words: typing.Any, data: typing.Any) -> typing.Any:
     """Seconds of the processor, megabytes, and what was written."""
     with tempfile.TemporaryFile() as source, tempfile.TemporaryFile() as written:
         source.write(data)
@@ -60,69 +85,110 @@ def once(program, words, data):
         return usage.ru_utime + usage.ru_stime, usage.ru_maxrss / 1024, written.read().decode()
 
 
-def best(program, words, data):
+def best(program: typing.Any, words: typing.Any, data: typing.Any) -> typing.Any:
     runs = [once(program, words, data) for _ in range(3)]
     return min(run[0] for run in runs), max(run[1] for run in runs), runs[0][2]
 
 
-def megabytes(memory):
-    """What the system counts for a program begins with what this script takes."""
+def megabytes(memory: typing.Any) -> str:
+    """Returns a size of memory as text; what this script itself takes is the least to be seen."""
     least = once("/bin/true", [], b"")[1]
     return f"{memory:.0f}" if memory > least + 1 else f"at most {memory:.0f}"
 
 
-def prepared(path, words, column):
-    """The bytes of a real map with the plan of this column as its districts, and the words of `run` for it."""
+def prepared(path: typing.Any, words: typing.Any, column: typing.Any) -> typing.Any:
+    """The bytes of a real map with the plan of this column as its districts, and the words of `run`
+    for it.
+    """
     with tempfile.NamedTemporaryFile(suffix=".json") as graph:
-        done = subprocess.run([*package_command("prepare"), path, *words, "--district", column, "--slack", "1000", "--out", graph.name],
-                              stderr=subprocess.PIPE, text=True, check=False, env=package_environment())
+        done = subprocess.run(
+            [
+                *package_command("prepare"), path, *words, "--district", column, "--slack", "1000",
+                "--out", graph.name,
+            ],
+            stderr=subprocess.PIPE,
+            text=True,
+            check=False,
+            env=package_environment(),
+        )
         if done.returncode != 0:
             sys.exit(done.stderr)
         return graph.read(), ["run", *words[:6], "--district", column]
 
 
-def real_maps(folder):
+def real_maps(folder: typing.Any) -> typing.Any:
     """Of each map its name, its file, the words for prepare.py, and its districts."""
     maps = [("tracts of upstate New York", str(DATA / "ny8.json"), shlex.split(TRACTS), (2, 8))]
     if folder is not None:
         with open(f"{folder}/plans", encoding="utf-8") as file:
-            words = next(line.rstrip("\n").split("\t")[6] for line in file if line.startswith("counties\t"))
-        maps.append(("counties of the United States", f"{folder}/counties.json", shlex.split(words), (2, 13)))
+            words = next(
+                line.rstrip("\n").split("\t")[6] for line in file if line.startswith("counties\t")
+            )
+        maps.append(
+            (
+                "counties of the United States", f"{folder}/counties.json", shlex.split(words),
+                (2, 13),
+            )
+        )
     return maps
 
 
-def row_of(program, name, command, data, steps):
+def row_of(
+    program: typing.Any, name: typing.Any, command: typing.Any, data: typing.Any, steps: typing.Any
+) -> typing.Any:
     """The row, and the seconds for a million steps."""
     words = [*command, *KEY]
     start, memory, report = best(program, [*words, "--steps", "1"], data)
     more, _, _ = best(program, [*words, "--steps", "1", "--walks", "5", "--workers", "5"], data)
     alone, _, _ = best(program, [*words, "--steps", "1", "--walks", "5", "--workers", "1"], data)
     walked, _, _ = best(program, [*words, "--steps", str(steps)], data)
-    units, edges, districts = next(line.split()[1::2] for line in report.split("\n") if line.startswith("units "))
+    units, edges, districts = next(
+        line.split()[1::2] for line in report.split("\n") if line.startswith("units ")
+    )
     million = max(0.0, walked - start) * 1e6 / steps
-    row = f"| {name} | {units} | {edges} | {districts} | {start:.2f} | {million:.3f} | {max(0.0, more - alone) / 4:.2f} | {megabytes(memory)} |"
+    row = (
+        f"| {name} | {units} | {edges} | {districts} | {start:.2f} | {million:.3f} |"
+        f" {max(0.0, more - alone) / 4:.2f} | {megabytes(memory)} |"
+    )
     return row, million
 
 
-def spoken(least, most):
+def spoken(least: typing.Any, most: typing.Any) -> str:
     """How long 10^9 steps take, from the seconds for a million."""
-    (low, unit), (high, last) = ((1000 * it, "seconds") if it < 0.1 else (1000 * it / 60, "minutes") for it in (least, most))
+    (low, unit), (high, last) = (
+        (1000 * it, "seconds") if it < 0.1 else (1000 * it / 60, "minutes") for it in (least, most)
+    )
     if unit != last:
         return f"{low:.0f} {unit} to {high:.0f} {last}"
-    return f"{low:.0f} {unit}" if f"{low:.0f}" == f"{high:.0f}" else f"{low:.0f} to {high:.0f} {unit}"
+    return (
+        f"{low:.0f} {unit}" if f"{low:.0f}" == f"{high:.0f}" else f"{low:.0f} to {high:.0f} {unit}"
+    )
 
 
-def told(of):
-    """What a walk of 10^9 steps takes by the table, on each kind of graph."""
-    said = "; ".join(f"{kind} {spoken(min(seconds), max(seconds))}" for kind, seconds in of.items() if seconds)
+def told(of: typing.Any) -> str:
+    """Returns the time of a walk of 10^9 steps by the table, on each kind of graph."""
+    said = "; ".join(
+        f"{kind} {spoken(min(seconds), max(seconds))}" for kind, seconds in of.items() if seconds
+    )
     return f"By these rows a walk of 10^9 steps takes: {said}."
 
 
-def table(program, steps, most, folder):
-    lines = ["| graph | units | edges | districts | start, s | a million steps, s | each further worker, s | memory, MB |", "|---|---|---|---|---|---|---|---|"]
-    of = {"on the grids of `make`": [], "on real maps with eight districts or more": [], "on real maps with two districts": [], "with diagonals": []}
+def table(program: typing.Any, steps: typing.Any, most: typing.Any, folder: typing.Any) -> str:
+    lines = [
+        (
+            "| graph | units | edges | districts | start, s | a million steps, s | each further"
+            " worker, s | memory, MB |"
+        ),
+        "|---|---|---|---|---|---|---|---|",
+    ]
+    of: typing.Any = {
+        "on the grids of `make`": [],
+        "on real maps with eight districts or more": [],
+        "on real maps with two districts": [],
+        "with diagonals": [],
+    }
 
-    def add(kind, name, command, data):
+    def add(kind: typing.Any, name: typing.Any, command: typing.Any, data: typing.Any) -> None:
         row, million = row_of(program, name, command, data, steps)
         lines.append(row)
         of[kind].append(million)
@@ -133,36 +199,54 @@ def table(program, steps, most, folder):
         for districts in counts:
             data, command = prepared(path, words, f"PLAN{districts}")
             if len(json.loads(data)["nodes"]) <= most:
-                add(f"on real maps with {'two districts' if districts == 2 else 'eight districts or more'}", name, command, data)
-    for rows, columns in (shape for shape in ((30, 30), (100, 100), (250, 400)) if shape[0] * shape[1] <= most):
+                add(
+                    (
+                        "on real maps with"
+                        f" {'two districts' if districts == 2 else 'eight districts or more'}"
+                    ),
+                    name,
+                    command,
+                    data,
+                )
+    for rows, columns in (
+        shape for shape in ((30, 30), (100, 100), (250, 400)) if shape[0] * shape[1] <= most
+    ):
         data = crossed(rows, columns, 10)
-        add("with diagonals", f"a file of {len(data) / 1e6:.1f} MB, {rows} by {columns} with diagonals", ["run", *COLUMNS], data)
+        add(
+            "with diagonals",
+            f"a file of {len(data) / 1e6:.1f} MB, {rows} by {columns} with diagonals",
+            ["run", *COLUMNS],
+            data,
+        )
     return "\n".join([*lines, "", told(of)])
 
 
-def timed(program, words):
+def timed(program: typing.Any, words: typing.Any) -> typing.Any:
     begin = time.perf_counter()
     once(program, words, b"")
     return time.perf_counter() - begin
 
 
-def workers(program, plain, steps):
-    """How many times as fast four workers are as one, of both programs, in turns."""
+def workers(program: typing.Any, plain: typing.Any, steps: typing.Any) -> str:
+    """Returns the speed of four workers as a multiple of one's, of both programs, in turns."""
     words = ["make", "--size", "10", *KEY, "--walks", "16", "--steps", str(steps), "--workers"]
     programs = [("the auditor", program)] + ([("a plain program", plain)] if plain else [])
-    times = {(name, count): [] for name, _ in programs for count in ("1", "4")}
+    times: typing.Any = {(name, count): [] for name, _ in programs for count in ("1", "4")}
     for _ in range(3):
         for count in ("1", "4"):
             for name, path in programs:
                 times[name, count].append(timed(path, [*words, count]))
-    lines = [f"| 16 walks of {steps} steps | one worker, s | four workers, s | times as fast |", "|---|---|---|---|"]
+    lines = [
+        f"| 16 walks of {steps} steps | one worker, s | four workers, s | times as fast |",
+        "|---|---|---|---|",
+    ]
     for name, _ in programs:
         one, four = min(times[name, "1"]), min(times[name, "4"])
         lines.append(f"| {name} | {one:.2f} | {four:.2f} | {one / four:.2f} |")
     return "\n".join(lines)
 
 
-def write(text, kind, into):
+def write(text: typing.Any, kind: typing.Any, into: typing.Any) -> None:
     if into is None:
         print(text)
         return
@@ -174,7 +258,7 @@ def write(text, kind, into):
         file.write(f"{before}{BEGIN[kind]}\n{text}\n{END}{after}")
 
 
-def main(kind, words):
+def main(kind: typing.Any, words: typing.Any) -> None:
     program = os.path.abspath(words.program)
     if kind == "workers":
         text = workers(program, words.plain and os.path.abspath(words.plain), words.steps)
@@ -186,7 +270,8 @@ def main(kind, words):
 def arguments(kind: str, given: typing.List[str]) -> argparse.Namespace:
     parser = argparse.ArgumentParser(
         prog="python3 -m bench.cost_table", description=__doc__,
-        formatter_class=argparse.RawDescriptionHelpFormatter)
+        formatter_class=argparse.RawDescriptionHelpFormatter,
+    )
     parser.add_argument("program", help="the built auditor")
     parser.add_argument("--steps", type=int, default=10_000_000, help="the length of a walk")
     parser.add_argument("--into", metavar="FILE", help="the file that gets the table")

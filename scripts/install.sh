@@ -1,23 +1,60 @@
 #!/bin/bash
-# Proves the auditor and leaves it as one file, `district-audit`, in the folder that is named.
+# Proves the auditor and installs it in a folder as one file, `district-audit`.
 #
 # Usage: scripts/install.sh FOLDER [slots] [gather] [built | unproved]
-# The first time everything below the program is proved, by as many provers as there are processors, and a line tells of each crate that is
-# done; later only what changed. The program then audits a small grid, and only where it does is the file copied. With the word `slots` the
-# program that tells how far a run is is left there too, as `audit_slots`, and with `gather` the one that gathers parts, as `audit_gather`.
-# Both are one program, which goes by the name under which it is called.
-# With the word `built` nothing is proved: what the test command has proved and built, or an earlier rt run, is taken as it is.
-# With the word `unproved` nothing is proved either: a build with checks, some minutes later, to try things while the proof runs. It is left as
-# `district-audit-unproved` (and `audit_slots-unproved`, `audit_gather-unproved`): every text that it writes, on standard output and on standard
-# error, begins with a line that says that it is not proved, so no other program takes its text for a report.
-# Ends with 1, and says why in one line, where something is not as it has to be.
+#   slots      installs `audit_slots`, too, which shows how far a run is
+#   gather     installs `audit_gather`, too, which gathers the parts of a job
+#   built      proves nothing: takes what the test command or an earlier rt run has proved and built
+#   unproved   proves nothing: makes a build with checks in some minutes, to try things while the proof runs. Its files end with
+#              `-unproved`. Each text that such a file writes, on either output, begins with a line that says so
+# The first time all crates are proved, on all processors, with a line for each crate that is done; later only what changed. A program
+# is installed only if it audits a small grid. `audit_slots` and `audit_gather` are one program, which goes by the name under which it
+# is called.
+# Beside each program NAME the file NAME.origin is written, and printed: the program's SHA-256, the commit that it was built from (with
+# the word `built` the commit of the checkout), the line of `rt version`, and whether it is proved. A part that is not known is `unknown`.
+# While a program builds, the commit of the clone stands in the source files with the texts of --version. The same commit gives the same
+# bytes. If the sources differ from the commit, and with the word `built`, --version answers that the commit is unknown.
+# On failure, one line on standard error says why, and the status is 1.
 
 here=$(cd "$(dirname "$0")" && pwd) || exit 1
 # shellcheck source=usage.sh
 . "$here/usage.sh"
 help_where_asked "$@"
 room=$(mktemp -d) || exit 1
-trap 'rm -rf "$room"' EXIT
+trap 'unstamp; rm -rf "$room"' EXIT
+
+# The files with the texts of --version, one for each program, and those of them that have the commit.
+builds=("$here"/../crates/audit_{program,folders}/src/this_build.rt)
+stamped=()
+
+# Takes a commit out of the files that a killed build left there.
+clear_stamps() {
+    local file
+    for file in "${builds[@]}"; do
+        grep -q 'commit: "unknown"' "$file" || sed -i 's/commit: "[0-9a-f]*"/commit: "unknown"/' "$file" || fail "$file cannot be written"
+    done
+}
+
+# Writes the commit of the clone into the files if the sources are those of the commit.
+stamp() {
+    local commit file top=$here/..
+    commit=$(git -C "$top" rev-parse --verify HEAD 2>/dev/null) || return 0
+    [ -z "$(git -C "$top" status --porcelain -- crates crates.txt HANDLES 2>/dev/null)" ] || return 0
+    for file in "${builds[@]}"; do
+        cp -p "$file" "$room/${#stamped[@]}.rt" || fail "$file cannot be copied"
+        stamped+=("$file")
+        sed -i "s/commit: \"unknown\"/commit: \"$commit\"/" "$file" || fail "$file cannot be written"
+    done
+}
+
+# Takes the commit back out of the files, so that the clone is as it was.
+unstamp() {
+    local place
+    for place in "${!stamped[@]}"; do
+        cp -p "$room/$place.rt" "${stamped[place]}"
+    done
+    stamped=()
+}
 
 fail() {
     echo "install: $1" >&2
@@ -39,10 +76,33 @@ for word in "${@:2}"; do
     esac
 done
 [ $# -ge 1 ] || fail "no folder; $usage"
-[ $built$unproved != yesyes ] || fail "what is built is proved: give one of the words built and unproved; $usage"
+[ $built$unproved != yesyes ] || fail "give one of the words built and unproved, not both: what is built is proved; $usage"
 mkdir -p "$1" || fail "the folder $1 cannot be made"
 place=$(cd "$1" && pwd) || exit 1
 [ $built = yes ] || command -v rt >/dev/null || fail "the toolchain's command rt is not to be found"
+
+# Prints the commit of the checkout. Changes that are in no commit are named.
+commit_of_checkout() {
+    local commit parts=(crates crates.txt HANDLES scripts)
+    commit=$(git -C "$here/.." rev-parse --verify HEAD 2>/dev/null) || { echo unknown; return; }
+    [ -z "$(git -C "$here/.." status --porcelain -- "${parts[@]}" 2>/dev/null)" ] || commit="$commit with changes"
+    echo "$commit"
+}
+
+# Prints what the program $place/$1 is, and leaves that beside it. $2 says whether it is proved.
+tell_origin() {
+    local name=$1 source=commit kit
+    [ $built = no ] || source=checkout
+    kit=$(rt version </dev/null 2>/dev/null | head -n 1)
+    {
+        echo "sha256 $(sha256sum <"$place/$name" | cut -d ' ' -f 1)"
+        echo "$source $checkout"
+        echo "kit ${kit:-unknown}"
+        echo "proved $2"
+    } >"$place/$name.origin.new" && mv "$place/$name.origin.new" "$place/$name.origin" || fail "$place/$name.origin cannot be written"
+    echo "$place/$name"
+    sed 's/^/  /' "$place/$name.origin"
+}
 
 # Proves the program in the crate $1, copies it as $2, runs it under this name with the other words, and leaves it where it does.
 leave() {
@@ -58,7 +118,7 @@ leave() {
     [ -x "$program" ] || fail "there is no program $program"
     cp "$program" "$room/$name" && "$room/$name" "$@" </dev/null >"$room/said" 2>&1 || fail "$program does not run: $(head -c 300 "$room/said")"
     cp "$program" "$place/$name.new" && mv "$place/$name.new" "$place/$name" || fail "$place/$name cannot be written"
-    echo "$place/$name"
+    tell_origin "$name" yes
 }
 
 # ---- a build that is not proved
@@ -136,7 +196,7 @@ exit 126
 END
 }
 
-# Whether the program $1 runs with the other words, and says on both outputs that it is not proved.
+# Tests that the program $1 runs with the other words, and says on both outputs that it is not proved.
 says_unproved() {
     local file
     "$@" </dev/null >"$room/said" 2>"$room/said_note" || return 1
@@ -158,7 +218,7 @@ leave_unproved() {
     if ! cp "$room/$file" "$place/$file.new" || ! mv "$place/$file.new" "$place/$file"; then
         fail "$place/$file cannot be written"
     fi
-    echo "$place/$file"
+    tell_origin "$file" no
 }
 
 # Leaves all that is asked for without a proof.
@@ -173,17 +233,17 @@ install_unproved() {
     [ $gather = no ] || leave_unproved "$room/folders" audit_gather --look yes "${small[@]}"
 }
 
-# Proves all crates, by as many provers at once as there are processors, and tells of each that is done.
+# Proves all crates on all processors, and prints a line for each that is done.
 prove() {
     local line done=0 count read=0
-    echo "install: the texts of the programs are read first, which takes some minutes where nothing was proved before"
+    echo "install: reading the sources first, which takes some minutes if nothing was proved before"
     count=$(grep -c '^[a-z]' "$here/../crates.txt")
     (cd "$here/.." && rt all check --jobs "$(nproc)" </dev/null 2>&1; echo "ended $?") | tee "$room/proofs" | while read -r line; do
         case $line in
             '== summary') ;;
             only=*)
                 read=$((read + 1))
-                echo "install: $read texts read"
+                echo "install: $read sources read"
                 ;;
             '== '*)
                 done=$((done + 1))
@@ -195,6 +255,10 @@ prove() {
         fail "not proved: $(sed -n '/^== summary$/,$p' "$room/proofs" | grep -v ': ok$' | sed 1d | head -n 3 | tr '\n' ' ')"
 }
 
+[ $built = yes ] || clear_stamps
+# Asked before the commit is written into files, which changes them.
+checkout=$(commit_of_checkout)
+[ $built = yes ] || stamp
 if [ $unproved = yes ]; then
     install_unproved
     exit

@@ -1,6 +1,5 @@
 #!/bin/bash
-# What the test command needs beside the toolchain: looks for it, installs from Debian what is missing where it may, and says the one line
-# to type where it may not.
+# Looks for what the test command needs beside the toolchain. Installs from Debian what is missing where it may, and elsewhere prints the one line to type.
 #
 # Usage: scripts/needs.sh               looks, and installs what is missing where root and apt-get are there
 #        scripts/needs.sh look          only looks
@@ -15,7 +14,7 @@ declare -A package=([networkx]=python3-networkx [matplotlib]=python3-matplotlib 
     [parallel]=parallel [flake8]=flake8 [mypy]=mypy [valgrind]=valgrind)
 programs=(strace gcc parallel flake8 mypy valgrind)
 
-# Whether a python is of 3.9 or later and has all of some modules.
+# Succeeds if a python is of 3.9 or later and has all of some modules.
 has() {
     local python=$1 module
     shift
@@ -63,7 +62,7 @@ install() {
     echo "needs: installing ${packages[*]}"
     log=$(mktemp) || return
     apt install --no-install-recommends "${packages[@]}" || { apt update; apt install --no-install-recommends "${packages[@]}"; } ||
-        echo "needs: not installed: $(tail -n 1 "$log" | head -c 300)" >&2
+        echo "needs: the installation failed: $(tail -n 1 "$log" | head -c 300)" >&2
     rm -f "$log"
 }
 

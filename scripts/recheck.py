@@ -6,12 +6,14 @@ Written from docs/claims/KERNEL.md and docs/user/FORMATS.md; needs Python 3.8 an
   recheck.py GRAPH REPORT [--id 0,3,serial | --sample K --seed TEXT] [words of the run]
              [--trace FILE [--segments K --seed TEXT] [--skip-hub yes]] [--checkpoints FOLDER]
 
-GRAPH is the file that the auditor read, or the word `make`. Any word of the run is compared with
-the report. Those for columns are needed if the report has no line `columns`, and --size for
-`make`. With none of --id, --sample, --trace and --checkpoints all is recomputed. The status is 0
-if all that was asked agrees, 1 if something differs, and 2 if something cannot be read.
+GRAPH is the file that the auditor read, for `plans` with the table, or the word `make`. Any word
+of the run is compared with the report. Those for columns are needed if the report has no line
+`columns`, and --size for `make`. With none of --id, --sample, --trace and --checkpoints all is
+recomputed. The status is 0 if all that was asked agrees, 1 if not, and 2 if a file is unreadable.
 """
+import csv
 import hashlib
+import io
 import json
 import math
 import re
@@ -25,10 +27,10 @@ from typing import Any, Dict, Iterable, Iterator, List, Optional, Sequence, Size
 BILLION, MASK, BATCH = 10 ** 9, 2 ** 32 - 1, 512
 SCORES, TAILS = ("seats", "mean-median", "gap", "cut-edges"), ("low", "high")
 LIMITS = {"max-cut": 400000, "max-split": 200, "max-splits": 995000, "max-split-regions": 5000,
-          "group-districts": 0}
+          "group-districts": 0, "group-share": 5000}
 NUMBERS = ("slack", "walks", "steps", "ends", "hub-steps", "stop", *LIMITS)
-COLUMNS = ("--pop", "--first", "--second", "--district", "--region", "--group", "--group-of")
-LABELS = ("--district", "--region")
+COLUMNS = tuple("--pop --first --second --district --region --group --group-of --freeze".split())
+OTHERS = ("--district", "--region", "--freeze")
 WORDS = {"--id", "--sample", "--seed", "--trace", "--segments", "--skip-hub", "--checkpoints",
          "--size", "--key", "--ask", "--shift", "--serial", "--source", "--workers", "--budget",
          "--save", "--resume", "--parts", "--part", *COLUMNS, *(f"--{name}" for name in NUMBERS)}
@@ -56,15 +58,13 @@ def sampled(what: str, some: Sized, every: Sized) -> None:
 
 
 def rounded_up(name: str, top: int, of: int) -> str:
-    """The quotient as billionths, rounded up."""
-    n = -(-top * BILLION // of)
-    return f"{name} {n // BILLION}.{n % BILLION:09}"
+    return "%s %d.%09d" % (name, *divmod(-(-top * BILLION // of), BILLION))  # rounded up
 
 
 @lru_cache(maxsize=8)
 def batch(key: bytes, stream: int, number: int) -> List[int]:
-    """The draws of BATCH blocks of a stream, from block number * BATCH. Each number holds a word
-    of all blocks, 64 bits apart, so that a sum or a shift of one word does not reach the next."""
+    """The draws of BATCH blocks. A number holds one word of all of them, 64 bits apart, so that
+    a sum or a shift of one word does not reach the next."""
     form, each = f"<{BATCH}Q", (2 ** (64 * BATCH) - 1) // (2 ** 64 - 1)
     mask, blocks = MASK * each, range(number * BATCH, (number + 1) * BATCH)
     counter = int.from_bytes(struct.pack(form, *blocks), "little")
@@ -78,60 +78,56 @@ def batch(key: bytes, stream: int, number: int) -> List[int]:
             turned = (x[r] ^ x[p]) << turn
             x[r] = (turned | turned >> 32) & mask
     x = [(u + v) & mask for u, v in zip(x, first)]
-    draws = [0] * (8 * BATCH)
-    for k in range(8):
-        both = x[2 * k] | x[2 * k + 1] << 32
-        draws[k::8] = struct.unpack(form, both.to_bytes(8 * BATCH, "little"))
-    return draws
+    rows = [struct.unpack(form, (low | high << 32).to_bytes(8 * BATCH, "little"))
+            for low, high in zip(x[::2], x[1::2])]
+    return [*chain.from_iterable(zip(*rows))]
 
 
 def draws_of(key: bytes, stream: int, begin: int, end: int) -> Iterator[int]:
-    """The draws at the places from begin to end - 1."""
-    return chain.from_iterable(
-        batch(key, stream, at // (8 * BATCH))[max(begin - at, 0):end - at]
-        for at in range(begin - begin % (8 * BATCH), end, 8 * BATCH))
+    return chain.from_iterable(batch(key, stream, at // (8 * BATCH))[max(begin - at, 0):end - at]
+                               for at in range(begin - begin % (8 * BATCH), end, 8 * BATCH))
 
 
 class Job:
-    """The run that a report tells of, and what is known of its trajectories."""
-    def __init__(self, data: bytes, lines: List[str], words: Dict[str, str]) -> None:
-        self.lines, self.words = lines, words
+    """The run of a report. Beside a table `plan` has labels by ids, or none: the graph's own."""
+    def __init__(self, data: bytes, lines: List[str], words: Dict[str, str], plan: Any) -> None:
+        self.lines, self.words, self.labels = lines, words, plan
         text = "\n".join(line for line in lines if not line.startswith(("source ", "columns ")))
         found = {name: re.search(rf"(?:^| ){name} (\d+)", text, re.M) for name in NUMBERS}
         self.n = n = {name: int(number[1]) if number else LIMITS.get(name, 0)
                       for name, number in found.items()}
         self.key = bytes.fromhex(re.findall("^key (.*)$", text, re.M)[0])
         rows = re.findall(r"^(?:walk \d+ moved \d+|ends|stop) (\S+) (\S+) start", text, re.M)
-        count = len(rows) // (n["walks"] + (n["ends"] > 0))
-        self.asks: List[Tuple[str, str]] = rows[:count]
+        self.asks: List[Tuple[str, str]] = rows[:len(rows) // (n["walks"] + (n["ends"] > 0))]
         self.is_shift, self.is_serial = lines[0] == "district-audit 2", "\nserial " in text
         self.source = [line for line in lines[1:3] if line.startswith(("source ", "columns "))]
         names = {name: words[name] for name in COLUMNS if words.get(name)}
         if self.source:
             row = re.findall(r'"(?:[^"\\]|\\.)*"|[^ ]+', self.source[1])
-            which = [*COLUMNS[:4], *["--region"] * ("region" in row), *COLUMNS[5:]]
+            which = [*COLUMNS[:4 + ("region" in row)], *COLUMNS[5:7 * ("group" in row)], "--freeze"]
             names = dict(zip(which, (json.loads(text) for text in row if text[0] == '"')))
         elif "--group" in names:
             names.setdefault("--group-of", names["--pop"])
-        told = {"--key": self.key.hex(), "--ask": ",".join(map(":".join, self.asks)),
-                "--shift": ("no", "yes")[self.is_shift], "--serial": ("no", "yes")[self.is_serial],
-                **{f"--{name}": str(number) for name, number in self.n.items()}, **names}
+        self.names, told = names, {
+            "--key": self.key.hex(), "--ask": ",".join(map(":".join, self.asks)), **names,
+            "--shift": ("no", "yes")[self.is_shift], "--serial": ("no", "yes")[self.is_serial],
+            **{f"--{name}": str(number) for name, number in self.n.items()}}
         for k in sorted(told.keys() & words.keys()):
             same(f"word {k}", words[k].lower() if k == "--key" else words[k], told[k])
         self.origin = f"source sha256 {hashlib.sha256(data).hexdigest()} bytes {len(data)}"
         self.edges, self.columns = (self.make_map(int(words["--size"])) if data == b"make" else
                                     self.read_map(data, names))
         self.start, self.regions = self.columns["--district"], len(set(self.columns["--region"]))
-        self.counts = {name: column for name, column in self.columns.items()
-                       if column and name not in LABELS}
+        self.counts = {k: row for k, row in self.columns.items() if row and k not in OTHERS}
+        self.frozen = {u for u, is_frozen in enumerate(self.columns["--freeze"]) if is_frozen}
+        self.shares = "--group" in self.counts and n["group-share"] != 5000
         self.near: List[List[int]] = [[] for _ in self.start]
         for u, v in chain(self.edges, ((v, u) for u, v in self.edges)):
             self.near[u].append(v)
         self.districts, self.total = max(self.start) + 1, sum(self.columns["--pop"])
         self.low = -(-(10000 - n["slack"]) * self.total // (10000 * self.districts))
         self.high = (10000 + n["slack"]) * self.total // (10000 * self.districts)
-        limits_splits = n["max-splits"] < 995000 or n["max-split-regions"] < 5000
-        self.splits = self.regions > 0 and limits_splits
+        self.splits = self.regions > 0 and n["max-splits"] + n["max-split-regions"] < 1000000
         walk = Walk(self, self.start)
         self.seats, self.values, self.there = walk.score("seats"), walk.values(), walk.majorities()
         below = {"mean-median": 2 * self.districts * BILLION,
@@ -144,15 +140,20 @@ class Job:
         self.needed = n["walks"] + min(max(stops, default=n["ends"]), n["ends"])
 
     def read_map(self, data: bytes, names: Dict[str, str]) -> Map:
-        root = json.loads(data.decode("utf-8"), parse_int=lambda text: int(text)  # of 64 bits
+        text = (data if self.labels is None else data.partition(b"\n")[0]).decode("utf-8")
+        root = json.loads(text, parse_int=lambda text: int(text)  # of 64 bits
                           if text != "-0" and -2 ** 63 <= int(text) < 2 ** 64 else float(text))
         unit = {node["id"]: u for u, node in enumerate(root["nodes"])}
         columns: Dict[str, List[Any]] = {
             name: [node[names[name]] for node in root["nodes"]] if name in names else []
             for name in COLUMNS}
-        if {type(n) for name in COLUMNS if name not in LABELS for n in columns[name]} - {int}:
+        if self.labels:
+            columns["--district"] = [self.labels[str(node["id"])] for node in root["nodes"]]
+        if {type(n) for name in COLUMNS if name not in OTHERS for n in columns[name]} - {int} or (
+                {type(n) for n in columns["--freeze"]} - {int, bool}):
             raise ValueError("a column of counts has something else")
-        for name in LABELS:  # whole numbers by value, then texts
+        columns["--freeze"] = [int(n > 0) for n in columns["--freeze"]]
+        for name in COLUMNS[3:5]:  # whole numbers by value, then texts
             rising = sorted(set(columns[name]), key=lambda label: (type(label) is str, label))
             place = {label: n for n, label in enumerate(rising)}
             columns[name] = [place[label] for label in columns[name]]
@@ -165,7 +166,7 @@ class Job:
         edges += [(u, u + side) for u in range(units - side)]
         votes = [draw % 101 for draw in draws_of(self.key, 2 ** 32, 0, units)]
         plan = [u // side // size for u in range(units)]
-        cells: List[List[int]] = [[100] * units, votes, [100 - v for v in votes], plan, [], [], []]
+        cells = [[100] * units, votes, [100 - v for v in votes], plan, *[votes[:0]] * 4]
         return sorted(edges), dict(zip(COLUMNS, cells))
 
     def pick(self, count: str, kind: str, numbers: Iterable[int]) -> List[int]:
@@ -180,7 +181,6 @@ class Job:
         return value <= self.values[k] if self.asks[k][1] == "low" else value >= self.values[k]
 
     def way(self, trajectory: int) -> Tuple[int, int]:
-        """The stream and the number of steps of a trajectory."""
         j = trajectory - self.n["walks"]
         return (2 * trajectory, self.n["steps"]) if j < 0 else (2 * j + 3, self.n["hub-steps"])
 
@@ -203,23 +203,34 @@ class Job:
         return (moved, walk.values(), [0] * 9) if is_end else (moved, counts, bins)
 
     def head_lines(self) -> List[str]:
-        """The lines between the title and the results, without that of an early stop."""
-        n = self.n
+        told = {name: f"{name} {number}" for name, number in self.n.items()}
         return [*[self.origin, *self.source[1:]][:len(self.source)], f"key {self.key.hex()}",
                 f"units {len(self.start)} edges {len(self.edges)} districts {self.districts}",
-                f"population {self.total} slack {n['slack']} low {self.low} high {self.high}",
-                *[f"max-cut {n['max-cut']}"] * (n["max-cut"] < LIMITS["max-cut"]),
-                *[f"max-split {n['max-split']} regions {self.regions}"] * (self.regions > 0),
-                *[f"max-splits {n['max-splits']} max-split-regions {n['max-split-regions']}"
-                  ] * self.splits,
-                *[f"group-districts {n['group-districts']} of {self.there}"
-                  ] * ("--group" in self.counts),
-                f"walks {n['walks']} steps {n['steps']} ends {n['ends']} "
-                f"hub-steps {n['hub-steps']}"]
+                f"population {self.total} {told['slack']} low {self.low} high {self.high}",
+                *[told["max-cut"]] * (self.n["max-cut"] < LIMITS["max-cut"]),
+                *[f"{told['max-split']} regions {self.regions}"] * (self.regions > 0),
+                *[f"{told['max-splits']} {told['max-split-regions']}"] * self.splits,
+                *[told["group-districts"] + f" of {self.there}"] * ("--group" in self.counts),
+                *[told["group-share"]] * self.shares,
+                *[f"frozen {len(self.frozen)}"] * bool(self.columns["--freeze"]),
+                " ".join(told[name] for name in ("walks", "steps", "ends", "hub-steps"))]
+
+    def check(self) -> None:
+        if "--id" in self.words or {"--trace", "--checkpoints"}.isdisjoint(self.words):
+            every = [*[-1] * self.is_serial, *range(self.needed)]
+            for number in self.pick("--sample", "trajectory", every):
+                self.known[number] = self.find(every[every.index(number)])  # or there is none
+            sampled("report: of the trajectories", self.known, every)
+        if "--trace" in self.words:
+            self.trace(Path(self.words["--trace"]).read_bytes().decode("utf-8").split("\n"))
+        if "--checkpoints" in self.words:
+            folder = Path(self.words["--checkpoints"])
+            for path in sorted(folder.glob("audit-[01].ckpt")) or [folder / "audit-0.ckpt"]:
+                self.checkpoint(path)
+        self.report()
 
     def report(self) -> None:
-        """Compares each line with what it has to be. A number that is not known is taken from
-        the report if it may be right, and what follows from it is computed."""
+        """Compares each line. A possible number that is not known is taken from the report."""
         n, known, out = self.n, self.known, [f"district-audit {1 + self.is_shift}"]
         out += self.head_lines() + [f"stop {n['stop']}"] * (n["stop"] > 0)
         visits, walks, ends, asks = n["steps"] + 1, n["walks"], n["ends"], self.texts
@@ -230,9 +241,8 @@ class Job:
         for j, (k, ask) in product(range(walks), enumerate(asks)):
             moved, counts, _ = known[j] if j in known else (told(3, 0, visits - 1), [], [])
             count = counts[k] if counts else told(9, 1, visits)
-            root = math.isqrt((2 * count * BILLION ** 2 - 1) // visits) + 1
-            out += [f"walk {j} moved {moved} {ask} count {count} of {visits} "
-                    + rounded_up("bound", root, BILLION)]
+            out += [f"walk {j} moved {moved} {ask} count {count} of {visits} " + rounded_up(
+                "bound", math.isqrt((2 * count * BILLION ** 2 - 1) // visits) + 1, BILLION)]
         if self.is_shift:
             walked = [bins for j, (_, _, bins) in known.items() if 0 <= j < walks and bins]
             bins = [sum(column) for column in zip([0] * 9, *walked)]
@@ -255,7 +265,6 @@ class Job:
             same(f"report line {at + 1}", *both)
 
     def stopped(self, hits: List[Optional[bool]], row: List[str]) -> str:
-        """Where a test stops; as the report says if an end before that place was not walked."""
         place = total = 0
         while place < len(hits) and total < self.n["stop"]:
             total, place = total + (hits[place] is True), place + 1
@@ -265,7 +274,6 @@ class Job:
         return f"place {place} value {top}/{of} " + rounded_up("p", top, of)
 
     def trace(self, lines: List[str]) -> None:
-        """Compares each line of a trace, and replays the chosen segments."""
         head = ["district-trace 1", *self.head_lines(), *(f"ask {ask}" for ask in self.texts)]
         titles = [at for at, line in enumerate(lines) if line.startswith("trace ")]
         for at, both in enumerate(zip_longest(head, lines[:titles[0]], fillvalue="nothing")):
@@ -281,8 +289,7 @@ class Job:
         same(f"trace line {at}", f"trace id {min(number, most)} steps {steps} thin {thin}", title)
         places, asks = [*range(0, steps, thin), steps], len(self.asks)
         same(f"trace line {at}: number of plans", [len(places)], [len(rows)])
-        middle = range(1, len(places) - 2)
-        some = self.pick("--segments", f"segment-{number}", middle)
+        some = self.pick("--segments", f"segment-{number}", middle := range(1, len(places) - 2))
         plan, moved, total = self.start, 0, [0] * (asks + 9)
         expected = (self.start if is_walk else None if "--skip-hub" in self.words else self.hub())
         for n, (place, line) in enumerate(zip(places, rows)):
@@ -305,7 +312,6 @@ class Job:
                 "of those between", some, middle)
 
     def checkpoint(self, path: Path) -> None:
-        """Compares the chosen outcomes of a checkpoint."""
         data = path.read_bytes()
         magic, version, job, turn, count = struct.unpack(">8sI32sII", data[:52].ljust(52))
         form = {1: ">IQ4q", 2: ">IQ4q9I"}.get(version, "")
@@ -328,10 +334,9 @@ class Job:
         sampled(f"{path}: of the outcomes", numbers, outcomes)
 
     def digest(self) -> str:
-        """The job's digest: rows of numbers of four, eight or one byte."""
         n, columns, asks = self.n, self.columns, self.asks
-        form = 3 if self.splits or columns["--group"] else (
-            2 if self.regions or n["max-cut"] < LIMITS["max-cut"] else 1)
+        form = (4 if self.shares or columns["--freeze"] else 3 if self.splits or columns["--group"]
+                else 2 if self.regions or n["max-cut"] < LIMITS["max-cut"] else 1)
         votes = (columns["--pop"], columns["--first"], columns["--second"], self.start)
         codes = [(SCORES.index(score), TAILS.index(tail)) for score, tail in asks]
         rows = [("I", [len(self.start), len(self.edges), self.districts, *chain(*self.edges)]),
@@ -341,7 +346,9 @@ class Job:
                        *[n["max-split"], *columns["--region"]] * (self.regions > 0),
                        *[n["max-splits"], n["max-split-regions"]] * self.splits,
                        *[n["group-districts"]] * ("--group" in self.counts)]),
-                ("Q", [*chain(*zip(columns["--group"], columns["--group-of"]))])]
+                ("Q", [*chain(*zip(columns["--group"], columns["--group-of"]))]),
+                ("B", [*b"group-share"] * self.shares), ("I", [n["group-share"]] * self.shares),
+                ("B", [*b"freeze"] * bool(columns["--freeze"])), ("I", columns["--freeze"])]
         data = [struct.pack(">" + kind * (len(row) // len(kind)), *row) for kind, row in rows]
         return hashlib.sha256(b"district-job %d" % form + b"".join(data)).hexdigest()
 
@@ -358,18 +365,15 @@ class Walk:
             self.add(u, district, 1)
 
     def add(self, unit: int, district: int, sign: int) -> None:
-        """Adds a unit to the sums of a district, or with sign -1 takes it away."""
         job, d, touch, plan = self.job, self.job.districts, self.touch, self.plan
         for name, column in job.counts.items():
             self.sums[name][district] += sign * column[unit]
         for v in job.near[unit]:
             touch[v * d + district] += sign
             self.open[v * d + district] = touch[v * d + district] > 0 and plan[v] != district
-        if job.regions:
-            region = job.columns["--region"][unit]
+        for region in job.columns["--region"][unit:unit + 1]:
             self.spread[region * d + district] += sign
-            if self.spread[region * d + district] == (sign > 0):
-                self.parts[region] += sign
+            self.parts[region] += sign * (self.spread[region * d + district] == (sign > 0))
 
     def move(self, unit: int, into: int) -> None:
         at, out = unit * self.job.districts, self.plan[unit]
@@ -380,7 +384,6 @@ class Walk:
         self.open[at + into], self.open[at + out] = 0, self.touch[at + out] > 0
 
     def score(self, name: str) -> int:
-        """The numerator of a score."""
         if name == "cut-edges":
             return self.cut
         votes, d = [*zip(self.sums["--first"], self.sums["--second"])], self.job.districts
@@ -401,7 +404,8 @@ class Walk:
         return [*tails, len(job.asks) + bin_of]
 
     def majorities(self) -> int:
-        return sum(2 * a > b for a, b in zip(self.sums["--group"], self.sums["--group-of"]))
+        both, share = zip(self.sums["--group"], self.sums["--group-of"]), self.job.n["group-share"]
+        return sum(10000 * part > share * whole for part, whole in both)
 
     def keeps_rules(self) -> bool:
         limits, parts = self.job.n, self.parts
@@ -411,8 +415,7 @@ class Walk:
                 and self.majorities() >= limits["group-districts"])
 
     def joins(self, units: List[int], hidden: List[int], sizes: List[int]) -> bool:
-        """Whether paths through their district join these units, of which there has to be one.
-        A part that breaks off is mostly small: so searches that look at few units come first."""
+        """Returns if paths through their district join these units. Small searches come first."""
         plan, near = self.plan, self.job.near
         for size, first in product((*sizes, len(plan)), units):
             queue, own, missing = [first], plan[first], {*units} - {first}
@@ -433,18 +436,16 @@ class Walk:
         return False
 
     def is_legal(self) -> bool:
-        """Tests the whole plan, not a change."""
-        job = self.job
-        units = [[u for u, at in enumerate(self.plan) if at == d] for d in range(job.districts)]
-        return (all(job.low <= people <= job.high for people in self.sums["--pop"])
-                and all(self.joins(members, [], []) for members in units) and self.keeps_rules())
+        sets = [[u for u, at in enumerate(self.plan) if at == d] for d in range(self.job.districts)]
+        return (all(self.job.low <= people <= self.job.high for people in self.sums["--pop"])
+                and all(self.joins(members, [], []) for members in sets) and self.keeps_rules()
+                and all(self.plan[u] == self.job.start[u] for u in self.job.frozen))
 
     def makes(self, unit: int, into: int) -> bool:
-        """Makes the move of an open pair if the plan stays legal."""
         job, plan, out, people = self.job, self.plan, self.plan[unit], self.sums["--pop"]
         amount, mates = job.columns["--pop"][unit], [v for v in job.near[unit] if plan[v] == out]
-        if (people[out] - amount >= job.low and people[into] + amount <= job.high
-                and self.joins(mates, [unit], [8, 64])):
+        if (unit not in job.frozen and people[out] - amount >= job.low
+                and people[into] + amount <= job.high and self.joins(mates, [unit], [8, 64])):
             self.move(unit, into)
             if self.keeps_rules():
                 return True
@@ -468,6 +469,23 @@ class Walk:
         return moved, tally[:asks], tally[asks:]
 
 
+def jobs_of(data: bytes, text: str, words: Dict[str, str]) -> Iterator[Job]:
+    """The job of a report, or that of each plan. What differs in a plan gets the plan's name."""
+    first, *parts = re.split(r"^plan (.*)\n", text, flags=re.M)
+    if first or not parts:
+        yield Job(data, text.split("\n"), words, None)
+        return
+    table = io.StringIO(data.partition(b"\n")[2].decode("utf-8-sig"), newline="")
+    names, *rows = filter(None, csv.reader(table))
+    for k, (name, report) in enumerate(zip(parts[::2], parts[1::2])):
+        before, labels = len(WRONG), {row[0]: row[k] for row in rows if k}
+        print(f"plan {name}")
+        yield (job := Job(data, report.split("\n"), words, labels))
+        WRONG[before:] = [f"plan {name}: {line}" for line in WRONG[before:]]
+    same("the plans", [job.names["--district"], *names[1:]], parts[::2])
+    same("the table's units", [len(job.start)] * 2, [len(rows), len({row[0] for row in rows})])
+
+
 def main(args: List[str]) -> int:
     words = dict(zip(args[2::2], args[3::2]))
     if len(args) < 2 or len(args) % 2 or words.keys() - WORDS:
@@ -475,20 +493,9 @@ def main(args: List[str]) -> int:
         return 2
     try:
         data = b"make" if args[0] == "make" else Path(args[0]).read_bytes()
-        job = Job(data, Path(args[1]).read_bytes().decode("utf-8").split("\n"), words)
-        if "--id" in words or {"--trace", "--checkpoints"}.isdisjoint(words):
-            every = [*[-1] * job.is_serial, *range(job.needed)]
-            for number in job.pick("--sample", "trajectory", every):
-                job.known[number] = job.find(every[every.index(number)])  # or there is none
-            sampled("report: of the trajectories", job.known, every)
-        if "--trace" in words:
-            job.trace(Path(words["--trace"]).read_bytes().decode("utf-8").split("\n"))
-        if "--checkpoints" in words:
-            folder = Path(words["--checkpoints"])
-            for path in sorted(folder.glob("audit-[01].ckpt")) or [folder / "audit-0.ckpt"]:
-                job.checkpoint(path)
-        job.report()
-    except (OSError, ValueError, LookupError, ArithmeticError) as error:
+        for job in jobs_of(data, Path(args[1]).read_bytes().decode("utf-8"), words):
+            job.check()
+    except (OSError, ValueError, LookupError, ArithmeticError, csv.Error) as error:
         print(*WRONG, f"cannot be read: {error!r}", sep="\n")
         return 2
     print(*WRONG, f"{DONE['comparisons']} comparisons and {DONE['steps']} steps",

@@ -1,18 +1,18 @@
 #!/bin/bash
-# Runs one job with two builds of the auditor, made by two compilers that share no code, and compares their bytes: standard output, standard
-# error and status. The proof is of the program's text; a compiler is trusted. That both builds say the same shows that neither was
-# compiled wrongly where this job goes. Recommended for a report that goes to court.
+# Runs one job with two builds of the auditor, made by two compilers that share no code, and compares their standard output, standard error
+# and status. The proof is of the program's text, and a compiler is trusted. If both builds agree, neither compiler erred in the code
+# that this job uses. Recommended for a report that goes to court.
 #
 # Usage: scripts/two_compilers.sh [--builds FOLDER] [--room FOLDER] WORDS.. <GRAPH >REPORT
 # WORDS are those of the auditor (run --pop .. or make ..), and GRAPH is its input.
-#   --builds FOLDER  the builds are FOLDER/llvm and FOLDER/rattle; where they are missing they are made and left there. Without it both are
-#                    made in a temporary folder. To make them everything is proved first, unless it is proved already.
-#   --room FOLDER    the runs are made in FOLDER/llvm and FOLDER/rattle, which stay, so that a job with --save and --resume yes goes on
-#                    there when it was stopped. Without it they are made in a temporary folder.
+#   --builds FOLDER  the builds are FOLDER/llvm and FOLDER/rattle; missing ones are made and kept there. Without this option both are
+#                    made in a temporary folder. Making them proves everything first, unless it is proved already.
+#   --room FOLDER    the runs are made in FOLDER/llvm and FOLDER/rattle, which are kept, so that a job with --save and --resume yes can
+#                    go on there. Without this option they are made in a temporary folder.
 # Both runs are made at the same time, so a job with 4 workers uses 8 threads.
-# If both builds say the same, that is written to standard output and to standard error, followed there by the SHA-256 of both builds
-# and of the report, and the status is that of both runs. If not, nothing is written to standard output, the differences are named on
-# standard error, and the status is 100. Where no comparison could be made, the status is 101.
+# If both builds agree, their texts are written to standard output and standard error, then the SHA-256 of both builds and of the report
+# to standard error, and the status is that of both runs. If not, nothing is written to standard output, standard error names the
+# differences, and the status is 100. If no comparison could be made, the status is 101.
 
 here=$(cd "$(dirname "$0")" && pwd) || exit 101
 # shellcheck source=usage.sh
@@ -50,7 +50,7 @@ room=$(cd "$room" && pwd) || exit 101
 # Builds the auditor with the compiler $1, by a small run, and leaves it in the folder of builds.
 build() {
     local small=(make --size 1 --slack 5000 --steps 100 --ask cut-edges:low --key "$(printf '%064d' 0)")
-    command -v rt >/dev/null || fail "there is no $builds/$1, and the toolchain's command rt is not to be found to make it"
+    command -v rt >/dev/null || fail "there is no $builds/$1, and no toolchain command rt to make it: install the toolchain, or put a build there"
     echo "two_compilers: building with $1" >&2
     (cd "$crate" && RT_BACKEND=$1 rt run -- "${small[@]}" </dev/null) >"$own/built" 2>&1 ||
         fail "no build with $1: $(grep -v '^$' "$own/built" | tail -n 1 | head -c 300)"
@@ -62,7 +62,7 @@ for name in "${compilers[@]}"; do
     [ -x "$builds/$name" ] || build "$name"
 done
 ! cmp -s "$builds/llvm" "$builds/rattle" || fail "$builds/llvm and $builds/rattle are one program: two compilers do not write the same bytes"
-cat >"$own/graph" || fail "the input cannot be kept in $own"
+cat >"$own/graph" || fail "the input cannot be written to $own"
 
 runs=()
 for name in "${compilers[@]}"; do

@@ -13,7 +13,7 @@ Text = typing.Union[str, bytes]
 
 
 def brief(value: object, most: int = 400) -> str:
-    """Returns a value as one line of at most so many characters."""
+    """Returns a value as one line of at most this number of characters."""
     text = value.decode("utf-8", "replace") if isinstance(value, bytes) else str(value)
     line = text.rstrip("\n").replace("\n", "|")
     return line if len(line) <= most else line[:most] + " .."

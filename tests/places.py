@@ -1,4 +1,4 @@
-"""Where the tests find files, programs and a Python with the modules that a test needs."""
+"""Paths of files and programs, and a Python with the modules that a test needs."""
 import functools
 import os
 import pathlib
@@ -10,7 +10,7 @@ TOP = pathlib.Path(__file__).resolve().parent.parent
 EXAMPLES = TOP / "examples"
 DATA = EXAMPLES / "data"
 TEST_DATA = TOP / "tests" / "data"
-CASES = TOP / "crates" / "audit_cases"
+CASES = TOP / "crates" / "case_runner"
 
 # The variables that name the programs, and the crates whose folders have them where the variable
 # is not set.

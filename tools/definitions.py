@@ -1,55 +1,72 @@
-"""Which definitions does the contract of the top call rest on, and do the documents say them as they stand?
+"""Which definitions does the contract of the top call rest on, and do the documents say them as
+they stand?
 
 Usage: python3 definitions.py [path CRATE.MODULE.NAME | count | page | check]
-With no word it prints each module of definitions of this repository that the names in the contract of `audit`, and in the traits of its
-arguments, come to by imports. `path CRATE.MODULE.NAME` prints each definition that a name comes to, `count` how many definitions and lines
-each clause takes. `page` writes the quotes in docs/claims/THE_CLAIM.md and the counts in docs/claims/CLAIMS.md and docs/claims/DEFINITIONS.md anew, behind their
-marks.
+With no word it prints each module of definitions of this repository that the names in the contract
+of `audit`, and in the traits of its arguments, come to by imports. `path CRATE.MODULE.NAME` prints
+each definition that a name comes to, `count` how many definitions and lines each clause takes.
+`page` writes the quotes in docs/claims/THE_CLAIM.md and the counts in docs/claims/CLAIMS.md and
+docs/claims/GLOSSARY.md anew, behind their marks.
 
-`check` prints nothing where docs/claims/DEFINITIONS.md lists exactly those modules, no crate of code stands below the statement, the plain statement
-takes at most 130 definitions of 600 lines, without the words of the command line, docs/claims/THE_CLAIM.md quotes each definition that it comes to,
-and all quotes and counts are as `page` writes them. Else it prints what is not so, and ends with status 1.
+`check` prints nothing where docs/claims/GLOSSARY.md lists exactly those modules, no crate of
+code stands below the statement, the plain statement takes at most 130 definitions of 600 lines,
+without the words of the command line, docs/claims/THE_CLAIM.md quotes each definition that it comes
+to, and all quotes and counts are as `page` writes them. Else it prints what is not so, and ends
+with status 1.
 """
 import argparse
 import os
 import re
 import sys
+import typing
 
 from tools.reading_path import CRATES, TOP, Path, fields_of
 
-IMPORT = re.compile(r"^(?:ghost |pub )*use Rattle\.(\w+)\.specs\.([\w.]+?)(?:\.\{(.*?)\}| as (\w+))?;?$")
+IMPORT = re.compile(
+    r"^(?:ghost |pub )*use Rattle\.(\w+)\.specs\.([\w.]+?)(?:\.\{(.*?)\}| as (\w+))?;?$"
+)
 
 
-def text_of(*path):
+def text_of(*path: typing.Any) -> typing.Any:
     with open(os.path.join(CRATES, *path), encoding="utf-8") as file:
         return file.read()
 
 
-def imports(text):
+def imports(text: typing.Any) -> typing.Iterator[typing.Any]:
     """Each import of a module of specs/: the crate, the module, and the names that it brings in."""
     for line in text.splitlines():
         found = IMPORT.match(line.strip())
         if found:
             crate, module, names, alias = found.groups()
-            yield crate, module, [n.split(" as ")[-1].strip() for n in (names or "").split(",") if n.strip()] + ([alias] if alias else [])
+            yield crate, module, [
+                n.split(" as ")[-1].strip() for n in (names or "").split(",") if n.strip()
+            ] + ([alias] if alias else [])
 
 
-def is_own(crate, module):
-    return not module.startswith("declared") and os.path.exists(os.path.join(CRATES, crate, "specs", module + ".antt"))
+def is_own(crate: typing.Any, module: typing.Any) -> typing.Any:
+    return not module.startswith("declared") and os.path.exists(
+        os.path.join(CRATES, crate, "specs", module + ".antt")
+    )
 
 
-def contracts_of_audit():
-    """The contracts of the top call: that of `audit`, and that of `audit_plainly`, which is `audit` with more clauses."""
+def contracts_of_audit() -> typing.Iterator[typing.Any]:
+    """The contracts of the top call: that of `audit`, and that of `audit_plainly`, which is `audit`
+    with more clauses.
+    """
     for file, name in (("audit.rt", "audit"), ("plain.rt", "audit_plainly")):
         text = text_of("audit_run", "src", file)
-        yield text, text[text.index("pub fn %s<" % name):]
+        yield text, text[text.index(f"pub fn {name}<"):]
 
 
-def starts():
-    """The modules that the contracts of the top call name, and those that the traits of its arguments name."""
+def starts() -> typing.Iterator[typing.Any]:
+    """The modules that the contracts of the top call name, and those that the traits of its
+    arguments name.
+    """
     for text, contract in contracts_of_audit():
         for crate, module, names in imports(text):
-            if is_own(crate, module) and any(re.search(r"\b%s\b" % re.escape(n), contract) for n in names):
+            if is_own(crate, module) and any(
+                re.search(f"\\b{re.escape(n)}\\b", contract) for n in names
+            ):
                 yield crate, module
     for trait in ("source", "sink", "keeper", "gate"):
         for crate, module, _ in imports(text_of("audit_io", "src", trait + ".rt")):
@@ -57,7 +74,7 @@ def starts():
                 yield crate, module
 
 
-def reached():
+def reached() -> typing.Any:
     found, left = set(), list(starts())
     while left:
         at = left.pop()
@@ -65,14 +82,18 @@ def reached():
             continue
         found.add(at)
         crate, module = at
-        left.extend((c, m) for c, m, _ in imports(text_of(crate, "specs", module + ".antt")) if is_own(c, m))
+        left.extend(
+            (c, m) for c, m, _ in imports(text_of(crate, "specs", module + ".antt")) if is_own(c, m)
+        )
     return found
 
 
-def listed():
-    """The modules that the document names, in the last column of a table or in a sentence, as `crate` Module, Module."""
-    found = set()
-    with open(os.path.join(TOP, "docs", "claims", "DEFINITIONS.md"), encoding="utf-8") as file:
+def listed() -> typing.Any:
+    """The modules that the document names, in the last column of a table or in a sentence, as
+    `crate` Module, Module.
+    """
+    found: typing.Set[typing.Any] = set()
+    with open(os.path.join(TOP, "docs", "claims", "GLOSSARY.md"), encoding="utf-8") as file:
         for line in file:
             text = line.rstrip().rstrip("|").split("|")[-1] if line.startswith("|") else line
             for crate, modules in re.findall(r"`(\w+)` ((?:[A-Z]\w*(?:, )?)+)", text):
@@ -85,23 +106,37 @@ def listed():
 PLAIN = ("audit_statement", "Audited", "AuditsPlainly")
 WORDS = [("audit_statement", "Said"), ("audit_statement", "Words")]
 MOST_DEFINITIONS, MOST_LINES = 130, 600
-RECORDS = [("Promise", "KeepsItsPromise", "one plan"), ("Several", "KeepsPlansPromise", "several plans")]
-WHOLE = [PLAIN, ("audit_statement", "PlainlyEnded", "EndsPlainly"), ("audit_statement", "Whole", "KeepsEachPromise")]
+RECORDS = [
+    ("Promise", "KeepsItsPromise", "one plan"),
+    ("Several", "KeepsPlansPromise", "several plans"),
+]
+WHOLE = [
+    PLAIN, ("audit_statement", "PlainlyEnded", "EndsPlainly"),
+    ("program_help", "Answers", "AnswersOrAudits"),
+]
 
 
-def plain_fault():
-    """Why the plain statement is too long to be read in an hour, without the words of the command line, if it is."""
+def plain_fault() -> typing.Iterator[typing.Any]:
+    """Why the plain statement is too long to be read in an hour, without the words of the command
+    line, if it is.
+    """
     path = Path([PLAIN], WORDS)
     if len(path.found) > MOST_DEFINITIONS or path.lines() > MOST_LINES:
-        yield "the plain statement takes %d definitions of %d lines, more than %d of %d" % (len(path.found), path.lines(), MOST_DEFINITIONS, MOST_LINES)
+        yield (
+            f"the plain statement takes {len(path.found)} definitions of {path.lines()} lines, more"
+            f" than {MOST_DEFINITIONS} of {MOST_LINES}"
+        )
 
 
-def count_row(name, path):
-    return "| %s | %s | %s | %d |" % (name, format(len(path.found), ","), format(path.lines(), ","), len(path.kit))
+def count_row(name: typing.Any, path: typing.Any) -> str:
+    return (
+        f"| {name} | {format(len(path.found), ',')} | {format(path.lines(), ',')} |"
+        f" {len(path.kit)} |"
+    )
 
 
-def count_table():
-    """How much each clause takes, as the lines of a table."""
+def count_table() -> typing.Iterator[typing.Any]:
+    """Returns the size of each clause, as the lines of a table."""
     yield "| what is read | definitions | lines | names of the kit |"
     yield "|---|---|---|---|"
     yield count_row("`plain` of `audit_plainly`", Path([PLAIN]))
@@ -109,29 +144,45 @@ def count_table():
     yield count_row("`ends` of `audit_plainly`, with the grammar of the words", Path([WHOLE[1]]))
     for module, record, kind in RECORDS:
         for field, roots in fields_of("audit_statement", module, record):
-            yield count_row("`%s` of %s" % (field, kind), Path(roots))
-        yield count_row("all of these, `%s`" % record, Path([("audit_statement", module, record)]))
-    yield count_row("all that `audit` promises, `KeepsEachPromise`", Path([WHOLE[2]]))
+            yield count_row(f"`{field}` of {kind}", Path(roots))
+        yield count_row(f"all of these, `{record}`", Path([("audit_statement", module, record)]))
+    yield count_row(
+        "all that an audit promises, `KeepsEachPromise`",
+        Path([("audit_statement", "Whole", "KeepsEachPromise")]),
+    )
+    yield count_row(
+        "`answers` of the top call",
+        Path([("program_help", "Answers", "Answers"), ("program_help", "Questions", "answer_to")]),
+    )
+    yield count_row("all that `audit` promises, `AnswersOrAudits`", Path([WHOLE[2]]))
 
 
-def crate_table():
-    """How many modules, definitions and lines of each crate the whole contract of `audit_plainly` comes to, as the lines of a table."""
+def crate_table() -> typing.Iterator[typing.Any]:
+    """Returns the modules, definitions and lines of each crate behind the contract of
+    `audit_plainly`, as a table.
+    """
     yield "| crate | modules | definitions | lines |"
     yield "|---|---|---|---|"
     path = Path(WHOLE)
     for crate in sorted({key[0] for key in path.found}):
         modules = {key[1] for key in path.found if key[0] == crate} - {"declared"}
-        yield "| `%s` | %d | %d | %s |" % (crate, len(modules), len([k for k in path.found if k[0] == crate]), format(path.lines(crate), ","))
+        yield (
+            f"| `{crate}` | {len(modules)} | {len([k for k in path.found if k[0] == crate])} |"
+            f" {format(path.lines(crate), ',')} |"
+        )
 
 
 # ---- what the documents quote
 
-QUOTING = [os.path.join(TOP, "docs", "claims", name) for name in ("THE_CLAIM.md", "CLAIMS.md", "DEFINITIONS.md")]
+QUOTING = [
+    os.path.join(TOP, "docs", "claims", name)
+    for name in ("THE_CLAIM.md", "CLAIMS.md", "GLOSSARY.md")
+]
 MARK = re.compile(r"<!-- (quote|counts|crates|contract)(?: (.*?))? -->$")
 TABLES = {"counts": count_table, "crates": crate_table}
 
 
-def quoted_names(words):
+def quoted_names(words: typing.Any) -> typing.Iterator[typing.Any]:
     """The definitions that a mark asks for: a crate, and then modules, each with its names."""
     crate, module = None, None
     for word in words.split():
@@ -141,9 +192,10 @@ def quoted_names(words):
             yield crate, module, word
 
 
-def quote(words):
+def quote(words: typing.Any) -> typing.Iterator[typing.Any]:
     """The text of these definitions, each with the line over it that names what it depends on."""
     yield "```text"
+    shown: typing.List[typing.Any]
     shown, first = [], True
     for crate, module, name in quoted_names(words):
         path = Path([], ())
@@ -152,20 +204,20 @@ def quote(words):
         over = [line for _, line in definition.over]
         if not first:
             yield ""
-        if over != shown[:len(over)] or len(over) > len(shown):
+        if over != shown[: len(over)] or len(over) > len(shown):
             yield from (line for k, line in enumerate(over) if shown[k:k + 1] != [line])
         shown, first = over, False
         yield from definition.lines
     yield "```"
 
 
-def contract():
+def contract() -> typing.Any:
     """The contract of the function that `main` calls, as it stands."""
     text = list(contracts_of_audit())[-1][1]
-    return ["```text"] + text[:text.index("\n{\n")].split("\n") + ["```"]
+    return ["```text"] + text[: text.index("\n{\n")].split("\n") + ["```"]
 
 
-def renewed(text):
+def renewed(text: typing.Any) -> str:
     """The document with what its marks ask for written anew."""
     lines, out, at = text.split("\n"), [], 0
     while at < len(lines):
@@ -182,27 +234,29 @@ def renewed(text):
     return "\n".join(out)
 
 
-def quotes_in(text):
+def quotes_in(text: typing.Any) -> typing.Iterator[typing.Any]:
     for line in text.split("\n"):
         found = MARK.match(line)
         if found and found.group(1) == "quote":
             yield from quoted_names(found.group(2))
 
 
-def stale():
-    """What the documents do not quote, or not as it stands."""
+def stale() -> typing.Iterator[typing.Any]:
+    """Returns what the documents do not quote, or not as it stands."""
     for path in QUOTING:
         with open(path, encoding="utf-8") as file:
             text = file.read()
         if renewed(text) != text:
-            yield "%s is not what `definitions.py page` writes" % os.path.relpath(path, TOP)
+            yield f"{os.path.relpath(path, TOP)} is not what `definitions.py page` writes"
         if path == QUOTING[0]:
-            shown = {(c, "declared" if m.startswith("declared") else m, n) for c, m, n in quotes_in(text)}
+            shown = {
+                (c, "declared" if m.startswith("declared") else m, n) for c, m, n in quotes_in(text)
+            }
             for key in sorted(set(Path([PLAIN]).found) - shown):
                 yield "docs/claims/THE_CLAIM.md does not quote " + ".".join(key)
 
 
-def write_page():
+def write_page() -> None:
     for path in QUOTING:
         with open(path, encoding="utf-8") as file:
             text = file.read()
@@ -213,34 +267,38 @@ def write_page():
 # ---- the list of modules
 
 
-def unlisted():
-    """What docs/claims/DEFINITIONS.md does not list, or lists in vain."""
+def unlisted() -> typing.Iterator[typing.Any]:
+    """Returns what docs/claims/GLOSSARY.md does not list, or lists in vain."""
     modules, documented = reached(), listed()
     for crate, module in sorted(modules - documented):
-        yield "docs/claims/DEFINITIONS.md does not list %s %s" % (crate, module)
+        yield f"docs/claims/GLOSSARY.md does not list {crate} {module}"
     for crate, module in sorted(m for m in documented if not is_own(*m)):
-        yield "docs/claims/DEFINITIONS.md lists what is not there: %s %s" % (crate, module)
+        yield f"docs/claims/GLOSSARY.md lists what is not there: {crate} {module}"
 
 
-def code_below():
-    """The crates of this repository, beside the plain types, that the modules of the statement name."""
+def code_below() -> typing.Iterator[typing.Any]:
+    """The crates of this repository, beside the plain types, that the modules of the statement
+    name.
+    """
     below = set()
     for file in os.listdir(os.path.join(CRATES, "audit_statement", "specs")):
-        found = re.findall(r"^(?:pub )?use Rattle\.(\w+)\.", text_of("audit_statement", "specs", file), re.M)
+        found = re.findall(
+            r"^(?:pub )?use Rattle\.(\w+)\.", text_of("audit_statement", "specs", file), re.M
+        )
         below |= {crate for crate in found if os.path.isdir(os.path.join(CRATES, crate))}
     for crate in sorted(below - {"audit_model", "audit_statement"}):
-        yield "the statement stands on code: audit_statement names %s" % crate
+        yield f"the statement stands on code: audit_statement names {crate}"
 
 
-def show_path(name):
+def show_path(name: typing.Any) -> None:
     """The definitions that one name comes to, with their lines."""
     path = Path([tuple(name.split("."))])
     for key in sorted(path.found):
-        print("%4d %s" % (len(path.found[key].lines), ".".join(key)))
-    print("%d definitions, %d lines, %d names of the kit" % (len(path.found), path.lines(), len(path.kit)))
+        print(f"{len(path.found[key].lines):4} {'.'.join(key)}")
+    print(f"{len(path.found)} definitions, {path.lines()} lines, {len(path.kit)} names of the kit")
 
 
-def main(word, name):
+def main(word: typing.Any, name: typing.Any) -> int:
     if word == "check":
         faults = list(unlisted()) + list(code_below()) + list(plain_fault()) + list(stale())
         print("\n".join(faults), end="\n" if faults else "")
@@ -260,7 +318,8 @@ def main(word, name):
 def arguments() -> argparse.Namespace:
     parser = argparse.ArgumentParser(
         prog="python3 -m tools.definitions", description=__doc__,
-        formatter_class=argparse.RawDescriptionHelpFormatter)
+        formatter_class=argparse.RawDescriptionHelpFormatter,
+    )
     parser.add_argument("word", nargs="?", default="", help="check, page, count or path")
     parser.add_argument("name", nargs="?", default="", help="CRATE.MODULE.NAME, behind path")
     return parser.parse_args()

@@ -1,20 +1,24 @@
-"""What the gate costs: runs `rt ci` and writes a table in Markdown, one row for each crate.
+"""Measures the cost of the gate: runs `rt ci` and writes a table in Markdown, one row for each
+crate.
 
-Usage, at the top of the repository: python3 -m tools.gate_table [--into FILE] [NAME..]
-Where the toolchain keeps what passed, it is told to prove all anew, and with names it proves these crates and those below them alone;
-elsewhere every run is from nothing and takes no names. The table goes to standard output, or with `--into` into FILE in place of
-what stands between the lines BEGIN and END below; what `rt ci` says goes to standard error. Ends with the status of `rt ci`.
+Usage, at the top of the repository: python3 -m tools.gate_table [--into FILE] [NAME..] Where the
+toolchain keeps what passed, it is told to prove all anew, and with names it proves these crates and
+those below them alone; elsewhere every run is from nothing and takes no names. The table goes to
+standard output, or with `--into` into FILE in place of what stands between the lines BEGIN and END
+below; what `rt ci` says goes to standard error. Ends with the status of `rt ci`.
 
-Four times a second each process under `rt ci` is looked up in /proc. It belongs to the crate that its words, or those of the nearest process
-above it, name; to the edits where it works in a folder of an edit, else to the tests where its words say so, else to the proof.
-Seconds are of processor time, up to the last time that a process was seen. Memory is the most that the processes of one crate and
-one kind held at one time; what two of them share counts twice.
+Four times a second each process under `rt ci` is looked up in /proc. It belongs to the crate that
+its words, or those of the nearest process above it, name; to the edits where it works in a folder
+of an edit, else to the tests where its words say so, else to the proof. Seconds are of processor
+time, up to the last time that a process was seen. Memory is the most that the processes of one
+crate and one kind held at one time; what two of them share counts twice.
 """
 import argparse
 import os
 import subprocess
 import sys
 import threading
+import typing
 
 
 BEGIN, END = "<!-- written by tools/gate_table.py -->", "<!-- end of what it wrote -->"
@@ -22,14 +26,14 @@ KINDS = ["proof", "tests", "edits"]
 TICKS, PAGE = os.sysconf("SC_CLK_TCK"), os.sysconf("SC_PAGE_SIZE")
 
 
-def crate_names():
+def crate_names() -> typing.List[typing.Any]:
     with open("crates.txt", encoding="utf-8") as file:
         lines = [line.split("#")[0] for line in file]
     return [line.split(":")[0].split()[0] for line in lines if ":" in line]
 
 
-def lines_in(folder, ending):
-    """How many lines the files of this ending have, and nothing where there is no such folder."""
+def lines_in(folder: typing.Any, ending: typing.Any) -> typing.Any:
+    """Returns the number of lines of the files of this ending; '' if there is no such folder."""
     count = 0
     for place, _, files in os.walk(folder):
         for name in files:
@@ -39,23 +43,27 @@ def lines_in(folder, ending):
     return count
 
 
-def edits_of(name):
+def edits_of(name: typing.Any) -> typing.Any:
     folder = f"crates/{name}/must-fail"
-    return sum(it.endswith(".edit") for it in os.listdir(folder)) if os.path.isdir(folder) else 0
+    return sum(one.endswith(".edit") for one in os.listdir(folder)) if os.path.isdir(folder) else 0
 
 
-def process(pid):
+def process(pid: typing.Any) -> typing.Any:
     """The parent, the start, the seconds and the bytes of a process, or None if it has ended."""
     try:
         with open(f"/proc/{pid}/stat", encoding="utf-8", errors="replace") as file:
             parts = file.read().rpartition(")")[2].split()
     except OSError:
         return None
-    return {"parent": int(parts[1]), "start": parts[19], "seconds": (int(parts[11]) + int(parts[12])) / TICKS,
-            "bytes": int(parts[21]) * PAGE}
+    return {
+        "parent": int(parts[1]),
+        "start": parts[19],
+        "seconds": (int(parts[11]) + int(parts[12])) / TICKS,
+        "bytes": int(parts[21]) * PAGE,
+    }
 
 
-def words_of(pid):
+def words_of(pid: typing.Any) -> typing.Any:
     try:
         with open(f"/proc/{pid}/cmdline", "rb") as file:
             words = file.read().decode("utf-8", "replace").split("\0")[:-1]
@@ -64,7 +72,7 @@ def words_of(pid):
         return [], ""
 
 
-def use_of(words, folder, crates):
+def use_of(words: typing.Any, folder: typing.Any, crates: typing.Any) -> typing.Any:
     """The crate and the kind of work that the words of a process name, or None."""
     if not words:
         return None
@@ -81,64 +89,70 @@ def use_of(words, folder, crates):
 
 
 class Watch:
-    """What the processes under one process use."""
+    """The time and memory of the processes under one process."""
 
-    def __init__(self, root, crates):
+    def __init__(self, root: typing.Any, crates: typing.Any) -> None:
         self.root, self.crates = root, crates
+        self.most: typing.Dict[typing.Any, typing.Any]
+        self.seconds: typing.Dict[typing.Any, typing.Any]
+        self.uses: typing.Dict[typing.Any, typing.Any]
         self.uses, self.seconds, self.most = {}, {}, {}
 
-    def look(self):
-        seen = {int(it): process(it) for it in os.listdir("/proc") if it.isdigit()}
-        seen = {pid: it for pid, it in seen.items() if it}
-        now = {}
-        for pid, it in seen.items():
+    def look(self) -> None:
+        seen = {int(one): process(one) for one in os.listdir("/proc") if one.isdigit()}
+        seen = {pid: one for pid, one in seen.items() if one}
+        now: typing.Dict[typing.Any, typing.Any] = {}
+        for pid, one in seen.items():
             use = self.use(pid, seen)
             if use:
-                key = pid, it["start"]
-                self.seconds[key] = use, it["seconds"]
-                now[use] = now.get(use, 0) + it["bytes"]
+                key = pid, one["start"]
+                self.seconds[key] = use, one["seconds"]
+                now[use] = now.get(use, 0) + one["bytes"]
         for use, amount in now.items():
             self.most[use] = max(self.most.get(use, 0), amount)
 
-    def use(self, pid, seen):
-        """What a process works for, if it is under the root."""
+    def use(self, pid: typing.Any, seen: typing.Any) -> typing.Any:
+        """Returns the crate and kind of work of a process, if it is under the root."""
         line = []
         while pid != self.root:
             if pid not in seen or pid <= 1:
                 return None
             line.append(pid)
             pid = seen[pid]["parent"]
-        for it in line:
-            use = self.known(it, seen[it]["start"])
+        for one in line:
+            use = self.known(one, seen[one]["start"])
             if use:
                 return use
         return None
 
-    def known(self, pid, start):
+    def known(self, pid: typing.Any, start: typing.Any) -> typing.Any:
         # (a process may become another program, so one that named no crate is asked again)
         if not self.uses.get((pid, start)):
-            self.uses[pid, start] = use_of(*words_of(pid), self.crates)
+            words, folder = words_of(pid)
+            self.uses[pid, start] = use_of(words, folder, self.crates)
         return self.uses[pid, start]
 
-    def sums(self):
-        sums = {}
+    def sums(self) -> typing.Any:
+        sums: typing.Dict[typing.Any, typing.Any] = {}
         for use, seconds in self.seconds.values():
             sums[use] = sums.get(use, 0) + seconds
         return sums
 
 
-def gate_words():
+def gate_words() -> typing.List[typing.Any]:
     """The command of a gate that takes nothing from earlier runs."""
-    told = subprocess.run(["rt", "help"], stdout=subprocess.PIPE, stderr=subprocess.STDOUT, text=True, check=False).stdout
+    told = subprocess.run(
+        ["rt", "help"], stdout=subprocess.PIPE, stderr=subprocess.STDOUT, text=True, check=False
+    ).stdout
     return ["rt", "ci", "--anew"] if "--anew" in told else ["rt", "ci"]
 
 
-def run(names, crates):
+def run(names: typing.Any, crates: typing.Any) -> typing.Any:
     """Runs the gate, and answers its status and what was seen of it."""
     gate = subprocess.Popen([*gate_words(), *names], stdout=sys.stderr)
     watch, ended = Watch(gate.pid, crates), threading.Event()
 
-    def go_on():
+    def go_on() -> None:
         while not ended.wait(0.25):
             watch.look()
 
@@ -150,27 +164,34 @@ def run(names, crates):
     return status, watch
 
 
-def table(watch, crates):
+def table(watch: typing.Any, crates: typing.Any) -> str:
     sums = watch.sums()
     heads = ["crate", "code", "definitions", "proofs", "edits"]
     for kind in KINDS:
         heads += [f"{kind}, s", f"{kind}, GB"]
     rows = [heads, ["---"] * len(heads)]
     for name in crates:
-        row = [f"`{name}`", lines_in(f"crates/{name}/src", ".rt"), lines_in(f"crates/{name}/specs", ".antt"),
-               lines_in(f"crates/{name}/proofs", ".antt"), edits_of(name)]
+        row = [
+            f"`{name}`", lines_in(f"crates/{name}/src", ".rt"),
+            lines_in(f"crates/{name}/specs", ".antt"), lines_in(f"crates/{name}/proofs", ".antt"),
+            edits_of(name),
+        ]
         for kind in KINDS:
             is_seen = (name, kind) in sums
-            row += [round(sums[name, kind]), f"{watch.most[name, kind] / 1e9:.1f}"] if is_seen else ["", ""]
+            row += (
+                [round(sums[name, kind]), f"{watch.most[name, kind] / 1e9:.1f}"]
+                if is_seen
+                else ["", ""]
+            )
         rows.append(row)
-    whole = ["all", "", "", "", sum(row[4] for row in rows[2:])]
+    whole: typing.List[typing.Any] = ["all", "", "", "", sum(int(row[4]) for row in rows[2:])]
     for kind in KINDS:
         whole += [round(sum(amount for use, amount in sums.items() if use[1] == kind)), ""]
-    rows.append(whole)
-    return "".join("| " + " | ".join(str(it) for it in row) + " |\n" for row in rows)
+    rows.append([str(cell) for cell in whole])
+    return "".join("| " + " | ".join(str(one) for one in row) + " |\n" for row in rows)
 
 
-def main(names, into):
+def main(names: typing.Any, into: typing.Any) -> typing.Any:
     crates = crate_names()
     status, watch = run(names, crates)
     text = table(watch, crates)
@@ -191,7 +212,8 @@ def main(names, into):
 def arguments() -> argparse.Namespace:
     parser = argparse.ArgumentParser(
         prog="python3 -m tools.gate_table", description=__doc__,
-        formatter_class=argparse.RawDescriptionHelpFormatter)
+        formatter_class=argparse.RawDescriptionHelpFormatter,
+    )
     parser.add_argument("names", nargs="*", metavar="NAME", help="a crate")
     parser.add_argument("--into", metavar="FILE", help="the file that gets the table")
     return parser.parse_args()

@@ -1,40 +1,31 @@
-"""Runs flake8 (100 columns, complexity at most 10) and mypy --strict over Python files.
-
-The list names the files that are clean. It is to grow until it has all files of tests/, bench/,
-tools/, scripts/ and examples/; a file that is taken up stays clean.
-"""
+"""Runs flake8 (100 columns, complexity at most 10) and mypy --strict over all Python files."""
 import argparse
+import os
+import pathlib
 import subprocess
 import sys
 import typing
 
 from tests.checks import Checks, run
+from tests.places import TOP
 
-CLEAN = [
-    "tests/run",
-    "tests/__init__.py",
-    "tests/checks.py",
-    "tests/places.py",
-    "tests/oracle/__init__.py",
-    "tests/differential/__init__.py",
-    "tests/golden/__init__.py",
-    "tests/golden/audit_cases.py",
-    "tests/golden/sample_files.py",
-    "tests/system/__init__.py",
-    "tests/system/folder_programs.py",
-    "tests/system/help_texts.py",
-    "tests/system/installed.py",
-    "tests/system/measures.py",
-    "tests/system/needed.py",
-    "tests/system/package_commands.py",
-    "tests/system/rules_alike.py",
-    "tests/system/schedulers.py",
-    "bench/__init__.py",
-    "tools/__init__.py",
-    "tools/lint.py",
-    "tools/prose.py",
-    "scripts/recheck.py",
-]
+FOLDERS = ("python", "tests", "bench", "tools", "scripts", "examples")
+# Files that mypy judges together, by the folder in which it runs.
+TYPED = {
+    "python": ("district_audit", "backend"),
+    "python/tests": (".",),
+    ".": ("tests", "bench", "tools", "scripts", "examples"),
+}
+# The folders of the modules that the tests of the package import.
+MODULES = {"MYPYPATH": os.pathsep.join((str(TOP / "python"), str(TOP)))}
+
+
+def python_files(*folders: str) -> typing.List[str]:
+    """Returns the paths of the Python files in these folders, relative to the top."""
+    found = [path for folder in folders for path in (TOP / folder).rglob("*.py")]
+    if "tests" in folders:
+        found.append(TOP / "tests" / "run")
+    return sorted(str(path.relative_to(TOP)) for path in found)
 
 
 def is_installed(name: str) -> bool:
@@ -44,8 +35,9 @@ def is_installed(name: str) -> bool:
         return False
 
 
-def style(checks: Checks, paths: typing.List[str]) -> None:
+def style(checks: Checks) -> None:
     """Each file is a check of flake8."""
+    paths = python_files(*FOLDERS)
     words = ["flake8", "--isolated", "--max-line-length", "100", "--max-complexity", "10", *paths]
     end = run(words)
     checks.is_true("flake8_runs", end.status in (0, 1) and not end.note, "no error", end.note)
@@ -54,24 +46,23 @@ def style(checks: Checks, paths: typing.List[str]) -> None:
         checks.is_equal(f"flake8_{path}", faults, [])
 
 
-def types(checks: Checks, paths: typing.List[str]) -> None:
-    """Each file is a check of mypy; what it imports is not judged here."""
-    words = [
-        "mypy",
-        "--strict",
-        "--scripts-are-modules",
-        "--ignore-missing-imports",
-        "--follow-imports",
-        "silent",
-        "--cache-dir",
-        "/dev/null",
-        *paths,
-    ]
-    end = run(words)
-    checks.is_true("mypy_runs", end.status in (0, 1), "status 0 or 1", end.out + end.note)
-    for path in paths:
-        faults = [line for line in end.out.splitlines() if line.startswith(f"{path}:")]
-        checks.is_equal(f"mypy_{path}", [line for line in faults if ": error:" in line], [])
+def types(checks: Checks) -> None:
+    """Each file is a check of mypy; modules that are not installed count as untyped."""
+    for folder, parts in TYPED.items():
+        here = pathlib.PurePath(folder)
+        paths = [
+            str(pathlib.PurePath(path).relative_to(here))
+            for path in python_files(*(str(here / part) for part in parts))
+        ]
+        words = ["mypy", "--strict", "--scripts-are-modules", "--ignore-missing-imports"]
+        more = MODULES if folder == "python/tests" else {}
+        end = run([*words, "--cache-dir", "/dev/null", *paths], folder=TOP / folder, more=more)
+        name = f"mypy_runs_in_{'top' if folder == '.' else folder}"
+        checks.is_true(name, end.status in (0, 1), "status 0 or 1", end.out + end.note)
+        for path in paths:
+            faults = [line for line in end.out.splitlines() if line.startswith(f"{path}:")]
+            errors = [line for line in faults if ": error:" in line]
+            checks.is_equal(f"mypy_{here / path}", errors, [])
 
 
 def main() -> int:
@@ -79,7 +70,7 @@ def main() -> int:
     checks = Checks("lint")
     for name, part in (("flake8", style), ("mypy", types)):
         if is_installed(name):
-            part(checks, CLEAN)
+            part(checks)
         else:
             checks.missing(name, name)
     return checks.finish()

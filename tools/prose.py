@@ -48,7 +48,6 @@ PHRASES = [
 # The documents that quote texts fixed by the formats, or list the words themselves.
 EXEMPT = {
     "CONTRIBUTING.md": "lists the words not to use",
-    "docs/claims/GLOSSARY.md": "defines the older words beside the standard ones",
     "tools/prose.py": "lists the words not to use",
 }
 

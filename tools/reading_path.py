@@ -1,46 +1,61 @@
-"""The definitions that a name in specs/ comes to: what a reader has to read who wants to know what it says.
+"""The definitions that a name in specs/ comes to: what a reader has to read who wants to know what
+it says.
 
-A name is followed through the `use` lines of its module, over all of this repository's crates, and a type that stands in src/ is followed to
-its declaration there. What the kit defines is not followed, and is kept apart. The lines of a definition are those of its text that are not
-empty, with the comment over it, and the line `module _ ..` that it stands under, counted once.
+A name is followed through the `use` lines of its module, over all of this repository's crates, and
+a type that stands in src/ is followed to its declaration there. What the kit defines is not
+followed, and is kept apart. The lines of a definition are those of its text that are not empty,
+with the comment over it, and the line `module _ ..` that it stands under, counted once.
 """
 import os
 import re
+import typing
 
 TOP = os.path.join(os.path.dirname(os.path.abspath(__file__)), "..")
 CRATES = os.path.join(TOP, "crates")
 USE = re.compile(r"(?:pub )?use Rattle\.(\w+)\.specs\.([\w.]+?)(?:\.\{(.*)\})?(?: as (\w+))?$")
-DECLARED = re.compile(r"(?:abbrev |unfoldable )?pub (?:(record|data) )?([A-Za-z_][\w'\-]*)|(?:abbrev |unfoldable )?(?:(record|data) )?([A-Za-z_][\w'\-]*) :")
+DECLARED = re.compile(
+    r"(?:abbrev |unfoldable )?pub (?:(record|data) )?([A-Za-z_][\w'\-]*)|(?:abbrev |unfoldable"
+    r" )?(?:(record|data) )?([A-Za-z_][\w'\-]*) :"
+)
 WORD = re.compile(r"[A-Za-z_][A-Za-z0-9_'\-]*")
 RUST_NAME = re.compile(r"\b[A-Z]\w+")
 
 
-def indent_of(line):
+def indent_of(line: typing.Any) -> typing.Any:
     return len(line) - len(line.lstrip())
 
 
 class Definition:
-    """A definition: its crate, module and name, its lines, and the lines `module _ ..` over it by their places."""
+    """A definition: its crate, module and name, its lines, and the lines `module _ ..` over it by
+    their places.
+    """
 
-    def __init__(self, key, lines, over=()):
+    def __init__(self, key: typing.Any, lines: typing.Any, over: typing.Any = ()) -> None:
         self.key, self.lines, self.over = key, lines, over
 
-    def words(self):
+    def words(self) -> typing.Set[typing.Any]:
         """The names in it, without its comments and texts."""
-        bare = (re.sub(r"--.*", "", re.sub(r'"[^"]*"', '""', line)) for line in self.lines + [line for _, line in self.over])
+        bare = (
+            re.sub(r"--.*", "", re.sub(r'"[^"]*"', '""', line))
+            for line in self.lines + [line for _, line in self.over]
+        )
         return {word for line in bare for word in WORD.findall(line)}
 
 
 class Module:
     """A module of specs/: what each name of its `use` lines stands for, and its definitions."""
 
-    def __init__(self, crate, name):
+    def __init__(self, crate: typing.Any, name: typing.Any) -> None:
+        self.cases: typing.Dict[typing.Any, typing.Any]
+        self.definitions: typing.Dict[typing.Any, typing.Any]
+        self.uses: typing.Dict[typing.Any, typing.Any]
         self.crate, self.name, self.uses, self.definitions, self.cases = crate, name, {}, {}, {}
         path = os.path.join(CRATES, crate, "specs", name.replace(".", "/") + ".antt")
         with open(path, encoding="utf-8") as file:
             self.read(file.read().split("\n"))
 
-    def read(self, lines):
+    def read(self, lines: typing.Any) -> None:
+        over: typing.List[typing.Any]
         comment, over, at = [], [], 0
         while at < len(lines):
             text = lines[at].strip()
@@ -59,7 +74,7 @@ class Module:
             comment = []
             at = end
 
-    def take_use(self, text):
+    def take_use(self, text: typing.Any) -> typing.Any:
         found = USE.match(text)
         if found:
             crate, module, names, alias = found.groups()
@@ -71,7 +86,9 @@ class Module:
                 self.uses[alias] = (crate, module, None)
         return bool(found)
 
-    def take_definition(self, lines, at, comment, over):
+    def take_definition(
+        self, lines: typing.Any, at: typing.Any, comment: typing.Any, over: typing.Any
+    ) -> typing.Any:
         """Adds the definition that begins here, and answers where the next one may begin."""
         found = DECLARED.match(lines[at].strip())
         if not found:
@@ -79,7 +96,9 @@ class Module:
         name, indent, end = found.group(2) or found.group(4), indent_of(lines[at]), at + 1
         while end < len(lines) and lines[end].strip() and self.goes_on(lines[end], name, indent):
             end += 1
-        self.definitions[name] = Definition((self.crate, self.name, name), comment + lines[at:end], tuple(over))
+        self.definitions[name] = Definition(
+            (self.crate, self.name, name), comment + lines[at:end], tuple(over)
+        )
         if (found.group(1) or found.group(3)) == "data":
             for line in lines[at + 1:end]:
                 case = re.match(r"\s+(?:pub )?([A-Za-z_][\w']*) :", line)
@@ -88,14 +107,18 @@ class Module:
         return end
 
     @staticmethod
-    def goes_on(line, name, indent):
-        """The line is still the definition's: it stands further in, is an equation of the name, or closes a record."""
+    def goes_on(line: typing.Any, name: typing.Any, indent: typing.Any) -> typing.Any:
+        """The line is still the definition's: it stands further in, is an equation of the name, or
+        closes a record.
+        """
         deep = indent_of(line)
-        equation = not line.strip().startswith("--") and re.match(r"(%s(\s|$)|\}$)" % re.escape(name), line.strip())
+        equation = not line.strip().startswith("--") and re.match(
+            f"({re.escape(name)}(\\s|$)|\\}}$)", line.strip()
+        )
         return deep > indent or (deep == indent and bool(equation))
 
 
-def declared_lines(crate, parts):
+def declared_lines(crate: typing.Any, parts: typing.Any) -> typing.Any:
     """The text of a type that is declared in src/, and the types of the same file that it names."""
     name = parts[-1]
     base = os.path.join(CRATES, crate, "src", *parts[:-1])
@@ -106,7 +129,13 @@ def declared_lines(crate, parts):
             break
     else:
         return [], []
-    heads = {m.group(1): i for i, m in ((i, re.match(r"pub (?:struct|enum) (\w+)", line)) for i, line in enumerate(lines)) if m}
+    heads = {
+        m.group(1): i
+        for i, m in (
+            (i, re.match(r"pub (?:struct|enum) (\w+)", line)) for i, line in enumerate(lines)
+        )
+        if m
+    }
     if name not in heads:
         return [], []
     start = end = heads[name]
@@ -115,28 +144,37 @@ def declared_lines(crate, parts):
     while lines[end] != "}" and not lines[end].rstrip().endswith(";"):
         end += 1
     text = lines[start:end + 1]
-    near = {n for line in text if not line.strip().startswith("//") for n in RUST_NAME.findall(line) if n in heads and n != name}
+    near = {
+        n
+        for line in text
+        if not line.strip().startswith("//")
+        for n in RUST_NAME.findall(line)
+        if n in heads and n != name
+    }
     return text, [parts[:-1] + [n] for n in sorted(near)]
 
 
 class Path:
     """All that some names come to: `found` by key, and what the kit has of it."""
 
-    modules = {}
+    modules: typing.Dict[typing.Any, typing.Any] = {}
 
-    def __init__(self, roots, left_out=()):
+    def __init__(self, roots: typing.Any, left_out: typing.Any = ()) -> None:
+        self.found: typing.Dict[typing.Any, typing.Any]
+        self.kit: typing.Set[typing.Any]
+        self.missing: typing.Set[typing.Any]
         self.found, self.kit, self.missing, self.left_out = {}, set(), set(), set(left_out)
         self.waiting = list(roots)
         while self.waiting:
             self.visit(*self.waiting.pop())
 
     @classmethod
-    def module(cls, crate, name):
+    def module(cls, crate: typing.Any, name: typing.Any) -> typing.Any:
         if (crate, name) not in cls.modules:
             cls.modules[crate, name] = Module(crate, name)
         return cls.modules[crate, name]
 
-    def visit(self, crate, module, name):
+    def visit(self, crate: typing.Any, module: typing.Any, name: typing.Any) -> None:
         if (crate, module) in self.left_out:
             return
         if not os.path.isdir(os.path.join(CRATES, crate)):
@@ -146,7 +184,7 @@ class Path:
         else:
             self.visit_definition(crate, module, name)
 
-    def visit_declared(self, crate, parts):
+    def visit_declared(self, crate: typing.Any, parts: typing.Any) -> None:
         key = (crate, "declared", parts[-1])
         if key in self.found:
             return
@@ -157,7 +195,7 @@ class Path:
         self.found[key] = Definition(key, text)
         self.waiting.extend((crate, "declared." + ".".join(n), n[-1]) for n in near)
 
-    def visit_definition(self, crate, module, name):
+    def visit_definition(self, crate: typing.Any, module: typing.Any, name: typing.Any) -> None:
         here = self.module(crate, module)
         name = here.cases.get(name, name)
         if (crate, module, name) in self.found:
@@ -167,21 +205,30 @@ class Path:
             return
         definition = here.definitions[name]
         self.found[crate, module, name] = definition
-        self.waiting.extend(here.uses[w] if w in here.uses else (crate, module, w)
-                            for w in definition.words() if w != name and (w in here.uses or w in here.definitions or w in here.cases))
+        self.waiting.extend(
+            here.uses[w] if w in here.uses else (crate, module, w)
+            for w in definition.words()
+            if w != name and (w in here.uses or w in here.definitions or w in here.cases)
+        )
 
-    def lines(self, crate=None):
-        """How many lines these definitions have, or those of one crate."""
+    def lines(self, crate: typing.Any = None) -> typing.Any:
+        """Returns the number of lines of these definitions, or of those of one crate."""
         found = {key: d for key, d in self.found.items() if crate in (None, key[0])}
         over = {(key[:2], line) for key, d in found.items() for line in d.over}
         return sum(len([t for t in d.lines if t.strip()]) for d in found.values()) + len(over)
 
 
-def fields_of(crate, module, name):
+def fields_of(
+    crate: typing.Any, module: typing.Any, name: typing.Any
+) -> typing.Iterator[typing.Any]:
     """The fields of a record, and the names in the type of each, as roots of a path."""
     here = Path.module(crate, module)
     for line in here.definitions[name].lines:
         found = re.match(r"\s+pub (\w+) : (.*)", line)
         if found:
             words = WORD.findall(found.group(2))
-            yield found.group(1), [here.uses.get(w, (crate, module, w)) for w in words if w in here.uses or w in here.definitions]
+            yield found.group(1), [
+                here.uses.get(w, (crate, module, w))
+                for w in words
+                if w in here.uses or w in here.definitions
+            ]

@@ -1,20 +1,25 @@
-"""The shape of the repository in counts, beside that of crates of the toolchain: how much has a reader to hold in the head?
+"""The shape of the repository in counts, beside that of crates of the toolchain: how much has a
+reader to hold in the head?
 
-    python3 -m tools.shape              a table for this repository and for two crates of the toolchain (found by `rt doc`)
-    python3 -m tools.shape --many       also names each function of more than six parameters
-    python3 -m tools.shape --double     also names each definition that stands in two modules or more
-    python3 -m tools.shape --frames     also names the functions on the way of a run from the top call to the flip
+    python3 -m tools.shape           a table for this repository and two crates of the toolchain
+                                     (found by `rt doc`)
+    python3 -m tools.shape --many    also names each function of more than six parameters
+    python3 -m tools.shape --double  also names each definition that stands in two modules or more
+    python3 -m tools.shape --frames  also names the functions on the way of a run from the top call
+                                     to the flip
 
-What is counted: crates, functions and the entries of dependencies; parameters (with `self`), `requires` and lines of a body by function; names
-that two or more modules of specs/ define; lemmas of proofs/ that stand below a comment; and the calls on the shortest way from the top call to
-the flip, by names as they stand in the text. Tests are left out. The counts read the text with patterns, and not as the prover does.
+What is counted: crates, functions and the entries of dependencies; parameters (with `self`),
+`requires` and lines of a body by function; names that two or more modules of specs/ define; lemmas
+of proofs/ that stand below a comment; and the calls on the shortest way from the top call to the
+flip, by names as they stand in the text. Tests are left out. The counts read the text with
+patterns, and not as the prover does.
 """
 import argparse
 import os
 import re
 import statistics
 import subprocess
-import sys
+import typing
 from collections import defaultdict, deque
 
 
@@ -22,7 +27,7 @@ TOP = os.path.normpath(os.path.join(os.path.dirname(os.path.abspath(__file__)), 
 BESIDE = ("httparse", "indexmap")
 
 
-def files(folder, ending):
+def files(folder: typing.Any, ending: typing.Any) -> typing.Iterator[typing.Any]:
     for where, folders, names in os.walk(folder):
         folders[:] = [name for name in folders if name != "out"]
         for name in sorted(names):
@@ -31,7 +36,7 @@ def files(folder, ending):
                     yield os.path.join(where, name), file.read()
 
 
-def closing(text, at):
+def closing(text: typing.Any, at: typing.Any) -> typing.Any:
     """The place after the bracket that closes the one at this place."""
     pairs = {"(": ")", "{": "}", "[": "]"}
     depth = 0
@@ -45,8 +50,8 @@ def closing(text, at):
     return len(text)
 
 
-def parts_of(text):
-    """How many parameters stand between these brackets."""
+def parts_of(text: typing.Any) -> typing.Any:
+    """Returns the number of parameters between these brackets."""
     depth, parts, some = 0, 0, False
     for k, c in enumerate(text):
         if c in "([{<":
@@ -61,20 +66,31 @@ def parts_of(text):
 
 
 class Function:
-    def __init__(self, name, file, parameters, requires, body):
-        self.name, self.file, self.parameters, self.requires, self.body = name, file, parameters, requires, body
+    def __init__(
+        self,
+        name: typing.Any,
+        file: typing.Any,
+        parameters: typing.Any,
+        requires: typing.Any,
+        body: typing.Any,
+    ) -> None:
+        self.name, self.file, self.parameters, self.requires, self.body = (
+            name, file, parameters, requires, body,
+        )
 
-    def lines(self):
+    def lines(self) -> typing.Any:
         return max(0, len([line for line in self.body.splitlines() if line.strip()]) - 2)
 
 
-def functions(folder):
+def functions(folder: typing.Any) -> typing.Iterator[typing.Any]:
     """The functions with a body below a folder, without tests."""
     for file, text in files(folder, ".rt"):
         text = re.sub(r"//[^\n]*", "", text)
         text = re.sub(r'"(?:[^"\\\n]|\\.)*"', '""', text)
         text = re.sub(r"'(?:[^'\\]|\\.)'", "' '", text)
-        for start in re.finditer(r"(#\[test\]\s*)?(?:pub(?:\([a-z]+\))? )?(?:const |unsafe )*fn (\w+)", text):
+        for start in re.finditer(
+            r"(#\[test\]\s*)?(?:pub(?:\([a-z]+\))? )?(?:const |unsafe )*fn (\w+)", text
+        ):
             if start.group(1):
                 continue
             opening = text.find("(", start.end())
@@ -88,14 +104,19 @@ def functions(folder):
                     break
                 word = re.search(r"\b(requires|ensures)\b[^{}]*$", text[at:brace])
                 if not word:
-                    yield Function(start.group(2), file, parts_of(text[opening + 1 : end - 1]), requires, text[brace : closing(text, brace)])
+                    yield Function(
+                        start.group(2), file, parts_of(text[opening + 1:end - 1]), requires,
+                        text[brace:closing(text, brace)],
+                    )
                     break
                 requires += word.group(1) == "requires"
                 at = closing(text, brace)
 
 
-def definitions(folder):
-    """Each name that stands at the left edge, or within a module's arguments, of a module of specs/."""
+def definitions(folder: typing.Any) -> typing.Any:
+    """Each name that stands at the left edge, or within a module's arguments, of a module of
+    specs/.
+    """
     found = defaultdict(set)
     for file, text in files(folder, ".antt"):
         if "/specs/" not in file or file.endswith("Lib.antt"):
@@ -109,15 +130,19 @@ def definitions(folder):
     return found
 
 
-def lemmas(folder):
-    """How many lemmas there are, and how many of them stand below a comment."""
+def lemmas(folder: typing.Any) -> typing.Any:
+    """Returns the number of lemmas, and of those below a comment."""
     all_of_them, told = 0, 0
     for file, text in files(folder, ".antt"):
-        if "/proofs/" not in file or file.endswith(("Lib.antt", "Answers.antt", "Invariants.antt", "Proof.antt")):
+        if "/proofs/" not in file or file.endswith(
+            ("Lib.antt", "Answers.antt", "Invariants.antt", "Proof.antt")
+        ):
             continue
         before = ""
         for line in text.splitlines():
-            if re.match(r"^(?:pub )?(?!use\b|mod\b|module\b|unfolding\b|open\b)[A-Za-z_][\w-]* :", line):
+            if re.match(
+                r"^(?:pub )?(?!use\b|mod\b|module\b|unfolding\b|open\b)[A-Za-z_][\w-]* :", line
+            ):
                 all_of_them += 1
                 told += before.startswith("--")
             if not line.startswith("unfolding"):
@@ -125,39 +150,51 @@ def lemmas(folder):
     return all_of_them, told
 
 
-def entries():
+def entries() -> typing.Any:
     with open(os.path.join(TOP, "crates.txt"), encoding="utf-8") as file:
         lines = [line.split("#")[0] for line in file if ":" in line.split("#")[0]]
     return len(lines), sum(len(line.split(":", 1)[1].split()) for line in lines)
 
 
-def crate_of(file):
+def crate_of(file: typing.Any) -> typing.Any:
     return os.path.relpath(file, os.path.join(TOP, "crates")).split(os.sep)[0]
 
 
-def stands_on():
+def stands_on() -> typing.Dict[typing.Any, typing.Any]:
     with open(os.path.join(TOP, "crates.txt"), encoding="utf-8") as file:
         lines = [line.split("#")[0] for line in file if ":" in line.split("#")[0]]
     return {line.split()[0].rstrip(":"): set(line.split(":", 1)[1].split()) for line in lines}
 
 
-def way(found, start, end):
-    """The calls on the shortest way from one function to another. A call without a dot is of the same crate, or of the crate from which the file
-    brings the name in; one with a dot is of the same crate, or of one on which it stands."""
-    homes, below = defaultdict(set), stands_on()
+Call = typing.Tuple[str, str]
+
+
+def brought_into(text: str) -> typing.Dict[str, str]:
+    """Returns the crate of each name that a file brings in."""
+    brought = {}
+    for path, names in re.findall(r"^use ([\w:]+)::(?:\{([^}]*)\}|\w+);", text, re.M | re.S):
+        for name in names.split(","):
+            brought[name.strip().split(" as ")[-1]] = path.split("::")[0]
+    for path, name in re.findall(r"^use ([\w:]+)::(\w+);", text, re.M):
+        brought[name] = path.split("::")[0]
+    return brought
+
+
+def calls_among(found: typing.Any) -> typing.Dict[Call, typing.Set[Call]]:
+    """Returns the calls of each function, each by its crate and its name.
+
+    A call without a dot is of the same crate, or of the crate from which the file brings the name
+    in; one with a dot is of the same crate, or of one on which it stands.
+    """
+    homes: typing.Dict[str, typing.Set[str]] = defaultdict(set)
+    below = stands_on()
     for f in found:
         homes[f.name].add(crate_of(f.file))
-    calls = defaultdict(set)
+    calls: typing.Dict[Call, typing.Set[Call]] = defaultdict(set)
     for f in found:
         crate = crate_of(f.file)
         with open(f.file, encoding="utf-8") as file:
-            text = file.read()
-        brought = {}
-        for path, names in re.findall(r"^use ([\w:]+)::(?:\{([^}]*)\}|\w+);", text, re.M | re.S):
-            for name in names.split(","):
-                brought[name.strip().split(" as ")[-1]] = path.split("::")[0]
-        for path, name in re.findall(r"^use ([\w:]+)::(\w+);", text, re.M):
-            brought[name] = path.split("::")[0]
+            brought = brought_into(file.read())
         for dot, name in re.findall(r"(\.|::|\b)(\w+)(?:::<[^()]*?>)?\(", f.body):
             near = homes[name]
             if crate in near:
@@ -166,14 +203,22 @@ def way(found, start, end):
                 calls[crate, f.name] |= {(home, name) for home in near & below.get(crate, set())}
             elif brought[name] in near:
                 calls[crate, f.name].add((brought[name], name))
-    before, left = {start: None}, deque([start])
+    return calls
+
+
+def way(found: typing.Any, start: Call, end: Call) -> typing.List[Call]:
+    """Returns the calls on the shortest way from one function to another."""
+    calls = calls_among(found)
+    before: typing.Dict[Call, typing.Optional[Call]] = {start: None}
+    left = deque([start])
     while left:
         at = left.popleft()
         if at == end:
-            path = []
-            while at is not None:
-                path.append(at)
-                at = before[at]
+            path: typing.List[Call] = []
+            step: typing.Optional[Call] = at
+            while step is not None:
+                path.append(step)
+                step = before[step]
             return path[::-1]
         for call in sorted(calls[at]):
             if call not in before:
@@ -182,58 +227,76 @@ def way(found, start, end):
     return []
 
 
-def counts(folder):
+def counts(folder: typing.Any) -> typing.Any:
     found = list(functions(folder))
     many = [f for f in found if f.parameters > 6]
     double = {name: where for name, where in definitions(folder).items() if len(where) > 1}
     all_of_them, told = lemmas(folder)
     lines = sorted(f.lines() for f in found) or [0]
-    return found, many, double, {
-        "functions": len(found),
-        "with more than six parameters": len(many),
-        "with more than five": len([f for f in found if f.parameters > 5]),
-        "`requires` by function": "%.2f" % (sum(f.requires for f in found) / max(1, len(found))),
-        "lines of a body, median": "%g" % statistics.median(lines),
-        "lines of a body, longest": lines[-1],
-        "names of definitions in two modules or more": len(double),
-        "lemmas": all_of_them,
-        "lemmas below a comment": "%d %%" % (100 * told / max(1, all_of_them)),
-    }
+    return (
+        found,
+        many,
+        double,
+        {
+            "functions": len(found),
+            "with more than six parameters": len(many),
+            "with more than five": len([f for f in found if f.parameters > 5]),
+            "`requires` by function": f"{sum(f.requires for f in found) / max(1, len(found)):.2f}",
+            "lines of a body, median": f"{statistics.median(lines):g}",
+            "lines of a body, longest": lines[-1],
+            "names of definitions in two modules or more": len(double),
+            "lemmas": all_of_them,
+            "lemmas below a comment": f"{100 * told // max(1, all_of_them)} %",
+        },
+    )
 
 
-def toolchain(name):
+def toolchain(name: typing.Any) -> typing.Any:
     try:
-        guide = subprocess.run(["rt", "doc"], capture_output=True, text=True, check=True).stdout.strip()
+        guide = subprocess.run(
+            ["rt", "doc"], capture_output=True, text=True, check=True
+        ).stdout.strip()
     except (OSError, subprocess.CalledProcessError):
         return None
     folder = os.path.join(os.path.dirname(guide), "rattle", name)
     return folder if os.path.isdir(folder) else None
 
 
-def main(words):
+def main(words: typing.Any) -> None:
     own, many, double, rows = counts(os.path.join(TOP, "crates"))
     crates, depends = entries()
     path = way(own, ("audit_run", "audit"), ("flip_kernel", "flip"))
-    table = {"crates": crates, "entries of dependencies": depends, "functions by crate": "%.1f" % (len(own) / crates), **rows, "calls from `audit` to the flip": len(path)}
+    table = {
+        "crates": crates,
+        "entries of dependencies": depends,
+        "functions by crate": f"{len(own) / crates:.1f}",
+        **rows,
+        "calls from `audit` to the flip": len(path),
+    }
     others = {name: counts(folder)[3] for name in BESIDE for folder in [toolchain(name)] if folder}
-    print("| | this repository | " + " | ".join("`%s`" % name for name in others) + " |")
+    print("| | this repository | " + " | ".join(f"`{name}`" for name in others) + " |")
     print("| --- " * (2 + len(others)) + "|")
     for row, value in table.items():
-        print("| %s | %s | " % (row, value) + " | ".join(str(other.get(row, "")) for other in others.values()) + " |")
+        print(
+            f"| {row} | {value} | "
+            + " | ".join(str(other.get(row, "")) for other in others.values())
+            + " |"
+        )
     if words.many:
-        for f in sorted(many, key=lambda f: -f.parameters):
+        for f in sorted(many, key=lambda f: -int(f.parameters)):
             print(f.parameters, f.name, os.path.relpath(f.file, TOP))
     if words.double:
         for name, where in sorted(double.items()):
             print(name, ", ".join(sorted(where)))
     if words.frames:
-        print(" > ".join("%s::%s" % call for call in path))
+        print(" > ".join(f"{crate}::{name}" for crate, name in path))
 
 
 def arguments() -> argparse.Namespace:
     parser = argparse.ArgumentParser(
         prog="python3 -m tools.shape", description=__doc__,
-        formatter_class=argparse.RawDescriptionHelpFormatter)
+        formatter_class=argparse.RawDescriptionHelpFormatter,
+    )
     for name in ("--many", "--double", "--frames"):
         parser.add_argument(name, action="store_true", help="see above")
     return parser.parse_args()

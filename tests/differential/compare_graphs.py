@@ -1,9 +1,9 @@
 """Compares what the auditor's `check` answers with what networkx reads of the same file.
 
 Usage: python3 -m tests.differential.compare_graphs PROGRAM GRAPH POP FIRST SECOND DISTRICT SLACK
-PROGRAM is the built program. Each of the three columns is tried as the population, and fifty drawn plans
-are judged as well, whose answers depend on single edges: networkx says whether each district hangs together.
-Ends with status 0 and prints how many answers were the same.
+PROGRAM is the built program. Each of the three columns is tried as the population, and fifty drawn
+plans are judged as well, whose answers depend on single edges: networkx says whether each district
+hangs together. Ends with status 0 and prints how many answers were the same.
 """
 # RUN: {auditor} examples/data/cycle.json pop a b d 5000
 # NEEDS: networkx
@@ -13,22 +13,23 @@ import json
 import random
 import subprocess
 import sys
+import typing
 
 import networkx
 
 
-def read(document):
+def read(document: typing.Any) -> typing.Any:
     """The graph as networkx reads it, without edges from a node to itself."""
     simple = networkx.Graph(networkx.readwrite.json_graph.adjacency_graph(document))
     simple.remove_edges_from(list(networkx.selfloop_edges(simple)))
     return simple
 
 
-def rank(label):
+def rank(label: typing.Any) -> typing.Any:
     return (1, label.encode()) if isinstance(label, str) else (0, label)
 
 
-def expected(document, pop, district, slack):
+def expected(document: typing.Any, pop: typing.Any, district: typing.Any, slack: typing.Any) -> str:
     """The check text, or the line that says why the plan is refused."""
     graph = read(document)
     units = list(graph.nodes)
@@ -57,15 +58,23 @@ def expected(document, pop, district, slack):
     )
 
 
-def found(program, document, columns, slack):
-    words = ["check", "--pop", columns[0], "--first", columns[1], "--second", columns[2],
-             "--district", columns[3], "--slack", str(slack)]
-    run = subprocess.run([program, *words], input=json.dumps(document), capture_output=True, text=True)
+def found(
+    program: typing.Any, document: typing.Any, columns: typing.Any, slack: typing.Any
+) -> typing.Any:
+    words = [
+        "check", "--pop", columns[0], "--first", columns[1], "--second", columns[2], "--district",
+        columns[3], "--slack", str(slack),
+    ]
+    run = subprocess.run(
+        [program, *words], input=json.dumps(document), capture_output=True, text=True
+    )
     return run.stdout + run.stderr
 
 
-def drawn(document, district, random_number):
-    """The same graph with a plan of five districts that grow from drawn units, and here and there a stray unit."""
+def drawn(document: typing.Any, district: typing.Any, random_number: typing.Any) -> typing.Any:
+    """Returns the graph with a plan of five districts that grow from drawn units, and a few stray
+    units.
+    """
     graph = read(document)
     units = list(graph.nodes)
     plan = {}
@@ -87,7 +96,15 @@ def drawn(document, district, random_number):
     return other
 
 
-def main(program, path, pop, first, second, district, slack):
+def main(
+    program: typing.Any,
+    path: typing.Any,
+    pop: typing.Any,
+    first: typing.Any,
+    second: typing.Any,
+    district: typing.Any,
+    slack: typing.Any,
+) -> None:
     columns = [pop, first, second, district]
     with open(path) as file:
         document = json.load(file)
@@ -108,7 +125,8 @@ def main(program, path, pop, first, second, district, slack):
 def arguments() -> argparse.Namespace:
     parser = argparse.ArgumentParser(
         prog="python3 -m tests.differential.compare_graphs", description=__doc__,
-        formatter_class=argparse.RawDescriptionHelpFormatter)
+        formatter_class=argparse.RawDescriptionHelpFormatter,
+    )
     parser.add_argument("program", help="the built auditor")
     parser.add_argument("path", help="a file with a graph")
     parser.add_argument("pop", help="the column of people")

@@ -1,14 +1,19 @@
-"""Compares checks, runs and reports of several plans whose rules are drawn together, byte for byte, with those of the plain model in model.py.
+"""Compares checks, runs and reports of several plans whose rules are drawn together, byte for byte,
+with those of the plain model in model.py.
 
 Usage: python3 -m tests.differential.compare_rules PROGRAM [RUNS [SEED [PROCESSES]]]
-PROGRAM is the built program. Each of RUNS (300) runs draws, from SEED (1), a grid with diagonals, districts and regions that grow in it, and a
-group that lives in some districts more than in others; and rules, each of which half of the runs have: the most cut edges, among how many
-districts a region may be split, how often regions may be split in all and how many of them, and in how many districts the group has a majority,
-of the population or of a column of its own. Most limits are those that the start plan just keeps; an eighth of the runs have one that it breaks.
-A sixth of the graphs have a value in a column of the group that may be refused, and a few lack one. A third of the audits are made by two runs
-over files, the second of which may have another rule. Status, text, note and files must be the model's. Prints each run that differs; how many
-ended how; and for each rule in how many audits it was set, and in how many of those a walk without it finds something else. Ends with 1 where a
-run differed. Nothing is needed but Python.
+PROGRAM is the built program. Each of RUNS (300) runs draws, from SEED (1), a grid with diagonals,
+districts and regions that grow in it, and a group that lives in some districts more than in others;
+and rules, each of which half of the runs have: the most cut edges, among how many districts a
+region may be split, how often regions may be split in all and how many of them, in how many
+districts the group has a majority, of the population or of a column of its own, above which share
+it has one, and which units are frozen. Most limits are those that the start plan just keeps; an
+eighth of the runs have one that it breaks. A sixth of the graphs have a value in a column of the
+group or of frozen units that may be refused, and a few lack one. A third of the audits are made by
+two runs over files, the second of which may have another rule. Status, text, note and files must be
+the model's. Prints each run that differs; how many ended how; and for each rule in how many audits
+it was set, and in how many of those a walk without it finds something else. Ends with 1 where a run
+differed. Nothing is needed but Python.
 """
 # RUN: {auditor} 60 1
 import argparse
@@ -20,30 +25,39 @@ import random
 import subprocess
 import sys
 import tempfile
+import typing
 
+from tests.parsers import add_draws, comparing
 from tests.oracle import model
 
 BASE = "--pop pop --first a --second b --district d".split()
 ASKS = ("seats", "mean-median", "gap", "cut-edges")
 RULES = ("--max-cut", "--max-split", "--max-splits", "--max-split-regions", "--group-districts")
+# Those that the start plan cannot break.
+OTHERS = ("--group-share", "--freeze")
 FILES = ("audit-0.ckpt", "audit-1.ckpt")
 
 
 # ---- graphs
 
-def neighbours_of(chance, wide, high):
+
+def neighbours_of(chance: typing.Any, wide: typing.Any, high: typing.Any) -> typing.Any:
     """The neighbours of each unit of a grid with some diagonals."""
-    near = [set() for _ in range(wide * high)]
+    near: typing.Any = [set() for _ in range(wide * high)]
     for at in range(wide * high):
         across, down = at % wide + 1 < wide, at // wide + 1 < high
-        for other in [at + 1] * across + [at + wide] * down + [at + wide + 1] * (across and down and chance.random() < 0.4):
+        for other in (
+            [at + 1] * across
+            + [at + wide] * down
+            + [at + wide + 1] * (across and down and chance.random() < 0.4)
+        ):
             near[at].add(other)
             near[other].add(at)
     return near
 
 
-def grown(chance, near, count):
-    """So many parts that grow from drawn units: the part of each unit."""
+def grown(chance: typing.Any, near: typing.Any, count: typing.Any) -> typing.List[typing.Any]:
+    """Returns the part of each unit, of this number of parts that grow from drawn units."""
     part = dict(zip(chance.sample(range(len(near)), count), range(count)))
     while len(part) < len(near):
         unit = chance.choice(sorted(part))
@@ -53,70 +67,144 @@ def grown(chance, near, count):
     return [part[unit] for unit in range(len(near))]
 
 
-def even(chance, near, count):
-    """The same, drawn anew until no part has more than 3/2 of its share."""
+def even(chance: typing.Any, near: typing.Any, count: typing.Any) -> typing.Any:
+    """Returns parts that are drawn anew until none has more than 3/2 of its share."""
     while True:
         parts = grown(chance, near, count)
         if max(collections.Counter(parts).values()) * 2 * count <= 3 * len(near):
             return parts
 
 
-def drawn_graph(chance):
+def drawn_graph(chance: typing.Any) -> typing.Any:
     """A graph, and another plan for its units."""
     near = neighbours_of(chance, chance.randint(4, 7), chance.randint(4, 7))
     plan, other = (even(chance, near, chance.randint(2, 4)) for _ in range(2))
-    regions = grown(chance, near, chance.randint(1, 9)) if chance.random() < 0.7 else [2 * district + chance.randrange(2) for district in plan]
-    scale = chance.choice((1, 1, 1, 10 ** 8))
+    regions = (
+        grown(chance, near, chance.randint(1, 9))
+        if chance.random() < 0.7
+        else [2 * district + chance.randrange(2) for district in plan]
+    )
+    scale = chance.choice((1, 1, 1, 10**8))
     nodes = []
     for at, district in enumerate(plan):
         pop, whole = chance.randint(1, 9), chance.randint(0, 9)
-        nodes.append({"id": at, "pop": pop * scale, "a": chance.randint(0, 9), "b": chance.randint(1, 9), "d": district, "r": f"county {regions[at]}",
-                      "g": (chance.randint(0, pop) + (chance.random() < 0.3) * (district % 2)) * scale, "w": whole * scale})
+        nodes.append(
+            {
+                "id": at,
+                "pop": pop * scale,
+                "a": chance.randint(0, 9),
+                "b": chance.randint(1, 9),
+                "d": district,
+                "r": f"county {regions[at]}",
+                "g": (chance.randint(0, pop) + (chance.random() < 0.3) * (district % 2)) * scale,
+                "w": whole * scale,
+                "f": chance.choice((True, False, False, False, 0, 0, 1, 7)),
+            }
+        )
     if chance.random() < 1 / 6:
-        chance.choice(nodes)[chance.choice("ggw")] = chance.choice((-1, 0, 10 ** 9, 10 ** 9 + 1, 2 ** 64, 1.0, "1", True, None))
+        chance.choice(nodes)[chance.choice("ggwff")] = chance.choice(
+            (-1, 0, 10**9, 10**9 + 1, 2**64, 1.0, "1", True, None)
+        )
     if chance.random() < 1 / 20:
-        del chance.choice(nodes)[chance.choice("gwr")]
-    return {"nodes": nodes, "adjacency": [[{"id": one} for one in sorted(those)] for those in near]}, other
+        del chance.choice(nodes)[chance.choice("gwrf")]
+    return {
+        "nodes": nodes,
+        "adjacency": [[{"id": one} for one in sorted(those)] for those in near],
+    }, other
 
 
 # ---- words
 
-def there(graph, words):
-    """How much of what each rule limits the start plan has, by a job without limits; nothing where the graph is refused."""
+
+def there(graph: typing.Any, words: typing.Any) -> typing.Any:
+    """Returns the start plan's number for each rule, without limits; 1 for a refused graph."""
     try:
-        job = model.job_of(model.Setting(["check", *BASE, "--slack", "10000", *words]), json.dumps(graph).encode())
+        job = model.job_of(
+            model.Setting(["check", *BASE, "--slack", "10000", *words]), json.dumps(graph).encode()
+        )
     except model.Refused:
         return dict.fromkeys(RULES, 1)
     most = max(job.districts_of_regions(job.plan), default=1)
-    numbers = job.cut(job.plan), most, job.splits(job.plan), job.split_regions(job.plan), job.majorities(job.plan)
+    numbers = (
+        job.cut(job.plan), most, job.splits(job.plan), job.split_regions(job.plan),
+        job.majorities(job.plan),
+    )
     return dict(zip(RULES, numbers))
 
 
-def drawn_rules(chance, graph):
+def drawn_rules(chance: typing.Any, graph: typing.Any) -> typing.Any:
     """Words of rules."""
     columns = ["--region", "r"] if chance.random() < 0.75 else []
-    columns += ["--group", "g", *chance.choice(([], [], ["--group-of", "w"], ["--group-of", "pop"]))] if chance.random() < 0.75 else []
-    names = [name for name in RULES if model.WITH_COLUMN.get(name, "--max-cut") in [*columns, "--max-cut"]]
+    columns += (
+        ["--group", "g", *chance.choice(([], [], ["--group-of", "w"], ["--group-of", "pop"]))]
+        if chance.random() < 0.75
+        else []
+    )
+    if "--group" in columns and chance.random() < 0.5:
+        shares = (0, 2500, 3333, 4500, 4999, 5000, 5001, 6000, 10000)
+        columns += ["--group-share", str(chance.choice(shares))]
+    columns += ["--freeze", "f"] if chance.random() < 0.4 else []
+    names = [
+        name
+        for name in RULES
+        if model.WITH_COLUMN.get(name, "--max-cut") in [*columns, "--max-cut"]
+    ]
     broken = chance.choice(names) if chance.random() < 1 / 8 else None
     words = columns[:]
     for name, number in there(graph, columns).items():
-        more = -1 if name == broken else chance.choice((0, 0, 1)) if name != "--max-cut" else chance.randint(0, 8)
+        more = (
+            -1
+            if name == broken
+            else chance.choice((0, 0, 1)) if name != "--max-cut" else chance.randint(0, 8)
+        )
         if name == broken or name in names and chance.random() < 0.5:
-            words += [name, str(max(int(name == "--max-split"), number - more if name == "--group-districts" else number + more))]
-    return words + (["--source", chance.choice(("yes", "yes", "no"))] if chance.random() < 0.4 else [])
+            words += [
+                name,
+                str(
+                    max(
+                        int(name == "--max-split"),
+                        number - more if name == "--group-districts" else number + more,
+                    )
+                ),
+            ]
+    return words + (
+        ["--source", chance.choice(("yes", "yes", "no"))] if chance.random() < 0.4 else []
+    )
 
 
-def audit_words(chance):
+def audit_words(chance: typing.Any) -> typing.Any:
     serial = chance.random() < 0.2
     walks, ends = chance.randint(0, 2), chance.choice((0, 0, 2, 4))
-    words = ["--key", f"{chance.getrandbits(256):064x}", "--walks", str(walks + (walks + ends == 0)), "--ends", str(ends), "--workers",
-             str(chance.choice((1, 1, 2, 4))), "--steps", str(2 ** chance.randint(5, 8) - 1 if serial else chance.randint(100, 400)), "--hub-steps", "60"]
-    words += ["--ask", ",".join(f"{score}:{chance.choice(('low', 'high'))}" for score in chance.sample(ASKS, chance.randint(1, 4)))]
-    return words + ["--serial", "yes"] * serial + (["--shift", "yes"] if chance.random() < 0.2 else [])
+    words = [
+        "--key",
+        f"{chance.getrandbits(256):064x}",
+        "--walks",
+        str(walks + (walks + ends == 0)),
+        "--ends",
+        str(ends),
+        "--workers",
+        str(chance.choice((1, 1, 2, 4))),
+        "--steps",
+        str(2 ** chance.randint(5, 8) - 1 if serial else chance.randint(100, 400)),
+        "--hub-steps",
+        "60",
+    ]
+    words += [
+        "--ask",
+        ",".join(
+            f"{score}:{chance.choice(('low', 'high'))}"
+            for score in chance.sample(ASKS, chance.randint(1, 4))
+        ),
+    ]
+    return (
+        words + ["--serial", "yes"] * serial + (["--shift", "yes"] if chance.random() < 0.2 else [])
+    )
 
 
-def reached(words, data, other):
-    """A plan that a walk under these words reaches, so that it keeps the rules; the other one where the graph is refused."""
+def reached(words: typing.Any, data: typing.Any, other: typing.Any) -> typing.Any:
+    """A plan that a walk under these words reaches, so that it keeps the rules; the other one where
+    the graph is refused.
+    """
     try:
         job = model.job_of(model.Setting(["run", *words]), data)
     except model.Refused:
@@ -124,103 +212,171 @@ def reached(words, data, other):
     return job.walk(tuple(job.plan), 0, 60)[0][-1]
 
 
-def table_of(graph, other):
+def table_of(graph: typing.Any, other: typing.Any) -> bytes:
     """A table with two plans: another, and the graph's own under other labels."""
-    rows = [f"{node['id']},{district},D{node['d']}" for node, district in zip(graph["nodes"], other)]
+    rows = [
+        f"{node['id']},{district},D{node['d']}" for node, district in zip(graph["nodes"], other)
+    ]
     return "\n".join(["id,other,own", *rows, ""]).encode()
 
 
-def changed(chance, words):
+def changed(chance: typing.Any, words: typing.Any) -> typing.Any:
     """The words with one number of a rule changed, where they have one."""
-    words, places = words[:], [at for at, name in enumerate(words) if name in RULES]
+    limits = (*RULES, "--group-share")
+    words, places = words[:], [at for at, name in enumerate(words) if name in limits]
     if places:
         at = chance.choice(places)
         words[at + 1] = str(int(words[at + 1]) + 1)
     return words
 
 
-def calls_of(chance, graph, other):
-    """The calls of one run: words, and what is read; two where the second goes on from the files of the first."""
+def calls_of(chance: typing.Any, graph: typing.Any, other: typing.Any) -> typing.List[typing.Any]:
+    """The calls of one run: words, and what is read; two where the second goes on from the files of
+    the first.
+    """
     rules, data, kind = drawn_rules(chance, graph), json.dumps(graph).encode(), chance.random()
     base = [*BASE, "--slack", chance.choice(("10000", "10000", "10000", "6000")), *rules]
     if kind < 0.15:
         return [(["check", *base], data)]
     words = [*base, *audit_words(chance)]
     if kind < 0.3:
-        return [(["plans", *words], data + b"\n" + table_of(graph, reached(words, data, other) if chance.random() < 0.8 else other))]
+        return [
+            (
+                ["plans", *words],
+                data
+                + b"\n"
+                + table_of(graph, reached(words, data, other) if chance.random() < 0.8 else other),
+            )
+        ]
     if kind < 0.7:
-        stop = ["--stop", "1"] if words[words.index("--ends") + 1] != "0" and chance.random() < 0.3 else []
+        stop = (
+            ["--stop", "1"]
+            if words[words.index("--ends") + 1] != "0" and chance.random() < 0.3
+            else []
+        )
         return [(["run", *words, *stop], data)]
     second = changed(chance, words) if chance.random() < 0.3 else words
-    return [(["run", *words, "--save", "1", "--budget", str(chance.randint(0, 3))], data), (["run", *second, "--save", "2", "--resume", "yes"], data)]
+    return [
+        (["run", *words, "--save", "1", "--budget", str(chance.randint(0, 3))], data),
+        (["run", *second, "--save", "2", "--resume", "yes"], data),
+    ]
 
 
 # ---- runs
 
-def without(words, name):
+
+def without(words: typing.Any, name: typing.Any) -> typing.List[typing.Any]:
     """The words of a walk without the rule, without files."""
-    pairs = [(one, value) for one, value in zip(words[1::2], words[2::2]) if one not in (name, "--save", "--budget", "--resume", "--stop")]
+    pairs = [
+        (one, value)
+        for one, value in zip(words[1::2], words[2::2])
+        if one not in (name, "--save", "--budget", "--resume", "--stop")
+    ]
     return [words[0], *(word for pair in pairs for word in pair)]
 
 
-def turned(words, data):
+def turned(words: typing.Any, data: typing.Any) -> typing.Any:
     """Which rules the words set, and which of them change what the walks find."""
-    is_set = [name for name in RULES if name in words]
-    every = [line for line in model.audit(without(words, None), data, [None, None]).out.splitlines() if " moved " in line]
-    return is_set, [name for name in is_set if every != [line for line in model.audit(without(words, name), data, [None, None]).out.splitlines()
-                                                         if " moved " in line]]
+    is_set = [name for name in (*RULES, *OTHERS) if name in words]
+    every = [
+        line
+        for line in model.audit(without(words, None), data, [None, None]).out.splitlines()
+        if " moved " in line
+    ]
+    return is_set, [
+        name
+        for name in is_set
+        if every
+        != [
+            line
+            for line in model.audit(without(words, name), data, [None, None]).out.splitlines()
+            if " moved " in line
+        ]
+    ]
 
 
-def held(folder):
-    return [pathlib.Path(folder, name).read_bytes() if pathlib.Path(folder, name).exists() else None for name in FILES]
+def held(folder: typing.Any) -> typing.List[typing.Any]:
+    return [
+        pathlib.Path(folder, name).read_bytes() if pathlib.Path(folder, name).exists() else None
+        for name in FILES
+    ]
 
 
-def one_run(task):
+def one_run(task: typing.Any) -> typing.Any:
     place, seed, program = task
+    rules: typing.Any
     chance, told, ends, rules = random.Random(f"{seed} {place}"), "", [], ([], [])
     graph, other = drawn_graph(chance)
     calls, slots = calls_of(chance, graph, other), [None, None]
     with tempfile.TemporaryDirectory() as folder:
         for words, data in calls:
             wanted = model.audit(words, data, slots)
-            done = subprocess.run([program, *words], input=data, capture_output=True, check=False, cwd=folder)
-            found, slots = model.End(done.returncode, done.stdout.decode(), done.stderr.decode(), held(folder)), wanted.slots
+            done = subprocess.run(
+                [program, *words], input=data, capture_output=True, check=False, cwd=folder
+            )
+            found, slots = (
+                model.End(
+                    done.returncode, done.stdout.decode(), done.stderr.decode(), held(folder)
+                ),
+                wanted.slots,
+            )
             is_told = words[words.index("--workers") + 1] == "1" if "--workers" in words else True
             if found != wanted and (is_told or found[:3] != wanted[:3]):
-                told += f"run {place} of seed {seed}: {' '.join(words)}\n{data.decode()}\nwanted {wanted}\nfound {found}\n"
-            ends.append((words[0], wanted.status, "".join(" " if letter.isdigit() else letter for letter in wanted.note)))
+                told += (
+                    f"run {place} of seed {seed}: {' '.join(words)}\n{data.decode()}\nwanted"
+                    f" {wanted}\nfound {found}\n"
+                )
+            ends.append(
+                (
+                    words[0],
+                    wanted.status,
+                    "".join(" " if letter.isdigit() else letter for letter in wanted.note),
+                )
+            )
             slots = found.slots
     if ends[-1][0] == "run" and ends[-1][1] == 0:
         rules = turned(*calls[-1])
     return ends, rules, told
 
 
-def main(program, runs="300", seed="1", processes="4"):
+def main(program: typing.Any, runs: str = "300", seed: str = "1", processes: str = "4") -> int:
     program, wrong = str(pathlib.Path(program).resolve()), 0
-    ends, notes, is_set, turns = collections.Counter(), set(), collections.Counter(), collections.Counter()
+    ends: typing.Any
+    is_set: typing.Any
+    notes: typing.Set[typing.Any]
+    turns: typing.Any
+    ends, notes, is_set, turns = (
+        collections.Counter(), set(), collections.Counter(), collections.Counter(),
+    )
     with multiprocessing.Pool(int(processes)) as pool:
-        for some, rules, told in pool.imap_unordered(one_run, [(place, seed, program) for place in range(int(runs))]):
+        for some, rules, told in pool.imap_unordered(
+            one_run, [(place, seed, program) for place in range(int(runs))]
+        ):
             ends.update((command, status) for command, status, _ in some)
             notes.update(note for _, _, note in some)
             is_set.update(rules[0])
             turns.update(rules[1])
             wrong += told != ""
             print(told, end="", flush=True)
-    print(", ".join(f"{times} of {command} with status {status}" for (command, status), times in sorted(ends.items())))
-    print(", ".join(f"{name} set in {is_set[name]} audits and felt in {turns[name]}" for name in RULES))
+    print(
+        ", ".join(
+            f"{times} of {command} with status {status}"
+            for (command, status), times in sorted(ends.items())
+        )
+    )
+    print(
+        ", ".join(
+            f"{name} set in {is_set[name]} audits and felt in {turns[name]}"
+            for name in (*RULES, *OTHERS)
+        )
+    )
     print(f"{runs} runs with drawn rules, {len(notes)} kinds of notes, {wrong} differ")
     return 1 if wrong else 0
 
 
 def arguments() -> argparse.Namespace:
-    parser = argparse.ArgumentParser(
-        prog="python3 -m tests.differential.compare_rules", description=__doc__,
-        formatter_class=argparse.RawDescriptionHelpFormatter)
-    parser.add_argument("program", help="the built auditor")
-    parser.add_argument("runs", nargs="?", type=int, default=300, help="how many runs are drawn")
-    parser.add_argument("seed", nargs="?", type=int, default=1, help="what they are drawn from")
-    parser.add_argument("processes", nargs="?", type=int, default=4,
-                        help="how many run at one time")
+    parser = comparing("compare_rules", __doc__)
+    add_draws(parser, 300)
     return parser.parse_args()
 
 

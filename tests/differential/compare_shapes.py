@@ -1,11 +1,14 @@
-"""Compares the auditor's reports, byte for byte, with those of a plain program on graphs of every shape: with holes, without faces, or all faces.
+"""Compares the auditor's reports, byte for byte, with those of a plain program on graphs of every
+shape: with holes, without faces, or all faces.
 
 Usage: python3 -m tests.differential.compare_shapes PROGRAM [GRAPHS [SEED [STEPS]]]
-PROGRAM is the built program. It may know from the faces of a graph that a unit can leave its district, where the plain program of
-compare_walks.py asks networkx about each changed plan. So the graphs, 50 if not said, are in turn trees, rings, double rings with some of
-their spokes, wheels, complete graphs, tori, drawn grids with holes, and graphs of which drawn units have a ring of others round them; each with
-drawn districts, populations, votes and names of units, and one walk of so many steps, 2000 if not said, and a few ends.
-Ends with status 0 where all reports are the same, and prints how many of each shape there were, and the moves in them.
+PROGRAM is the built program. It may know from the faces of a graph that a unit can leave its
+district, where the plain program of compare_walks.py asks networkx about each changed plan. So the
+graphs, 50 if not said, are in turn trees, rings, double rings with some of their spokes, wheels,
+complete graphs, tori, drawn grids with holes, and graphs of which drawn units have a ring of others
+round them; each with drawn districts, populations, votes and names of units, and one walk of so
+many steps, 2000 if not said, and a few ends. Ends with status 0 where all reports are the same, and
+prints how many of each shape there were, and the moves in them.
 """
 # RUN: {auditor} 8 2 500
 # NEEDS: networkx
@@ -13,6 +16,7 @@ import argparse
 import collections
 import random
 import sys
+import typing
 
 import networkx
 
@@ -21,7 +25,7 @@ from tests.differential.compare_walks import Job, drawn_graph, drawn_plan, found
 ASKS = [("seats", "low"), ("mean-median", "high"), ("gap", "low"), ("cut-edges", "high")]
 
 
-def tree(chance):
+def tree(chance: typing.Any) -> typing.Any:
     count = chance.randint(4, 40)
     graph = networkx.Graph()
     graph.add_node(0)
@@ -30,12 +34,14 @@ def tree(chance):
     return graph
 
 
-def ring(chance):
+def ring(chance: typing.Any) -> typing.Any:
     return networkx.cycle_graph(chance.randint(4, 40))
 
 
-def double_ring(chance):
-    """Two rings, one inside the other, with some of the spokes between them, and now and then a slanting one."""
+def double_ring(chance: typing.Any) -> typing.Any:
+    """Two rings, one inside the other, with some of the spokes between them, and now and then a
+    slanting one.
+    """
     count = chance.randint(3, 16)
     graph = networkx.cycle_graph(count)
     networkx.add_cycle(graph, range(count, 2 * count))
@@ -47,26 +53,32 @@ def double_ring(chance):
     return graph
 
 
-def wheel(chance):
+def wheel(chance: typing.Any) -> typing.Any:
     return networkx.wheel_graph(chance.randint(5, 30))
 
 
-def complete(chance):
+def complete(chance: typing.Any) -> typing.Any:
     return networkx.complete_graph(chance.randint(4, 14))
 
 
-def torus(chance):
+def torus(chance: typing.Any) -> typing.Any:
     graph = networkx.grid_2d_graph(chance.randint(3, 7), chance.randint(3, 7), periodic=True)
     if chance.random() < 0.5:
         wide, high = 1 + max(x for x, _ in graph), 1 + max(y for _, y in graph)
-        graph.add_edges_from(((x, y), ((x + 1) % wide, (y + 1) % high)) for x, y in list(graph) if chance.random() < 0.5)
+        graph.add_edges_from(
+            ((x, y), ((x + 1) % wide, (y + 1) % high))
+            for x, y in list(graph)
+            if chance.random() < 0.5
+        )
     return graph
 
 
-def ringed(chance):
-    """A drawn graph of which some units have a ring round them that alone touches them, and now and then a ring round that."""
+def ringed(chance: typing.Any) -> typing.Any:
+    """A drawn graph of which some units have a ring round them that alone touches them, and now and
+    then a ring round that.
+    """
     graph = drawn_graph(chance)
-    for unit in [it for it in list(graph) if chance.random() < 0.15]:
+    for unit in [each for each in list(graph) if chance.random() < 0.15]:
         for _ in range(chance.choice((1, 1, 2))):
             outside = list(graph.neighbors(unit))
             count = max(3, len(outside))
@@ -78,12 +90,20 @@ def ringed(chance):
     return graph
 
 
-SHAPES = {"tree": tree, "ring": ring, "double ring": double_ring, "wheel": wheel, "complete": complete, "torus": torus, "holes": drawn_graph,
-          "ringed": ringed}
+SHAPES = {
+    "tree": tree,
+    "ring": ring,
+    "double ring": double_ring,
+    "wheel": wheel,
+    "complete": complete,
+    "torus": torus,
+    "holes": drawn_graph,
+    "ringed": ringed,
+}
 
 
-def numbered(chance, graph):
-    """The same graph with its units numbered in a drawn order."""
+def numbered(chance: typing.Any, graph: typing.Any) -> typing.Any:
+    """Returns the graph with its units numbered in a drawn order."""
     names = list(graph)
     chance.shuffle(names)
     relabelled = networkx.Graph()
@@ -93,7 +113,7 @@ def numbered(chance, graph):
     return relabelled
 
 
-def drawn_job(chance, shape):
+def drawn_job(chance: typing.Any, shape: typing.Any) -> typing.Any:
     while True:
         graph = numbered(chance, SHAPES[shape](chance))
         districts = chance.randint(2, min(5, len(graph) // 2))
@@ -106,8 +126,11 @@ def drawn_job(chance, shape):
                 return job
 
 
-def main(program, graphs="50", seed="1", steps="2000"):
+def main(program: typing.Any, graphs: str = "50", seed: str = "1", steps: str = "2000") -> int:
     chance = random.Random(int(seed))
+    moves: typing.Any
+    same: typing.Any
+    tried: typing.Any
     same, tried, moves = collections.Counter(), collections.Counter(), collections.Counter()
     for number in range(int(graphs)):
         shape = list(SHAPES)[number % len(SHAPES)]
@@ -117,7 +140,9 @@ def main(program, graphs="50", seed="1", steps="2000"):
         answer = found(program, job, numbers, ASKS, chance.randint(1, 4))
         tried[shape] += 1
         same[shape] += answer == wanted
-        moves[shape] += int(next(line for line in wanted.splitlines() if line.startswith("walk ")).split()[3])
+        moves[shape] += int(
+            next(line for line in wanted.splitlines() if line.startswith("walk ")).split()[3]
+        )
         if answer != wanted:
             print(f"graph {number} of seed {seed}, {shape}: wanted\n{wanted}but found\n{answer}")
     for shape, count in tried.items():
@@ -128,7 +153,8 @@ def main(program, graphs="50", seed="1", steps="2000"):
 def arguments() -> argparse.Namespace:
     parser = argparse.ArgumentParser(
         prog="python3 -m tests.differential.compare_shapes", description=__doc__,
-        formatter_class=argparse.RawDescriptionHelpFormatter)
+        formatter_class=argparse.RawDescriptionHelpFormatter,
+    )
     parser.add_argument("program", help="the built auditor")
     parser.add_argument("graphs", nargs="?", type=int, default=50, help="how many graphs are drawn")
     parser.add_argument("seed", nargs="?", type=int, default=1, help="what they are drawn from")

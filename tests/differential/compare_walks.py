@@ -1,13 +1,16 @@
 """Compares the auditor's reports, byte for byte, with those of a plain program on drawn graphs.
 
 Usage: python3 -m tests.differential.compare_walks PROGRAM [GRAPHS [SEED]]
-PROGRAM is the built program. Each graph (20, if not said) is a drawn grid with diagonals and holes, with drawn districts, populations
-and votes, as networkx writes it; half of them have a drawn limit on cut edges, half drawn regions that may be split among few districts,
-of which half may be split few times in all and half of which few may be split, half a drawn group that is to keep a majority in some districts,
-half the serial test, half the tally of seats, half the origin, and a third parallel tests that stop early. The plain program here walks every end, and keeps
-nothing along a walk: for each proposal it builds the changed plan, asks networkx whether each of its districts is connected, adds up
-populations, counts the cut edges, the districts of each region and the majorities, and computes each score from all units and edges again.
-Ends with status 0 where all reports are the same, and prints how many were.
+PROGRAM is the built program. Each graph (20, if not said) is a drawn grid with diagonals and holes,
+with drawn districts, populations and votes, as networkx writes it; half of them have a drawn limit
+on cut edges, half drawn regions that may be split among few districts, of which half may be split
+few times in all and half of which few may be split, half a drawn group that is to keep a majority
+in some districts, half the serial test, half the tally of seats, half the origin, and a third
+parallel tests that stop early. The plain program here walks every end, and keeps nothing along a
+walk: for each proposal it builds the changed plan, asks networkx whether each of its districts is
+connected, adds up populations, counts the cut edges, the districts of each region and the
+majorities, and computes each score from all units and edges again. Ends with status 0 where all
+reports are the same, and prints how many were.
 """
 # RUN: {auditor} 5 2
 # NEEDS: networkx
@@ -20,10 +23,11 @@ import random
 import struct
 import subprocess
 import sys
+import typing
 
 import networkx
 
-BILLION = 10 ** 9
+BILLION = 10**9
 NO_LIMIT = 400_000
 MOST_SPLIT = 200
 MOST_SPLITS = 995_000
@@ -31,26 +35,28 @@ MOST_REGIONS = 5000
 NO_BINS = [0] * 9
 
 
-def quarter(x, a, b, c, d):
+def quarter(x: typing.Any, a: typing.Any, b: typing.Any, c: typing.Any, d: typing.Any) -> None:
     for p, q, r, turn in ((a, b, d, 16), (c, d, b, 12), (a, b, d, 8), (c, d, b, 7)):
         x[p] = (x[p] + x[q]) & 0xFFFFFFFF
         mixed = x[r] ^ x[p]
         x[r] = ((mixed << turn) | (mixed >> (32 - turn))) & 0xFFFFFFFF
 
 
-def block(key, stream, number):
+def block(key: typing.Any, stream: typing.Any, number: typing.Any) -> typing.List[typing.Any]:
     """Sixteen words of ChaCha20 with a 64-bit block counter and a 64-bit stream number."""
     start = list(struct.unpack("<4I", b"expand 32-byte k")) + list(struct.unpack("<8I", key))
     start += [number & 0xFFFFFFFF, number >> 32, stream & 0xFFFFFFFF, stream >> 32]
     x = start[:]
     for _ in range(10):
-        for a, b, c, d in ((0, 4, 8, 12), (1, 5, 9, 13), (2, 6, 10, 14), (3, 7, 11, 15),
-                           (0, 5, 10, 15), (1, 6, 11, 12), (2, 7, 8, 13), (3, 4, 9, 14)):
+        for a, b, c, d in (
+            (0, 4, 8, 12), (1, 5, 9, 13), (2, 6, 10, 14), (3, 7, 11, 15), (0, 5, 10, 15),
+            (1, 6, 11, 12), (2, 7, 8, 13), (3, 4, 9, 14),
+        ):
             quarter(x, a, b, c, d)
     return [(u + v) & 0xFFFFFFFF for u, v in zip(x, start)]
 
 
-def draws(key, stream):
+def draws(key: typing.Any, stream: typing.Any) -> typing.Iterator[typing.Any]:
     number = 0
     while True:
         words = block(key, stream, number)
@@ -60,50 +66,77 @@ def draws(key, stream):
 
 
 class Job:
-    def __init__(self, graph, plan, people, first, second, districts, slack, key, max_cut=NO_LIMIT):
-        self.graph, self.plan, self.people, self.first, self.second = graph, plan, people, first, second
+    def __init__(
+        self,
+        graph: typing.Any,
+        plan: typing.Any,
+        people: typing.Any,
+        first: typing.Any,
+        second: typing.Any,
+        districts: typing.Any,
+        slack: typing.Any,
+        key: typing.Any,
+        max_cut: typing.Any = NO_LIMIT,
+    ) -> None:
+        self.graph, self.plan, self.people, self.first, self.second = (
+            graph, plan, people, first, second,
+        )
         self.districts, self.slack, self.key = districts, slack, key
         self.units = len(plan)
         self.total = sum(people)
         self.max_cut = max_cut
-        self.regions, self.max_split, self.max_splits, self.max_split_regions = [], MOST_SPLIT, MOST_SPLITS, MOST_REGIONS
-        self.group, self.group_districts = (), 0
+        self.regions: typing.List[typing.Any]
+        self.regions, self.max_split, self.max_splits, self.max_split_regions = (
+            [], MOST_SPLIT, MOST_SPLITS, MOST_REGIONS,
+        )
+        self.group: typing.Tuple[typing.Any, ...] = ()
+        self.group_districts = 0
         self.shift = False
         self.serial = False
         self.stop = 0
-        self.origin = []
+        self.origin: typing.List[typing.Any] = []
 
-    def cut_edges(self, plan):
+    def cut_edges(self, plan: typing.Any) -> typing.Any:
         return sum(plan[u] != plan[v] for u, v in self.graph.edges)
 
-    def parts(self, plan):
+    def parts(self, plan: typing.Any) -> typing.List[typing.Any]:
         """For each region, among how many districts it is split."""
-        return [len({plan[u] for u in range(self.units) if self.regions[u] == region}) for region in set(self.regions)]
+        return [
+            len({plan[u] for u in range(self.units) if self.regions[u] == region})
+            for region in set(self.regions)
+        ]
 
-    def widest(self, plan):
+    def widest(self, plan: typing.Any) -> typing.Any:
         """The most districts among which a region is split."""
         return max(self.parts(plan), default=0)
 
-    def splits(self, plan):
-        """How many districts regions have beyond the first of each."""
+    def splits(self, plan: typing.Any) -> typing.Any:
+        """Returns the number of splits of regions."""
         return sum(self.parts(plan)) - len(set(self.regions))
 
-    def split_regions(self, plan):
-        """How many regions are not whole."""
+    def split_regions(self, plan: typing.Any) -> int:
+        """Returns the number of split regions."""
         return len([count for count in self.parts(plan) if count != 1])
 
-    def majorities(self, plan):
-        """In how many districts more than half of the whole are of the group: each unit adds twice its part less its whole."""
+    def majorities(self, plan: typing.Any) -> int:
+        """In how many districts more than half of the whole are of the group: each unit adds twice
+        its part less its whole.
+        """
         margins = [0] * self.districts
         for unit, (part, whole) in enumerate(zip(*self.group)):
             margins[plan[unit]] += 2 * part - whole
         return len([margin for margin in margins if margin > 0])
 
-    def obeys_rules(self, plan):
-        return (self.cut_edges(plan) <= self.max_cut and self.widest(plan) <= self.max_split and self.splits(plan) <= self.max_splits
-                and self.split_regions(plan) <= self.max_split_regions and self.majorities(plan) >= self.group_districts)
+    def obeys_rules(self, plan: typing.Any) -> bool:
+        return (
+            self.cut_edges(plan) <= self.max_cut
+            and self.widest(plan) <= self.max_split
+            and self.splits(plan) <= self.max_splits
+            and self.split_regions(plan) <= self.max_split_regions
+            and self.majorities(plan) >= self.group_districts
+        )
 
-    def is_legal(self, plan):
+    def is_legal(self, plan: typing.Any) -> typing.Any:
         for d in range(self.districts):
             members = [u for u in range(self.units) if plan[u] == d]
             if not members or not networkx.is_connected(self.graph.subgraph(members)):
@@ -113,15 +146,15 @@ class Job:
                 return False
         return self.obeys_rules(plan)
 
-    def after(self, plan, draw):
+    def after(self, plan: typing.Any, draw: typing.Any) -> typing.Any:
         pairs = self.units * self.districts
-        if draw >= 2 ** 64 // pairs * pairs:
+        if draw >= 2**64 // pairs * pairs:
             return plan
         unit, district = divmod(draw % pairs, self.districts)
         changed = plan[:unit] + [district] + plan[unit + 1:]
         return changed if self.is_legal(changed) else plan
 
-    def walk(self, plan, stream, steps):
+    def walk(self, plan: typing.Any, stream: typing.Any, steps: typing.Any) -> typing.Any:
         visited, moved = [plan], 0
         for _, draw in zip(range(steps), draws(self.key, stream)):
             following = self.after(plan, draw)
@@ -130,9 +163,14 @@ class Job:
             visited.append(plan)
         return visited, moved
 
-    def value(self, plan, score):
-        votes = [[sum(column[u] for u in range(self.units) if plan[u] == d) for d in range(self.districts)]
-                 for column in (self.first, self.second)]
+    def value(self, plan: typing.Any, score: typing.Any) -> typing.Any:
+        votes = [
+            [
+                sum(column[u] for u in range(self.units) if plan[u] == d)
+                for d in range(self.districts)
+            ]
+            for column in (self.first, self.second)
+        ]
         pairs = list(zip(*votes))
         if score == "seats":
             return sum(a > b for a, b in pairs)
@@ -144,35 +182,56 @@ class Job:
         count = self.districts
         return count * (shares[(count - 1) // 2] + shares[count // 2]) - 2 * sum(shares)
 
-    def denominator(self, score):
-        return {"seats": 1, "cut-edges": 1, "mean-median": 2 * self.districts * BILLION,
-                "gap": 2 * (sum(self.first) + sum(self.second))}[score]
+    def denominator(self, score: typing.Any) -> typing.Any:
+        return {
+            "seats": 1,
+            "cut-edges": 1,
+            "mean-median": 2 * self.districts * BILLION,
+            "gap": 2 * (sum(self.first) + sum(self.second)),
+        }[score]
 
 
-def billionths(n):
+def billionths(n: typing.Any) -> str:
     return f"{n // BILLION}.{n % BILLION:09d}"
 
 
-def bound(count, of):
+def bound(count: typing.Any, of: typing.Any) -> typing.Any:
     """The least r with r * r * of >= 2 * count * 10^18."""
     least = -(-2 * count * BILLION * BILLION // of)
     root = math.isqrt(least)
     return root if root * root >= least else root + 1
 
 
-def is_inside(value, start, tail):
-    return value <= start if tail == "low" else value >= start
+def is_inside(value: typing.Any, start: typing.Any, tail: typing.Any) -> bool:
+    return bool(value <= start if tail == "low" else value >= start)
 
 
-def outcomes(job, walks, steps, ends, hub_steps, asks):
-    """The moves of each trajectory by rising id, and a number for each ask: of a walk how many of the visited plans are in the
-    tail, of a trajectory from the hub its last plan's value. Of a walk whose job asks for them nine bins as well, else nine zeros."""
+def outcomes(
+    job: typing.Any,
+    walks: typing.Any,
+    steps: typing.Any,
+    ends: typing.Any,
+    hub_steps: typing.Any,
+    asks: typing.Any,
+) -> typing.Any:
+    """The moves of each trajectory by rising id, and a number for each ask: of a walk how many of
+    the visited plans are in the tail, of a trajectory from the hub its last plan's value. Of a walk
+    whose job asks for them nine bins as well, else nine zeros.
+    """
     start = [job.value(job.plan, score) for score, _ in asks]
     found = []
     for walk in range(walks):
         visited, moved = job.walk(job.plan, 2 * walk, steps)
-        found.append((moved, [sum(is_inside(job.value(plan, score), first, tail) for plan in visited)
-                              for first, (score, tail) in zip(start, asks)], bins(job, visited) if job.shift else NO_BINS))
+        found.append(
+            (
+                moved,
+                [
+                    sum(is_inside(job.value(plan, score), first, tail) for plan in visited)
+                    for first, (score, tail) in zip(start, asks)
+                ],
+                bins(job, visited) if job.shift else NO_BINS,
+            )
+        )
     hub = job.walk(job.plan, 1, hub_steps)[0][-1] if ends else None
     for end in range(ends):
         visited, moved = job.walk(hub, 2 * end + 3, hub_steps)
@@ -180,57 +239,114 @@ def outcomes(job, walks, steps, ends, hub_steps, asks):
     return found
 
 
-def bins(job, visited):
-    """How many of the visited plans have 4 seats fewer than the start or less, 3 fewer, and so on to 4 more or above."""
+def bins(job: typing.Any, visited: typing.Any) -> typing.List[typing.Any]:
+    """Returns the histogram of seats against the start's: 4 fewer or less, 3 fewer, up to 4 more or
+    above.
+    """
     differences = [job.value(plan, "seats") - job.value(job.plan, "seats") for plan in visited]
-    return [sum(max(-4, min(4, difference)) == wanted for difference in differences) for wanted in range(-4, 5)]
+    return [
+        sum(max(-4, min(4, difference)) == wanted for difference in differences)
+        for wanted in range(-4, 5)
+    ]
 
 
-def report_of(job, walks, steps, ends, hub_steps, asks, found):
+def report_of(
+    job: typing.Any,
+    walks: typing.Any,
+    steps: typing.Any,
+    ends: typing.Any,
+    hub_steps: typing.Any,
+    asks: typing.Any,
+    found: typing.Any,
+) -> str:
     """The report that these outcomes make."""
     low = -(-(10000 - job.slack) * job.total // (10000 * job.districts))
     high = (10000 + job.slack) * job.total // (10000 * job.districts)
-    lines = [f"district-audit {2 if job.shift else 1}", *job.origin, "key " + job.key.hex(),
-             f"units {job.units} edges {job.graph.number_of_edges()} districts {job.districts}",
-             f"population {job.total} slack {job.slack} low {low} high {high}",
-             *([f"max-cut {job.max_cut}"] if job.max_cut < NO_LIMIT else []),
-             *([f"max-split {job.max_split} regions {len(set(job.regions))}"] if job.regions else []),
-             *([f"max-splits {job.max_splits} max-split-regions {job.max_split_regions}"] if limits_splits(job) else []),
-             *([f"group-districts {job.group_districts} of {job.majorities(job.plan)}"] if job.group else []),
-             f"walks {walks} steps {steps} ends {ends} hub-steps {hub_steps}",
-             *([f"stop {job.stop}"] if job.stop else [])]
+    lines = [
+        f"district-audit {2 if job.shift else 1}",
+        *job.origin,
+        "key " + job.key.hex(),
+        f"units {job.units} edges {job.graph.number_of_edges()} districts {job.districts}",
+        f"population {job.total} slack {job.slack} low {low} high {high}",
+        *([f"max-cut {job.max_cut}"] if job.max_cut < NO_LIMIT else []),
+        *([f"max-split {job.max_split} regions {len(set(job.regions))}"] if job.regions else []),
+        *(
+            [f"max-splits {job.max_splits} max-split-regions {job.max_split_regions}"]
+            if limits_splits(job)
+            else []
+        ),
+        *(
+            [f"group-districts {job.group_districts} of {job.majorities(job.plan)}"]
+            if job.group
+            else []
+        ),
+        f"walks {walks} steps {steps} ends {ends} hub-steps {hub_steps}",
+        *([f"stop {job.stop}"] if job.stop else []),
+    ]
     start = [job.value(job.plan, score) for score, _ in asks]
-    words = [f"{score} {tail} start {first}/{job.denominator(score)}" for first, (score, tail) in zip(start, asks)]
+    words = [
+        f"{score} {tail} start {first}/{job.denominator(score)}"
+        for first, (score, tail) in zip(start, asks)
+    ]
     for walk, (moved, counts, _) in enumerate(found[:walks]):
         for ask, count in zip(words, counts):
-            lines.append(f"walk {walk} moved {moved} {ask} count {count} of {steps + 1}"
-                         f" bound {billionths(bound(count, steps + 1))}")
+            lines.append(
+                f"walk {walk} moved {moved} {ask} count {count} of {steps + 1}"
+                f" bound {billionths(bound(count, steps + 1))}"
+            )
     if job.shift:
-        lines.append(" ".join(["shift", *(str(sum(column)) for column in zip(*(one[2] for one in found)))]))
+        lines.append(
+            " ".join(["shift", *(str(sum(column)) for column in zip(*(one[2] for one in found)))])
+        )
     for place, (_, tail) in enumerate(asks if job.stop else []):
         inside = [is_inside(values[place], start[place], tail) for _, values, _ in found[walks:]]
         lines.append(f"stop {words[place]} {stopped(inside, job.stop)}")
     for place, (_, tail) in enumerate(asks if ends and not job.stop else []):
-        rank = 1 + sum(is_inside(values[place], start[place], tail) for _, values, _ in found[walks:])
-        lines.append(f"ends {words[place]} rank {rank} of {ends + 1} p {billionths(-(-rank * BILLION // (ends + 1)))}")
+        rank = 1 + sum(
+            is_inside(values[place], start[place], tail) for _, values, _ in found[walks:]
+        )
+        lines.append(
+            f"ends {words[place]} rank {rank} of {ends + 1} p"
+            f" {billionths(-(-rank * BILLION // (ends + 1)))}"
+        )
     lines += serial_lines(job, steps, asks, words) if job.serial else []
     return "\n".join(lines + ["end", ""])
 
 
-def origin_of(text, columns, region=None, group=None, whole=None):
+def origin_of(
+    text: typing.Any,
+    columns: typing.Any,
+    region: typing.Any = None,
+    group: typing.Any = None,
+    whole: typing.Any = None,
+) -> typing.List[typing.Any]:
     """The two lines that tell from what a report comes."""
     data = text.encode()
-    names = [*columns, *(["region", region] if region else []), *(["group", group, "of", whole] if group else [])]
-    said = [name if at in range(4, len(names), 2) else json.dumps(name, ensure_ascii=False) for at, name in enumerate(names)]
-    return [f"source sha256 {hashlib.sha256(data).hexdigest()} bytes {len(data)}", " ".join(["columns", *said])]
+    names = [
+        *columns, *(["region", region] if region else []),
+        *(["group", group, "of", whole] if group else []),
+    ]
+    said = [
+        name if at in range(4, len(names), 2) else json.dumps(name, ensure_ascii=False)
+        for at, name in enumerate(names)
+    ]
+    return [
+        f"source sha256 {hashlib.sha256(data).hexdigest()} bytes {len(data)}",
+        " ".join(["columns", *said]),
+    ]
 
 
-def limits_splits(job):
-    return bool(job.regions) and (job.max_splits, job.max_split_regions) != (MOST_SPLITS, MOST_REGIONS)
+def limits_splits(job: typing.Any) -> typing.Any:
+    return bool(job.regions) and (job.max_splits, job.max_split_regions) != (
+        MOST_SPLITS,
+        MOST_REGIONS,
+    )
 
 
-def stopped(inside, enough):
-    """Where a test stops that needs so many ends in the tail: at the last of these, or after all ends."""
+def stopped(inside: typing.Any, enough: typing.Any) -> str:
+    """Returns the place at which a test stops: the last end in the tail that it needs, or the last
+    end.
+    """
     places = [place for place, is_in in enumerate(inside, 1) if is_in]
     if len(places) >= enough:
         place, top, of = places[enough - 1], enough, places[enough - 1]
@@ -239,30 +355,40 @@ def stopped(inside, enough):
     return f"place {place} value {top}/{of} p {billionths(-(-top * BILLION // of))}"
 
 
-def serial_plans(job, steps):
-    """The place of the start plan, and the plans of one run through it: backward from the start, and forward from it."""
-    place = next(draws(job.key, 2 ** 33)) % (steps + 1)
-    forward = job.walk(job.plan, 2 ** 33 + 1, place)[0]
-    backward = job.walk(job.plan, 2 ** 33 + 2, steps - place)[0]
+def serial_plans(job: typing.Any, steps: typing.Any) -> typing.Any:
+    """The place of the start plan, and the plans of one run through it: backward from the start,
+    and forward from it.
+    """
+    place = next(draws(job.key, 2**33)) % (steps + 1)
+    forward = job.walk(job.plan, 2**33 + 1, place)[0]
+    backward = job.walk(job.plan, 2**33 + 2, steps - place)[0]
     return place, backward[:0:-1] + forward
 
 
-def serial_lines(job, steps, asks, words):
+def serial_lines(
+    job: typing.Any, steps: typing.Any, asks: typing.Any, words: typing.Any
+) -> typing.Any:
     place, plans = serial_plans(job, steps)
     assert len(plans) == steps + 1
     lines = []
     for (score, tail), ask in zip(asks, words):
         start = job.value(job.plan, score)
         rank = sum(is_inside(job.value(plan, score), start, tail) for plan in plans)
-        lines.append(f"serial {ask} place {place} rank {rank} of {steps + 1} p {billionths(-(-rank * BILLION // (steps + 1)))}")
+        lines.append(
+            f"serial {ask} place {place} rank {rank} of {steps + 1} p"
+            f" {billionths(-(-rank * BILLION // (steps + 1)))}"
+        )
     return lines
 
 
-def report(job, *numbers_and_asks):
-    return report_of(job, *numbers_and_asks, outcomes(job, *numbers_and_asks))
+def report(
+    job: typing.Any, walks: int, steps: int, ends: int, hub_steps: int, asks: typing.Any
+) -> str:
+    found = outcomes(job, walks, steps, ends, hub_steps, asks)
+    return report_of(job, walks, steps, ends, hub_steps, asks, found)
 
 
-def drawn_graph(chance):
+def drawn_graph(chance: typing.Any) -> typing.Any:
     wide, high = chance.randint(3, 7), chance.randint(3, 7)
     graph = networkx.grid_2d_graph(wide, high)
     for x in range(wide - 1):
@@ -272,12 +398,16 @@ def drawn_graph(chance):
             elif chance.random() < 0.3:
                 graph.add_edge((x + 1, y), (x, y + 1))
     for unit in list(graph.nodes):
-        if chance.random() < 0.1 and networkx.is_connected(graph.subgraph(set(graph.nodes) - {unit})):
+        if chance.random() < 0.1 and networkx.is_connected(
+            graph.subgraph(set(graph.nodes) - {unit})
+        ):
             graph.remove_node(unit)
     return networkx.convert_node_labels_to_integers(graph)
 
 
-def drawn_plan(chance, graph, districts):
+def drawn_plan(
+    chance: typing.Any, graph: typing.Any, districts: typing.Any
+) -> typing.List[typing.Any]:
     """Districts that grow from drawn units, one neighbour at a time."""
     seeds = chance.sample(sorted(graph.nodes), districts)
     plan = {unit: d for d, unit in enumerate(seeds)}
@@ -289,34 +419,45 @@ def drawn_plan(chance, graph, districts):
     return [plan[unit] for unit in range(len(graph))]
 
 
-def drawn_regions(chance, graph, plan):
-    """Regions with drawn names that grow as districts do, a few units of which lie elsewhere; half of them are within a district each."""
+def drawn_regions(
+    chance: typing.Any, graph: typing.Any, plan: typing.Any
+) -> typing.List[typing.Any]:
+    """Regions with drawn names that grow as districts do, a few units of which lie elsewhere; half
+    of them are within a district each.
+    """
     count = chance.randint(1, len(graph))
     regions = drawn_plan(chance, graph, count)
     if chance.random() < 0.5:
         return [f"{region} of {district}" for region, district in zip(regions, plan)]
     names = chance.sample(range(10 * count), count)
-    return [names[chance.choice(regions) if chance.random() < 0.1 else region] for region in regions]
+    return [
+        names[chance.choice(regions) if chance.random() < 0.1 else region] for region in regions
+    ]
 
 
-def draw_rules(chance, job):
+def draw_rules(chance: typing.Any, job: typing.Any) -> None:
     """Gives a job drawn rules that its start plan obeys, most of them closely."""
     if chance.random() < 0.5:
         job.max_cut = job.cut_edges(job.plan) + chance.randint(0, 3)
     if chance.random() < 0.5:
         job.regions = drawn_regions(chance, job.graph, job.plan)
-        job.max_split = min(MOST_SPLIT, job.widest(job.plan) + chance.choice((0, 0, 0, 1, MOST_SPLIT)))
+        job.max_split = min(
+            MOST_SPLIT, job.widest(job.plan) + chance.choice((0, 0, 0, 1, MOST_SPLIT))
+        )
         if chance.random() < 0.5:
             job.max_splits = job.splits(job.plan) + chance.choice((0, 0, 1, 2))
         if chance.random() < 0.5:
             job.max_split_regions = job.split_regions(job.plan) + chance.choice((0, 0, 1, 2))
     if chance.random() < 0.5:
         whole = [chance.randint(0, 9) for _ in job.plan] if chance.random() < 0.5 else job.people
-        job.group = ([chance.randint(0, 9) // 2 + 4 * (district % 2) for district in job.plan], whole)
+        job.group = (
+            [chance.randint(0, 9) // 2 + 4 * (district % 2) for district in job.plan],
+            whole,
+        )
         job.group_districts = max(0, job.majorities(job.plan) - chance.choice((0, 0, 0, 1)))
 
 
-def drawn_job(chance):
+def drawn_job(chance: typing.Any) -> typing.Any:
     graph = drawn_graph(chance)
     districts = chance.randint(2, 4)
     people, first, second = ([chance.randint(low, 9) for _ in graph.nodes] for low in (1, 0, 0))
@@ -331,10 +472,12 @@ def drawn_job(chance):
     return drawn_job(chance)
 
 
-def document(job):
+def document(job: typing.Any) -> typing.Any:
     graph = job.graph.copy()
     for unit in graph.nodes:
-        graph.nodes[unit].update(POP=job.people[unit], A=job.first[unit], B=job.second[unit], CD=job.plan[unit])
+        graph.nodes[unit].update(
+            POP=job.people[unit], A=job.first[unit], B=job.second[unit], CD=job.plan[unit]
+        )
         if job.regions:
             graph.nodes[unit].update(COUNTY=job.regions[unit])
         if job.group:
@@ -342,19 +485,30 @@ def document(job):
     return json.dumps(networkx.adjacency_data(graph))
 
 
-def rule_words(job):
+def rule_words(job: typing.Any) -> typing.Any:
     """The words that ask for the job's limits."""
     words = ["--max-cut", str(job.max_cut)] if job.max_cut < NO_LIMIT else []
     words += ["--region", "COUNTY", "--max-split", str(job.max_split)] if job.regions else []
     words += ["--max-splits", str(job.max_splits)] if job.max_splits < MOST_SPLITS else []
-    words += ["--max-split-regions", str(job.max_split_regions)] if job.max_split_regions < MOST_REGIONS else []
-    words += ["--group", "GROUP", "--group-districts", str(job.group_districts)] if job.group else []
+    words += (
+        ["--max-split-regions", str(job.max_split_regions)]
+        if job.max_split_regions < MOST_REGIONS
+        else []
+    )
+    words += (
+        ["--group", "GROUP", "--group-districts", str(job.group_districts)] if job.group else []
+    )
     return words + (["--group-of", "WHOLE"] if job.group and job.group[1] is not job.people else [])
 
 
-def found(program, job, numbers, asks, workers):
-    words = ["run", "--pop", "POP", "--first", "A", "--second", "B", "--district", "CD", "--slack", str(job.slack),
-             "--key", job.key.hex(), "--workers", str(workers), "--ask", ",".join(":".join(ask) for ask in asks)]
+def found(
+    program: typing.Any, job: typing.Any, numbers: typing.Any, asks: typing.Any, workers: typing.Any
+) -> typing.Any:
+    words = [
+        "run", "--pop", "POP", "--first", "A", "--second", "B", "--district", "CD", "--slack",
+        str(job.slack), "--key", job.key.hex(), "--workers", str(workers), "--ask",
+        ",".join(":".join(ask) for ask in asks),
+    ]
     for name, number in zip(("--walks", "--steps", "--ends", "--hub-steps"), numbers):
         words += [name, str(number)]
     words += rule_words(job)
@@ -370,25 +524,34 @@ def found(program, job, numbers, asks, workers):
     return run.stdout + run.stderr
 
 
-def main(program, graphs="20", seed="1"):
+def main(program: typing.Any, graphs: str = "20", seed: str = "1") -> int:
     chance = random.Random(int(seed))
     same = moved = 0
     for number in range(int(graphs)):
         job = drawn_job(chance)
         job.shift, job.serial = chance.random() < 0.5, chance.random() < 0.5
         if chance.random() < 0.5:
-            named = ("COUNTY" if job.regions else None, "GROUP" if job.group else None, "POP" if job.group and job.group[1] is job.people else "WHOLE")
+            named = (
+                "COUNTY" if job.regions else None,
+                "GROUP" if job.group else None,
+                "POP" if job.group and job.group[1] is job.people else "WHOLE",
+            )
             job.origin = origin_of(document(job), ("POP", "A", "B", "CD"), *named)
         steps = 2 ** chance.randint(1, 7) - 1 if job.serial else chance.randint(20, 120)
         numbers = (chance.randint(1, 3), steps, chance.randint(0, 3), chance.randint(10, 60))
         if chance.random() < 1 / 3:
             numbers = (*numbers[:2], chance.choice((1, 3, 20, 70)), 10)
             job.stop = chance.randint(1, numbers[2])
-        asks = [(score, chance.choice(("low", "high"))) for score in ("seats", "mean-median", "gap", "cut-edges")]
+        asks = [
+            (score, chance.choice(("low", "high")))
+            for score in ("seats", "mean-median", "gap", "cut-edges")
+        ]
         chance.shuffle(asks)
         wanted = report(job, *numbers, asks)
         answer = found(program, job, numbers, asks, chance.randint(1, 4))
-        moved += sum(int(line.split()[3]) for line in wanted.splitlines() if line.startswith("walk "))
+        moved += sum(
+            int(line.split()[3]) for line in wanted.splitlines() if line.startswith("walk ")
+        )
         if answer == wanted:
             same += 1
         else:
@@ -400,7 +563,8 @@ def main(program, graphs="20", seed="1"):
 def arguments() -> argparse.Namespace:
     parser = argparse.ArgumentParser(
         prog="python3 -m tests.differential.compare_walks", description=__doc__,
-        formatter_class=argparse.RawDescriptionHelpFormatter)
+        formatter_class=argparse.RawDescriptionHelpFormatter,
+    )
     parser.add_argument("program", help="the built auditor")
     parser.add_argument("graphs", nargs="?", type=int, default=20, help="how many graphs are drawn")
     parser.add_argument("seed", nargs="?", type=int, default=1, help="what they are drawn from")

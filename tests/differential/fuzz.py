@@ -1,11 +1,13 @@
-"""Broken files, checkpoints and words, drawn at random: the program must answer each as the plain model in model.py does.
+"""Broken files, checkpoints and words, drawn at random: the program must answer each as the plain
+model in model.py does.
 
 Usage: python3 -m tests.differential.fuzz PROGRAM [RUNS [SEED [PROCESSES]]]
-Each run takes good words, a good graph and good slots of either version of the format, with bins and without, breaks some of them (bits,
-bytes, slices, doubled keys, bins, numbers at the ends of their ranges, names and values of words), and runs the program in a folder of its
-own with at most 20 seconds and 2 GB. The status, both texts and both files must be exactly the model's. Prints each run that differs, with
-what is needed to make it again, and at the end how many runs ended with which status, and how many different notes there were. Ends with 1
-where a run differed.
+Each run takes good words, a good graph and good slots of either version of the format, with bins
+and without, breaks some of them (bits, bytes, slices, doubled keys, bins, numbers at the ends of
+their ranges, names and values of words), and runs the program in a folder of its own with at most
+20 seconds and 2 GB. The status, both texts and both files must be exactly the model's. Prints each
+run that differs, with what is needed to make it again, and at the end how many runs ended with
+which status, and how many different notes there were. Ends with 1 where a run differed.
 """
 # RUN: {auditor} 300 1
 import argparse
@@ -14,66 +16,123 @@ import json
 import multiprocessing
 import os
 import random
+import re
 import resource
 import shutil
+import struct
 import subprocess
 import sys
 import tempfile
+import typing
 
 from tests.oracle import model
 
 BASE = "--pop pop --first a --second b --district d".split()
 KEYS = ("0" * 64, "1" * 64, "2b7e151628aed2a6abf7158809cf4f3c762e7160f38b4da56a784d9045190cfe")
-LIMITS = ("0", "1", "2", "30", "31", "32", "33", "199", "200", "201", "9999", "10000", "10001", "99999", "100000", "100001", "399999", "400000",
-          "400001", "999999999", "1000000000", "1000000001", "4294967295", "4294967296", "9223372036854775807", "9223372036854775808",
-          "18446744073709551615", "18446744073709551616", "-1", "-0", "01", "+1", "1.0", "1e3", "1E400", "", " 1", "1 ", "0x1", "\u0661")
-TOKENS = [*LIMITS[:-5], "-9223372036854775808", "-9223372036854775809", "1e400", "1e-400", "0e999", "NaN", "Infinity", "-Infinity", "true", "false",
-          "null", '""', '"1"', '"\\u0031"', '"\\ud800"', '"\\udc00"', '"\\ud83d\\ude00"', '"\\x"', "[]", "{}", "[1]", '{"id":0}', "[" * 126 + "]" * 126,
-          "[" * 130 + "]" * 130, '{"a":' * 40 + "1" + "}" * 40, "9" * 400, "0.1", ".1", "1.", "\ufeff", "\u00e9"]
-NAMES = ("pop", "a", "b", "d", "r", "s", "g", "w", "id", "nodes", "adjacency", "directed", "multigraph", "graph")
+LIMITS = (
+    "0", "1", "2", "30", "31", "32", "33", "199", "200", "201", "9999", "10000", "10001", "99999",
+    "100000", "100001", "399999", "400000", "400001", "999999999", "1000000000", "1000000001",
+    "4294967295", "4294967296", "9223372036854775807", "9223372036854775808",
+    "18446744073709551615", "18446744073709551616", "-1", "-0", "01", "+1", "1.0", "1e3", "1E400",
+    "", " 1", "1 ", "0x1", "\u0661",
+)
+TOKENS = [
+    *LIMITS[:-5], "-9223372036854775808", "-9223372036854775809", "1e400", "1e-400", "0e999", "NaN",
+    "Infinity", "-Infinity", "true", "false", "null", '""', '"1"', '"\\u0031"', '"\\ud800"',
+    '"\\udc00"', '"\\ud83d\\ude00"', '"\\x"', "[]", "{}", "[1]", '{"id":0}', "[" * 126 + "]" * 126,
+    "[" * 130 + "]" * 130, '{"a":' * 40 + "1" + "}" * 40, "9" * 400, "0.1", ".1", "1.", "\ufeff",
+    "\u00e9",
+]
+NAMES = (
+    "pop", "a", "b", "d", "r", "s", "g", "w", "id", "nodes", "adjacency", "directed", "multigraph",
+    "graph",
+)
 MOST_WORK = 3000
 
 
-def node(at, pop, a, b, d, name=None):
-    return {"pop": pop, "a": a, "b": b, "d": d, "r": f"{d}{at // 2 % 2}", "s": at % 3, "g": (3 * at + a) % 4, "w": (at + b) % 6,
-            "id": at if name is None else name}
+def node(
+    at: typing.Any,
+    pop: typing.Any,
+    a: typing.Any,
+    b: typing.Any,
+    d: typing.Any,
+    name: typing.Any = None,
+) -> typing.Dict[typing.Any, typing.Any]:
+    return {
+        "pop": pop,
+        "a": a,
+        "b": b,
+        "d": d,
+        "r": f"{d}{at // 2 % 2}",
+        "s": at % 3,
+        "g": (3 * at + a) % 4,
+        "w": (at + b) % 6,
+        "id": at if name is None else name,
+    }
 
 
-def graph(nodes, edges, spaced):
-    places = {one["id"]: [] for one in nodes}
+def graph(nodes: typing.Any, edges: typing.Any, spaced: typing.Any) -> bytes:
+    places: typing.Any = {one["id"]: [] for one in nodes}
     for u, v in edges:
         places[nodes[u]["id"]].append({"id": nodes[v]["id"]})
         places[nodes[v]["id"]].append({"id": nodes[u]["id"]})
-    whole = {"directed": False, "multigraph": False, "graph": [], "nodes": nodes, "adjacency": list(places.values())}
+    whole = {
+        "directed": False,
+        "multigraph": False,
+        "graph": [],
+        "nodes": nodes,
+        "adjacency": list(places.values()),
+    }
     return json.dumps(whole, separators=(", ", ": ") if spaced else (",", ":")).encode()
 
 
-def grid(wide, high, chance):
+def grid(wide: typing.Any, high: typing.Any, chance: typing.Any) -> typing.Any:
     units = [(row, column) for row in range(high) for column in range(wide)]
-    nodes = [node(at, chance.randint(1, 3), chance.randint(0, 9), chance.randint(0, 9), row * 2 // high, f"{row}-{column}")
-             for at, (row, column) in enumerate(units)]
-    edges = [(at, at + step) for at, (row, column) in enumerate(units) for step, fits in ((1, column + 1 < wide), (wide, row + 1 < high)) if fits]
+    nodes = [
+        node(
+            at, chance.randint(1, 3), chance.randint(0, 9), chance.randint(0, 9), row * 2 // high,
+            f"{row}-{column}",
+        )
+        for at, (row, column) in enumerate(units)
+    ]
+    edges = [
+        (at, at + step)
+        for at, (row, column) in enumerate(units)
+        for step, fits in ((1, column + 1 < wide), (wide, row + 1 < high))
+        if fits
+    ]
     return graph(nodes, edges, True)
 
 
-def good_graphs():
+def good_graphs() -> typing.List[typing.Any]:
     chance = random.Random(7)
     path = [node(0, 1, 3, 1, 1), node(1, 1, 1, 2, 1), node(2, 1, 1, 2, 2), node(3, 1, 2, 1, 2)]
-    cycle = [node(0, 1, 3, 1, "01", "w"), node(1, 1, 1, 2, "01", "x"), node(2, 1, 1, 2, "02", "y"), node(3, 1, 2, 1, "02", "z")]
+    cycle = [
+        node(0, 1, 3, 1, "01", "w"), node(1, 1, 1, 2, "01", "x"), node(2, 1, 1, 2, "02", "y"),
+        node(3, 1, 2, 1, "02", "z"),
+    ]
     three = [node(0, 1, 6, 4, 1), node(1, 1, 1, 3, 1), node(2, 1, 5, 5, 2), node(3, 1, 1, 3, 3)]
     two = [node(0, 1, 1, 0, 1), node(1, 1, 0, 1, 2)]
     line = [(0, 1), (1, 2), (2, 3)]
-    return [graph(path, line, False), graph(cycle, [*line, (3, 0)], True), graph(three, line, False), graph(two, [(0, 1)], False),
-            grid(3, 4, chance), grid(4, 4, chance)]
+    return [
+        graph(path, line, False), graph(cycle, [*line, (3, 0)], True), graph(three, line, False),
+        graph(two, [(0, 1)], False), grid(3, 4, chance), grid(4, 4, chance),
+    ]
 
 
-def good_words(chance):
+def good_words(chance: typing.Any) -> typing.Any:
     if chance.random() < 0.25:
-        return ["check", *BASE, "--slack", chance.choice(["5000", "1000", "10000", "0"]), *chance.choice([[], ["--max-cut", "2"]]), *regions(chance),
-                *group(chance), *source(chance)]
+        return [
+            "check", *BASE, "--slack", chance.choice(["5000", "1000", "10000", "0"]),
+            *chance.choice([[], ["--max-cut", "2"]]), *regions(chance), *group(chance),
+            *source(chance),
+        ]
     asks = chance.sample(sorted(model.ALL_ASKS), chance.randint(1, 4))
-    words = ["run", *BASE, "--slack", chance.choice(["5000", "5000", "10000"]), "--key", chance.choice(KEYS), "--ask", ",".join(asks),
-             "--walks", str(chance.randint(1, 6)), "--steps", chance.choice(["8", "1", "20", "7", "15", "31", "11"])]
+    words = [
+        "run", *BASE, "--slack", chance.choice(["5000", "5000", "10000"]), "--key",
+        chance.choice(KEYS), "--ask", ",".join(asks), "--walks", str(chance.randint(1, 6)),
+        "--steps", chance.choice(["8", "1", "20", "7", "15", "31", "11"]),
+    ]
     if chance.random() < 0.4:
         words += ["--ends", str(chance.randint(1, 4)), "--hub-steps", chance.choice(["8", "20"])]
         if chance.random() < 0.3:
@@ -88,30 +147,48 @@ def good_words(chance):
     return words
 
 
-def regions(chance):
+def regions(chance: typing.Any) -> typing.List[typing.Any]:
     if chance.random() < 0.7:
         return []
     column = chance.choice(("r", "r", "s", "s", "d", ""))
-    limits = (("--max-split", ("1", "1", "2", "200")), ("--max-splits", ("0", "1", "2", "3", "995000")), ("--max-split-regions", ("0", "1", "2", "5000")))
-    return ["--region", column, *(word for name, numbers in limits if chance.random() < 0.5 for word in (name, chance.choice(numbers)))]
+    limits = (
+        ("--max-split", ("1", "1", "2", "200")), ("--max-splits", ("0", "1", "2", "3", "995000")),
+        ("--max-split-regions", ("0", "1", "2", "5000")),
+    )
+    return [
+        "--region",
+        column,
+        *(
+            word
+            for name, numbers in limits
+            if chance.random() < 0.5
+            for word in (name, chance.choice(numbers))
+        ),
+    ]
 
 
-def group(chance):
+def group(chance: typing.Any) -> typing.Any:
     if chance.random() < 0.7:
         return []
-    words = ["--group", chance.choice(("g", "g", "g", "a", "pop", ""))] + (["--group-of", chance.choice(("w", "w", "b", ""))] if chance.random() < 0.6 else [])
-    return words + (["--group-districts", chance.choice(("0", "1", "1", "2", "200"))] if chance.random() < 0.8 else [])
+    words = ["--group", chance.choice(("g", "g", "g", "a", "pop", ""))] + (
+        ["--group-of", chance.choice(("w", "w", "b", ""))] if chance.random() < 0.6 else []
+    )
+    return words + (
+        ["--group-districts", chance.choice(("0", "1", "1", "2", "200"))]
+        if chance.random() < 0.8
+        else []
+    )
 
 
-def source(chance):
+def source(chance: typing.Any) -> typing.List[typing.Any]:
     return ["--source", chance.choice(("yes", "yes", "no"))] if chance.random() < 0.3 else []
 
 
-def tally(chance):
+def tally(chance: typing.Any) -> typing.List[typing.Any]:
     return ["--shift", chance.choice(["yes", "yes", "yes", "no"])] if chance.random() < 0.5 else []
 
 
-def saving(chance):
+def saving(chance: typing.Any) -> typing.Any:
     words = tally(chance)
     if chance.random() < 0.9:
         words += ["--save", chance.choice(["1", "2", "3", "100"])]
@@ -127,7 +204,8 @@ def saving(chance):
 
 # ---- what is broken
 
-def broken_bytes(data, chance, tokens):
+
+def broken_bytes(data: typing.Any, chance: typing.Any, tokens: typing.Any) -> bytes:
     """The bytes with a few changes."""
     data = bytearray(data)
     for _ in range(chance.choice((1, 1, 1, 2, 3, 8))):
@@ -154,12 +232,12 @@ def broken_bytes(data, chance, tokens):
     return bytes(data)
 
 
-def tokens_of(text):
+def tokens_of(text: typing.Any) -> typing.List[typing.Any]:
     """The places of the numbers, texts and words of a JSON text."""
-    return [match.span() for match in model.re.finditer(r'"[^"]*"|-?[0-9.eE+]+|true|false|null', text)]
+    return [match.span() for match in re.finditer(r'"[^"]*"|-?[0-9.eE+]+|true|false|null', text)]
 
 
-def broken_json(data, chance):
+def broken_json(data: typing.Any, chance: typing.Any) -> typing.Any:
     """A graph with some values, keys or entries changed, which mostly is JSON still."""
     if chance.random() < 0.35:
         return broken_bytes(data, chance, TOKENS)
@@ -175,34 +253,54 @@ def broken_json(data, chance):
         elif kind == 2:
             brace = text.find("{", chance.randrange(len(text)))
             name = chance.choice(NAMES)
-            text = text[:brace + 1] + json.dumps(name) + ":" + chance.choice(TOKENS) + "," + text[brace + 1:] if brace >= 0 else text
+            text = (
+                text[: brace + 1]
+                + json.dumps(name)
+                + ":"
+                + chance.choice(TOKENS)
+                + ","
+                + text[brace + 1:]
+                if brace >= 0
+                else text
+            )
         else:
             close = text.find("}", start)
             name = chance.choice(NAMES)
-            text = text[:close] + "," + json.dumps(name) + ":" + chance.choice(TOKENS) + text[close:] if close >= 0 else text
+            text = (
+                text[:close] + "," + json.dumps(name) + ":" + chance.choice(TOKENS) + text[close:]
+                if close >= 0
+                else text
+            )
     return text.encode()
 
 
-def sealed_anew(data, chance):
+def sealed_anew(data: typing.Any, chance: typing.Any) -> typing.Any:
     """A checkpoint of which numbers are changed, and the digest at its end is right."""
     front = bytearray(data[:-32])
     for _ in range(chance.choice((1, 1, 2))):
         at = chance.choice((8, 44, 48, *range(52, max(53, len(front) - 4), 4)))
-        front[at:at + 4] = model.struct.pack(">I", chance.choice((0, 1, 2, 3, 4, 8, 9, 10, 16, 20, 21, 32, 100000, 100001, 2 ** 31, 2 ** 32 - 1)))
+        front[at:at + 4] = struct.pack(
+            ">I",
+            chance.choice(
+                (0, 1, 2, 3, 4, 8, 9, 10, 16, 20, 21, 32, 100000, 100001, 2**31, 2**32 - 1)
+            ),
+        )
     return model.sealed(bytes(front))
 
 
-def outcomes_in(data):
+def outcomes_in(data: typing.Any) -> typing.Dict[typing.Any, typing.Any]:
     return {one[0]: (one[1], one[2:6], one[6:]) for one in model.decoded(data).records}
 
 
-def aged(data):
+def aged(data: typing.Any) -> typing.Any:
     """A good checkpoint in the first version of the format."""
     return model.checkpoint(data[12:44], data[47], outcomes_in(data), 1)
 
 
-def with_bins(data, chance):
-    """A good checkpoint of which one outcome has other bins: none, some that add up as they have to, or that do so but for a multiple of 2^32."""
+def with_bins(data: typing.Any, chance: typing.Any) -> typing.Any:
+    """A good checkpoint of which one outcome has other bins: none, some that add up as they have
+    to, or that do so but for a multiple of 2^32.
+    """
     found = outcomes_in(data)
     if not found:
         return data
@@ -212,14 +310,27 @@ def with_bins(data, chance):
     for _ in range(visits):
         bins[chance.randrange(9)] += 1
     if chance.random() < 0.3:
-        bins = chance.choice(([0] * 9, [visits, *[2 ** 31] * 2, *[0] * 6], [2 ** 32 - 1, visits + 1, *[0] * 7], [2 ** 32 - 1] * 9, [0] * 8 + [visits]))
+        bins = chance.choice(
+            (
+                [0] * 9, [visits, *[2**31] * 2, *[0] * 6], [2**32 - 1, visits + 1, *[0] * 7],
+                [2**32 - 1] * 9, [0] * 8 + [visits],
+            )
+        )
     found[one] = (*found[one][:2], bins)
     return model.checkpoint(data[12:44], data[47], found)
 
 
-def broken_slot(data, chance):
+def broken_slot(data: typing.Any, chance: typing.Any) -> typing.Any:
     if data is None or chance.random() < 0.05:
-        return chance.choice((None, b"", bytes(83), bytes(84), bytes(model.MOST_SLOT + 1) if chance.random() < 0.02 else bytes(200)))
+        return chance.choice(
+            (
+                None,
+                b"",
+                bytes(83),
+                bytes(84),
+                bytes(model.MOST_SLOT + 1) if chance.random() < 0.02 else bytes(200),
+            )
+        )
     kind = chance.random()
     if kind < 0.2:
         return with_bins(data, chance)
@@ -228,7 +339,7 @@ def broken_slot(data, chance):
     return sealed_anew(data, chance) if chance.random() < 0.5 else broken_bytes(data, chance, None)
 
 
-def broken_words(words, chance):
+def broken_words(words: typing.Any, chance: typing.Any) -> typing.List[typing.Any]:
     words = words[:]
     for _ in range(chance.choice((1, 1, 2))):
         at = chance.randrange(len(words) + 1)
@@ -236,14 +347,34 @@ def broken_words(words, chance):
         if kind == 0 and at < len(words):
             del words[at]
         elif kind == 1:
-            words.insert(at, chance.choice((*model.TABLE, *LIMITS, "run", "check", "make", "audit", "--", "--Pop", "-pop", "\u00e9", "a b", "a\nb")))
+            words.insert(
+                at,
+                chance.choice(
+                    (
+                        *model.TABLE, *LIMITS, "run", "check", "make", "audit", "--", "--Pop",
+                        "-pop", "\u00e9", "a b", "a\nb",
+                    )
+                ),
+            )
         elif kind in (2, 3) and len(words) > 2:
             place = chance.randrange(2, len(words), 2)
             words[place] = chance.choice(LIMITS)
         elif kind == 4:
-            words += [chance.choice(model.TABLE), chance.choice((*LIMITS, "yes", "no", "Yes", "seats:low", "gap:low,gap:low", "seats:low,", "seats", "maybe"))]
+            words += [
+                chance.choice(model.TABLE),
+                chance.choice(
+                    (
+                        *LIMITS, "yes", "no", "Yes", "seats:low", "gap:low,gap:low", "seats:low,",
+                        "seats", "maybe",
+                    )
+                ),
+            ]
         elif kind == 5 and at < len(words):
-            words[at] = words[at][:-1] if chance.random() < 0.5 else words[at] + chance.choice(("0", "x", ",", ":low"))
+            words[at] = (
+                words[at][:-1]
+                if chance.random() < 0.5
+                else words[at] + chance.choice(("0", "x", ",", ":low"))
+            )
         elif len(words) > 4:
             words[1:3], words[3:5] = words[3:5], words[1:3]
     return [word.replace("\0", "") for word in words]
@@ -251,7 +382,8 @@ def broken_words(words, chance):
 
 # ---- one run
 
-def drawn(chance, graphs):
+
+def drawn(chance: typing.Any, graphs: typing.Any) -> typing.Any:
     """Words, a graph and slots, some of them broken."""
     data, words, slots = chance.choice(graphs), good_words(chance), [None, None]
     kind = chance.choice(("graph", "graph", "slots", "slots", "words", "chain", "all"))
@@ -259,7 +391,11 @@ def drawn(chance, graphs):
         if kind in ("slots", "chain", "all") or chance.random() < 0.3:
             start = ["--save", chance.choice(("1", "2")), "--budget", str(chance.randint(0, 6))]
             for _ in range(chance.randint(1, 2)):
-                slots = model.audit([*words, *start, *tally(chance)], data, slots).slots if is_small(words) else slots
+                slots = (
+                    model.audit([*words, *start, *tally(chance)], data, slots).slots
+                    if is_small(words)
+                    else slots
+                )
                 start = [*start[:4], "--resume", "yes"]
         if chance.random() < 0.15:
             slots = [data and aged(data) for data in slots]
@@ -276,28 +412,35 @@ def drawn(chance, graphs):
     return words, data, slots
 
 
-def is_small(words):
+def is_small(words: typing.Any) -> typing.Any:
     try:
         setting = model.Setting(words)
     except model.Refused:
         return True
     if setting.command == "check":
         return True
-    is_few = (setting.walks + setting.serial) * setting.steps + (setting.ends + 1) * setting.hub_steps * (setting.ends > 0) <= MOST_WORK
+    is_few = (setting.walks + setting.serial) * setting.steps + (
+        setting.ends + 1
+    ) * setting.hub_steps * (setting.ends > 0) <= MOST_WORK
     return is_few and setting.command == "run"
 
 
-def limit_memory():
+def limit_memory() -> None:
     resource.setrlimit(resource.RLIMIT_AS, (2 << 30, 2 << 30))
 
 
-def run_program(program, words, data, folder):
+def run_program(
+    program: typing.Any, words: typing.Any, data: typing.Any, folder: typing.Any
+) -> typing.Any:
     """The status, both texts, and both files after the run."""
-    done = subprocess.run([program, *words], input=data, stdout=subprocess.PIPE, stderr=subprocess.PIPE, cwd=folder, timeout=20, check=False)
+    done = subprocess.run(
+        [program, *words], input=data, stdout=subprocess.PIPE, stderr=subprocess.PIPE, cwd=folder,
+        timeout=20, check=False,
+    )
     return done.returncode, done.stdout, done.stderr
 
 
-def held(folder):
+def held(folder: typing.Any) -> typing.Any:
     slots = []
     for at in (0, 1):
         path = f"{folder}/audit-{at}.ckpt"
@@ -305,7 +448,7 @@ def held(folder):
     return slots
 
 
-def hold(folder, slots):
+def hold(folder: typing.Any, slots: typing.Any) -> None:
     for at, data in enumerate(slots):
         path = f"{folder}/audit-{at}.ckpt"
         if data is not None:
@@ -315,8 +458,12 @@ def hold(folder, slots):
             os.remove(path)
 
 
-def differs(program, folder, words, data, slots):
-    """None where the program does as the model says, else what differs; and the end that the model says."""
+def differs(
+    program: typing.Any, folder: typing.Any, words: typing.Any, data: typing.Any, slots: typing.Any
+) -> typing.Any:
+    """None where the program does as the model says, else what differs; and the end that the model
+    says.
+    """
     wanted = model.audit(words, data, slots)
     hold(folder, slots)
     try:
@@ -336,11 +483,12 @@ def differs(program, folder, words, data, slots):
     return None, wanted
 
 
-def work(program, runs, seed):
+def work(program: typing.Any, runs: typing.Any, seed: typing.Any) -> typing.Any:
     """Makes runs, and answers how many ended with which status, the notes, and what differed."""
     os.nice(19)
     limit_memory()
     chance, graphs = random.Random(seed), good_graphs()
+    counts: typing.Any
     counts, notes, found = collections.Counter(), set(), []
     folder = tempfile.mkdtemp()
     for _ in range(runs):
@@ -358,35 +506,49 @@ def work(program, runs, seed):
     return counts, notes, found
 
 
-def main(program, runs=1000, seed=1, processes=2):
+def main(program: typing.Any, runs: int = 1000, seed: int = 1, processes: int = 2) -> int:
     program, runs, seed, processes = os.path.abspath(program), int(runs), int(seed), int(processes)
     share = 500
+    counts: typing.Any
     counts, notes, found = collections.Counter(), set(), []
     with multiprocessing.Pool(processes) as pool:
-        jobs = [pool.apply_async(work, (program, min(share, runs - at), seed * 1000003 + at)) for at in range(0, runs, share)]
+        jobs = [
+            pool.apply_async(work, (program, min(share, runs - at), seed * 1000003 + at))
+            for at in range(0, runs, share)
+        ]
         for done, job in enumerate(jobs):
             more, said, differing = job.get()
             counts.update(more)
             notes |= said
             found += differing
             for why, words, data, slots in differing:
-                print("DIFFERS:", why, "\n words", words, "\n graph", data, "\n slots", [slot and slot.hex() for slot in slots], flush=True)
+                print(
+                    "DIFFERS:", why, "\n words", words, "\n graph", data, "\n slots",
+                    [slot and slot.hex() for slot in slots], flush=True,
+                )
             if done % 20 == 19:
-                print(f"{sum(counts.values())} runs, {len(found)} differ", file=sys.stderr, flush=True)
+                print(
+                    f"{sum(counts.values())} runs, {len(found)} differ", file=sys.stderr, flush=True
+                )
     ended = ", ".join(f"{count} with status {status}" for status, count in sorted(counts.items()))
-    print(f"{sum(counts.values())} runs, {ended}; {len(notes)} different notes; {len(found)} differ from the model")
+    print(
+        f"{sum(counts.values())} runs, {ended}; {len(notes)} different notes; {len(found)} differ"
+        " from the model"
+    )
     return 1 if found else 0
 
 
 def arguments() -> argparse.Namespace:
     parser = argparse.ArgumentParser(
         prog="python3 -m tests.differential.fuzz", description=__doc__,
-        formatter_class=argparse.RawDescriptionHelpFormatter)
+        formatter_class=argparse.RawDescriptionHelpFormatter,
+    )
     parser.add_argument("program", help="the built auditor")
     parser.add_argument("runs", nargs="?", type=int, default=1000, help="how many runs are drawn")
     parser.add_argument("seed", nargs="?", type=int, default=1, help="what they are drawn from")
-    parser.add_argument("processes", nargs="?", type=int, default=2,
-                        help="how many run at one time")
+    parser.add_argument(
+        "processes", nargs="?", type=int, default=2, help="how many run at one time"
+    )
     return parser.parse_args()
 
 

@@ -1,22 +1,39 @@
-"""Runs with a keeper of two slots, by a plain program: what `audit_cases` must print for each line of its file `slots`.
+"""Runs with a keeper of two slots, by a plain program: what `case_runner` must print for each line
+of its file `slots`.
 
 Usage: python3 -m tests.golden.checkpoint_cases FOLDER
        python3 -m tests.golden.checkpoint_cases --files FOLDER
-FOLDER has the file `slots` and the files that it names, as crates/audit_cases/data. The first prints the text. The second writes the files
-of the slots that are no good checkpoint, each with one fault alone, and of some that are, in both versions of the format. Words that are
-refused are known only by the values of the names that this is about, and a graph is refused only where it is no JSON. Checkpoints and trajectories are those of checkpoints.py.
+FOLDER has the file `slots` and the files that it names, as crates/case_runner/data. The first
+prints the text. The second writes the files of the slots that are no good checkpoint, each with one
+fault alone, and of some that are, in both versions of the format. Words that are refused are known
+only by the values of the names that this is about, and a graph is refused only where it is no JSON.
+Checkpoints and trajectories are those of checkpoints.py. A line that asks for a text about the
+program is left out, and leaves the slots as they are.
 """
 import argparse
 import hashlib
 import json
 import pathlib
 import struct
-import sys
+import typing
 from collections import namedtuple
 
-from tests.oracle.checkpoints import (MOST_BYTES, Setting, checkpoint, digest, fault, fits, generation_and_count, job_of, old_checkpoint, record, records,
-                         sealed)
+from tests.oracle.checkpoints import (
+    MOST_BYTES,
+    Setting,
+    checkpoint,
+    digest,
+    fault,
+    fits,
+    generation_and_count,
+    job_of,
+    old_checkpoint,
+    record,
+    records,
+    sealed,
+)
 from tests.differential.compare_graphs import expected
+from tests.golden.named_cases import is_question, lines_of
 from tests.differential.compare_walks import NO_BINS, is_inside, outcomes, report_of
 
 Slot = namedtuple("Slot", "fault job generation found")
@@ -26,42 +43,52 @@ End = namedtuple("End", "status told out note")
 class Keeper:
     """Two slots, each bytes or None, and the numbers of the load and of the save that fail.
 
-    A save is N, or N/KEPT for a stop within it, which leaves so many bytes; then no later save changes anything.
+    A save is N, or N/KEPT for a stop within it, which leaves so many bytes; then no later save
+    changes anything.
     """
 
-    def __init__(self, slots, failing_load, save):
+    def __init__(self, slots: typing.Any, failing_load: typing.Any, save: typing.Any) -> None:
         self.slots, self.failing_load = list(slots), failing_load
         self.failing_save, _, kept = save.partition("/")
         self.failing_save, self.kept = int(self.failing_save), int(kept) if kept else None
         self.saves = 0
 
-    def load_all(self):
+    def load_all(self) -> typing.Any:
         """Both slots, or None where a load fails."""
         return self.slots if self.failing_load not in (1, 2) else None
 
-    def save(self, slot, data):
-        """Whether the save went well; a save that fails leaves the first half."""
+    def save(self, slot: typing.Any, data: typing.Any) -> typing.Any:
+        """Saves a slot, and returns whether that went well; a save that fails leaves the first
+        half.
+        """
         self.saves += 1
         if self.kept is not None and self.saves >= self.failing_save:
             if self.saves == self.failing_save:
-                self.slots[slot] = data[:self.kept]
+                self.slots[slot] = data[: self.kept]
             return False
         is_good = self.saves != self.failing_save
-        self.slots[slot] = data if is_good else data[:len(data) // 2]
+        self.slots[slot] = data if is_good else data[: len(data) // 2]
         return is_good
 
 
-def looked(setting, wanted, data):
-    """What a slot is for the job with this digest."""
+def looked(setting: typing.Any, wanted: typing.Any, data: typing.Any) -> typing.Any:
+    """Returns the state of a slot for the job with this digest."""
     why = "absent" if data is None else fault(data)
-    if why is None and data[12:44] == wanted and not all(fits(setting, *one) for one in records(data)):
+    if (
+        why is None
+        and data[12:44] == wanted
+        and not all(fits(setting, *one) for one in records(data))
+    ):
         why = "unfit"
     if why:
         return Slot(why, None, None, None)
-    return Slot(None, data[12:44], generation_and_count(data)[0], {one[0]: (one[1], one[2:6], one[6:]) for one in records(data)})
+    return Slot(
+        None, data[12:44], generation_and_count(data)[0],
+        {one[0]: (one[1], one[2:6], one[6:]) for one in records(data)},
+    )
 
 
-def newest(slots):
+def newest(slots: typing.Any) -> typing.Any:
     """The number of the newest intact slot, or None."""
     intact = [number for number in (0, 1) if slots[number].fault is None]
     if len(intact) == 2:
@@ -69,14 +96,18 @@ def newest(slots):
     return intact[0] if intact else None
 
 
-def taken_up(setting, job, found):
-    """What a run goes on from: bare outcomes where it asks for no bins, and else those that have theirs."""
+def taken_up(
+    setting: typing.Any, job: typing.Any, found: typing.Any
+) -> typing.Dict[typing.Any, typing.Any]:
+    """Returns the outcomes from which a run goes on; only those with a histogram, if it asks for
+    one.
+    """
     if not job.shift:
         return {number: (moved, values, NO_BINS) for number, (moved, values, _) in found.items()}
     return {number: one for number, one in found.items() if number >= setting.walks or any(one[2])}
 
 
-def resumed(slots, wanted):
+def resumed(slots: typing.Any, wanted: typing.Any) -> typing.Any:
     """The outcomes of the newest slot, or the note that refuses them."""
     if all(slot.fault == "absent" for slot in slots):
         return {}, None
@@ -88,17 +119,17 @@ def resumed(slots, wanted):
     return slots[number].found, None
 
 
-def place(slots):
+def place(slots: typing.Any) -> typing.Any:
     """The slot and the generation of the next checkpoint."""
     number = newest(slots)
     return (0, 0) if number is None else (1 - number, (slots[number].generation + 1) % 3)
 
 
-def is_number(text):
+def is_number(text: typing.Any) -> typing.Any:
     return text.isdecimal() and str(int(text)) == text and int(text) <= 100000
 
 
-def bad_name(setting):
+def bad_name(setting: typing.Any) -> typing.Any:
     """The first of the last names whose value is bad, in the order of their table."""
     budget, save = setting.given.get("--budget", "100000"), setting.given.get("--save", "0")
     if not is_number(budget) or save == "0" and int(budget) < setting.total:
@@ -117,13 +148,16 @@ def bad_name(setting):
     return None if is_number(part) and int(part) < int(parts) else "--part"
 
 
-def saved_in_turn(every, slots, keeper, wanted, founds):
-    """Whether no save failed: one each time that so many more were posted, and a last one unless the last post was saved.
+def saved_in_turn(
+    every: typing.Any, slots: typing.Any, keeper: typing.Any, wanted: typing.Any, founds: typing.Any
+) -> bool:
+    """Returns whether no save failed: one after each batch of posts, and a last one for the rest.
 
     founds has what is known after each number of posts, from none on.
     """
     if not every:
         return True
+    answers: typing.Dict[typing.Any, typing.Any]
     posts, answers, at = len(founds) - 1, {}, place(slots)
     due = range(every, posts + 1, every)
     for count in [*due, posts]:
@@ -134,18 +168,25 @@ def saved_in_turn(every, slots, keeper, wanted, founds):
     return all(answers.values())
 
 
-def begun(setting, job, every):
-    """The ids that are walked where tests stop early: all walks, and ends in rounds of 64, 128 and so on until each test has stopped."""
+def begun(setting: typing.Any, job: typing.Any, every: typing.Any) -> typing.List[typing.Any]:
+    """The ids that are walked where tests stop early: all walks, and ends in rounds of 64, 128 and
+    so on until each test has stopped.
+    """
     start, count = [job.value(job.plan, score) for score, _ in setting.asks], 0
     while True:
         ends = [every[setting.walks + end][1] for end in range(count)]
-        tops = [sum(is_inside(one[place], start[place], tail) for one in ends) for place, (_, tail) in enumerate(setting.asks)]
+        tops = [
+            sum(is_inside(one[place], start[place], tail) for one in ends)
+            for place, (_, tail) in enumerate(setting.asks)
+        ]
         if count == setting.ends or all(top >= job.stop for top in tops):
             return list(range(setting.walks + count))
         count = min(setting.ends, 2 * count + 64)
 
 
-def walked(setting, job, slots, keeper, room):
+def walked(
+    setting: typing.Any, job: typing.Any, slots: typing.Any, keeper: typing.Any, room: typing.Any
+) -> typing.Any:
     """How a run ends over the slots that it looked at, if it did."""
     wanted, is_resumed = digest(job, setting), setting.given.get("--resume") == "yes"
     found, refusal = resumed(slots, wanted) if is_resumed else ({}, None)
@@ -154,17 +195,23 @@ def walked(setting, job, slots, keeper, room):
     found = taken_up(setting, job, found)
     every = dict(enumerate(outcomes(job, *setting.trajectories())))
     if job.stop:
-        text = report_of(job, *setting.trajectories(), [every[number] for number in sorted(every)])
+        walks, steps, ends, hub, asks = setting.trajectories()
+        shown = [every[number] for number in sorted(every)]
+        text = report_of(job, walks, steps, ends, hub, asks, shown)
         return End(0, begun(setting, job, every), text, "")
     parts, part = int(setting.given.get("--parts", "1")), int(setting.given.get("--part", "0"))
-    todo = [number for number in every if number not in found and number % parts == part][:int(setting.given.get("--budget", "100000"))]
+    todo = [number for number in every if number not in found and number % parts == part][
+        : int(setting.given.get("--budget", "100000"))
+    ]
     posts = [{number: every[number] for number in todo[:count]} for count in range(len(todo) + 1)]
     founds = [{**found, **post} for post in posts]
     is_saved = saved_in_turn(int(setting.given.get("--save", "0")), slots, keeper, wanted, founds)
     found = {**found, **posts[-1]}
     text = ""
     if len(found) == setting.total:
-        text = report_of(job, *setting.trajectories(), [found[number] for number in sorted(found)])
+        walks, steps, ends, hub, asks = setting.trajectories()
+        shown = [found[number] for number in sorted(found)]
+        text = report_of(job, walks, steps, ends, hub, asks, shown)
     if len(text) > room:
         return End(5, todo, text[:room], "write fault")
     if not is_saved:
@@ -174,7 +221,7 @@ def walked(setting, job, slots, keeper, room):
     return End(0, todo, text, "")
 
 
-def audit(words, text, keeper, room):
+def audit(words: typing.Any, text: typing.Any, keeper: typing.Any, room: typing.Any) -> typing.Any:
     """How a whole call ends."""
     setting = Setting(words)
     if setting.command != "check" and bad_name(setting):
@@ -184,7 +231,14 @@ def audit(words, text, keeper, room):
     except json.JSONDecodeError:
         return End(2, [], "", "graph: not JSON")
     if setting.command == "check":
-        return End(0, [], expected(json.loads(text), setting.given["--pop"], setting.given["--district"], setting.slack), "")
+        return End(
+            0,
+            [],
+            expected(
+                json.loads(text), setting.given["--pop"], setting.given["--district"], setting.slack
+            ),
+            "",
+        )
     slots = None
     if setting.given.get("--save", "0") != "0" or setting.given.get("--resume") == "yes":
         loaded = keeper.load_all()
@@ -194,21 +248,32 @@ def audit(words, text, keeper, room):
     return walked(setting, job, slots, keeper, room)
 
 
-def shown(number, data):
+def shown(number: typing.Any, data: typing.Any) -> str:
     if data is None:
         return f"slot {number} absent"
     found = records(data)
     version = int.from_bytes(data[8:12], "big")
-    ids = "" if found is None else " ".join([f" version {version} generation {generation_and_count(data)[0]} ids", *(str(one[0]) for one in found)])
+    ids = (
+        ""
+        if found is None
+        else " ".join(
+            [
+                f" version {version} generation {generation_and_count(data)[0]} ids",
+                *(str(one[0]) for one in found),
+            ]
+        )
+    )
     return f"slot {number} {len(data)} bytes{ids} sha256 {hashlib.sha256(data).hexdigest()}"
 
 
-def told(ids):
-    """What is printed of the ids that a call began: how many, and which of them are below 64, each once."""
+def told(ids: typing.Any) -> str:
+    """Returns what is printed of the ids that a call began: their number, and those below 64, each
+    once.
+    """
     return " ".join([f"told {len(ids)}:", *(str(one) for one in sorted(set(ids)) if one < 64)])
 
 
-def slot_of(folder, said, before):
+def slot_of(folder: typing.Any, said: typing.Any, before: typing.Any) -> typing.Any:
     if said in ("absent", "same"):
         return before if said == "same" else None
     if said == "spoilt":
@@ -216,8 +281,8 @@ def slot_of(folder, said, before):
     return bytes(MOST_BYTES + 1) if said == "long" else bytes.fromhex((folder / said).read_text())
 
 
-def text_of(folder, line, before):
-    """What a line prints, and the slots that it leaves."""
+def text_of(folder: typing.Any, line: typing.Any, before: typing.Any) -> typing.Any:
+    """Returns the output of the rest of a line, and the slots that its run leaves."""
     zero, one, load, save, room, file, *words = line.split()
     slots = [slot_of(folder, said, slot) for said, slot in zip((zero, one), before)]
     keeper = Keeper(slots, int(load), save)
@@ -227,7 +292,7 @@ def text_of(folder, line, before):
     return "\n".join(part.removesuffix("\n") for part in lines) + "\n", keeper.slots
 
 
-def parts_of(words, text):
+def parts_of(words: typing.Any, text: typing.Any) -> typing.Any:
     """The digest of a job, and what its trajectories find, with bins and without."""
     setting = Setting(words.split())
     job = job_of(setting, text)
@@ -236,14 +301,18 @@ def parts_of(words, text):
     return digest(job, setting), bare, dict(enumerate(outcomes(job, *setting.trajectories())))
 
 
-def damaged(words, text):
-    """Checkpoints of twelve walks on the cycle of four units: with one fault alone, and some good ones."""
+def damaged(words: typing.Any, text: typing.Any) -> typing.Dict[typing.Any, typing.Any]:
+    """Checkpoints of twelve walks on the cycle of four units: with one fault alone, and some good
+    ones.
+    """
     own, every, binned = parts_of(words, text)
     five, ten = ({number: every[number] for number in range(count)} for count in (5, 10))
     front = checkpoint(own, 0, five)[:-32]
     moved, values, _ = every[0]
 
-    def of_one(number, moves, counts, bins=NO_BINS):
+    def of_one(
+        number: typing.Any, moves: typing.Any, counts: typing.Any, bins: typing.Any = NO_BINS
+    ) -> typing.Any:
         return checkpoint(own, 0, {number: (moves, counts, bins)})
 
     some = {number: every[number] for number in (1, 3, 11)}
@@ -254,7 +323,9 @@ def damaged(words, text):
         "bad_generation": checkpoint(own, 3, five),
         "bad_count": sealed(front[:48] + struct.pack(">I", 6) + front[52:]),
         "bad_width": sealed(front[:8] + struct.pack(">I", 1) + front[12:]),
-        "bad_order": sealed(front[:48] + struct.pack(">I", 2) + 2 * (record(0, moved, values) + bytes(36))),
+        "bad_order": sealed(
+            front[:48] + struct.pack(">I", 2) + 2 * (record(0, moved, values) + bytes(36))
+        ),
         "unfit_id": of_one(12, moved, values),
         "unfit_moves": of_one(0, 9, values),
         "unfit_visits": of_one(0, moved, [10]),
@@ -271,40 +342,49 @@ def damaged(words, text):
     }
 
 
-def damaged_ends(words, text):
+def damaged_ends(words: typing.Any, text: typing.Any) -> typing.Dict[typing.Any, typing.Any]:
     """Checkpoints of three walks and five other trajectories, of which one has bins, or none."""
     own, every, binned = parts_of(words, text)
     number = 3
     return {
-        "unfit_end": checkpoint(own, 0, {**binned, number: (*every[number][:2], [0, 0, 0, 0, 9, 0, 0, 0, 0])}),
+        "unfit_end": checkpoint(
+            own, 0, {**binned, number: (*every[number][:2], [0, 0, 0, 0, 9, 0, 0, 0, 0])}
+        ),
         "ends": checkpoint(own, 0, {one: every[one] for one in (0, 3, 4)}),
     }
 
 
-def write_files(folder):
-    words = ("run --pop pop --first a --second b --district d --slack 5000 --walks 12 --steps 8 --ask gap:low --key " + 64 * "0")
+def write_files(folder: typing.Any) -> None:
+    words = (
+        "run --pop pop --first a --second b --district d --slack 5000 --walks 12 --steps 8 --ask"
+        " gap:low --key "
+        + 64 * "0"
+    )
     ends = words.replace("--walks 12", "--walks 3 --ends 5 --hub-steps 8")
     text = (folder / "cycle.json").read_text()
     for name, data in {**damaged(words, text), **damaged_ends(ends, text)}.items():
         (folder / f"{name}.hex").write_text(data.hex() + "\n")
 
 
-def main(folder, files):
+def main(folder: typing.Any, files: typing.Any) -> None:
     folder = pathlib.Path(folder)
     if files:
         write_files(folder)
         return
     slots = [None, None]
-    for line in (folder / "slots").read_text().splitlines():
+    for name, line in lines_of(folder / "slots"):
+        if is_question(line.split()[6:]):
+            continue
         text, slots = text_of(folder, line, slots)
-        print(text, end="")
+        print(f"case {name}\n{text}", end="")
 
 
 def arguments() -> argparse.Namespace:
     parser = argparse.ArgumentParser(
         prog="python3 -m tests.golden.checkpoint_cases", description=__doc__,
-        formatter_class=argparse.RawDescriptionHelpFormatter)
-    parser.add_argument("folder", help="the folder crates/audit_cases/data")
+        formatter_class=argparse.RawDescriptionHelpFormatter,
+    )
+    parser.add_argument("folder", help="the folder crates/case_runner/data")
     parser.add_argument("--files", action="store_true", help="write the files of slots")
     return parser.parse_args()
 

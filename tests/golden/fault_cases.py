@@ -1,48 +1,58 @@
-"""Runs of which one call after the other fails, and runs where none can, by a plain program: what `audit_cases` must print for each line of
-its files `faults` and `sure`.
+"""Runs of which one call after the other fails, and runs where none can, by a plain program: what
+`case_runner` must print for each line of its files `faults` and `sure`.
 
 Usage: python3 -m tests.golden.fault_cases FOLDER
-FOLDER has both files and those that they name, as crates/audit_cases/data. Runs, checkpoints and trajectories are those of
-checkpoint_cases.py, over a source that gives at most so many bytes a call, its end being a call of its own, and an output that takes as many;
-of an outside that cannot fail only the status, the ids and the note are shown. Reports of several plans are those of model.py: a plan is walked,
-and then its title is written in three pieces and its report in one. Of a trace all lines before the first trajectory are written in one piece,
-and each further line in one.
+FOLDER has both files and those that they name, as crates/case_runner/data. Runs, checkpoints and
+trajectories are those of checkpoint_cases.py, over a source that gives at most so many bytes a
+call, its end being a call of its own, and an output that takes as many; of an outside that cannot
+fail only the status, the ids and the note are shown. Reports of several plans are those of
+model.py: a plan is walked, and then its title is written in three pieces and its report in one. Of
+a trace all lines before the first trajectory are written in one piece, and each further line in
+one.
 """
 import argparse
 import pathlib
-import sys
+import typing
 
 from tests.oracle import model
 from tests.golden.checkpoint_cases import End, Keeper, audit, shown, slot_of, told
+from tests.golden.named_cases import lines_of
 
 ROOM = 4000
 
 
-def calls_for(count, most):
-    """How many calls move so many bytes."""
+def calls_for(count: typing.Any, most: typing.Any) -> typing.Any:
+    """Returns the number of calls that move a number of bytes."""
     return -(-count // most)
 
 
-def lined(parts):
+def lined(parts: typing.Any) -> str:
     """The parts that are not empty, each ended by a line feed."""
     return "".join(part.removesuffix("\n") + "\n" for part in parts if part)
 
 
-def audit_plans(words, text, failing_write, most):
+def audit_plans(
+    words: typing.Any, text: typing.Any, failing_write: typing.Any, most: typing.Any
+) -> typing.Any:
     """How a call on several plans ends, where the write with this number fails, if one does."""
     setting = model.Setting(words)
+    told_ids: typing.List[typing.Any]
     told_ids, out, writes = [], "", 0
     for name, job in model.jobs_of(setting, text.encode()):
         told_ids += range(setting.total)
         for piece in ("plan ", name, "\n", model.report(job, model.asked(job, job.digest()))):
             if writes < failing_write <= writes + calls_for(len(piece), most):
-                return End(5, told_ids, out + piece[:most * (failing_write - 1 - writes)], "write fault")
+                return End(
+                    5, told_ids, out + piece[: most * (failing_write - 1 - writes)], "write fault"
+                )
             writes += calls_for(len(piece), most)
             out += piece
     return End(0, told_ids, out, "")
 
 
-def audit_trace(words, text, failing_write, most):
+def audit_trace(
+    words: typing.Any, text: typing.Any, failing_write: typing.Any, most: typing.Any
+) -> typing.Any:
     """How a trace ends, where the write with this number fails, if one does."""
     whole = model.audit(words, text.encode(), [None, None])
     lines = whole.out.splitlines(keepends=True)
@@ -50,7 +60,7 @@ def audit_trace(words, text, failing_write, most):
     out, writes = "", 0
     for piece in ("".join(lines[:head]), *lines[head:]):
         if writes < failing_write <= writes + calls_for(len(piece), most):
-            return End(5, [], out + piece[:most * (failing_write - 1 - writes)], "write fault")
+            return End(5, [], out + piece[: most * (failing_write - 1 - writes)], "write fault")
         writes += calls_for(len(piece), most)
         out += piece
     return End(whole.status, [], out, whole.note)
@@ -60,50 +70,79 @@ def audit_trace(words, text, failing_write, most):
 IN_PIECES = {"plans": audit_plans, "trace": audit_trace}
 
 
-def run_once(folder, calls, number, most, said, text, words):
-    """What one run prints, and its status."""
+def run_once(
+    folder: typing.Any,
+    calls: typing.Any,
+    number: typing.Any,
+    most: typing.Any,
+    said: typing.Any,
+    text: typing.Any,
+    words: typing.Any,
+) -> typing.Any:
+    """Returns the output of one run, and its status."""
     slots = [slot_of(folder, one, None) for one in said]
-    if calls == "reads" and words[0] != "make" and number <= calls_for(len(text.encode()), most) + 1:
+    if (
+        calls == "reads"
+        and words[0] != "make"
+        and number <= calls_for(len(text.encode()), most) + 1
+    ):
         end = End(4, [], "", "read fault")
         keeper = Keeper(slots, 0, "0")
     else:
-        keeper = Keeper(slots, number if calls == "loads" else 0, str(number if calls == "saves" else 0))
+        keeper = Keeper(
+            slots, number if calls == "loads" else 0, str(number if calls == "saves" else 0)
+        )
         in_pieces = IN_PIECES.get(words[0])
-        end = in_pieces(words, text, number if calls == "writes" else 0, most) if in_pieces else audit(words, text, keeper, ROOM)
+        end = (
+            in_pieces(words, text, number if calls == "writes" else 0, most)
+            if in_pieces
+            else audit(words, text, keeper, ROOM)
+        )
         if calls == "writes" and not in_pieces and number <= calls_for(len(end.out), most):
-            end = End(5, end.told, end.out[:most * (number - 1)], "write fault")
+            end = End(5, end.told, end.out[: most * (number - 1)], "write fault")
     lines = [f"run {number}", f"status {end.status}", told(end.told), end.out + end.note]
-    return lined([*lines, *(shown(place, data) for place, data in enumerate(keeper.slots))]), end.status
+    return (
+        lined([*lines, *(shown(place, data) for place, data in enumerate(keeper.slots))]),
+        end.status,
+    )
 
 
-def run_surely(folder, zero, one, file, *words):
-    """What a run prints where nothing can fail."""
-    keeper, text = Keeper([slot_of(folder, said, None) for said in (zero, one)], 0, "0"), (folder / file).read_text()
+def run_surely(
+    folder: typing.Any, zero: typing.Any, one: typing.Any, file: typing.Any, *words: typing.Any
+) -> typing.Any:
+    """Returns the output of a run in which nothing fails."""
+    keeper, text = (
+        Keeper([slot_of(folder, said, None) for said in (zero, one)], 0, "0"),
+        (folder / file).read_text(),
+    )
     in_pieces = IN_PIECES.get(words[0])
     end = in_pieces(words, text, 0, ROOM) if in_pieces else audit(words, text, keeper, ROOM)
     return lined([f"status {end.status}", told(end.told), end.note])
 
 
-def main(name):
-    folder = pathlib.Path(name)
-    for line in (folder / "faults").read_text().splitlines():
-        print(line)
+def main(folder: typing.Any) -> None:
+    folder = pathlib.Path(folder)
+    for name, line in lines_of(folder / "faults"):
+        print(f"case {name}\n{line}")
         calls, most, zero, one, file, *words = line.split()
         number, status = 0, None
         while status not in (0, 7):
             number += 1
-            text, status = run_once(folder, calls, number, int(most), (zero, one), (folder / file).read_text(), words)
+            text, status = run_once(
+                folder, calls, number, int(most), (zero, one), (folder / file).read_text(), words
+            )
             print(text, end="")
-    for line in (folder / "sure").read_text().splitlines():
-        print(line)
+    for name, line in lines_of(folder / "sure"):
+        print(f"case {name}\n{line}")
         print(run_surely(folder, *line.split()), end="")
 
 
 def arguments() -> argparse.Namespace:
     parser = argparse.ArgumentParser(
         prog="python3 -m tests.golden.fault_cases", description=__doc__,
-        formatter_class=argparse.RawDescriptionHelpFormatter)
-    parser.add_argument("name", metavar="FOLDER", help="the folder crates/audit_cases/data")
+        formatter_class=argparse.RawDescriptionHelpFormatter,
+    )
+    parser.add_argument("folder", metavar="FOLDER", help="the folder crates/case_runner/data")
     return parser.parse_args()
 
 

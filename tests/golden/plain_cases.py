@@ -1,31 +1,48 @@
-"""Whole calls over empty slots, by the plain model in model.py: what `audit_cases` must print for each line of its files `cases` and `graphs`.
+"""Whole calls over empty slots, by the plain model in model.py: what `case_runner` must print for
+each line of its files `cases` and `graphs`.
 
 Usage: python3 -m tests.golden.plain_cases FOLDER
-FOLDER has both files and the graphs that `cases` names, as crates/audit_cases/data. The source gives at most 100 bytes a call, its end being a
-call of its own; the output has the room that a line says. A gate that holds the first trajectory sees what it wants: all ids are told. Of
-`make` the graph is the grid, whose votes are drawn from the key. A line of a grid of more than 400 units is left out: this would take an hour.
+FOLDER has both files and the graphs that `cases` names, as crates/case_runner/data. The source
+gives at most 100 bytes a call, its end being a call of its own; the output has the room that a line
+says. A gate that holds the first trajectory sees what it wants: all ids are told. Of `make` the
+graph is the grid, whose votes are drawn from the key. A line of a grid of more than 400 units is
+left out: this would take an hour. So is one that asks for a text about the program, which needs no
+model.
 """
 import argparse
 import json
 import pathlib
-import sys
+import typing
 
+from tests.golden.named_cases import is_question, lines_of
 from tests.oracle import model
 
 CHECK = "check --pop pop --first a --second b --district d --slack 1000".split()
 
 
-def grid(size, key):
-    """A grid of so many times ten rows and columns, each district of as many rows, with votes drawn from the key."""
+def grid(size: typing.Any, key: typing.Any) -> bytes:
+    """Returns a grid of ten times its size in rows and columns, with votes drawn from the key.
+    """
     side = 10 * size
-    first = [draw % 101 for draw in model.draws(key, 2 ** 32, side * side)]
-    beside = [[v for v in (u - side, u - 1, u + 1, u + side) if 0 <= v < side * side and (v % side == u % side or v // side == u // side)]
-              for u in range(side * side)]
-    nodes = [{"a": first[u], "b": 100 - first[u], "district": u // side // size, "id": u, "pop": 100} for u in range(side * side)]
-    return json.dumps({"adjacency": [[{"id": v} for v in near] for near in beside], "nodes": nodes}).encode()
+    first = [draw % 101 for draw in model.draws(key, 2**32, side * side)]
+    beside = [
+        [
+            v
+            for v in (u - side, u - 1, u + 1, u + side)
+            if 0 <= v < side * side and (v % side == u % side or v // side == u // side)
+        ]
+        for u in range(side * side)
+    ]
+    nodes = [
+        {"a": first[u], "b": 100 - first[u], "district": u // side // size, "id": u, "pop": 100}
+        for u in range(side * side)
+    ]
+    return json.dumps(
+        {"adjacency": [[{"id": v} for v in near] for near in beside], "nodes": nodes}
+    ).encode()
 
 
-def setting_of(words):
+def setting_of(words: typing.Any) -> typing.Any:
     """The setting of words that are accepted, or None."""
     try:
         return model.Setting(words)
@@ -33,18 +50,18 @@ def setting_of(words):
         return None
 
 
-def graph_of(words, data):
+def graph_of(words: typing.Any, data: typing.Any) -> typing.Any:
     """The bytes of the graph of a call."""
     setting = setting_of(words)
     return grid(setting.size, setting.key) if setting and setting.command == "make" else data
 
 
-def is_great(words):
+def is_great(words: typing.Any) -> typing.Any:
     setting = setting_of(words)
     return bool(setting) and setting.command == "make" and setting.size > 2
 
 
-def ended(words, data, fails, room):
+def ended(words: typing.Any, data: typing.Any, fails: typing.Any, room: typing.Any) -> typing.Any:
     """The status, the output and the note of a call whose read with this number fails."""
     end = model.audit(words, graph_of(words, data), [None, None])
     if fails and end.status != 1 and words[0] != "make" and fails <= -(-len(data) // 100) + 1:
@@ -54,36 +71,42 @@ def ended(words, data, fails, room):
     return end.status, end.out, end.note
 
 
-def plain(folder, line):
-    """What a line of `cases` prints."""
+def plain(folder: typing.Any, line: typing.Any) -> str:
+    """Returns the output of the rest of a line of `cases`."""
     fails, room, wanted, file, *words = line.split()
     status, out, note = ended(words, (folder / file).read_bytes(), int(fails), int(room))
     setting = model.Setting(words) if int(wanted) else None
-    told = f"held, told {setting.total}: {' '.join(map(str, range(setting.total)))}\n" if setting else ""
+    told = (
+        f"held, told {setting.total}: {' '.join(map(str, range(setting.total)))}\n"
+        if setting
+        else ""
+    )
     return f"{line}\nstatus {status}\n{told}{out}{note}"
 
 
-def checked(line):
-    """What a line of `graphs` prints."""
+def checked(line: typing.Any) -> str:
+    """Returns the output of the rest of a line of `graphs`."""
     data = bytes.fromhex(line[4:]) if line.startswith("hex ") else line.encode()
     status, out, note = ended(CHECK, data, 0, 1000)
     return f"{line}\nstatus {status}\n{out}{note}"
 
 
-def main(name):
-    folder = pathlib.Path(name)
-    for line in (folder / "cases").read_text().splitlines():
-        if not is_great(line.split()[4:]):
-            print(plain(folder, line), end="")
-    for line in (folder / "graphs").read_text().split("\n")[:-1]:
-        print(checked(line), end="")
+def main(folder: typing.Any) -> None:
+    folder = pathlib.Path(folder)
+    for name, line in lines_of(folder / "cases"):
+        words = line.split()[4:]
+        if not is_great(words) and not is_question(words):
+            print(f"case {name}\n{plain(folder, line)}", end="")
+    for name, line in lines_of(folder / "graphs"):
+        print(f"case {name}\n{checked(line)}", end="")
 
 
 def arguments() -> argparse.Namespace:
     parser = argparse.ArgumentParser(
         prog="python3 -m tests.golden.plain_cases", description=__doc__,
-        formatter_class=argparse.RawDescriptionHelpFormatter)
-    parser.add_argument("name", metavar="FOLDER", help="the folder crates/audit_cases/data")
+        formatter_class=argparse.RawDescriptionHelpFormatter,
+    )
+    parser.add_argument("folder", metavar="FOLDER", help="the folder crates/case_runner/data")
     return parser.parse_args()
 
 

@@ -24,11 +24,7 @@ def main() -> None:
         row, column = graph.nodes[unit].pop("place")
         first = (37 * row + 53 * column + 11 * row * column) % 101
         graph.nodes[unit].update(
-            TOTPOP=100,
-            DEM=first,
-            REP=100 - first,
-            CD="%02d" % (row // 2 + 1),
-            area=1.0 + column / 4,
+            TOTPOP=100, DEM=first, REP=100 - first, CD=f"{row // 2 + 1:02}", area=1.0 + column / 4,
         )
     for one, other in graph.edges:
         graph.edges[one, other]["shared_perim"] = 1.0

@@ -30,7 +30,7 @@ def main() -> None:
             DEM=float(first),
             REP=100.0 - first,
             CD=float(row // 2 + 1),
-            COUNTY=float("nan") if unit == 17 else "C%d" % (column // 5),
+            COUNTY=float("nan") if unit == 17 else f"C{column // 5}",
         )
     graph.nodes[42]["DEM"] = float("nan")
     graph.nodes[42]["REP"] = None

@@ -1,8 +1,11 @@
-"""A plain model of the auditor: what it must answer for words, a graph and two slots. It imports nothing of the other tests.
+"""A plain model of the auditor: what it must answer for words, a graph and two slots. It imports
+nothing of the other tests.
 
-`audit(words, graph, slots, ...)` answers an `End`: the status, the text on standard output, the note on standard error, and both slots.
-Words, notes and standard output are bytes; a slot is bytes or None. JSON is read as serde_json reads it: by Python's json with whole
-numbers of 64 bits, at most 127 levels, and neither lone surrogates nor numbers too great for a float. One worker is assumed for the slots.
+`audit(words, graph, slots, ...)` answers an `End`: the status, the text on standard output, the
+note on standard error, and both slots. Words, notes and standard output are bytes; a slot is bytes
+or None. JSON is read as serde_json reads it: by Python's json with whole numbers of 64 bits, at
+most 127 levels, and neither lone surrogates nor numbers too great for a float. One worker is
+assumed for the slots.
 """
 import csv
 import functools
@@ -12,9 +15,10 @@ import json
 import math
 import re
 import struct
+import typing
 from collections import Counter, namedtuple
 
-BILLION = 10 ** 9
+BILLION = 10**9
 MOST_INPUT = 67108864
 MOST_SLOT = 84 + 80 * 100000
 MOST_CUT = 400000
@@ -23,38 +27,105 @@ MOST_SPLITS = 995000
 SCORES = ("seats", "mean-median", "gap", "cut-edges")
 TAILS = ("low", "high")
 BASE = ("--pop", "--first", "--second", "--district")
-TABLE = (*BASE, "--size", "--slack", "--key", "--walks", "--steps", "--ends", "--hub-steps", "--ask", "--workers", "--budget",
-         "--save", "--resume", "--max-cut", "--shift", "--stop", "--serial", "--region", "--max-split", "--parts", "--part",
-         "--max-splits", "--max-split-regions", "--group", "--group-of", "--group-districts", "--source", "--ids", "--thin")
+TABLE = (
+    *BASE, "--size", "--slack", "--key", "--walks", "--steps", "--ends", "--hub-steps", "--ask",
+    "--workers", "--budget", "--save", "--resume", "--max-cut", "--shift", "--stop", "--serial",
+    "--region", "--max-split", "--parts", "--part", "--max-splits", "--max-split-regions",
+    "--group", "--group-of", "--group-districts", "--source", "--ids", "--thin", "--group-share",
+    "--freeze",
+)
 OF_TRACES = ("--ids", "--thin")
-OPTIONAL_COLUMNS = ("--region", "--group", "--group-of")
-OF_A_FILE = ("--region", "--max-split", "--max-splits", "--max-split-regions", "--group", "--group-of", "--group-districts", "--source")
+OPTIONAL_COLUMNS = ("--region", "--group", "--group-of", "--freeze")
+OF_A_FILE = (
+    "--region", "--max-split", "--max-splits", "--max-split-regions", "--group", "--group-of",
+    "--group-districts", "--source", "--group-share", "--freeze",
+)
 COMMANDS = {
     "check": (*BASE, "--slack", "--max-cut", *OF_A_FILE),
     "run": tuple(name for name in TABLE if name not in ("--size", *OF_TRACES)),
     "make": tuple(name for name in TABLE if name not in (*BASE, *OF_A_FILE, *OF_TRACES)),
-    "plans": tuple(name for name in TABLE if name not in ("--size", "--budget", "--save", "--resume", "--parts", "--part", *OF_TRACES)),
-    "trace": tuple(name for name in TABLE if name not in ("--size", "--workers", "--budget", "--save", "--resume", "--shift", "--stop",
-                                                          "--serial", "--parts", "--part")),
+    "plans": tuple(
+        name
+        for name in TABLE
+        if name not in ("--size", "--budget", "--save", "--resume", "--parts", "--part", *OF_TRACES)
+    ),
+    "trace": tuple(
+        name
+        for name in TABLE
+        if name
+        not in (
+            "--size", "--workers", "--budget", "--save", "--resume", "--shift", "--stop",
+            "--serial", "--parts", "--part",
+        )
+    ),
 }
-DEFAULTS = {"--slack": "500", "--walks": "1", "--steps": "1000", "--ends": "0", "--hub-steps": "1000", "--workers": "1",
-            "--budget": "100000", "--save": "0", "--resume": "no", "--max-cut": "400000", "--shift": "no", "--stop": "0",
-            "--serial": "no", "--region": "", "--max-split": "200", "--parts": "1", "--part": "0", "--max-splits": "995000",
-            "--max-split-regions": "5000", "--group": "", "--group-of": "", "--group-districts": "0", "--source": "no", "--ids": "0",
-            "--thin": "1000"}
-RANGES = {"--size": (1, 30), "--slack": (0, 10000), "--walks": (0, 100000), "--steps": (1, BILLION), "--ends": (0, 100000),
-          "--hub-steps": (1, BILLION), "--workers": (1, 32), "--budget": (0, 100000), "--save": (0, 100000), "--max-cut": (0, MOST_CUT),
-          "--stop": (0, 100000), "--max-split": (1, 200), "--parts": (1, 100000), "--part": (0, 99999), "--max-splits": (0, MOST_SPLITS),
-          "--max-split-regions": (0, MOST_REGIONS), "--group-districts": (0, 200), "--thin": (1, BILLION)}
+DEFAULTS = {
+    "--slack": "500",
+    "--walks": "1",
+    "--steps": "1000",
+    "--ends": "0",
+    "--hub-steps": "1000",
+    "--workers": "1",
+    "--budget": "100000",
+    "--save": "0",
+    "--resume": "no",
+    "--max-cut": "400000",
+    "--shift": "no",
+    "--stop": "0",
+    "--serial": "no",
+    "--region": "",
+    "--max-split": "200",
+    "--parts": "1",
+    "--part": "0",
+    "--max-splits": "995000",
+    "--max-split-regions": "5000",
+    "--group": "",
+    "--group-of": "",
+    "--group-districts": "0",
+    "--source": "no",
+    "--ids": "0",
+    "--thin": "1000",
+    "--group-share": "5000",
+    "--freeze": "",
+}
+RANGES = {
+    "--size": (1, 30),
+    "--slack": (0, 10000),
+    "--walks": (0, 100000),
+    "--steps": (1, BILLION),
+    "--ends": (0, 100000),
+    "--hub-steps": (1, BILLION),
+    "--workers": (1, 32),
+    "--budget": (0, 100000),
+    "--save": (0, 100000),
+    "--max-cut": (0, MOST_CUT),
+    "--stop": (0, 100000),
+    "--max-split": (1, 200),
+    "--parts": (1, 100000),
+    "--part": (0, 99999),
+    "--max-splits": (0, MOST_SPLITS),
+    "--max-split-regions": (0, MOST_REGIONS),
+    "--group-districts": (0, 200),
+    "--thin": (1, BILLION),
+    "--group-share": (0, 10000),
+}
 # Which column has to be named where the value of a name is not the default.
-WITH_COLUMN = {"--max-split": "--region", "--max-splits": "--region", "--max-split-regions": "--region", "--group-of": "--group",
-               "--group-districts": "--group"}
+WITH_COLUMN = {
+    "--max-split": "--region",
+    "--max-splits": "--region",
+    "--max-split-regions": "--region",
+    "--group-of": "--group",
+    "--group-districts": "--group",
+    "--group-share": "--group",
+}
 NO_BINS = (0,) * 9
 ALL_ASKS = {f"{score}:{tail}": (score, tail) for score in SCORES for tail in TAILS}
 
 End = namedtuple("End", "status out note slots")
-# What is read of a graph. The regions are empty where no column is named, and so is the group, which else is two lists: the group's, and the whole's.
-Read = namedtuple("Read", "edges people first second plan districts regions group")
+# The parts of a graph that are read. The regions are empty where no column is named, and so is the
+# group, which else is two lists: the group's, and the whole's. Of frozen units there is a truth
+# value for each unit, or nothing where no column is named.
+Read = namedtuple("Read", "edges people first second plan districts regions group frozen")
 # The digest and the number of the bytes that were read.
 Origin = namedtuple("Origin", "sha256 bytes")
 
@@ -62,20 +133,21 @@ Origin = namedtuple("Origin", "sha256 bytes")
 class Refused(Exception):
     """A refusal: its status and its note."""
 
-    def __init__(self, status, note):
+    def __init__(self, status: typing.Any, note: typing.Any) -> None:
         super().__init__(note)
         self.status, self.note = status, note
 
 
 # ---- words
 
-def number(text):
+
+def number(text: typing.Any) -> typing.Any:
     """The number that a text is, or None."""
     is_plain = text.isascii() and text.isdigit() and (text == "0" or text[0] != "0")
     return int(text) if is_plain and len(text) < 64 else None
 
 
-def ids_of(text):
+def ids_of(text: typing.Any) -> typing.Any:
     """The first and the last id of a range `A-B`, or of `A`; None for one that is no number."""
     first, dash, last = text.partition("-")
     return number(first), number(last if dash else first)
@@ -84,7 +156,7 @@ def ids_of(text):
 class Setting:
     """The setting of words, or Refused."""
 
-    def __init__(self, words):
+    def __init__(self, words: typing.Any) -> None:
         if not words:
             raise Refused(1, "words: no command")
         self.command = words[0]
@@ -102,7 +174,7 @@ class Setting:
         self.numbers()
 
     @staticmethod
-    def pairs(words, names):
+    def pairs(words: typing.Any, names: typing.Any) -> typing.Any:
         value = {}
         for at in range(0, len(words), 2):
             name = words[at]
@@ -115,90 +187,114 @@ class Setting:
             value[name] = words[at + 1]
         return value
 
-    def of(self, name):
-        return number(self.value[name]) or 0
+    def of(self, name: str) -> int:
+        return int(number(self.value[name]) or 0)
 
-    def is_good(self, name):
+    def is_good(self, name: str) -> bool:
         text = self.value[name]
+        if name in WITH_COLUMN and text != DEFAULTS[name] and not self.value[WITH_COLUMN[name]]:
+            return False
+        if name not in RANGES:
+            return self.is_good_text(name, text)
+        low, high = RANGES[name]
+        return number(text) is not None and low <= self.of(name) <= high and self.fits_others(name)
+
+    def is_good_text(self, name: str, text: str) -> bool:
+        """Returns whether the value of a name without a range is good."""
         if name == "--key":
             return re.fullmatch("[0-9a-fA-F]{64}", text) is not None
         if name == "--ask":
             asks = text.split(",")
-            return all(ask in ALL_ASKS for ask in asks) and len(asks) <= 4 and len(set(asks)) == len(asks)
+            is_known = all(ask in ALL_ASKS for ask in asks)
+            return is_known and len(asks) <= 4 and len(set(asks)) == len(asks)
         if name == "--serial" and text == "yes":
             plans = self.of("--steps") + 1
             return plans & plans - 1 == 0
         if name in ("--resume", "--shift", "--serial", "--source"):
             return text in ("yes", "no")
-        if name == "--district" and self.command == "plans":
-            return "\n" not in text
-        if name in WITH_COLUMN and text != DEFAULTS[name] and not self.value[WITH_COLUMN[name]]:
-            return False
-        if name in BASE or name in OPTIONAL_COLUMNS:
-            return True
         if name == "--ids":
             first, last = ids_of(text)
-            return None not in (first, last) and first <= last < self.of("--walks") + self.of("--ends")
-        low, high = RANGES[name]
-        if number(text) is None or not low <= number(text) <= high:
-            return False
+            if first is None or last is None:
+                return False
+            return bool(first <= last < self.of("--walks") + self.of("--ends"))
+        return name != "--district" or self.command != "plans" or "\n" not in text
+
+    def fits_others(self, name: str) -> bool:
+        """Returns whether a number within its range is good beside the other values."""
         total = self.of("--walks") + self.of("--ends")
         if name == "--ends":
             return 1 <= total <= 100000
         if name == "--budget":
             return self.value["--save"] != "0" or total <= self.of("--budget")
         if name == "--stop" and self.of("--stop"):
-            return self.of("--ends") >= 1 and self.of("--save") == 0 and self.value["--resume"] != "yes"
+            saves = self.of("--save") != 0 or self.value["--resume"] == "yes"
+            return self.of("--ends") >= 1 and not saves
         if name == "--parts":
             return self.of("--parts") == 1 or self.of("--save") >= 1
-        if name == "--part":
-            return self.of("--part") < self.of("--parts")
-        return True
+        return name != "--part" or self.of("--part") < self.of("--parts")
 
-    def numbers(self):
+    def numbers(self) -> None:
         value = self.value
         self.slack, self.max_cut = self.of("--slack"), self.of("--max-cut")
-        self.columns = tuple(value[name] for name in BASE) if self.command != "make" else ("pop", "a", "b", "district")
+        self.columns = (
+            tuple(value[name] for name in BASE)
+            if self.command != "make"
+            else ("pop", "a", "b", "district")
+        )
         self.region, self.source = value["--region"], value["--source"] == "yes"
-        self.group = (value["--group"], value["--group-of"] or self.columns[0]) if value["--group"] else ()
+        self.group = (
+            (value["--group"], value["--group-of"] or self.columns[0]) if value["--group"] else ()
+        )
         self.max_split, self.max_splits, self.max_split_regions, self.group_districts = (
-            self.of(name) for name in ("--max-split", "--max-splits", "--max-split-regions", "--group-districts"))
+            self.of(name)
+            for name in ("--max-split", "--max-splits", "--max-split-regions", "--group-districts")
+        )
+        self.group_share, self.freeze = self.of("--group-share"), value["--freeze"]
         if self.command == "check":
-            self.asks, self.total, self.save, self.stop, self.resume, self.shift, self.serial = [], 0, 0, 0, False, False, False
+            self.asks, self.total, self.save, self.stop, self.resume, self.shift, self.serial = (
+                [], 0, 0, 0, False, False, False,
+            )
             return
         self.key = bytes.fromhex(value["--key"])
-        self.walks, self.steps, self.ends, self.hub_steps = (self.of(name) for name in ("--walks", "--steps", "--ends", "--hub-steps"))
+        self.walks, self.steps, self.ends, self.hub_steps = (
+            self.of(name) for name in ("--walks", "--steps", "--ends", "--hub-steps")
+        )
         self.total = self.walks + self.ends
         self.asks = [ALL_ASKS[ask] for ask in value["--ask"].split(",")]
-        self.budget, self.save, self.workers, self.stop = (self.of(name) for name in ("--budget", "--save", "--workers", "--stop"))
+        self.budget, self.save, self.workers, self.stop = (
+            self.of(name) for name in ("--budget", "--save", "--workers", "--stop")
+        )
         self.parts, self.part = self.of("--parts"), self.of("--part")
-        self.resume, self.shift, self.serial = (value[name] == "yes" for name in ("--resume", "--shift", "--serial"))
+        self.resume, self.shift, self.serial = (
+            value[name] == "yes" for name in ("--resume", "--shift", "--serial")
+        )
         self.size = self.of("--size") if self.command == "make" else 0
 
 
 # ---- the graph
 
+
 class NotJson(Exception):
     pass
 
 
-def whole(text):
+def whole(text: typing.Any) -> typing.Any:
     """A whole number of 64 bits, or a float, as serde_json keeps it."""
     if len(text) < 25 and text != "-0":
         value = int(text)
-        if -2 ** 63 <= value < 2 ** 64:
+        if -(2**63) <= value < 2**64:
             return value
     return fraction(text)
 
 
-def fraction(text):
+def fraction(text: typing.Any) -> typing.Any:
     value = float(text)
     if math.isinf(value):
         raise NotJson
     return value
 
 
-def no_constant(_text):
+def no_constant(_text: typing.Any) -> None:
     raise NotJson
 
 
@@ -206,7 +302,7 @@ STRING = re.compile(rb'"(?:[^"\\]|\\.)*"', re.DOTALL)
 NO_BRACKET = re.compile(rb"[^][{}]+")
 
 
-def depth(data):
+def depth(data: typing.Any) -> typing.Any:
     """How deep brackets stand within brackets, outside texts."""
     level = most = 0
     for byte in NO_BRACKET.sub(b"", STRING.sub(b"", data)):
@@ -215,14 +311,16 @@ def depth(data):
     return most
 
 
-def has_lone_surrogate(data):
+def has_lone_surrogate(data: typing.Any) -> bool:
     return any(re.search("[\ud800-\udfff]", json.loads(text)) for text in STRING.findall(data))
 
 
-def parsed(data):
+def parsed(data: typing.Any) -> typing.Any:
     """The value of a JSON text, or NotJson."""
     try:
-        value = json.loads(data.decode("utf-8"), parse_int=whole, parse_float=fraction, parse_constant=no_constant)
+        value = json.loads(
+            data.decode("utf-8"), parse_int=whole, parse_float=fraction, parse_constant=no_constant
+        )
     except (ValueError, RecursionError) as error:
         raise NotJson from error
     if depth(data) > 127 or b"\\u" in data and has_lone_surrogate(data):
@@ -230,17 +328,18 @@ def parsed(data):
     return value
 
 
-def is_id(value):
+def is_id(value: typing.Any) -> bool:
     return type(value) in (int, str)
 
 
-def refuse(note):
+def refuse(note: typing.Any) -> None:
     raise Refused(2, "graph: " + note)
 
 
-def shape(root):
+def shape(root: typing.Any) -> typing.Any:
     """The lists of nodes and of neighbours, or the refusal of the shape."""
-    def bad(part):
+
+    def bad(part: typing.Any) -> None:
         refuse("bad shape of " + part)
 
     if type(root) is not dict:
@@ -262,11 +361,11 @@ def shape(root):
     return nodes, adjacency
 
 
-def places_of(nodes):
+def places_of(nodes: typing.Any) -> typing.Any:
     for at, node in enumerate(nodes):
         if type(node) is not dict or not is_id(node.get("id")):
             refuse(f"node {at} has no usable id")
-    places = {}
+    places: typing.Dict[typing.Any, typing.Any] = {}
     for at, node in enumerate(nodes):
         if node["id"] in places:
             refuse(f"nodes {places[node['id']]} and {at} have the same id")
@@ -274,7 +373,7 @@ def places_of(nodes):
     return places
 
 
-def edges_of(places, adjacency):
+def edges_of(places: typing.Any, adjacency: typing.Any) -> typing.Any:
     for at, entry in enumerate(adjacency):
         for place, one in enumerate(entry):
             if type(one) is not dict or not is_id(one.get("id")):
@@ -283,37 +382,63 @@ def edges_of(places, adjacency):
         for place, one in enumerate(entry):
             if one["id"] not in places:
                 refuse(f"neighbour {place} of node {at} is unknown")
-    pairs = {(min(at, places[one["id"]]), max(at, places[one["id"]])) for at, entry in enumerate(adjacency) for one in entry}
+    pairs = {
+        (min(at, places[one["id"]]), max(at, places[one["id"]]))
+        for at, entry in enumerate(adjacency)
+        for one in entry
+    }
     edges = sorted(pair for pair in pairs if pair[0] < pair[1])
     if len(edges) > 400000:
         refuse(f"{len(edges)} edges, more than 400000")
     return edges
 
 
-def columns_of(nodes, columns, group):
-    """The lists of the three number columns, of the labels and of the two columns of a group, where one is named, or the first refusal."""
+def is_count(value: typing.Any) -> bool:
+    """Returns whether a value is a whole number from 0 to a billion."""
+    return type(value) is int and 0 <= value <= BILLION
+
+
+def test_flag(at: typing.Any, node: typing.Any, column: typing.Any) -> None:
+    """Refuses a value in a column of frozen units that is neither true, false nor a whole number.
+    """
+    if type(node[column]) is not bool and not is_count(node[column]):
+        refuse(
+            f"node {at} has no true, false or whole number from 0 to 1000000000 in column {column}"
+        )
+
+
+def columns_of(
+    nodes: typing.Any, columns: typing.Any, group: typing.Any, freeze: typing.Any
+) -> typing.Any:
+    """The lists of the three number columns, of the labels and of the two columns of a group, where
+    one is named, or the first refusal.
+    """
     for at, node in enumerate(nodes):
-        for column in (*columns, *group):
+        for column in (*columns, *group, *freeze):
             if column not in node:
                 refuse(f"node {at} has no column {column}")
     for at, node in enumerate(nodes):
         for column in (*columns[:3], *group):
-            if type(node[column]) is not int or not 0 <= node[column] <= BILLION:
+            if not is_count(node[column]):
                 refuse(f"node {at} has no whole number from 0 to 1000000000 in column {column}")
+        for column in freeze:
+            test_flag(at, node, column)
     for at, node in enumerate(nodes):
         if not is_id(node[columns[3]]):
             refuse(f"node {at} has no usable label")
     return tuple([node[column] for node in nodes] for column in (*columns, *group))
 
 
-def numbered(labels):
-    """How many different labels there are, and each one's place among them in rising order, numbers before texts."""
+def numbered(labels: typing.Any) -> typing.Any:
+    """Returns the number of labels, and each one's place among them in rising order, numbers before
+    texts.
+    """
     different = sorted(set(labels), key=lambda label: (type(label) is str, label))
     place = {label: at for at, label in enumerate(different)}
     return len(different), [place[label] for label in labels]
 
 
-def regions_of(nodes, column):
+def regions_of(nodes: typing.Any, column: typing.Any) -> typing.Any:
     """The region of each unit, and none where no column is named, or the first refusal."""
     if not column:
         return []
@@ -329,8 +454,11 @@ def regions_of(nodes, column):
     return regions
 
 
-def reading(data, columns, region, group):
-    """The edges, the three columns, the plan, the regions and the group of a graph, or the first refusal."""
+def reading(data: typing.Any, setting: typing.Any) -> typing.Any:
+    """The edges, the three columns, the plan, the regions, the group and the frozen units of a
+    graph, or the first refusal.
+    """
+    freeze = [setting.freeze] if setting.freeze else []
     if len(data) > MOST_INPUT:
         refuse(f"more than {MOST_INPUT} bytes")
     try:
@@ -339,27 +467,33 @@ def reading(data, columns, region, group):
         refuse("not JSON")
     nodes, adjacency = shape(root)
     edges = edges_of(places_of(nodes), adjacency)
-    people, first, second, labels, *both = columns_of(nodes, columns, group)
+    people, first, second, labels, *both = columns_of(nodes, setting.columns, setting.group, freeze)
     districts, plan = numbered(labels)
     if not 2 <= districts <= 200:
         refuse(f"{districts} districts, not 2 to 200")
-    return Read(edges, people, first, second, plan, districts, regions_of(nodes, region), both)
+    return Read(
+        edges, people, first, second, plan, districts, regions_of(nodes, setting.region), both,
+        [node[column] > 0 for column in freeze for node in nodes],
+    )
 
 
 # ---- tables
 
-def refuse_table(note):
+
+def refuse_table(note: typing.Any) -> None:
     raise Refused(2, "table: " + note)
 
 
-def records_of(data):
-    """The records of a table, each a list of fields of bytes: no empty lines, no byte order mark, and any line end."""
+def records_of(data: typing.Any) -> typing.List[typing.Any]:
+    """The records of a table, each a list of fields of bytes: no empty lines, no byte order mark,
+    and any line end.
+    """
     text = data.removeprefix(b"\xef\xbb\xbf").decode("latin-1")
     rows = csv.reader(io.StringIO(text, newline=""))
     return [[field.encode("latin-1") for field in row] for row in rows if row]
 
 
-def is_text(field):
+def is_text(field: typing.Any) -> bool:
     try:
         field.decode("utf-8")
     except UnicodeDecodeError:
@@ -367,33 +501,13 @@ def is_text(field):
     return True
 
 
-def plans_of(data, ids):
-    """The name of each plan of a table, how many districts it has and the district of each unit, or the first refusal."""
+def plans_of(data: typing.Any, ids: typing.Any) -> typing.Any:
+    """The name of each plan of a table, how many districts it has and the district of each unit, or
+    the first refusal.
+    """
     records = records_of(data)
-    for at, record in enumerate(records):
-        if len(record) != len(records[0]) or not all(is_text(field) for field in record):
-            refuse_table(f"record {at} is unreadable")
-    if not records or len(records[0]) < 2:
-        refuse_table("no header")
-    names = records[0][1:]
-    if len(names) > 16:
-        refuse_table(f"{len(names)} plans, more than 16")
-    for plan, name in enumerate(names):
-        if not re.fullmatch(rb"[!-~]{1,100}", name):
-            refuse_table(f"plan {plan} has no usable name")
-    units = {}
-    for unit, one in enumerate(ids):
-        if one in units:
-            refuse_table(f"units {units[one]} and {unit} share an id")
-        units[one] = unit
-    for at, record in enumerate(records[1:]):
-        if record[0] not in units:
-            refuse_table(f"record {at + 1} names no unit")
-    rows = {}
-    for at, record in enumerate(records[1:]):
-        if record[0] in rows:
-            refuse_table(f"record {at + 1} repeats a unit")
-        rows[record[0]] = record
+    names = names_of(records)
+    rows = rows_of(records, units_by_id(ids))
     for unit, one in enumerate(ids):
         if one not in rows:
             refuse_table(f"unit {unit} is missing")
@@ -406,15 +520,59 @@ def plans_of(data, ids):
     return made
 
 
+def names_of(records: typing.Any) -> typing.Any:
+    """Returns the names of the plans, which the first record of a table has behind the ids'."""
+    for at, record in enumerate(records):
+        if len(record) != len(records[0]) or not all(is_text(field) for field in record):
+            refuse_table(f"record {at} is unreadable")
+    if not records or len(records[0]) < 2:
+        refuse_table("no header")
+    names = records[0][1:]
+    if len(names) > 16:
+        refuse_table(f"{len(names)} plans, more than 16")
+    for plan, name in enumerate(names):
+        if not re.fullmatch(rb"[!-~]{1,100}", name):
+            refuse_table(f"plan {plan} has no usable name")
+    return names
+
+
+def units_by_id(ids: typing.Any) -> typing.Dict[typing.Any, int]:
+    """Returns the number of each unit by its id."""
+    units: typing.Dict[typing.Any, int] = {}
+    for unit, one in enumerate(ids):
+        if one in units:
+            refuse_table(f"units {units[one]} and {unit} share an id")
+        units[one] = unit
+    return units
+
+
+def rows_of(records: typing.Any, units: typing.Any) -> typing.Dict[typing.Any, typing.Any]:
+    """Returns the record of each unit by its id."""
+    for at, record in enumerate(records[1:]):
+        if record[0] not in units:
+            refuse_table(f"record {at + 1} names no unit")
+    rows = {}
+    for at, record in enumerate(records[1:]):
+        if record[0] in rows:
+            refuse_table(f"record {at + 1} repeats a unit")
+        rows[record[0]] = record
+    return rows
+
+
 # ---- draws
 
-def block(key, stream, place):
-    start = [*struct.unpack("<4I", b"expand 32-byte k"), *struct.unpack("<8I", key), place & 0xFFFFFFFF, place >> 32,
-             stream & 0xFFFFFFFF, stream >> 32]
+
+def block(key: typing.Any, stream: typing.Any, place: typing.Any) -> typing.List[typing.Any]:
+    start = [
+        *struct.unpack("<4I", b"expand 32-byte k"), *struct.unpack("<8I", key), place & 0xFFFFFFFF,
+        place >> 32, stream & 0xFFFFFFFF, stream >> 32,
+    ]
     x = start[:]
     for _ in range(10):
-        for a, b, c, d in ((0, 4, 8, 12), (1, 5, 9, 13), (2, 6, 10, 14), (3, 7, 11, 15),
-                           (0, 5, 10, 15), (1, 6, 11, 12), (2, 7, 8, 13), (3, 4, 9, 14)):
+        for a, b, c, d in (
+            (0, 4, 8, 12), (1, 5, 9, 13), (2, 6, 10, 14), (3, 7, 11, 15), (0, 5, 10, 15),
+            (1, 6, 11, 12), (2, 7, 8, 13), (3, 4, 9, 14),
+        ):
             for p, q, r, turn in ((a, b, d, 16), (c, d, b, 12), (a, b, d, 8), (c, d, b, 7)):
                 x[p] = (x[p] + x[q]) & 0xFFFFFFFF
                 mixed = x[r] ^ x[p]
@@ -424,20 +582,24 @@ def block(key, stream, place):
 
 
 @functools.lru_cache(maxsize=4096)
-def draws(key, stream, count):
+def draws(key: typing.Any, stream: typing.Any, count: typing.Any) -> typing.Any:
     return [draw for place in range(-(-count // 8)) for draw in block(key, stream, place)][:count]
 
 
 # ---- the job
 
+
 class Job:
     """A graph, its plan and a setting, where the plan is not refused."""
 
-    def __init__(self, setting, read, origin=None):
+    def __init__(self, setting: typing.Any, read: typing.Any, origin: typing.Any = None) -> None:
         self.setting, self.origin = setting, origin
-        self.edges, self.people, self.first, self.second, self.plan, self.districts, self.regions, self.group = read
+        (
+            self.edges, self.people, self.first, self.second, self.plan, self.districts,
+            self.regions, self.group, self.frozen,
+        ) = read
         self.units, self.population = len(self.plan), sum(self.people)
-        self.neighbours = [[] for _ in self.plan]
+        self.neighbours: typing.Any = [[] for _ in self.plan]
         for u, v in self.edges:
             self.neighbours[u].append(v)
             self.neighbours[v].append(u)
@@ -446,37 +608,83 @@ class Job:
         self.high = (10000 + setting.slack) * self.population // shares
         self.judge()
 
-    def judge(self):
-        if any(score == "gap" for score, _ in self.setting.asks) and not sum(self.first) + sum(self.second):
+    def judge(self) -> None:
+        if any(score == "gap" for score, _ in self.setting.asks) and not sum(self.first) + sum(
+            self.second
+        ):
             raise Refused(2, "plan: no votes")
         sums = self.sums(self.plan, self.people)
         for district, people in enumerate(sums):
             if not self.low <= people <= self.high:
-                raise Refused(2, f"plan: district {district} has population {people}, outside {self.low} to {self.high}")
+                raise Refused(
+                    2,
+                    (
+                        f"plan: district {district} has population {people}, outside {self.low} to"
+                        f" {self.high}"
+                    ),
+                )
         for district in range(self.districts):
             members = {u for u, d in enumerate(self.plan) if d == district}
             lost = members - self.reached(members)
             if lost:
-                raise Refused(2, f"plan: district {district} has no path from unit {min(members)} to unit {min(lost)}")
+                raise Refused(
+                    2,
+                    (
+                        f"plan: district {district} has no path from unit {min(members)} to unit"
+                        f" {min(lost)}"
+                    ),
+                )
+        self.judge_rules()
+
+    def judge_rules(self) -> None:
+        """Raises Refused if the plan breaks one of the rules that were set."""
         if self.cut(self.plan) > self.setting.max_cut:
-            raise Refused(2, f"plan: {self.cut(self.plan)} cut edges, more than {self.setting.max_cut}")
+            raise Refused(
+                2, f"plan: {self.cut(self.plan)} cut edges, more than {self.setting.max_cut}"
+            )
         for region, districts in enumerate(self.districts_of_regions(self.plan)):
             if districts > self.setting.max_split:
-                raise Refused(2, f"plan: region {region} lies in {districts} districts, more than {self.setting.max_split}")
+                raise Refused(
+                    2,
+                    (
+                        f"plan: region {region} lies in {districts} districts, more than"
+                        f" {self.setting.max_split}"
+                    ),
+                )
         if self.splits(self.plan) > self.setting.max_splits:
-            raise Refused(2, f"plan: {self.splits(self.plan)} splits of regions, more than {self.setting.max_splits}")
+            raise Refused(
+                2,
+                (
+                    f"plan: {self.splits(self.plan)} splits of regions, more than"
+                    f" {self.setting.max_splits}"
+                ),
+            )
         if self.split_regions(self.plan) > self.setting.max_split_regions:
-            raise Refused(2, f"plan: {self.split_regions(self.plan)} regions lie in more than one district, more than {self.setting.max_split_regions}")
+            raise Refused(
+                2,
+                (
+                    f"plan: {self.split_regions(self.plan)} regions lie in more than one district,"
+                    f" more than {self.setting.max_split_regions}"
+                ),
+            )
         if self.majorities(self.plan) < self.setting.group_districts:
-            raise Refused(2, f"plan: the group has a majority in {self.majorities(self.plan)} districts, fewer than {self.setting.group_districts}")
+            share = self.setting.group_share
+            most = "a majority in" if share == 5000 else f"more than {share} of 10000 in"
+            raise Refused(
+                2,
+                (
+                    f"plan: the group has {most} {self.majorities(self.plan)} districts,"
+                    f" fewer than {self.setting.group_districts}"
+                ),
+            )
 
-    def sums(self, plan, column):
+    def sums(self, plan: typing.Any, column: typing.Any) -> typing.Any:
         sums = [0] * self.districts
         for district, amount in zip(plan, column):
             sums[district] += amount
         return sums
 
-    def reached(self, members):
+    def reached(self, members: typing.Any) -> typing.Any:
         """The members to which paths within them lead from the least one."""
         found, todo = {min(members)}, [min(members)]
         while todo:
@@ -486,36 +694,50 @@ class Job:
                     todo.append(v)
         return found
 
-    def cut(self, plan):
+    def cut(self, plan: typing.Any) -> typing.Any:
         return sum(plan[u] != plan[v] for u, v in self.edges)
 
-    def districts_of_regions(self, plan):
+    def districts_of_regions(self, plan: typing.Any) -> typing.List[typing.Any]:
         """For each region, how many districts a plan gives to its units."""
         pairs = Counter(region for region, _ in set(zip(self.regions, plan)))
         return [pairs[region] for region in sorted(pairs)]
 
-    def splits(self, plan):
+    def splits(self, plan: typing.Any) -> typing.Any:
         """How often regions are split in all: each by one less than the number of its districts."""
         return sum(districts - 1 for districts in self.districts_of_regions(plan))
 
-    def split_regions(self, plan):
-        """How many regions lie in more than one district."""
+    def split_regions(self, plan: typing.Any) -> typing.Any:
+        """Returns the number of regions in more than one district."""
         return sum(districts > 1 for districts in self.districts_of_regions(plan))
 
-    def majorities(self, plan):
-        """In how many districts the group has more than half of the whole; none where there is no group."""
+    def majorities(self, plan: typing.Any) -> typing.Any:
+        """In how many districts the group has more than its share of the whole; none where there is
+        no group.
+        """
         if not self.group:
             return 0
         members, whole = (self.sums(plan, column) for column in self.group)
-        return sum(2 * part > all_of_it for part, all_of_it in zip(members, whole))
+        return sum(
+            10000 * part > self.setting.group_share * all_of_it
+            for part, all_of_it in zip(members, whole)
+        )
 
-    def meets_rules(self, plan):
+    def meets_rules(self, plan: typing.Any) -> bool:
         setting = self.setting
-        return (self.cut(plan) <= setting.max_cut and all(districts <= setting.max_split for districts in self.districts_of_regions(plan))
-                and self.splits(plan) <= setting.max_splits and self.split_regions(plan) <= setting.max_split_regions
-                and self.majorities(plan) >= setting.group_districts)
+        return (
+            self.cut(plan) <= setting.max_cut
+            and all(districts <= setting.max_split for districts in self.districts_of_regions(plan))
+            and self.splits(plan) <= setting.max_splits
+            and self.split_regions(plan) <= setting.max_split_regions
+            and self.majorities(plan) >= setting.group_districts
+            and all(
+                plan[unit] == self.plan[unit]
+                for unit, is_frozen in enumerate(self.frozen)
+                if is_frozen
+            )
+        )
 
-    def is_legal(self, plan):
+    def is_legal(self, plan: typing.Any) -> typing.Any:
         if any(not self.low <= people <= self.high for people in self.sums(plan, self.people)):
             return False
         for district in range(self.districts):
@@ -524,11 +746,11 @@ class Job:
                 return False
         return self.meets_rules(plan)
 
-    def walk(self, plan, stream, steps):
+    def walk(self, plan: typing.Any, stream: typing.Any, steps: typing.Any) -> typing.Any:
         """The plans visited, and the moves."""
         visited, moved, pairs = [plan], 0, self.units * self.districts
         for draw in draws(self.setting.key, stream, steps):
-            if draw < 2 ** 64 // pairs * pairs:
+            if draw < 2**64 // pairs * pairs:
                 unit, district = divmod(draw % pairs, self.districts)
                 if plan[unit] != district:
                     changed = (*plan[:unit], district, *plan[unit + 1:])
@@ -537,7 +759,7 @@ class Job:
             visited.append(plan)
         return visited, moved
 
-    def value(self, plan, score):
+    def value(self, plan: typing.Any, score: typing.Any) -> typing.Any:
         pairs = list(zip(self.sums(plan, self.first), self.sums(plan, self.second)))
         if score == "seats":
             return sum(a > b for a, b in pairs)
@@ -549,58 +771,98 @@ class Job:
         count = self.districts
         return count * (shares[(count - 1) // 2] + shares[count // 2]) - 2 * sum(shares)
 
-    def denominator(self, score):
-        return {"seats": 1, "cut-edges": 1, "mean-median": 2 * self.districts * BILLION,
-                "gap": 2 * (sum(self.first) + sum(self.second))}[score]
+    def denominator(self, score: typing.Any) -> typing.Any:
+        return {
+            "seats": 1,
+            "cut-edges": 1,
+            "mean-median": 2 * self.districts * BILLION,
+            "gap": 2 * (sum(self.first) + sum(self.second)),
+        }[score]
 
-    def limits_splits(self):
-        """Whether there are regions, of which the splits or the split ones are limited."""
-        return bool(self.regions) and (self.setting.max_splits < MOST_SPLITS or self.setting.max_split_regions < MOST_REGIONS)
+    def limits_splits(self) -> typing.Any:
+        """Returns whether there are regions whose splits, or whose split ones, are limited."""
+        return bool(self.regions) and (
+            self.setting.max_splits < MOST_SPLITS or self.setting.max_split_regions < MOST_REGIONS
+        )
 
-    def digest(self):
+    def digest(self) -> typing.Any:
         setting = self.setting
         further = self.limits_splits() or self.group
-        limited = setting.max_cut < MOST_CUT or self.regions or self.group
-        parts = [b"district-job 3" if further else b"district-job 2" if limited else b"district-job 1"]
+        limited = setting.max_cut < MOST_CUT or self.regions or self.group or self.frozen
+        has_share = self.group and setting.group_share != 5000
+        version = 4 if has_share or self.frozen else 3 if further else 2 if limited else 1
+        parts = [b"district-job %d" % version]
         parts += [struct.pack(">3I", self.units, len(self.edges), self.districts)]
         parts += [struct.pack(">2I", *edge) for edge in self.edges]
-        parts += [struct.pack(">3QI", *unit) for unit in zip(self.people, self.first, self.second, self.plan)]
-        parts += [struct.pack(">I", setting.slack), setting.key,
-                  struct.pack(">4I", setting.walks, setting.steps, setting.ends, setting.hub_steps), struct.pack(">I", len(setting.asks))]
-        parts += [struct.pack(">2I", SCORES.index(score), TAILS.index(tail)) for score, tail in setting.asks]
+        parts += [
+            struct.pack(">3QI", *unit)
+            for unit in zip(self.people, self.first, self.second, self.plan)
+        ]
+        parts += [
+            struct.pack(">I", setting.slack),
+            setting.key,
+            struct.pack(">4I", setting.walks, setting.steps, setting.ends, setting.hub_steps),
+            struct.pack(">I", len(setting.asks)),
+        ]
+        parts += [
+            struct.pack(">2I", SCORES.index(score), TAILS.index(tail))
+            for score, tail in setting.asks
+        ]
         parts += [struct.pack(">I", setting.max_cut)] if limited else []
-        parts += [struct.pack(f">{len(self.regions) + 1}I", setting.max_split, *self.regions)] if self.regions else []
-        parts += [struct.pack(">2I", setting.max_splits, setting.max_split_regions)] if self.limits_splits() else []
+        parts += (
+            [struct.pack(f">{len(self.regions) + 1}I", setting.max_split, *self.regions)]
+            if self.regions
+            else []
+        )
+        parts += (
+            [struct.pack(">2I", setting.max_splits, setting.max_split_regions)]
+            if self.limits_splits()
+            else []
+        )
         parts += [struct.pack(">I", setting.group_districts)] if self.group else []
         parts += [struct.pack(">2Q", *both) for both in zip(*self.group)]
+        parts += [b"group-share", struct.pack(">I", setting.group_share)] if has_share else []
+        parts += [b"freeze", struct.pack(f">{self.units}I", *self.frozen)] if self.frozen else []
         return hashlib.sha256(b"".join(parts)).digest()
 
 
-OUTCOMES = {}
+OUTCOMES: typing.Dict[typing.Any, typing.Any] = {}
 
 
-def is_inside(value, start, tail):
-    return value <= start if tail == "low" else value >= start
+def is_inside(value: typing.Any, start: typing.Any, tail: typing.Any) -> bool:
+    return bool(value <= start if tail == "low" else value >= start)
 
 
-def bins_of(job, visited):
-    """How many of the plans have 4 seats fewer than the start or less, 3 fewer, and so on to 4 more or above."""
+def bins_of(job: typing.Any, visited: typing.Any) -> typing.Any:
+    """Returns the histogram of seats against the start's: 4 fewer or less, 3 fewer, up to 4 more or
+    above.
+    """
     start, bins = job.value(job.plan, "seats"), [0] * 9
     for plan in visited:
         bins[max(-4, min(4, job.value(plan, "seats") - start)) + 4] += 1
     return tuple(bins)
 
 
-def outcomes(job, key):
-    """The moves, the values and the bins of each trajectory, by id; those from the hub have bins of 0."""
+def outcomes(job: typing.Any, key: typing.Any) -> typing.Any:
+    """The moves, the values and the bins of each trajectory, by id; those from the hub have bins of
+    0.
+    """
     if key in OUTCOMES:
         return OUTCOMES[key]
     setting, plan, found = job.setting, tuple(job.plan), []
     start = [job.value(plan, score) for score, _ in setting.asks]
     for walk in range(setting.walks):
         visited, moved = job.walk(plan, 2 * walk, setting.steps)
-        found.append((moved, [sum(is_inside(job.value(one, score), first, tail) for one in visited)
-                              for first, (score, tail) in zip(start, setting.asks)], bins_of(job, visited)))
+        found.append(
+            (
+                moved,
+                [
+                    sum(is_inside(job.value(one, score), first, tail) for one in visited)
+                    for first, (score, tail) in zip(start, setting.asks)
+                ],
+                bins_of(job, visited),
+            )
+        )
     hub = job.walk(plan, 1, setting.hub_steps)[0][-1] if setting.ends else None
     for end in range(setting.ends):
         visited, moved = job.walk(hub, 2 * end + 3, setting.hub_steps)
@@ -611,13 +873,20 @@ def outcomes(job, key):
     return found
 
 
-def asked(job, key):
-    """The same, with bins only where the job asks for them."""
-    return [(moved, values, bins if job.setting.shift else NO_BINS) for moved, values, bins in outcomes(job, key)]
+def asked(job: typing.Any, key: typing.Any) -> typing.List[typing.Any]:
+    """Returns the outcomes, with histograms only where the job asks for them."""
+    return [
+        (moved, values, bins if job.setting.shift else NO_BINS)
+        for moved, values, bins in outcomes(job, key)
+    ]
 
 
-def stop_of(values, start, tail, enough):
-    """The least number of values of which so many are in the tail, and their part; or all values, and one more than those in the tail."""
+def stop_of(
+    values: typing.Any, start: typing.Any, tail: typing.Any, enough: typing.Any
+) -> typing.Any:
+    """Returns the least number of values that have enough in the tail, and their part; else all
+    values, and one more than those in the tail.
+    """
     count = 0
     for place, value in enumerate(values, 1):
         count += is_inside(value, start, tail)
@@ -626,162 +895,246 @@ def stop_of(values, start, tail, enough):
     return len(values), count + 1, len(values) + 1
 
 
-def serial(job):
-    """The place of the start plan in one run through it, and for each ask how many plans of the run are in its tail."""
+def serial(job: typing.Any) -> typing.Any:
+    """The place of the start plan in one run through it, and for each ask how many plans of the run
+    are in its tail.
+    """
     setting, plan = job.setting, tuple(job.plan)
-    place = draws(setting.key, 2 ** 33, 1)[0] % (setting.steps + 1)
-    forward, backward = job.walk(plan, 2 ** 33 + 1, place)[0], job.walk(plan, 2 ** 33 + 2, setting.steps - place)[0]
+    place = draws(setting.key, 2**33, 1)[0] % (setting.steps + 1)
+    forward, backward = (
+        job.walk(plan, 2**33 + 1, place)[0],
+        job.walk(plan, 2**33 + 2, setting.steps - place)[0],
+    )
     run = backward[:0:-1] + forward
-    return place, [sum(is_inside(job.value(one, score), job.value(plan, score), tail) for one in run) for score, tail in setting.asks]
+    return place, [
+        sum(is_inside(job.value(one, score), job.value(plan, score), tail) for one in run)
+        for score, tail in setting.asks
+    ]
 
 
 # ---- texts
 
-def billionths(n):
+
+def billionths(n: typing.Any) -> str:
     return f"{n // BILLION}.{n % BILLION:09d}"
 
 
-def bound(count, of):
+def bound(count: typing.Any, of: typing.Any) -> typing.Any:
     least = -(-2 * count * BILLION * BILLION // of)
     root = math.isqrt(least)
     return root if root * root >= least else root + 1
 
 
-def head(job):
+def head(job: typing.Any) -> typing.Any:
     setting = job.setting
-    lines = [f"units {job.units} edges {len(job.edges)} districts {job.districts}",
-             f"population {job.population} slack {setting.slack} low {job.low} high {job.high}"]
+    lines = [
+        f"units {job.units} edges {len(job.edges)} districts {job.districts}",
+        f"population {job.population} slack {setting.slack} low {job.low} high {job.high}",
+    ]
     lines += [f"max-cut {setting.max_cut}"] if setting.max_cut < MOST_CUT else []
-    lines += [f"max-split {setting.max_split} regions {len(set(job.regions))}"] if job.regions else []
-    lines += [f"max-splits {setting.max_splits} max-split-regions {setting.max_split_regions}"] if job.limits_splits() else []
-    return lines + ([f"group-districts {setting.group_districts} of {job.majorities(job.plan)}"] if job.group else [])
+    lines += (
+        [f"max-split {setting.max_split} regions {len(set(job.regions))}"] if job.regions else []
+    )
+    lines += (
+        [f"max-splits {setting.max_splits} max-split-regions {setting.max_split_regions}"]
+        if job.limits_splits()
+        else []
+    )
+    lines += (
+        [f"group-districts {setting.group_districts} of {job.majorities(job.plan)}"]
+        if job.group
+        else []
+    )
+    has_share = job.group and setting.group_share != 5000
+    lines += [f"group-share {setting.group_share}"] if has_share else []
+    return lines + ([f"frozen {sum(job.frozen)}"] if job.frozen else [])
 
 
-def quoted(text):
+def quoted(text: typing.Any) -> typing.Any:
     """A text as JSON writes it, with the shortest escapes, and only where JSON wants one."""
     return json.dumps(text, ensure_ascii=False)
 
 
-def origin_lines(job):
-    """What was read, and which columns of it, where the words ask for it."""
+def origin_lines(job: typing.Any) -> typing.List[typing.Any]:
+    """Returns the lines of the source, if the words ask for them."""
     if job.origin is None:
         return []
     setting = job.setting
     words = ["columns", *(quoted(column) for column in setting.columns)]
     words += ["region", quoted(setting.region)] if setting.region else []
-    words += ["group", quoted(setting.group[0]), "of", quoted(setting.group[1])] if setting.group else []
+    words += (
+        ["group", quoted(setting.group[0]), "of", quoted(setting.group[1])] if setting.group else []
+    )
+    words += ["freeze", quoted(setting.freeze)] if setting.freeze else []
     return [f"source sha256 {job.origin.sha256.hex()} bytes {job.origin.bytes}", " ".join(words)]
 
 
-def check_text(job):
+def check_text(job: typing.Any) -> str:
     return "\n".join(["plan-check 1", *origin_lines(job), *head(job), "end", ""])
 
 
-def p_value(top, of):
+def p_value(top: typing.Any, of: typing.Any) -> str:
     return f"p {billionths(-(-top * BILLION // of))}"
 
 
-def part(rank, of):
-    """A rank of so many, and their fraction."""
+def part(rank: typing.Any, of: typing.Any) -> str:
+    """Returns a rank among a number of plans, and their fraction."""
     return f"rank {rank} of {of} {p_value(rank, of)}"
 
 
-def report(job, found):
+def report(job: typing.Any, found: typing.Any) -> str:
     """The report on these outcomes, given by rising id as moves, values and bins."""
     setting = job.setting
-    lines = [f"district-audit {2 if setting.shift else 1}", *origin_lines(job), "key " + setting.key.hex(), *head(job),
-             f"walks {setting.walks} steps {setting.steps} ends {setting.ends} hub-steps {setting.hub_steps}",
-             *([f"stop {setting.stop}"] if setting.stop else [])]
+    lines = [
+        f"district-audit {2 if setting.shift else 1}",
+        *origin_lines(job),
+        "key " + setting.key.hex(),
+        *head(job),
+        (
+            f"walks {setting.walks} steps {setting.steps} ends {setting.ends} hub-steps"
+            f" {setting.hub_steps}"
+        ),
+        *([f"stop {setting.stop}"] if setting.stop else []),
+    ]
     start = [job.value(job.plan, score) for score, _ in setting.asks]
-    words = [f"{score} {tail} start {first}/{job.denominator(score)}" for first, (score, tail) in zip(start, setting.asks)]
-    for walk, (moved, counts, _) in enumerate(found[:setting.walks]):
+    words = [
+        f"{score} {tail} start {first}/{job.denominator(score)}"
+        for first, (score, tail) in zip(start, setting.asks)
+    ]
+    for walk, (moved, counts, _) in enumerate(found[: setting.walks]):
         for ask, count in zip(words, counts):
-            lines.append(f"walk {walk} moved {moved} {ask} count {count} of {setting.steps + 1} bound {billionths(bound(count, setting.steps + 1))}")
+            lines.append(
+                f"walk {walk} moved {moved} {ask} count {count} of {setting.steps + 1} bound"
+                f" {billionths(bound(count, setting.steps + 1))}"
+            )
     if setting.shift:
-        lines.append(" ".join(["shift", *(str(sum(one[2][place] for one in found)) for place in range(9))]))
+        lines.append(
+            " ".join(["shift", *(str(sum(one[2][place] for one in found)) for place in range(9))])
+        )
     for place, (_, tail) in enumerate(setting.asks if setting.stop else []):
-        at, top, of = stop_of([values[place] for _, values, _ in found[setting.walks:]], start[place], tail, setting.stop)
+        at, top, of = stop_of(
+            [values[place] for _, values, _ in found[setting.walks:]], start[place], tail,
+            setting.stop,
+        )
         lines.append(f"stop {words[place]} place {at} value {top}/{of} {p_value(top, of)}")
     for place, (_, tail) in enumerate(setting.asks if setting.ends and not setting.stop else []):
-        rank = 1 + sum(is_inside(values[place], start[place], tail) for _, values, _ in found[setting.walks:])
+        rank = 1 + sum(
+            is_inside(values[place], start[place], tail) for _, values, _ in found[setting.walks:]
+        )
         lines.append(f"ends {words[place]} {part(rank, setting.ends + 1)}")
     if setting.serial:
         place, ranks = serial(job)
-        lines += [f"serial {ask} place {place} {part(rank, setting.steps + 1)}" for ask, rank in zip(words, ranks)]
+        lines += [
+            f"serial {ask} place {place} {part(rank, setting.steps + 1)}"
+            for ask, rank in zip(words, ranks)
+        ]
     return "\n".join([*lines, "end", ""])
 
 
 # ---- checkpoints
 
-def sealed(front):
+
+def sealed(front: typing.Any) -> typing.Any:
     return front + hashlib.sha256(front).digest()
 
 
-def checkpoint(digest, generation, found, version=2):
-    """The bytes of a checkpoint of outcomes, a map from the id to the moves, the values and the bins; in version 1 without the bins."""
+def checkpoint(
+    digest: typing.Any, generation: typing.Any, found: typing.Any, version: int = 2
+) -> typing.Any:
+    """The bytes of a checkpoint of outcomes, a map from the id to the moves, the values and the
+    bins; in version 1 without the bins.
+    """
     records = []
     for one, (moved, values, bins) in sorted(found.items()):
         records.append(struct.pack(">IQ4q", one, moved, *values, *[0] * (4 - len(values))))
         records += [struct.pack(">9I", *bins)] if version == 2 else []
-    return sealed(b"DISTCKPT" + struct.pack(">I", version) + digest + struct.pack(">2I", generation, len(found)) + b"".join(records))
+    return sealed(
+        b"DISTCKPT"
+        + struct.pack(">I", version)
+        + digest
+        + struct.pack(">2I", generation, len(found))
+        + b"".join(records)
+    )
 
 
 Slot = namedtuple("Slot", "fault job generation records")
 
 
-def decoded(data):
-    """What a slot is, whatever the job."""
-    def broken(why):
-        return Slot(why, None, None, None)
-
-    if data is None:
-        return broken("absent")
-    if len(data) > MOST_SLOT:
-        return broken("too long")
-    if len(data) < 84:
-        return broken("too short")
-    version, generation, count = (struct.unpack_from(">I", data, at)[0] for at in (8, 44, 48))
-    if data[:8] != b"DISTCKPT":
-        return broken("bad magic")
-    if version not in (1, 2):
-        return broken("bad version")
-    if generation > 2:
-        return broken("bad generation")
-    size = 44 if version == 1 else 80
-    if count > 100000 or len(data) != 84 + size * count:
-        return broken("bad count")
-    records = [(*one, *NO_BINS)[:15] for one in struct.iter_unpack(">IQ4q" if version == 1 else ">IQ4q9I", data[52:-32])]
+def decoded(data: typing.Any) -> typing.Any:
+    """Returns a slot as it is, whatever the job."""
+    fault = size_fault(data) or head_fault(data)
+    if fault:
+        return Slot(fault, None, None, None)
+    version, generation = (struct.unpack_from(">I", data, at)[0] for at in (8, 44))
+    records = [
+        (*one, *NO_BINS)[:15]
+        for one in struct.iter_unpack(">IQ4q" if version == 1 else ">IQ4q9I", data[52:-32])
+    ]
     if any(one[0] >= other[0] for one, other in zip(records, records[1:])):
-        return broken("bad order")
+        return Slot("bad order", None, None, None)
     if sealed(data[:-32]) != data:
-        return broken("bad digest")
+        return Slot("bad digest", None, None, None)
     return Slot(None, data[12:44], generation, records)
 
 
-def fits(setting, one):
+def size_fault(data: typing.Any) -> str:
+    """Returns the fault of a slot that is no file or has too many or too few bytes; '' if none."""
+    if data is None:
+        return "absent"
+    if len(data) > MOST_SLOT:
+        return "too long"
+    return "too short" if len(data) < 84 else ""
+
+
+def head_fault(data: bytes) -> str:
+    """Returns the fault in the head of a slot; '' if there is none."""
+    version, generation, count = (struct.unpack_from(">I", data, at)[0] for at in (8, 44, 48))
+    if data[:8] != b"DISTCKPT":
+        return "bad magic"
+    if version not in (1, 2):
+        return "bad version"
+    if generation > 2:
+        return "bad generation"
+    size = 44 if version == 1 else 80
+    return "bad count" if count > 100000 or len(data) != 84 + size * count else ""
+
+
+def fits(setting: typing.Any, one: typing.Any) -> typing.Any:
     is_walk, asks = one[0] < setting.walks, len(setting.asks)
     values, bins = one[2:6], one[6:]
-    return (one[0] < setting.total and one[1] <= (setting.steps if is_walk else setting.hub_steps) and not any(values[asks:])
-            and (not is_walk or all(1 <= count <= setting.steps + 1 for count in values[:asks]))
-            and (not any(bins) or is_walk and sum(bins) == setting.steps + 1))
+    return (
+        one[0] < setting.total
+        and one[1] <= (setting.steps if is_walk else setting.hub_steps)
+        and not any(values[asks:])
+        and (not is_walk or all(1 <= count <= setting.steps + 1 for count in values[:asks]))
+        and (not any(bins) or is_walk and sum(bins) == setting.steps + 1)
+    )
 
 
-def looked(setting, digest, data):
+def looked(setting: typing.Any, digest: typing.Any, data: typing.Any) -> typing.Any:
     slot = decoded(data)
-    if slot.fault is None and slot.job == digest and not all(fits(setting, one) for one in slot.records):
+    if (
+        slot.fault is None
+        and slot.job == digest
+        and not all(fits(setting, one) for one in slot.records)
+    ):
         return Slot("unfit", None, None, None)
     return slot
 
 
-def newest(slots):
+def newest(slots: typing.Any) -> typing.Any:
     intact = [at for at in (0, 1) if slots[at].fault is None]
     if len(intact) == 2:
         return 1 if slots[1].generation == (slots[0].generation + 1) % 3 else 0
     return intact[0] if intact else None
 
 
-def opening(slots, digest, setting):
-    """The outcomes from which a run goes on: bare ones where it asks for no bins, and else the walks that have theirs and all ends."""
+def opening(
+    slots: typing.Any, digest: typing.Any, setting: typing.Any
+) -> typing.Dict[typing.Any, typing.Any]:
+    """The outcomes from which a run goes on: bare ones where it asks for no bins, and else the
+    walks that have theirs and all ends.
+    """
     if all(slot.fault == "absent" for slot in slots):
         return {}
     at = newest(slots)
@@ -789,15 +1142,22 @@ def opening(slots, digest, setting):
         raise Refused(8, f"checkpoint: slot 0 {slots[0].fault}, slot 1 {slots[1].fault}")
     if slots[at].job != digest:
         raise Refused(8, f"checkpoint: other job {slots[at].job.hex()}, this job {digest.hex()}")
-    found = {one[0]: (one[1], list(one[2:2 + len(setting.asks)]), one[6:]) for one in slots[at].records}
+    found = {
+        one[0]: (one[1], list(one[2:2 + len(setting.asks)]), one[6:]) for one in slots[at].records
+    }
     if not setting.shift:
         return {one: (moved, values, NO_BINS) for one, (moved, values, _) in found.items()}
-    return {one: outcome for one, outcome in found.items() if one >= setting.walks or any(outcome[2])}
+    return {
+        one: outcome for one, outcome in found.items() if one >= setting.walks or any(outcome[2])
+    }
 
 
 # ---- traces
 
-def trajectory_lines(job, id, thin, hub):
+
+def trajectory_lines(
+    job: typing.Any, id: typing.Any, thin: typing.Any, hub: typing.Any
+) -> typing.Any:
     """The lines of the trajectory with this id, by the model's walk."""
     setting, start = job.setting, tuple(job.plan)
     if id < setting.walks:
@@ -805,7 +1165,9 @@ def trajectory_lines(job, id, thin, hub):
     else:
         first, stream, steps = hub, 2 * (id - setting.walks) + 3, setting.hub_steps
     visited = job.walk(first, stream, steps)[0]
-    lines, before, moved, shown = [f"trace id {id} steps {steps} thin {thin}"], start, 0, {*range(0, steps, thin), steps}
+    lines, before, moved, shown = (
+        [f"trace id {id} steps {steps} thin {thin}"], start, 0, {*range(0, steps, thin), steps},
+    )
     for step in range(steps + 1):
         moved += step > 0 and visited[step] != visited[step - 1]
         if step in shown:
@@ -816,13 +1178,25 @@ def trajectory_lines(job, id, thin, hub):
     return lines
 
 
-def trace_text(job, first, last, thin):
+def trace_text(job: typing.Any, first: typing.Any, last: typing.Any, thin: typing.Any) -> str:
     """The trace of the trajectories from the first id to the last."""
     setting, start = job.setting, tuple(job.plan)
     hub = job.walk(start, 1, setting.hub_steps)[0][-1]
-    asks = [f"ask {score} {tail} start {job.value(start, score)}/{job.denominator(score)}" for score, tail in setting.asks]
-    lines = ["district-trace 1", *origin_lines(job), "key " + setting.key.hex(), *head(job),
-             f"walks {setting.walks} steps {setting.steps} ends {setting.ends} hub-steps {setting.hub_steps}", *asks]
+    asks = [
+        f"ask {score} {tail} start {job.value(start, score)}/{job.denominator(score)}"
+        for score, tail in setting.asks
+    ]
+    lines = [
+        "district-trace 1",
+        *origin_lines(job),
+        "key " + setting.key.hex(),
+        *head(job),
+        (
+            f"walks {setting.walks} steps {setting.steps} ends {setting.ends} hub-steps"
+            f" {setting.hub_steps}"
+        ),
+        *asks,
+    ]
     for id in range(first, last + 1):
         lines += trajectory_lines(job, id, thin, hub)
     return "\n".join([*lines, "end", ""])
@@ -830,20 +1204,31 @@ def trace_text(job, first, last, thin):
 
 # ---- the whole call
 
-def run(job, slots):
+
+def run(job: typing.Any, slots: typing.Any) -> typing.Any:
     setting, digest = job.setting, job.digest()
-    seen = [looked(setting, digest, data) for data in slots] if setting.save or setting.resume else None
+    seen = (
+        [looked(setting, digest, data) for data in slots]
+        if setting.save or setting.resume
+        else None
+    )
     found = opening(seen, digest, setting) if setting.resume else {}
-    todo = [one for one in range(setting.part, setting.total, setting.parts) if one not in found][:setting.budget]
+    todo = [one for one in range(setting.part, setting.total, setting.parts) if one not in found][
+        : setting.budget
+    ]
     every = asked(job, digest) if todo else []
     slots, counts = list(slots), []
     if setting.save:
         at = newest(seen)
-        slot, generation = (0, 0) if at is None else (1 - at, (seen[at].generation + 1) % 3)
+        slot, generation = (0, 0)
+        if seen is not None and at is not None:
+            slot, generation = 1 - at, (seen[at].generation + 1) % 3
         counts = list(range(setting.save, len(todo) + 1, setting.save))
         counts += [len(todo)] if not counts or counts[-1] != len(todo) else []
     for count in counts:
-        slots[slot] = checkpoint(digest, generation, {**found, **{one: every[one] for one in todo[:count]}})
+        slots[slot] = checkpoint(
+            digest, generation, {**found, **{one: every[one] for one in todo[:count]}}
+        )
         slot, generation = 1 - slot, (generation + 1) % 3
     found = {**found, **{one: every[one] for one in todo}}
     if len(found) < setting.total:
@@ -851,21 +1236,23 @@ def run(job, slots):
     return End(0, report(job, [found[one] for one in sorted(found)]), "", slots)
 
 
-def origin_of(setting, data):
+def origin_of(setting: typing.Any, data: typing.Any) -> typing.Any:
     """The origin of a job of these bytes, where the words ask for it."""
     return Origin(hashlib.sha256(data).digest(), len(data)) if setting.source else None
 
 
-def job_of(setting, graph):
-    return Job(setting, reading(graph, setting.columns, setting.region, setting.group), origin_of(setting, graph))
+def job_of(setting: typing.Any, graph: typing.Any) -> typing.Any:
+    return Job(setting, reading(graph, setting), origin_of(setting, graph))
 
 
-def jobs_of(setting, data):
-    """The name and the job of each plan: of the graph's own, and of each plan of the table behind the first line feed."""
+def jobs_of(setting: typing.Any, data: typing.Any) -> typing.Any:
+    """The name and the job of each plan: of the graph's own, and of each plan of the table behind
+    the first line feed.
+    """
     graph, _, table = data.partition(b"\n")
     if len(data) > MOST_INPUT:
         refuse(f"more than {MOST_INPUT} bytes")
-    read, origin = reading(graph, setting.columns, setting.region, setting.group), origin_of(setting, data)
+    read, origin = reading(graph, setting), origin_of(setting, data)
     ids = [str(node["id"]).encode("utf-8") for node in parsed(graph)["nodes"]]
     plans = plans_of(table, ids)
     jobs = [(setting.columns[3], Job(setting, read, origin))]
@@ -877,17 +1264,28 @@ def jobs_of(setting, data):
     return jobs
 
 
-def audit(words, graph, slots):
+def audit(words: typing.Any, graph: typing.Any, slots: typing.Any) -> typing.Any:
     """How a call with ample memory, over files that do not fail, must end."""
     try:
         setting = Setting(words)
         if setting.command == "plans":
-            return End(0, "".join(f"plan {name}\n" + report(job, asked(job, job.digest())) for name, job in jobs_of(setting, graph)), "", list(slots))
+            return End(
+                0,
+                "".join(
+                    f"plan {name}\n" + report(job, asked(job, job.digest()))
+                    for name, job in jobs_of(setting, graph)
+                ),
+                "",
+                list(slots),
+            )
         job = job_of(setting, graph)
         if setting.command == "check":
             return End(0, check_text(job), "", list(slots))
         if setting.command == "trace":
-            return End(0, trace_text(job, *ids_of(setting.value["--ids"]), setting.of("--thin")), "", list(slots))
+            first, last = ids_of(setting.value["--ids"])
+            return End(
+                0, trace_text(job, first, last, setting.of("--thin")), "", list(slots),
+            )
         return run(job, slots)
     except Refused as refusal:
         return End(refusal.status, "", refusal.note + "\n", list(slots))

@@ -37,7 +37,7 @@ ended() {
     same_text "$name/end_$step" "status $2, note: $3" "status $1, note: $(cat "$room/$name.note")"
 }
 
-# What is in the folder.
+# The files of the folder.
 sum_of_slots() {
     stat -c '%n %s %y %z' . ./* 2>&1 | cat - ./audit-?.ckpt 2>/dev/null | sha256sum
 }
@@ -96,7 +96,7 @@ run 8 "checkpoint: slot 0 absent, slot 1 too long" --save 2 --resume yes
 nothing
 size audit-1.ckpt 8000085
 
-# What is no plain file is there, and is neither opened nor written: devices, a pipe that nobody writes to, and a link to nothing. With and
+# Devices, a pipe that nobody writes to, and a link to nothing stand in the place of files, and are neither opened nor written. With and
 # without going on.
 for kind in null full pipe nothing; do
     for more in "" "--resume yes"; do

@@ -14,17 +14,39 @@ from __future__ import annotations
 import os
 import re
 import sys
-from typing import Any, Dict, List
+from typing import Dict, List
 
-from tests.system import folder_model
+from tests.oracle import model
+from tests.system import folder_model, power_cuts
 from tests.system.folder_model import Folder
-from tests.system.folder_room import (BINNED, CYCLE, KINDS, LOAD_FAULT, LOOK, NAMES, OTHER, RUN, SAVE_FAULT,
-                         WITH_FOLDER, WITH_LOOK, WITH_RUN, Room, as_nobody_can_write, case, damaged,
-                         holding, model, power_cuts, run_cases, saved, some, traced, with_value)
-
+from tests.system.folder_room import (
+    BINNED,
+    CYCLE,
+    KINDS,
+    LOAD_FAULT,
+    LOOK,
+    NAMES,
+    OTHER,
+    RUN,
+    SAVE_FAULT,
+    WITH_FOLDER,
+    WITH_LOOK,
+    WITH_RUN,
+    Room,
+    as_nobody_can_write,
+    case,
+    damaged,
+    holding,
+    run_cases,
+    saved,
+    some,
+    traced,
+    with_value,
+)
 
 
 # ---- audit_slots
+
 
 @case
 def slots_of_another_folder(room: Room) -> None:
@@ -41,8 +63,10 @@ def slots_of_another_folder(room: Room) -> None:
 @case
 def slots_of_no_folder(room: Room) -> None:
     """In a folder that does not exist both slots are absent."""
-    room.slots(["../nowhere", *RUN], {".": holding(some(range(2)))},
-               said="slot 0: absent\nslot 1: absent\nnewest: none\ndone: 0 of 12\n")
+    room.slots(
+        ["../nowhere", *RUN], {".": holding(some(range(2)))},
+        said="slot 0: absent\nslot 1: absent\nnewest: none\ndone: 0 of 12\n",
+    )
 
 
 @case
@@ -51,8 +75,10 @@ def slots_of_a_file(room: Room) -> None:
     for words in WITH_RUN:
         place = room.tools["audit_slots"]
         end = room.ended([place, "../audit_slots", *words], {".": Folder()})
-        room.compare("a file in place of a folder", end, model.End(6, "", LOAD_FAULT, [None, None]),
-                     {".": Folder()})
+        room.compare(
+            "a file in place of a folder", end, model.End(6, "", LOAD_FAULT, [None, None]),
+            {".": Folder()},
+        )
 
 
 @case
@@ -73,8 +99,9 @@ def slots_refuses_words_before_it_reads(room: Room) -> None:
     """Refused words, then the graph, then the slots."""
     bad = Folder(unreadable=(0, 1))
     for name, value in (("--walks", "012"), ("--ask", "gap"), ("--key", "0")):
-        room.slots(["../p", *with_value(name, value)], {"../p": bad},
-                   said=f"words: bad value for {name}\n")
+        room.slots(
+            ["../p", *with_value(name, value)], {"../p": bad}, said=f"words: bad value for {name}\n"
+        )
     room.slots(["../p", "nothing"], {"../p": bad}, said="words: unknown command nothing\n")
     room.slots(["../p", *RUN], {"../p": bad}, graph=b"{", said="graph: not JSON\n")
     room.slots(["../p", *with_value("--slack", "0")], {"../p": bad}, graph=CYCLE)
@@ -86,8 +113,10 @@ def slots_refuses_commands_that_save_nothing(room: Room) -> None:
     """`check` and `plans` are unknown, behind a folder too, before their own words are read."""
     for command in (name for name in model.COMMANDS if name not in folder_model.SAVING):
         for folder in WITH_FOLDER:
-            room.slots([*folder, command, "--nothing"], {"../p": Folder(unreadable=(0,))},
-                       said=f"words: unknown command {command}\n")
+            room.slots(
+                [*folder, command, "--nothing"], {"../p": Folder(unreadable=(0,))},
+                said=f"words: unknown command {command}\n",
+            )
 
 
 @case
@@ -111,11 +140,14 @@ def slots_of_a_held_folder(room: Room) -> None:
 def slots_text_cannot_be_written(room: Room) -> None:
     folders = {".": holding(some(range(2)))}
     end = room.ended([room.tools["audit_slots"], *RUN], folders, out="/dev/full")
-    room.compare("audit_slots to a full device", end,
-                 model.End(5, "", "write fault\n", list(folders["."].slots)), folders)
+    room.compare(
+        "audit_slots to a full device", end,
+        model.End(5, "", "write fault\n", list(folders["."].slots)), folders,
+    )
 
 
 # ---- audit_gather: what is refused, and in which order
+
 
 @case
 def neither_slots_nor_gather(room: Room) -> None:
@@ -131,8 +163,9 @@ def neither_slots_nor_gather(room: Room) -> None:
 def gather_asks_for_a_folder(room: Room) -> None:
     """No folder is refused before the words of the run; with `--look yes` none is needed."""
     own = {".": holding(some(range(3)))}
-    calls: List[List[str]] = [RUN, ["--look", "no", *RUN], ["run", "--nothing"], ["check"], [],
-                              ["--look", "no"]]
+    calls: List[List[str]] = [
+        RUN, ["--look", "no", *RUN], ["run", "--nothing"], ["check"], [], ["--look", "no"],
+    ]
     for words in calls:
         room.gather(words, own, said="words: no folder\n")
     room.gather([*LOOK, *RUN], own, said="working folder: 3 outcomes\ndone: 3 of 12\n")
@@ -144,8 +177,10 @@ def gather_asks_for_a_folder(room: Room) -> None:
 @case
 def gather_look_alone(room: Room) -> None:
     """A bad value of `--look` comes before all others."""
-    for words in (["--look"], ["--look", "maybe", *RUN], ["--look", "Yes", "../p", *RUN],
-                  ["--look", "run"], ["--look", ""]):
+    for words in (
+        ["--look"], ["--look", "maybe", *RUN], ["--look", "Yes", "../p", *RUN], ["--look", "run"],
+        ["--look", ""],
+    ):
         room.gather(words, {".": Folder(unreadable=(0,))}, said="words: bad value for --look\n")
 
 
@@ -156,8 +191,10 @@ def gather_refuses_words_before_it_reads(room: Room) -> None:
     folders = {".": bad, "../p": bad}
     for look in WITH_LOOK:
         for name, value in (("--walks", "012"), ("--ask", "gap"), ("--key", "0")):
-            room.gather([*look, "../p", *with_value(name, value)], folders,
-                        said=f"words: bad value for {name}\n")
+            room.gather(
+                [*look, "../p", *with_value(name, value)], folders,
+                said=f"words: bad value for {name}\n",
+            )
         room.gather([*look, "../p", *RUN], folders, graph=b"{", said="graph: not JSON\n")
         room.gather([*look, "../p", *RUN], folders, said=LOAD_FAULT)
 
@@ -168,8 +205,9 @@ def gather_refuses_commands_that_save_nothing(room: Room) -> None:
     for command in (name for name in model.COMMANDS if name not in folder_model.SAVING):
         for look in WITH_LOOK:
             words = [*look, "../p", "../q", command, "--nothing"]
-            room.gather(words, {".": Folder(unreadable=(0,))},
-                        said=f"words: unknown command {command}\n")
+            room.gather(
+                words, {".": Folder(unreadable=(0,))}, said=f"words: unknown command {command}\n"
+            )
 
 
 @case
@@ -181,17 +219,21 @@ def gather_of_a_file(room: Room) -> None:
     said = "gather: folder ../audit_slots: a slot cannot be read\n"
     room.compare("a file in place of a folder", end, model.End(10, "", said, [None, None]), folders)
     end = room.ended([tool, *LOOK, "../audit_slots", "../p", *RUN], folders)
-    said = ("working folder: no checkpoint\nfolder ../audit_slots: a slot cannot be read\n"
-            "folder ../p: 2 outcomes, 2 new\ndone: 2 of 12\n")
-    room.compare("a look at a file in place of a folder", end, model.End(0, said, "", [None, None]),
-                 folders)
+    said = (
+        "working folder: no checkpoint\nfolder ../audit_slots: a slot cannot be read\n"
+        "folder ../p: 2 outcomes, 2 new\ndone: 2 of 12\n"
+    )
+    room.compare(
+        "a look at a file in place of a folder", end, model.End(0, said, "", [None, None]), folders
+    )
 
 
 # ---- audit_gather: what is found
 
+
 @case
 def gather_unreadable_is_not_absent(room: Room) -> None:
-    """A slot that cannot be read is told so, and never as no checkpoint."""
+    """A slot that cannot be read is reported as unreadable, and never as no checkpoint."""
     good = saved(some(range(4)))
     said = "gather: folder ../p: a slot cannot be read\n"
     for kind in KINDS:
@@ -216,9 +258,14 @@ def gather_one_slot_is_damaged(room: Room) -> None:
             for words in (["../p", "../q", *RUN], [*LOOK, "../p", *RUN]):
                 room.gather(words, folders)
             room.gather(["../q", *RUN], {".": Folder(slots), "../q": folders["../q"]})
-    room.gather(["../p", *RUN], {"../p": Folder((damaged()["bad digest"], good))},
-                said="working folder: no checkpoint\n"
-                     "folder ../p: 4 outcomes, 4 new, one slot is damaged\ndone: 4 of 12\n")
+    room.gather(
+        ["../p", *RUN],
+        {"../p": Folder((damaged()["bad digest"], good))},
+        said=(
+            "working folder: no checkpoint\n"
+            "folder ../p: 4 outcomes, 4 new, one slot is damaged\ndone: 4 of 12\n"
+        ),
+    )
 
 
 @case
@@ -226,11 +273,15 @@ def gather_an_older_slot_is_not_damaged(room: Room) -> None:
     """Nothing is said of an absent slot, an older checkpoint, or an older one of another job."""
     newest = saved(some(range(4)), 1)
     for older in (None, saved(some(range(2))), saved(some(range(2)), 0, OTHER)):
-        room.gather(["../p", *RUN], {"../p": Folder((older, newest))},
-                    said="working folder: no checkpoint\nfolder ../p: 4 outcomes, 4 new\n"
-                         "done: 4 of 12\n")
-    room.gather(["../p", *RUN], {"../p": Folder((newest, saved(some(range(2)), 2, OTHER)))},
-                said="gather: folder ../p: another job's checkpoint\n")
+        room.gather(
+            ["../p", *RUN],
+            {"../p": Folder((older, newest))},
+            said="working folder: no checkpoint\nfolder ../p: 4 outcomes, 4 new\ndone: 4 of 12\n",
+        )
+    room.gather(
+        ["../p", *RUN], {"../p": Folder((newest, saved(some(range(2)), 2, OTHER)))},
+        said="gather: folder ../p: another job's checkpoint\n",
+    )
 
 
 @case
@@ -248,14 +299,19 @@ def gather_each_reason_in_turn(room: Room) -> None:
         "../differs": holding(some(range(3), 1)),
     }
     names = [name for name in folders if name != "."]
-    room.gather([*names, *RUN], folders, said=(
-        "gather: working folder: another job's checkpoint\n"
-        "gather: folder ../empty: no checkpoint\n"
-        "gather: folder ../other: another job's checkpoint\n"
-        "gather: folder ../bad: no slot is intact\n"
-        "gather: folder ../held: a run holds it\n"
-        "gather: folder ../unread: a slot cannot be read\n"
-        "gather: outcome 1 differs in ../p and ../differs\n"))
+    room.gather(
+        [*names, *RUN],
+        folders,
+        said=(
+            "gather: working folder: another job's checkpoint\n"
+            "gather: folder ../empty: no checkpoint\n"
+            "gather: folder ../other: another job's checkpoint\n"
+            "gather: folder ../bad: no slot is intact\n"
+            "gather: folder ../held: a run holds it\n"
+            "gather: folder ../unread: a slot cannot be read\n"
+            "gather: outcome 1 differs in ../p and ../differs\n"
+        ),
+    )
     room.gather([*LOOK, *names, *RUN], folders)
     folders["."] = Folder((bad, None))
     room.gather([*names, *RUN], folders)
@@ -266,10 +322,12 @@ def gather_three_folders_differ_at_different_ids(room: Room) -> None:
     """The least id of which the folder differs, and the first folder that differs at that id."""
     later, least = holding(some((5, 6))), holding(some((2, 3)))
     folders = {"../p": later, "../q": least, "../r": holding(some((2, 5), 2, 5))}
-    room.gather(["../p", "../q", "../r", *RUN], folders,
-                said="gather: outcome 2 differs in ../q and ../r\n")
-    room.gather(["../q", "../p", "../r", *RUN], folders,
-                said="gather: outcome 2 differs in ../q and ../r\n")
+    room.gather(
+        ["../p", "../q", "../r", *RUN], folders, said="gather: outcome 2 differs in ../q and ../r\n"
+    )
+    room.gather(
+        ["../q", "../p", "../r", *RUN], folders, said="gather: outcome 2 differs in ../q and ../r\n"
+    )
     own = {".": later, "../q": least, "../r": folders["../r"]}
     room.gather(["../q", "../r", *RUN], own, said="gather: outcome 2 differs in ../q and ../r\n")
     own = {".": least, "../q": later, "../r": folders["../r"]}
@@ -280,21 +338,32 @@ def gather_three_folders_differ_at_different_ids(room: Room) -> None:
 def gather_names_the_first_that_differs(room: Room) -> None:
     """Of those gathered before it, the working folder is the first."""
     one, other = holding(some((0,))), holding(some((0,), 0))
-    room.gather(["../p", "../q", *RUN], {".": one, "../p": other, "../q": one},
-                said="gather: outcome 0 differs in . and ../p\n")
-    room.gather(["../p", "../q", *RUN], {".": one, "../p": one, "../q": other},
-                said="gather: outcome 0 differs in . and ../q\n")
-    room.gather(["../p", "../q", "../r", *RUN], {"../p": one, "../q": other, "../r": other},
-                said="gather: outcome 0 differs in ../p and ../q\n"
-                     "gather: outcome 0 differs in ../p and ../r\n")
+    room.gather(
+        ["../p", "../q", *RUN], {".": one, "../p": other, "../q": one},
+        said="gather: outcome 0 differs in . and ../p\n",
+    )
+    room.gather(
+        ["../p", "../q", *RUN], {".": one, "../p": one, "../q": other},
+        said="gather: outcome 0 differs in . and ../q\n",
+    )
+    room.gather(
+        ["../p", "../q", "../r", *RUN],
+        {"../p": one, "../q": other, "../r": other},
+        said=(
+            "gather: outcome 0 differs in ../p and ../q\n"
+            "gather: outcome 0 differs in ../p and ../r\n"
+        ),
+    )
     bare, binned = some((0,)), some((0,), found=BINNED)
     bins = list(binned[0][2])
     at = next(place for place, count in enumerate(bins) if count)
     bins[at], bins[at - 1] = bins[at] - 1, bins[at - 1] + 1
     moved = {0: (*binned[0][:2], tuple(bins))}
-    room.gather(["../p", "../q", "../r", *RUN],
-                {"../p": holding(bare), "../q": holding(binned), "../r": holding(moved)},
-                said="gather: outcome 0 differs in ../q and ../r\n")
+    room.gather(
+        ["../p", "../q", "../r", *RUN],
+        {"../p": holding(bare), "../q": holding(binned), "../r": holding(moved)},
+        said="gather: outcome 0 differs in ../q and ../r\n",
+    )
 
 
 @case
@@ -303,12 +372,16 @@ def gather_does_not_read_a_held_folder(room: Room) -> None:
     one, other = some((0,)), some((0,), 0)
     held = holding(one, held=True)
     said = "gather: folder ../p: a run holds it\n"
-    room.gather(["../p", "../q", "../r", *RUN],
-                {"../p": held, "../q": holding(one), "../r": holding(other)},
-                said=said + "gather: outcome 0 differs in ../q and ../r\n")
-    room.gather(["../q", "../p", "../r", *RUN],
-                {"../p": held, "../q": holding(one), "../r": holding(other)},
-                said=said + "gather: outcome 0 differs in ../q and ../r\n")
+    room.gather(
+        ["../p", "../q", "../r", *RUN],
+        {"../p": held, "../q": holding(one), "../r": holding(other)},
+        said=said + "gather: outcome 0 differs in ../q and ../r\n",
+    )
+    room.gather(
+        ["../q", "../p", "../r", *RUN],
+        {"../p": held, "../q": holding(one), "../r": holding(other)},
+        said=said + "gather: outcome 0 differs in ../q and ../r\n",
+    )
     room.gather(["../p", "../q", *RUN], {"../p": held, "../q": holding(other)}, said=said)
     room.gather(["../p", *RUN], {"../p": Folder(unreadable=(0, 1), held=True)}, said=said)
     room.gather([*LOOK, "../p", *RUN], {"../p": held})
@@ -322,15 +395,20 @@ def gather_the_working_folder_among_the_folders(room: Room) -> None:
     """It is read though this process holds its lock, by whatever name, and has nothing new."""
     own = holding(some(range(3)))
     for name in (".", "../here", str(room.here), "./", "../p/../here"):
-        room.gather([name, "../p", *RUN],
-                    {".": own, "../p": holding(some(range(2, 6))), name: own},
-                    said="working folder: 3 outcomes\n"
-                         f"folder {name}: 3 outcomes, 0 new\n"
-                         "folder ../p: 4 outcomes, 3 new\ndone: 6 of 12\n")
+        room.gather(
+            [name, "../p", *RUN],
+            {".": own, "../p": holding(some(range(2, 6))), name: own},
+            said=(
+                "working folder: 3 outcomes\n"
+                f"folder {name}: 3 outcomes, 0 new\n"
+                "folder ../p: 4 outcomes, 3 new\ndone: 6 of 12\n"
+            ),
+        )
     room.gather([".", *RUN], {}, said="gather: folder .: no checkpoint\n")
 
 
 # ---- audit_gather: the save and the text
+
 
 @case
 def gather_text_cannot_be_written(room: Room) -> None:
@@ -340,24 +418,31 @@ def gather_text_cannot_be_written(room: Room) -> None:
     wanted = folder_model.gather(words, CYCLE, folders)
     command = [room.tools["audit_gather"], *words]
     end = room.ended(command, folders, out="/dev/full")
-    room.compare("audit_gather to a full device", end,
-                 model.End(5, "", "write fault\n", wanted.slots), folders)
+    room.compare(
+        "audit_gather to a full device", end, model.End(5, "", "write fault\n", wanted.slots),
+        folders,
+    )
     end = room.ended(["sh", "-c", 'exec "$@" >&-', "sh", *command], folders)
-    room.compare("audit_gather to a closed output", end,
-                 model.End(5, "", "write fault\n", wanted.slots), folders)
+    room.compare(
+        "audit_gather to a closed output", end, model.End(5, "", "write fault\n", wanted.slots),
+        folders,
+    )
     look = [room.tools["audit_gather"], *LOOK, *words]
     end = room.ended(look, folders, out="/dev/full")
-    room.compare("a look to a full device", end,
-                 model.End(5, "", "write fault\n", list(own.slots)), folders)
+    room.compare(
+        "a look to a full device", end, model.End(5, "", "write fault\n", list(own.slots)), folders
+    )
 
 
 @case
 def gather_save_fails(room: Room) -> None:
-    """Where the save fails nothing is told, and the newest slot of the working folder stays."""
+    """If the save fails, nothing is printed, and the newest slot of the working folder stays."""
     command = [room.tools["audit_gather"], "../p", *RUN]
     newest = saved(some(range(3)), 1)
-    for own, after in ((Folder(), [b"", None]), (Folder((None, newest)), [b"", newest]),
-                       (Folder((saved(some(range(2))), newest)), [b"", newest])):
+    for own, after in (
+        (Folder(), [b"", None]), (Folder((None, newest)), [b"", newest]),
+        (Folder((saved(some(range(2))), newest)), [b"", newest]),
+    ):
         folders = {".": own, "../p": holding(some(range(2, 6)))}
         end = room.ended(command, folders, prepared=as_nobody_can_write)
         room.compare("a save that has no room", end, model.End(9, "", SAVE_FAULT, after), folders)
@@ -369,11 +454,15 @@ def gather_saves_where_the_next_is_due(room: Room) -> None:
     other = holding(some(range(2, 6)))
     for generation in (0, 1, 2):
         last, next_one = saved(some(range(3)), generation), (generation + 1) % 3
-        for slots in ((last, None), (None, last), (last, saved(some(range(4)), next_one)),
-                      (saved(some(range(4)), next_one), last)):
+        for slots in (
+            (last, None), (None, last), (last, saved(some(range(4)), next_one)),
+            (saved(some(range(4)), next_one), last),
+        ):
             room.gather(["../p", *RUN], {".": Folder(slots), "../p": other})
-    room.gather(["../p", "../q", *RUN], {"../p": holding(some((0, 1), found=BINNED)),
-                                         "../q": holding(some((1, 2)))})
+    room.gather(
+        ["../p", "../q", *RUN],
+        {"../p": holding(some((0, 1), found=BINNED)), "../q": holding(some((1, 2)))},
+    )
 
 
 # ---- the lock, by the calls of the program
@@ -405,17 +494,26 @@ def unlocked_reads(trace: str) -> List[str]:
 @traced
 def gather_reads_each_slot_under_the_lock(room: Room) -> None:
     """Both slots of each folder are opened while its lock is held; a look takes no lock."""
-    folders = {".": Folder((saved(some(range(2))), saved(some(range(3)), 1))),
-               "../p": Folder((saved(some(range(4))), saved(some(range(5)), 1))),
-               "../q": Folder((saved(some(range(4, 8))), saved(some(range(4, 9)), 1)))}
+    folders = {
+        ".": Folder((saved(some(range(2))), saved(some(range(3)), 1))),
+        "../p": Folder((saved(some(range(4))), saved(some(range(5)), 1))),
+        "../q": Folder((saved(some(range(4, 8))), saved(some(range(4, 9)), 1))),
+    }
     trace = room.top / "trace"
     before = ["strace", "-f", "-qq", "-o", str(trace), "-e", "trace=openat,flock,close"]
     for words, opened in ((["../p", "../q", *RUN], 6), ([*LOOK, "../p", *RUN], 4)):
         end = room.ended([*before, room.tools["audit_gather"], *words], folders)
         room.expect(f"the status of {' '.join(words)}", end.status, 0)
         calls = trace.read_text()
-        count = len({found[1] for line in calls.splitlines() if "O_RDONLY" in line
-                     for found in [OPENED.match(line)] if found and found[1].endswith(NAMES)})
+        count = len(
+            {
+                found[1]
+                for line in calls.splitlines()
+                if "O_RDONLY" in line
+                for found in [OPENED.match(line)]
+                if found and found[1].endswith(NAMES)
+            }
+        )
         room.expect("how many slots are opened", count, opened)
         if words[0] == "--look":
             room.expect("how often a look takes a lock", calls.count("flock("), 0)

@@ -15,18 +15,34 @@ from __future__ import annotations
 import sys
 from typing import Any, List, Mapping, Optional, Sequence
 
+from tests.oracle import model
 from tests.system import folder_model
 from tests.system.folder_model import Folder
-from tests.system.folder_room import (CYCLE, LOAD_FAULT, LOOK, NAMES, RUN, SAVE_FAULT, Room, model, named,
-                         run_cases, saved, some, holding, traced)
+from tests.system.folder_room import (
+    CYCLE,
+    LOAD_FAULT,
+    LOOK,
+    NAMES,
+    RUN,
+    SAVE_FAULT,
+    Room,
+    named,
+    run_cases,
+    saved,
+    some,
+    holding,
+    traced,
+)
 
 
 ERRORS = ("EACCES", "EIO", "EMFILE", "ELOOP", "ENOTDIR")
 # A gathering: the working folder and the two others have two slots each, and slot 1 is the newest.
 OWN = Folder((saved(some(range(2))), saved(some(range(3)), 1)))
-FOLDERS = {".": OWN,
-           "../p": Folder((saved(some(range(4))), saved(some(range(5)), 1))),
-           "../q": Folder((saved(some(range(4, 7))), saved(some(range(4, 9)), 1)))}
+FOLDERS = {
+    ".": OWN,
+    "../p": Folder((saved(some(range(4))), saved(some(range(5)), 1))),
+    "../q": Folder((saved(some(range(4, 7))), saved(some(range(4, 9)), 1))),
+}
 GATHER = ["../p", "../q", *RUN]
 DONE = folder_model.gather(GATHER, CYCLE, FOLDERS)
 UNTOUCHED = list(OWN.slots)
@@ -41,16 +57,29 @@ def unread(name: str) -> Any:
     return refused(10, f"gather: folder {name}: a slot cannot be read\n")
 
 
-def fails(room: Room, tool: str, words: List[str], path: str, call: str, what: str, wanted: Any,
-          folders: Mapping[str, Folder] = FOLDERS) -> None:
+def fails(
+    room: Room,
+    tool: str,
+    words: List[str],
+    path: str,
+    call: str,
+    what: str,
+    wanted: Any,
+    folders: Mapping[str, Folder] = FOLDERS,
+) -> None:
     """Makes a call of which system calls on a path fail; `path` is as the program says it."""
-    trace = ["strace", "-f", "-qq", "-o", "/dev/null", "-P", path, "-P", str(room.path(path)),
-             "-e", f"trace={call}", "-e", f"inject={call}:{what}"]
+    trace = [
+        "strace", "-f", "-qq", "-o", "/dev/null", "-P", path, "-P", str(room.path(path)), "-e",
+        f"trace={call}", "-e", f"inject={call}:{what}",
+    ]
     end = room.ended([*trace, room.tools[tool], *words], folders)
-    note = "".join(line for line in end.note.splitlines(True)
-                   if not line.startswith("strace: Requested path "))
-    room.compare(f"{named(tool, words)} with {call} of {path}: {what}", end._replace(note=note),
-                 wanted, folders)
+    note = "".join(
+        line for line in end.note.splitlines(True) if not line.startswith("strace: Requested path ")
+    )
+    room.compare(
+        f"{named(tool, words)} with {call} of {path}: {what}", end._replace(note=note), wanted,
+        folders,
+    )
 
 
 def gather_fails(room: Room, path: str, call: str, what: str, wanted: Any) -> None:
@@ -65,6 +94,7 @@ def slots_fail(room: Room, path: str, call: str, what: str, wanted: Any) -> None
 
 
 # ---- slots that cannot be read
+
 
 @traced
 def slots_opening_fails(room: Room) -> None:
@@ -89,20 +119,22 @@ def slots_interrupted(room: Room) -> None:
     told = folder_model.slots(["../p", *RUN], CYCLE, FOLDERS)
     for name in NAMES:
         for call in ("openat", "read"):
-            fails(room, "audit_slots", ["../p", *RUN], f"../p/{name}", call, "error=EINTR:when=1",
-                  told)
+            fails(
+                room, "audit_slots", ["../p", *RUN], f"../p/{name}", call, "error=EINTR:when=1",
+                told,
+            )
 
 
 @traced
 def slots_out_of_memory(room: Room) -> None:
-    """Out of memory is told as such, also where the system says it."""
+    """Out of memory is reported as such, also where the system says it."""
     for name in NAMES:
         slots_fail(room, name, "openat", "error=ENOMEM", refused(3, "memory\n"))
 
 
 @traced
 def gather_opening_fails(room: Room) -> None:
-    """A slot of a folder that cannot be opened is told of in the folder's line."""
+    """A slot of a folder that cannot be opened is named in the folder's line."""
     for name in NAMES:
         for error in ERRORS:
             gather_fails(room, f"../q/{name}", "openat", f"error={error}", unread("../q"))
@@ -111,12 +143,13 @@ def gather_opening_fails(room: Room) -> None:
 
 @traced
 def gather_reading_fails(room: Room) -> None:
-    """A slot of a folder that was opened and cannot be read is told of in the folder's line."""
+    """A slot of a folder that was opened and cannot be read is named in the folder's line."""
     for folder in ("../p", "../q"):
         for name in NAMES:
             for when in (1, 2):
-                gather_fails(room, f"{folder}/{name}", "read", f"error=EIO:when={when}",
-                             unread(folder))
+                gather_fails(
+                    room, f"{folder}/{name}", "read", f"error=EIO:when={when}", unread(folder)
+                )
                 gather_fails(room, f"{folder}/{name}", "read", f"error=EINTR:when={when}", DONE)
 
 
@@ -144,11 +177,11 @@ def gather_out_of_memory(room: Room) -> None:
     """Out of memory while a folder is read is status 3, not a slot that cannot be read."""
     for folder in ("../p", "../q"):
         for name in NAMES:
-            gather_fails(room, f"{folder}/{name}", "openat", "error=ENOMEM",
-                         refused(3, "memory\n"))
+            gather_fails(room, f"{folder}/{name}", "openat", "error=ENOMEM", refused(3, "memory\n"))
 
 
 # ---- locks
+
 
 @traced
 def gather_lock_is_taken(room: Room) -> None:
@@ -156,19 +189,21 @@ def gather_lock_is_taken(room: Room) -> None:
     held = refused(10, "gather: folder ../p: a run holds it\n")
     for error in ("EAGAIN", "EAGAIN:when=1"):
         gather_fails(room, "../p/.", "flock", f"error={error}", held)
-    gather_fails(room, ".", "flock", "error=EAGAIN",
-                 refused(6, "checkpoint: another run holds the folder\n"))
+    gather_fails(
+        room, ".", "flock", "error=EAGAIN", refused(6, "checkpoint: another run holds the folder\n")
+    )
 
 
 @traced
 def gather_without_locks(room: Room) -> None:
-    """Where a file system has no locks, folders are read without."""
+    """Folders on a file system without locks are read without them."""
     for error in ("EOPNOTSUPP", "ENOLCK", "EINVAL"):
         for path in (".", "../p/."):
             gather_fails(room, path, "flock", f"error={error}", DONE)
 
 
 # ---- the save of a gathering
+
 
 def torn(data: bytes) -> List[Optional[bytes]]:
     """Returns the working folder's slots after a save that left these bytes in slot 0."""
@@ -206,22 +241,28 @@ def gather_folder_is_never_synced(room: Room) -> None:
 
 @traced
 def gather_new_slot_is_refused(room: Room) -> None:
-    """Where no file can be made, nothing is saved."""
+    """Nothing is saved if no file can be made."""
     own = {**FOLDERS, ".": holding(some(range(3)))}
     for error in ("EACCES", "EROFS", "ENOSPC"):
-        fails(room, "audit_gather", GATHER, NAMES[1], "openat", f"error={error}",
-              refused(9, SAVE_FAULT, own["."].slots), own)
+        fails(
+            room, "audit_gather", GATHER, NAMES[1], "openat", f"error={error}",
+            refused(9, SAVE_FAULT, own["."].slots), own,
+        )
 
 
 @traced
 def gather_text_fails(room: Room) -> None:
     """The save stands where the text cannot be written: the first write is that of the save."""
     for error in ("EIO", "ENOSPC", "EPIPE"):
-        trace = ["strace", "-f", "-qq", "-o", "/dev/null", "-e", "trace=write", "-e",
-                 f"inject=write:error={error}:when=2"]
+        trace = [
+            "strace", "-f", "-qq", "-o", "/dev/null", "-e", "trace=write", "-e",
+            f"inject=write:error={error}:when=2",
+        ]
         end = room.ended([*trace, room.tools["audit_gather"], *GATHER], FOLDERS)
-        room.compare(f"a text that is not written: {error}", end,
-                     model.End(5, "", "write fault\n", DONE.slots), FOLDERS)
+        room.compare(
+            f"a text that is not written: {error}", end,
+            model.End(5, "", "write fault\n", DONE.slots), FOLDERS,
+        )
 
 
 if __name__ == "__main__":

@@ -28,7 +28,7 @@ class Folder(NamedTuple):
 
 
 class Finding(NamedTuple):
-    """What is found in a folder: its outcomes or None, and the text that says what it is."""
+    """A folder's outcomes or None, and the text that describes it."""
 
     outcomes: Optional[Outcomes]
     text: str
@@ -41,7 +41,8 @@ def outcomes_of(data: bytes) -> Outcomes:
 
 
 def differ(one: Outcome, other: Outcome) -> bool:
-    """Whether two outcomes of an id differ, bins that one of them lacks aside."""
+    """Returns whether two outcomes of an id differ, apart from a histogram that one does not have.
+    """
     both_have_bins = any(one[2]) and any(other[2])
     return one[:2] != other[:2] or (both_have_bins and one[2] != other[2])
 
@@ -141,7 +142,7 @@ def beside(finding: Finding) -> str:
 
 
 class Gathering:
-    """What was gathered so far: the outcomes together, and those of each folder."""
+    """The outcomes gathered so far, together and by folder."""
 
     def __init__(self) -> None:
         self.all: Outcomes = {}

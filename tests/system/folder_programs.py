@@ -1,5 +1,5 @@
-"""What `audit_slots` prints of the two checkpoint slots of a run, and what it and `audit_gather`
-refuse. Both are one program over folders, which does what the name says under which it is called.
+"""Tests of what `audit_slots` prints, and of what it and `audit_gather` refuse. Both are one
+program, which does what its name says.
 """
 # RUN: {auditor}
 # QUICK
@@ -76,7 +76,7 @@ def try_slots(room: Room) -> None:
     room.slot(1).write_bytes(b"x")
     room.says(
         "damaged_slots",
-        "slot 0: bad count\nslot 1: too short\nnewest: none\n" "done: no slot is intact\n",
+        "slot 0: bad count\nslot 1: too short\nnewest: none\ndone: no slot is intact\n",
         *WORDS,
     )
     end = run([room.slots, "check", "--pop", "TOTPOP"])
@@ -87,7 +87,7 @@ def try_long_slot(room: Room) -> None:
     """A slot may have 100,000 outcomes, and not a byte more."""
     room.slot(0).unlink()
     outcomes = {id: (0, [0] * 0, model.NO_BINS) for id in range(100000)}
-    data = model.checkpoint(bytes(32), 1, outcomes)  # type: ignore[no-untyped-call]
+    data = model.checkpoint(bytes(32), 1, outcomes)
     room.slot(1).write_bytes(data)
     end = room.run(room.slots)
     room.checks.has_line(
@@ -98,7 +98,7 @@ def try_long_slot(room: Room) -> None:
         file.write(b"x")
     room.says(
         "slot_a_byte_too_long",
-        "slot 0: absent\nslot 1: too long\nnewest: none\n" "done: no slot is intact\n",
+        "slot 0: absent\nslot 1: too long\nnewest: none\ndone: no slot is intact\n",
         *WORDS,
     )
     room.slot(1).unlink()
@@ -106,32 +106,18 @@ def try_long_slot(room: Room) -> None:
 
 def try_words(room: Room) -> None:
     room.refuses(
-        "words_of_plans",
-        room.slots,
-        1,
-        "words: unknown command plans",
-        "plans",
-        *COLUMNS,
-        "--key",
-        "0" * 64,
-        "--ask",
-        "gap:low",
+        "words_of_plans", room.slots, 1, "words: unknown command plans", "plans", *COLUMNS, "--key",
+        "0" * 64, "--ask", "gap:low",
     )
     room.refuses(
         "check_with_columns", room.slots, 1, "words: unknown command check", "check", *COLUMNS
     )
     room.refuses(
-        "bad_value",
-        room.slots,
-        1,
-        "words: bad value for --walks",
+        "bad_value", room.slots, 1, "words: bad value for --walks",
         *("06" if word == "6" else word for word in WORDS),
     )
     room.refuses(
-        "missing_column",
-        room.slots,
-        2,
-        "graph: node 0 has no column NONE",
+        "missing_column", room.slots, 2, "graph: node 0 has no column NONE",
         *("NONE" if word == "TOTPOP" else word for word in WORDS),
     )
     room.refuses("no_name", room.both, 1, "words: neither slots nor gather")
@@ -140,7 +126,8 @@ def try_words(room: Room) -> None:
 
 
 def try_odd_files(room: Room) -> None:
-    """What cannot be read is not absent, and a pipe in a slot's place is not waited for."""
+    """Unreadable slots are not reported as absent, and a pipe in a slot's place is not waited for.
+    """
     fault = "checkpoint load fault"
     room.slot(0).symlink_to("audit-0.ckpt")
     room.refuses("link_to_itself", room.slots, 6, fault, *WORDS)
@@ -170,11 +157,7 @@ def try_streams(room: Room) -> None:
 
 
 PARTS: typing.List[typing.Callable[[Room], None]] = [
-    try_slots,
-    try_long_slot,
-    try_words,
-    try_odd_files,
-    try_streams,
+    try_slots, try_long_slot, try_words, try_odd_files, try_streams,
 ]
 
 

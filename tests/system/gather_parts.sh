@@ -167,7 +167,7 @@ gather look look 0 $'working folder: no checkpoint\nfolder ../small-0: 4 outcome
 let_go
 holds look ""
 
-# The same folders, to be gathered: each that cannot be is told of.
+# These folders are gathered: each that cannot be is named.
 gather refused refused 10 $'gather: folder ../empty: no checkpoint\ngather: folder ../other: another job\'s checkpoint\ngather: folder ../nowhere: no checkpoint' \
     ../small-0 ../half ../empty ../other ../nowhere
 holds refused ""

@@ -6,6 +6,7 @@ without the word `built` is not tried.
 # RUN: {auditor}
 # QUICK
 import argparse
+import hashlib
 import os
 import pathlib
 import shutil
@@ -32,6 +33,38 @@ def tree(room: pathlib.Path, auditor: pathlib.Path) -> pathlib.Path:
     return room / "scripts" / "install.sh"
 
 
+def origin(
+    checks: Checks, script: pathlib.Path, folder: pathlib.Path, room: pathlib.Path
+) -> None:
+    """Checks what is printed and stored: outside of git, at a commit, with a change."""
+    kits = room / "kits"
+    kits.mkdir()
+    (kits / "rt").write_text("#!/bin/sh\n[ \"$1\" = version ] && echo 'a-kit logic 0123'\n")
+    (kits / "rt").chmod(0o755)
+    paths = {"PATH": f"{kits}{os.pathsep}{os.environ['PATH']}", "GIT_CONFIG_GLOBAL": "/dev/null"}
+    tree = script.parent.parent
+    git = ["git", "-C", tree, "-c", "user.name=a", "-c", "user.email=a@b"]
+
+    def installed(name: str, commit: str) -> None:
+        end = run([script, folder, "built"], more=paths)
+        digest = hashlib.sha256((folder / "district-audit").read_bytes()).hexdigest()
+        wanted = [f"sha256 {digest}", f"checkout {commit}", "kit a-kit logic 0123", "proved yes"]
+        checks.is_equal(
+            f"{name}_stored", (folder / "district-audit.origin").read_text().splitlines(), wanted
+        )
+        shown = "".join(f"  {line}\n" for line in wanted)
+        checks.is_equal(f"{name}_printed", end.out, f"{folder / 'district-audit'}\n{shown}")
+
+    installed("outside_of_git", "unknown")
+    (tree / ".gitignore").write_text("out/\n")
+    for words in (["init", "-q"], ["add", "-A"], ["commit", "-q", "-m", "one"]):
+        checks.ended(f"git_{words[0]}", run([*git, *words], more=paths))
+    commit = run([*git, "rev-parse", "HEAD"]).out.strip()
+    installed("at_a_commit", commit)
+    (tree / "crates" / "more.rt").write_text("// a change\n")
+    installed("with_a_change", f"{commit} with changes")
+
+
 def main() -> int:
     parser = argparse.ArgumentParser(description=__doc__)
     parser.add_argument("auditor", type=pathlib.Path)
@@ -45,9 +78,11 @@ def main() -> int:
         checks.is_equal("installed_auditor_checks", end.out + end.note, CHECKED)
         for which in ("audit_slots", "audit_gather"):
             checks.is_true(f"leaves_{which}", os.access(folder / which, os.X_OK), "a program")
+            checks.is_true(f"origin_of_{which}", (folder / f"{which}.origin").exists(), "a file")
         end = run([script, folder, "gathers", "built"])
         checks.ended("refuses_an_unknown_word", end, 1)
         checks.has_line("names_the_unknown_word", end.note, "the word gathers is unknown")
+        origin(checks, script, folder, room)
     return checks.finish()
 
 

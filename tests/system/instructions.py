@@ -36,7 +36,7 @@ from tests.places import DATA, TEST_DATA, package_command, package_environment
 
 RECORD = TEST_DATA / "instructions.json"
 MOST_TIMES, MORE_SEARCHES = 1.15, 0.5
-# What a function's name has in it that searches whether a unit may leave its district.
+# Parts of the names of functions that search whether a unit may leave its district.
 SEARCHES = "searching_tells"
 THREADS = "threads_of_four_workers"
 KEY = ["--key", "5" * 64]
@@ -55,18 +55,19 @@ class Run(NamedTuple):
     files: Dict[str, bytes] = {}
     tool: str = "district-audit"
     steps: int = 0
-    """How many steps are walked, where searches are counted."""
+    """The number of steps that are walked, where searches are counted."""
 
 
 class Counted(NamedTuple):
-    """What a run took."""
+    """The cost of a run."""
 
     instructions: int
     searches: Optional[float]
-    """How many searches were made in a thousand steps; None where they cannot be seen."""
+    """The number of searches in a thousand steps; None where they cannot be seen."""
 
 
 # ---- the runs
+
 
 def example(name: str) -> bytes:
     return (DATA / name).read_bytes()
@@ -76,8 +77,15 @@ def prepared(name: str, *words: str) -> bytes:
     """Returns an example map as prepare.py prepares it."""
     with tempfile.TemporaryDirectory() as room:
         out = pathlib.Path(room) / name
-        subprocess.run([*package_command("prepare"), str(DATA / name), *words, "--slack", "1000",
-                        "--out", str(out)], env=package_environment(), capture_output=True, check=True)
+        subprocess.run(
+            [
+                *package_command("prepare"), str(DATA / name), *words, "--slack", "1000", "--out",
+                str(out),
+            ],
+            env=package_environment(),
+            capture_output=True,
+            check=True,
+        )
         return out.read_bytes()
 
 
@@ -90,8 +98,9 @@ def square(side: int, queen: bool) -> bytes:
         first = unit * 7919 % 101
         nodes.append({"pop": 1, "a": first, "b": 100 - first, "d": row * 4 // side, "id": unit})
         near = [(row + down, column + right) for down, right in steps]
-        adjacency.append([{"id": one * side + other} for one, other in near
-                          if one < side and 0 <= other < side])
+        adjacency.append(
+            [{"id": one * side + other} for one, other in near if one < side and 0 <= other < side]
+        )
     return json.dumps({"nodes": nodes, "adjacency": adjacency}).encode()
 
 
@@ -123,14 +132,18 @@ def walks() -> Dict[str, Run]:
         "walk_cut_edges": Run([*MADE, *steps, *cut]),
         "walk_mean_median": Run([*MADE, *steps, "--ask", "mean-median:low"]),
         "walk_gap_and_seats": Run([*MADE, *steps, "--ask", "gap:high,seats:low", "--shift", "yes"]),
-        "walk_with_rules": Run([*SMALL, "--steps", "100000", *cut, *rules],
-                               with_counties(square(40, False))),
+        "walk_with_rules": Run(
+            [*SMALL, "--steps", "100000", *cut, *rules], with_counties(square(40, False))
+        ),
         "walk_a_serial_test": Run([*MADE, "--steps", "65535", *cut, "--serial", "yes"]),
-        "parallel_test": Run([*MADE, *"--walks 0 --ends 99 --hub-steps 1000".split(),
-                              "--ask", "seats:high"]),
+        "parallel_test": Run(
+            [*MADE, *"--walks 0 --ends 99 --hub-steps 1000".split(), "--ask", "seats:high"]
+        ),
         "parallel_test_that_stops": Run([*MADE, *stopping]),
-        "several_plans": Run(["plans", *SMALL[1:], "--steps", "1000", "--ask", "gap:low"],
-                             several_plans(square(40, False))),
+        "several_plans": Run(
+            ["plans", *SMALL[1:], "--steps", "1000", "--ask", "gap:low"],
+            several_plans(square(40, False)),
+        ),
     }
 
 
@@ -144,12 +157,14 @@ def savings() -> Dict[str, Run]:
     on = ["--save", "20000", "--resume", "yes", "--budget", "1"]
     return {
         "save_after_each_trajectory": Run([*SMALL, "--walks", "150", *short, "--save", "1"], cycle),
-        "save_after_each_hundredth": Run([*SMALL, "--walks", "6000", *short, "--save", "100"],
-                                         cycle),
+        "save_after_each_hundredth": Run(
+            [*SMALL, "--walks", "6000", *short, "--save", "100"], cycle
+        ),
         "resume_from_20000_outcomes": Run([*many, *on], cycle, own),
         "slots_of_20000_outcomes": Run(many, cycle, own, "audit_slots"),
-        "gather_20000_and_20000_outcomes": Run(["../p", "../q", *many], cycle, both,
-                                               "audit_gather"),
+        "gather_20000_and_20000_outcomes": Run(
+            ["../p", "../q", *many], cycle, both, "audit_gather"
+        ),
     }
 
 
@@ -159,8 +174,9 @@ def searches() -> Dict[str, Run]:
     return {
         "searches_on_a_grid": searching(GRID, example("grid.json")),
         "searches_on_nc": searching(named(*nc), prepared("nc.json", *named(*nc)[1:9])),
-        "searches_on_ny8": searching(named(*ny8), prepared("ny8.json", *named(*ny8)[1:9],
-                                                           "--numbers", "nearest")),
+        "searches_on_ny8": searching(
+            named(*ny8), prepared("ny8.json", *named(*ny8)[1:9], "--numbers", "nearest")
+        ),
         "searches_with_corners": searching(SMALL, square(24, True)),
     }
 
@@ -174,8 +190,10 @@ def with_counties(graph: bytes) -> bytes:
 
 
 def named(population: str, first: str, second: str, district: str) -> List[str]:
-    return ["run", "--pop", population, "--first", first, "--second", second,
-            "--district", district, "--slack", "1000", *KEY]
+    return [
+        "run", "--pop", population, "--first", first, "--second", second, "--district", district,
+        "--slack", "1000", *KEY,
+    ]
 
 
 def searching(words: List[str], graph: bytes) -> Run:
@@ -183,6 +201,7 @@ def searching(words: List[str], graph: bytes) -> Run:
 
 
 # ---- counting
+
 
 def calls_of(text: str, name: str) -> int:
     """Returns how often functions with a name like this are called, by what callgrind writes."""
@@ -200,7 +219,7 @@ def calls_of(text: str, name: str) -> int:
 
 
 class Room:
-    """Where runs are made: the programs, and a folder for each run."""
+    """The programs, and a folder for each run."""
 
     def __init__(self, top: pathlib.Path, program: str, folders: str) -> None:
         self.top, self.program = top, os.path.abspath(program)
@@ -221,10 +240,13 @@ class Room:
     def count(self, name: str, run: Run) -> Counted:
         """Makes a run under callgrind. Raises RuntimeError where it does not end well."""
         out = self.top / "calls"
-        command = ["valgrind", "--tool=callgrind", f"--callgrind-out-file={out}",
-                   str(self.top / run.tool), *run.words]
-        done = subprocess.run(command, input=run.graph, capture_output=True, cwd=self.folder(run),
-                              check=False)
+        command = [
+            "valgrind", "--tool=callgrind", f"--callgrind-out-file={out}", str(self.top / run.tool),
+            *run.words,
+        ]
+        done = subprocess.run(
+            command, input=run.graph, capture_output=True, cwd=self.folder(run), check=False
+        )
         note = done.stderr.decode(errors="replace")
         found = re.search(r"Collected : (\d+)", note)
         if done.returncode not in (0, 7) or found is None:
@@ -239,8 +261,10 @@ def busy_threads(room: Room) -> Tuple[int, int]:
     """Returns how many threads of a run of four workers used a processor, and their number."""
     words = [*MADE, *"--walks 64 --steps 300000 --ask cut-edges:low --workers 4".split()]
     seen: Dict[str, int] = {}
-    with subprocess.Popen([room.program, *words], stdin=subprocess.DEVNULL,
-                          stdout=subprocess.DEVNULL, stderr=subprocess.DEVNULL) as process:
+    with subprocess.Popen(
+        [room.program, *words], stdin=subprocess.DEVNULL, stdout=subprocess.DEVNULL,
+        stderr=subprocess.DEVNULL,
+    ) as process:
         while process.poll() is None:
             for thread in pathlib.Path(f"/proc/{process.pid}/task").glob("*/stat"):
                 try:

@@ -111,7 +111,7 @@ def try_script(checks: Checks, auditor: pathlib.Path, room: pathlib.Path) -> Non
         checks.missing("audit_script", "networkx or matplotlib")
         return
     words = [python, EXAMPLES / "audit.py", room / "audit"]
-    end = run(words, more={"DISTRICT_AUDIT": str(auditor)})
+    end = run(words, more={**package_environment(), "DISTRICT_AUDIT": str(auditor)})
     if not checks.ended("audit_script_ends", end):
         return
     checks.has_line("audit_script_says_what_there_is", end.out, "units 300 edges 563 districts 6\n")

@@ -1,15 +1,20 @@
-"""Cuts the power at each moment of runs that save, and sees that the next run goes on from what may then be stored, or is refused by name.
+"""Cuts the power at each moment of runs that save, and sees that the next run goes on from what may
+then be stored, or is refused by name.
 
 Usage: python3 -m tests.system.power_cuts PROGRAM [STATES [SEED]]
-`strace` tells the calls of the program on its two files: of a run of six saves, and of runs that go on where that run was killed between two of
-its calls, whose last writes may not be stored yet. After each call the script lists what both files may hold where the power is cut then: a file's
-name is stored for sure only once its folder was synced since it was made, and its bytes only once it was synced itself. Until then each cut of
-the file to no bytes, each piece of what was written, and its length without its bytes, may be stored or not, whatever came before or after it.
-Which of these are tried: all up to each piece, each piece alone, all but each piece, and some drawn ones; of two files that are not stored, drawn pairs.
-Of all states so many are drawn (all where no number is given). In each the program is resumed: status, report, note and files have to be those
-of the plain model in model.py, and a run that ends well has to write the one report. No save that the program has taken for done may be lost,
-neither by the run that made it nor by one that goes on after it was killed.
-Prints how many states there were, and each that is not so; ends with 1 where there is one. Says so where strace cannot trace.
+`strace` tells the calls of the program on its two files: of a run of six saves, and of runs that go
+on where that run was killed between two of its calls, whose last writes may not be stored yet.
+After each call the script lists what both files may hold where the power is cut then: a file's name
+is stored for sure only once its folder was synced since it was made, and its bytes only once it was
+synced itself. Until then each cut of the file to no bytes, each piece of what was written, and its
+length without its bytes, may be stored or not, whatever came before or after it. Which of these are
+tried: all up to each piece, each piece alone, all but each piece, and some drawn ones; of two files
+that are not stored, drawn pairs. Of all states so many are drawn (all where no number is given). In
+each the program is resumed: status, report, note and files have to be those of the plain model in
+model.py, and a run that ends well has to write the one report. No save that the program has taken
+for done may be lost, neither by the run that made it nor by one that goes on after it was killed.
+Prints how many states there were, and each that is not so; ends with 1 where there is one. Says so
+where strace cannot trace.
 """
 # RUN: {auditor} 150 1
 # NEEDS: strace
@@ -22,6 +27,7 @@ import re
 import subprocess
 import sys
 import tempfile
+import typing
 from concurrent.futures import ThreadPoolExecutor
 
 from tests.oracle import model
@@ -29,18 +35,24 @@ from tests.places import DATA
 
 CYCLE = (DATA / "cycle.json").read_bytes()
 NAMES = ("audit-0.ckpt", "audit-1.ckpt")
-WHOLE = ["run", *"--pop pop --first a --second b --district d --slack 5000".split(), "--key", "0" * 64, "--walks", "12", "--steps", "8",
-         "--ask", "gap:low"]
+WHOLE = [
+    "run", *"--pop pop --first a --second b --district d --slack 5000".split(), "--key", "0" * 64,
+    "--walks", "12", "--steps", "8", "--ask", "gap:low",
+]
 SAVED = [*WHOLE, "--save", "2"]
 RESUMED = [*SAVED, "--resume", "yes"]
 CALL = re.compile(r"^\d+\s+(\w+)\((.*)\)\s+= (-?\d+)")
 TEXT = re.compile(r'"((?:\\x[0-9a-f]{2})*)"(\.\.\.)?')
-HARMLESS = {"read", "close", "fstat", "newfstatat", "stat", "lstat", "statx", "access", "lseek", "readlink", "execve"}
+HARMLESS = {
+    "read", "close", "fstat", "newfstatat", "stat", "lstat", "statx", "access", "lseek", "readlink",
+    "execve",
+}
 
 
 # ---- the calls of a run
 
-def bytes_in(said):
+
+def bytes_in(said: typing.Any) -> typing.Any:
     """The bytes of the first text of a call, which strace shows as hexadecimal digits."""
     found = TEXT.search(said)
     if found is None or found[2]:
@@ -48,7 +60,7 @@ def bytes_in(said):
     return bytes.fromhex(found[1].replace("\\x", ""))
 
 
-def whole_lines(text):
+def whole_lines(text: typing.Any) -> typing.Iterator[typing.Any]:
     """The lines of a trace; a call that another thread's cut in two is one line again."""
     begun = {}
     for line in text.splitlines():
@@ -61,104 +73,173 @@ def whole_lines(text):
             yield line
 
 
-def calls_of(text):
-    """What a run did to the two files and to their folder, in turn: what, which file, and where and which bytes."""
-    files, folders, read, at = {}, set(), {}, {}
-    for line in whole_lines(text):
+Step = typing.Tuple[typing.Any, ...]
+
+
+class Replay:
+    """The open files of a traced run, by the numbers that the system gave them."""
+
+    def __init__(self) -> None:
+        self.files: typing.Dict[int, int] = {}
+        """The two files that are written, by their places in NAMES."""
+        self.read: typing.Dict[int, int] = {}
+        self.at: typing.Dict[int, int] = {}
+        """The place in each written file at which the next byte is written."""
+        self.folders: typing.Set[int] = set()
+
+    def steps(self, line: str) -> typing.Iterator[Step]:
+        """Yields what a line of the trace does to the files and to their folder."""
         found = CALL.match(line)
         if not found:
-            continue
+            return
         call, said, answer = found[1], found[2], int(found[3])
-        if call == "openat" and answer >= 0:
-            name = bytes_in(said).decode()
-            if name in NAMES and "O_RDONLY" not in said:
-                file = files[answer] = NAMES.index(name)
-                at[answer] = 0
-                yield "make" if "O_EXCL" in said else "open", file
-                if "O_TRUNC" in said:
-                    yield "cut", file, 0
-            elif name in NAMES:
-                read[answer] = NAMES.index(name)
-            elif name == ".":
-                folders.add(answer)
-            continue
-        number = re.match(r"\d+", said)
-        number = int(number[0]) if number else None
-        if call == "close" and number in files:
-            yield "close", files.pop(number)
-        elif call == "close":
-            folders.discard(number)
-            read.pop(number, None)
-        elif call in ("fsync", "fdatasync") and number in files and answer == 0:
-            yield "sync", files[number]
-        elif call in ("fsync", "fdatasync") and number in read and answer == 0:
-            yield "sync", read[number]
-        elif call == "fsync" and number in folders and answer == 0:
+        if call == "openat":
+            yield from self.opened(said, answer)
+            return
+        digits = re.match(r"\d+", said)
+        number = int(digits[0]) if digits else -1
+        if call == "close":
+            yield from self.closed(number)
+        elif call in ("fsync", "fdatasync") and answer == 0:
+            yield from self.synced(call, number)
+        elif call == "write" and number in self.files and answer >= 0:
+            yield "write", self.files[number], self.at[number], bytes_in(said)[:answer]
+            self.at[number] += answer
+        elif call == "ftruncate" and number in self.files and answer == 0:
+            yield "cut", self.files[number], int(said.split(",")[1])
+        elif answer >= 0 and call not in ("fsync", "fdatasync", *HARMLESS):
+            self.refuse_unknown(line, said, number)
+
+    def opened(self, said: str, answer: int) -> typing.Iterator[Step]:
+        name = bytes_in(said).decode() if answer >= 0 else ""
+        if name == ".":
+            self.folders.add(answer)
+        if name not in NAMES:
+            return
+        file = NAMES.index(name)
+        if "O_RDONLY" in said:
+            self.read[answer] = file
+            return
+        self.files[answer], self.at[answer] = file, 0
+        yield "make" if "O_EXCL" in said else "open", file
+        if "O_TRUNC" in said:
+            yield "cut", file, 0
+
+    def closed(self, number: int) -> typing.Iterator[Step]:
+        if number in self.files:
+            yield "close", self.files.pop(number)
+        else:
+            self.folders.discard(number)
+            self.read.pop(number, None)
+
+    def synced(self, call: str, number: int) -> typing.Iterator[Step]:
+        file = self.files.get(number, self.read.get(number))
+        if file is not None:
+            yield "sync", file
+        elif call == "fsync" and number in self.folders:
             yield "sync folder", None
-        elif call == "write" and number in files and answer >= 0:
-            yield "write", files[number], at[number], bytes_in(said)[:answer]
-            at[number] += answer
-        elif call == "ftruncate" and number in files and answer == 0:
-            yield "cut", files[number], int(said.split(",")[1])
-        elif call not in HARMLESS and (number in files or any(name.encode().hex() in said.replace("\\x", "") for name in NAMES)) and answer >= 0:
+
+    def refuse_unknown(self, line: str, said: str, number: int) -> None:
+        """Raises ValueError for a call on one of the files that cannot be replayed."""
+        shown = said.replace("\\x", "")
+        if number in self.files or any(name.encode().hex() in shown for name in NAMES):
             raise ValueError(f"a call that this script cannot replay: {line[:100]}")
 
 
-def placed(folder, slots):
+def calls_of(text: str) -> typing.Iterator[Step]:
+    """Yields what a run did to the two files and to their folder, in turn.
+
+    A step says what was done, to which file, and where and with which bytes.
+    """
+    replay = Replay()
+    for line in whole_lines(text):
+        yield from replay.steps(line)
+
+
+def placed(folder: typing.Any, slots: typing.Any) -> None:
     folder.mkdir()
     for name, data in zip(NAMES, slots):
         if data is not None:
             (folder / name).write_bytes(data)
 
 
-def traced(program, folder, words, slots):
+def traced(
+    program: typing.Any, folder: typing.Any, words: typing.Any, slots: typing.Any
+) -> typing.List[typing.Any]:
     """The calls of a run over files with these bytes."""
     placed(folder, slots)
     trace = folder.with_suffix(".trace")
-    subprocess.run(["strace", "-f", "-qq", "-xx", "-s", "9000000", "-o", trace, "-e", "trace=%file,%desc", program, *words], input=CYCLE,
-                   cwd=folder, capture_output=True, timeout=600, check=False)
+    subprocess.run(
+        [
+            "strace", "-f", "-qq", "-xx", "-s", "9000000", "-o", trace, "-e", "trace=%file,%desc",
+            program, *words,
+        ],
+        input=CYCLE,
+        cwd=folder,
+        capture_output=True,
+        timeout=600,
+        check=False,
+    )
     return list(calls_of(trace.read_text()))
 
 
-def can_trace():
+def can_trace() -> bool:
     try:
-        return subprocess.run(["strace", "-o", "/dev/null", "true"], capture_output=True, timeout=20, check=False).returncode == 0
+        return (
+            subprocess.run(
+                ["strace", "-o", "/dev/null", "true"], capture_output=True, timeout=20, check=False
+            ).returncode
+            == 0
+        )
     except OSError:
         return False
 
 
 # ---- what may be stored
 
+
 class File:
-    """What a program reads of a file now, what is stored for sure, and what may be stored beside it."""
+    """A file: the bytes that a program reads now, those stored for sure, and those that may be
+    stored.
+    """
 
-    def __init__(self):
-        self.now, self.stored, self.pending, self.is_named = None, b"", [], False
+    def __init__(self) -> None:
+        self.now: typing.Optional[bytes] = None
+        self.stored: typing.Optional[bytes] = b""
+        self.pending: typing.List[typing.Any] = []
+        self.is_named = False
 
-    def make(self):
+    def make(self) -> None:
         self.now = b""
 
-    def change(self, step):
+    def change(self, step: typing.Any) -> None:
         self.pending.append(step)
         self.now = after(self.now, [step])
 
-    def sync(self):
+    def sync(self) -> None:
         self.stored, self.pending = self.now, []
 
-    def states(self, draw, drawn):
-        """The texts that may be there where the power is cut now; None where there may be no file."""
+    def states(self, draw: typing.Any, drawn: typing.Any) -> typing.Any:
+        """Returns the texts that may be there if the power is cut now, None for no file."""
         if self.now is None:
             return {None}
         steps = [piece for step in self.pending for piece in pieces(step, draw)]
         chosen = [steps[:count] for count in range(len(steps) + 1)]
-        chosen += [[step] for step in steps] + [steps[:place] + steps[place + 1:] for place in range(len(steps))]
-        chosen += [[step for step in steps if draw.random() < 0.5] for _ in range(drawn if len(steps) > 2 else 0)]
+        chosen += [[step] for step in steps] + [
+            steps[:place] + steps[place + 1:] for place in range(len(steps))
+        ]
+        chosen += [
+            [step for step in steps if draw.random() < 0.5]
+            for _ in range(drawn if len(steps) > 2 else 0)
+        ]
         found = {after(self.stored, some) for some in chosen}
         return found if self.is_named else found | {None}
 
 
-def after(data, steps):
-    """The bytes after these steps: cuts to a length, writes at a place, and lengths without bytes of their own."""
+def after(data: typing.Any, steps: typing.Any) -> typing.Any:
+    """The bytes after these steps: cuts to a length, writes at a place, and lengths without bytes
+    of their own.
+    """
     for what, place, more in steps:
         if what == "cut":
             data = data[:place].ljust(place, b"\0")
@@ -167,12 +248,19 @@ def after(data, steps):
     return data
 
 
-def pieces(step, draw):
-    """The parts of a step that may be stored each without the others: of a write its length, as zeros and as other bytes, and pieces of its bytes."""
+def pieces(step: typing.Any, draw: typing.Any) -> typing.Any:
+    """The parts of a step that may be stored each without the others: of a write its length, as
+    zeros and as other bytes, and pieces of its bytes.
+    """
     what, place, data = step
     if what == "cut" or not data:
         return [step]
-    marks = sorted({0, 8, 12, 44, 48, 52, len(data) - 32, len(data) - 1, len(data), *(draw.randrange(len(data)) for _ in range(6))})
+    marks = sorted(
+        {
+            0, 8, 12, 44, 48, 52, len(data) - 32, len(data) - 1, len(data),
+            *(draw.randrange(len(data)) for _ in range(6)),
+        }
+    )
     marks = [mark for mark in marks if 0 <= mark <= len(data)]
     length = [("write", place + len(data) - 1, bytes([byte])) for byte in (0, 0xA5)]
     return length + [("write", place + low, data[low:high]) for low, high in zip(marks, marks[1:])]
@@ -181,10 +269,10 @@ def pieces(step, draw):
 class Disk:
     """Both files, and how many outcomes the last save has that a program takes for done."""
 
-    def __init__(self):
+    def __init__(self) -> None:
         self.files, self.done = (File(), File()), 0
 
-    def take(self, call):
+    def take(self, call: typing.Any) -> None:
         """Takes a call as done."""
         what, number, *rest = call
         if what == "sync folder":
@@ -201,36 +289,44 @@ class Disk:
         elif what == "close":
             self.done = outcomes(file.now)
 
-    def now(self):
+    def now(self) -> typing.Any:
         return tuple(file.now for file in self.files)
 
-    def stored(self):
-        """Whether each file and its name is stored for sure."""
+    def stored(self) -> typing.Any:
+        """Returns whether each file and its name is stored for sure."""
         return tuple((not file.pending, file.is_named) for file in self.files)
 
-    def states(self, draw, drawn):
-        """What both files may hold where the power is cut now."""
-        zero, one = (sorted(file.states(draw, drawn), key=lambda data: (data is not None, data)) for file in self.files)
+    def states(self, draw: typing.Any, drawn: typing.Any) -> typing.Any:
+        """Returns what both files may hold if the power is cut now."""
+        zero, one = (
+            sorted(file.states(draw, drawn), key=lambda data: (data is not None, data))
+            for file in self.files
+        )
         pairs = list(itertools.product(zero, one))
         return pairs if len(pairs) <= 400 else draw.sample(pairs, 400)
 
 
-def outcomes(data):
-    """How many outcomes a file has, 0 where it is no checkpoint."""
+def outcomes(data: typing.Any) -> int:
+    """Returns the number of outcomes of a file, 0 if it is no checkpoint."""
     slot = model.decoded(data)
     return 0 if slot.fault else len(slot.records)
 
 
-def outcomes_in(slots):
-    """How many outcomes the newest file has."""
+def outcomes_in(slots: typing.Any) -> typing.Any:
+    """Returns the number of outcomes of the newest file."""
     newest = model.newest([model.decoded(data) for data in slots])
     return 0 if newest is None else outcomes(slots[newest])
 
 
 # ---- the states
 
-def listed(disk, calls, draw, drawn, found):
-    """Lists what may be stored before, between and after these calls: for each state the most outcomes that had been saved."""
+
+def listed(
+    disk: typing.Any, calls: typing.Any, draw: typing.Any, drawn: typing.Any, found: typing.Any
+) -> None:
+    """Lists what may be stored before, between and after these calls: for each state the most
+    outcomes that had been saved.
+    """
     for call in [None, *calls]:
         if call:
             disk.take(call)
@@ -238,8 +334,14 @@ def listed(disk, calls, draw, drawn, found):
             found[state] = max(found.get(state, 0), disk.done)
 
 
-def all_states(program, folder, draw, drawn):
-    """The states of the first run, those of each run that goes on where it was killed, the first one's calls, and the number of the others."""
+def all_states(
+    program: typing.Any, folder: typing.Any, draw: typing.Any, drawn: typing.Any
+) -> typing.Any:
+    """The states of the first run, those of each run that goes on where it was killed, the first
+    one's calls, and the number of the others.
+    """
+    found: typing.Dict[typing.Any, typing.Any]
+    later: typing.Dict[typing.Any, typing.Any]
     found, later, tried = {}, {}, set()
     first = traced(program, folder / "first", SAVED, (None, None))
     listed(Disk(), first, draw, drawn, found)
@@ -251,40 +353,59 @@ def all_states(program, folder, draw, drawn):
         if mark in tried:
             continue
         tried.add(mark)
-        listed(disk, traced(program, folder / f"killed {count}", RESUMED, disk.now()), draw, drawn, later)
+        listed(
+            disk, traced(program, folder / f"killed {count}", RESUMED, disk.now()), draw, drawn,
+            later,
+        )
     return found, later, len(first), len(tried)
 
 
-def drawn_states(states, count, draw):
-    """So many of the states, or all where there are no more."""
+def drawn_states(states: typing.Any, count: typing.Any, draw: typing.Any) -> typing.Any:
+    """Returns this number of the states, or all if there are no more."""
     states = sorted(states, key=str)
     return states if len(states) <= count else draw.sample(states, count)
 
 
-def judged(program, folder, slots, wanted):
-    """What is not as it has to be where a run goes on from this state, or None."""
+def judged(
+    program: typing.Any, folder: typing.Any, slots: typing.Any, wanted: typing.Any
+) -> typing.Optional[str]:
+    """Returns what is wrong if a run goes on from this state, or None."""
     placed(folder, slots)
-    end = subprocess.run([program, *RESUMED], input=CYCLE, cwd=folder, capture_output=True, timeout=60, check=False)
+    end = subprocess.run(
+        [program, *RESUMED], input=CYCLE, cwd=folder, capture_output=True, timeout=60, check=False
+    )
     held = [(folder / name).read_bytes() if (folder / name).exists() else None for name in NAMES]
-    for part, one, other in (("status", end.returncode, wanted.status), ("report", end.stdout, wanted.out.encode()),
-                             ("note", end.stderr, wanted.note.encode()), ("files", held, list(wanted.slots))):
+    for part, one, other in (
+        ("status", end.returncode, wanted.status), ("report", end.stdout, wanted.out.encode()),
+        ("note", end.stderr, wanted.note.encode()), ("files", held, list(wanted.slots)),
+    ):
         if one != other:
             return f"{part} {str(one)[:200]} and not {str(other)[:200]}"
     return None
 
 
-def named(slots):
-    return f"files of {' and '.join('no' if data is None else str(len(data)) for data in slots)} bytes"
+def named(slots: typing.Any) -> str:
+    return (
+        f"files of {' and '.join('no' if data is None else str(len(data)) for data in slots)} bytes"
+    )
 
 
-def lost_in(states):
+def lost_in(states: typing.Any) -> typing.List[typing.Any]:
     """The states in which a save is lost."""
     left = [(slots, outcomes_in(slots), kept) for slots, kept in states.items()]
-    return [f"{named(slots)}: {one} outcomes are left of {kept} that were saved" for slots, one, kept in left if one < kept]
+    return [
+        f"{named(slots)}: {one} outcomes are left of {kept} that were saved"
+        for slots, one, kept in left
+        if one < kept
+    ]
 
 
-def resumed(program, folder, chosen, report):
-    """How many states ended with the report and how many were refused, and what is wrong."""
+def resumed(
+    program: typing.Any, folder: typing.Any, chosen: typing.Any, report: typing.Any
+) -> typing.Any:
+    """Returns the numbers of states that ended with the report and that were refused, and what is
+    wrong.
+    """
     ends, wrong, runs = {0: 0, 8: 0}, [], []
     for number, slots in enumerate(chosen):
         wanted = model.audit(RESUMED, CYCLE, list(slots))
@@ -300,7 +421,7 @@ def resumed(program, folder, chosen, report):
     return ends, wrong
 
 
-def main(program, states="0", seed="1"):
+def main(program: typing.Any, states: str = "0", seed: str = "1") -> int:
     if not can_trace():
         print("SKIPPED power_cuts: strace is not installed, or may not trace here")
         print("power_cuts: 0 passed, 0 failed, 1 skipped")
@@ -316,19 +437,24 @@ def main(program, states="0", seed="1"):
         wrong += wrongs
     for one in wrong[:20]:
         print("WRONG:", one)
-    print(f"{len(found)} states of a run of {calls} calls and {len(later)} of the {kills} runs that go on where it was killed. Of "
-          f"{len(chosen)} that were resumed {ends[0]} ended with the one report, and {ends[8]} were refused by name. "
-          f"{len(wrong)} are not as they have to be")
+    print(
+        f"{len(found)} states of a run of {calls} calls and {len(later)} of the {kills} runs that"
+        f" go on where it was killed. Of {len(chosen)} that were resumed {ends[0]} ended with the"
+        f" one report, and {ends[8]} were refused by name. {len(wrong)} are not as they have to be"
+    )
     return 1 if wrong or not calls or not ends[0] or not ends[8] else 0
 
 
 def arguments() -> argparse.Namespace:
     parser = argparse.ArgumentParser(
         prog="python3 -m tests.system.power_cuts", description=__doc__,
-        formatter_class=argparse.RawDescriptionHelpFormatter)
+        formatter_class=argparse.RawDescriptionHelpFormatter,
+    )
     parser.add_argument("program", help="the built auditor")
-    parser.add_argument("states", nargs="?", type=int, default=0,
-                        help="from how many states a run goes on; all, if 0")
+    parser.add_argument(
+        "states", nargs="?", type=int, default=0,
+        help="from how many states a run goes on; all, if 0",
+    )
     parser.add_argument("seed", nargs="?", type=int, default=1, help="what they are drawn from")
     return parser.parse_args()
 

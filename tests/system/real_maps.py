@@ -1,36 +1,50 @@
-"""Dual graphs of real maps, from polygons that Debian ships, with start plans; and what the plain model answers on them.
+"""Dual graphs of real maps, from polygons that Debian ships, with start plans; and what the plain
+model answers on them.
 
-Usage: python3 -m tests.system.real_maps make PACKAGES OUT [NAME]..   writes OUT/NAME.json for each map, and a line for each of its plans to OUT/plans
-       python3 -m tests.system.real_maps published PACKAGES           compares the edges of three maps with the lists of neighbours that the packages have
-       python3 -m tests.system.real_maps model WORDS.. < GRAPH        ends as the auditor has to, by the plain model of model.py: text, note and status
-       python3 -m tests.system.real_maps modules                      ends with 0 where the modules that `make` needs are there
-PACKAGES is a folder in which the packages are unpacked, or / where they are installed: r-cran-spdata, r-cran-sf, r-cran-maps and
-python3-libpysal. Debian's python3-shapely and python3-pyshp are needed. real_maps.sh downloads and unpacks all, and runs this.
+Usage: python3 -m tests.system.real_maps make PACKAGES OUT [NAME]..
+           writes OUT/NAME.json for each map, and a line for each of its plans to OUT/plans
+       python3 -m tests.system.real_maps published PACKAGES
+           compares the edges of three maps with the packages' lists of neighbors
+       python3 -m tests.system.real_maps model WORDS.. < GRAPH
+           ends as the auditor has to, by the plain model of model.py: text, note and status
+       python3 -m tests.system.real_maps modules
+           ends with 0 where the modules that `make` needs are there
+PACKAGES is a folder in which the packages are unpacked, or / where they are installed:
+r-cran-spdata, r-cran-sf, r-cran-maps and python3-libpysal. Debian's python3-shapely and
+python3-pyshp are needed. real_maps.sh downloads and unpacks all, and runs this.
 
-Two units are neighbours where their borders share a line of some length (rook adjacency). The units, their names and their neighbours are
-real in all maps; lines of no length count as none. No package has votes by polygons; in place of votes stand two other counts, real ones where there are some:
+Two units are neighbours where their borders share a line of some length (rook adjacency). The
+units, their names and their neighbours are real in all maps; lines of no length count as none. No
+package has votes by polygons; in place of votes stand two other counts, real ones where there are
+some:
 
-    map          units                           people                                    in place of votes
-    nc           counties of North Carolina      births 1974-78                            non-white births, and white ones
-    georgia      counties of Georgia             residents 1990                            Black residents (by their share), and all others
-    stl          counties round St. Louis        residents, added up over 1988-93          homicides 1979-84, and 1988-93
-    auckland     census areas of Auckland        children under five 1981                  deaths under five 1977-85, and that from the children
-    ny8          tracts of eight counties of     residents 1980                            residents by the share of homes that are owned, and
-                 upstate New York                                                          all others
-    boston       tracts of Boston                residents 1970                            houses worth less than 20,000 dollars, and others
-    olinda       census sectors of Olinda        the census's count V014                   made up
-    albuquerque  tracts of Albuquerque           made up                                   made up
-    tokyo        wards and towns round Tokyo     made up                                   made up
-    virginia     counties, cities of Virginia    made up                                   made up
-    texas        counties of Texas               made up                                   made up
-    counties     counties of the 48 states       made up                                   made up
+    map          units                         people                    in place of votes
+    nc           counties of North Carolina    births 1974-78            non-white, and white births
+    georgia      counties of Georgia           residents 1990            Black residents, and others
+    stl          counties round St. Louis      residents, sum of         homicides 1979-84, and
+                                               1988-93                   1988-93
+    auckland     census areas of Auckland      children under five 1981  deaths under five 1977-85,
+                                                                         and that from the children
+    ny8          tracts of eight counties      residents 1980            residents by the share of
+                 of upstate New York                                     owned homes, and others
+    boston       tracts of Boston              residents 1970            houses worth less than
+                                                                         20,000 dollars, and others
+    olinda       census sectors of Olinda      the census's count V014   made up
+    albuquerque  tracts of Albuquerque         made up                   made up
+    tokyo        wards and towns round Tokyo   made up                   made up
+    virginia     counties, cities of Virginia  made up                   made up
+    texas        counties of Texas             made up                   made up
+    counties     counties of the 48 states     made up                   made up
 
-What is made up follows from the SHA-256 of the unit's id. Start plans are cut out of random trees, again and again in two, within 0.8 of
-the tolerance; they were never enacted. A line of OUT/plans has, between tabs: the map, the number of districts, the tolerance in hundredths
-of a percent, the plan's column, the column of regions or -, among how many districts the plan splits one, and the words for prepare.py.
+What is made up follows from the SHA-256 of the unit's id. Start plans are cut out of random trees,
+again and again in two, within 0.8 of the tolerance; they were never enacted. A line of OUT/plans
+has, between tabs: the map, the number of districts, the tolerance in hundredths of a percent, the
+plan's column, the column of regions or -, among how many districts the plan splits one, and the
+words for prepare.py.
 
-Sources and licences: nc, auckland, ny8 and boston are from spData (CC0 1.0), olinda is from sf (MIT or GPL 2), texas and counties are from
-maps (GPL 2), all others from libpysal (BSD, three clauses). Two of them, nc and ny8, lie in this folder as this script writes them.
+Sources and licences: nc, auckland, ny8 and boston are from spData (CC0 1.0), olinda is from sf (MIT
+or GPL 2), texas and counties are from maps (GPL 2), all others from libpysal (BSD, three clauses).
+Two of them, nc and ny8, lie in this folder as this script writes them.
 """
 import argparse
 import hashlib
@@ -52,10 +66,12 @@ TOLERANCES = (1000, 1500, 2000, 3000, 5000)
 
 
 class Source(typing.NamedTuple):
-    """Where a map comes from, and what its columns are. A column that is None is made up."""
+    """The source of a map, and its columns. A column that is None is made up."""
 
     file: str
-    """The shapefile; or the map of the package maps, and behind a colon how the names of the counties begin that are taken."""
+    """The shapefile; or the map of the package maps, and behind a colon how the names of the
+    counties begin that are taken.
+    """
     unit: str
     """The column with the units' ids; empty where there is none, and places stand in for them."""
     label: "str | None"
@@ -72,30 +88,104 @@ class Source(typing.NamedTuple):
     """A list of neighbours that the package has; it names units by their places, from 1."""
 
 
-def in_two(people, share, part, rest):
-    """Two columns: how many of a number of people a share of them is, as a float, and how many are left."""
-    return lambda row: {part: row[people] * share(row), rest: row[people] - row[people] * share(row)}
+def in_two(people: typing.Any, share: typing.Any, part: typing.Any, rest: typing.Any) -> typing.Any:
+    """Two columns: how many of a number of people a share of them is, as a float, and how many are
+    left.
+    """
+    return lambda row: {
+        part: row[people] * share(row),
+        rest: row[people] - row[people] * share(row),
+    }
 
 
 SOURCES = {
-    "nc": Source("spData/shapes/sids", "FIPS", "NAME", "BIR74", "NWBIR74", "WBIR74", None, (2, 11),
-                 lambda row: {"WBIR74": row["BIR74"] - row["NWBIR74"]}),
-    "georgia": Source("examples/georgia/G_utm", "AreaKey", None, "TotPop90", "BLACK", "OTHERS", None, (2, 8),
-                      in_two("TotPop90", lambda row: row["PctBlack"] / 100, "BLACK", "OTHERS")),
-    "stl": Source("examples/stl/stl_hom", "FIPS", "NAME", "PO8893", "HC7984", "HC8893", "STATE_NAME", (2, 5),
-                  published="examples/stl/stl_hom_rook"),
-    "auckland": Source("spData/shapes/auckland", "", None, "Und5_81", "M77_85", "OTHERS", None, (2, 8),
-                       lambda row: {"OTHERS": row["Und5_81"] - row["M77_85"]}),
-    "ny8": Source("spData/shapes/NY8_utm18", "AREAKEY", "AREANAME", "POP8", "OWNING", "OTHERS", "COUNTY", (2, 8),
-                  lambda row: {"COUNTY": row["AREAKEY"][:5], **in_two("POP8", lambda row: row["PCTOWNHOME"], "OWNING", "OTHERS")(row)}),
-    "boston": Source("spData/shapes/boston_tracts", "poltract", None, "POP", "CHEAP", "DEAR", "TOWN", (2, 9),
-                     lambda row: {"CHEAP": sum(row[name] for name in CHEAP), "DEAR": sum(row[name] for name in DEAR)}),
-    "olinda": Source("sf/shape/olinda1", "CD_GEOCODI", None, "V014", None, None, "NM_BAIR", (2, 10)),
-    "albuquerque": Source("examples/10740/10740", "STFID", None, None, None, None, "FIPSSTCO", (2, 9),
-                          published="examples/10740/10740_rook"),
-    "tokyo": Source("examples/tokyo/tokyomet262", "GEOCODE", "AREANAME", None, None, None, "PREF", (2, 13), lambda row: {"PREF": row["GEOCODE"][:2]}),
-    "virginia": Source("examples/virginia/virginia", "FIPS", "NAME", None, None, None, None, (2, 11),
-                       published="examples/virginia/virginia_rook"),
+    "nc": Source(
+        "spData/shapes/sids",
+        "FIPS",
+        "NAME",
+        "BIR74",
+        "NWBIR74",
+        "WBIR74",
+        None,
+        (2, 11),
+        lambda row: {"WBIR74": row["BIR74"] - row["NWBIR74"]},
+    ),
+    "georgia": Source(
+        "examples/georgia/G_utm",
+        "AreaKey",
+        None,
+        "TotPop90",
+        "BLACK",
+        "OTHERS",
+        None,
+        (2, 8),
+        in_two("TotPop90", lambda row: row["PctBlack"] / 100, "BLACK", "OTHERS"),
+    ),
+    "stl": Source(
+        "examples/stl/stl_hom", "FIPS", "NAME", "PO8893", "HC7984", "HC8893", "STATE_NAME", (2, 5),
+        published="examples/stl/stl_hom_rook",
+    ),
+    "auckland": Source(
+        "spData/shapes/auckland",
+        "",
+        None,
+        "Und5_81",
+        "M77_85",
+        "OTHERS",
+        None,
+        (2, 8),
+        lambda row: {"OTHERS": row["Und5_81"] - row["M77_85"]},
+    ),
+    "ny8": Source(
+        "spData/shapes/NY8_utm18",
+        "AREAKEY",
+        "AREANAME",
+        "POP8",
+        "OWNING",
+        "OTHERS",
+        "COUNTY",
+        (2, 8),
+        lambda row: {
+            "COUNTY": row["AREAKEY"][:5],
+            **in_two("POP8", lambda row: row["PCTOWNHOME"], "OWNING", "OTHERS")(row),
+        },
+    ),
+    "boston": Source(
+        "spData/shapes/boston_tracts",
+        "poltract",
+        None,
+        "POP",
+        "CHEAP",
+        "DEAR",
+        "TOWN",
+        (2, 9),
+        lambda row: {
+            "CHEAP": sum(row[name] for name in CHEAP),
+            "DEAR": sum(row[name] for name in DEAR),
+        },
+    ),
+    "olinda": Source(
+        "sf/shape/olinda1", "CD_GEOCODI", None, "V014", None, None, "NM_BAIR", (2, 10)
+    ),
+    "albuquerque": Source(
+        "examples/10740/10740", "STFID", None, None, None, None, "FIPSSTCO", (2, 9),
+        published="examples/10740/10740_rook",
+    ),
+    "tokyo": Source(
+        "examples/tokyo/tokyomet262",
+        "GEOCODE",
+        "AREANAME",
+        None,
+        None,
+        None,
+        "PREF",
+        (2, 13),
+        lambda row: {"PREF": row["GEOCODE"][:2]},
+    ),
+    "virginia": Source(
+        "examples/virginia/virginia", "FIPS", "NAME", None, None, None, None, (2, 11),
+        published="examples/virginia/virginia_rook",
+    ),
     "texas": Source("maps/mapdata/county:texas,", "NAME", None, None, None, None, None, (2, 13)),
     "counties": Source("maps/mapdata/county:", "NAME", None, None, None, None, "STATE", (2, 13)),
 }
@@ -103,47 +193,71 @@ SOURCES = {
 
 # ---- polygons
 
-def file_of(packages, name):
+
+def file_of(packages: typing.Any, name: typing.Any) -> typing.Any:
     """A file of a package, by the end of its path."""
     path = pathlib.PurePath(name)
-    roots = [packages] if packages != pathlib.Path("/") else [packages / "usr" / "lib" / "R", packages / "usr" / "lib" / "python3"]
-    found = sorted(one for root in roots for one in root.rglob(path.name) if one.as_posix().endswith("/" + name))
+    roots = (
+        [packages]
+        if packages != pathlib.Path("/")
+        else [packages / "usr" / "lib" / "R", packages / "usr" / "lib" / "python3"]
+    )
+    found = sorted(
+        one
+        for root in roots
+        for one in root.rglob(path.name)
+        if one.as_posix().endswith("/" + name)
+    )
     if not found:
-        raise FileNotFoundError("there is no %s in the packages below %s" % (name, packages))
+        raise FileNotFoundError(f"there is no {name} in the packages below {packages}")
     return found[0]
 
 
-def shapes_of(packages, source):
+def shapes_of(packages: typing.Any, source: typing.Any) -> typing.Any:
     """The rows of a shapefile, and their polygons."""
     import shapefile
     from shapely.geometry import shape
     from shapely.validation import make_valid
-    with shapefile.Reader(str(file_of(packages, source.file + ".shp")), encoding="latin1") as reader:
+
+    with shapefile.Reader(
+        str(file_of(packages, source.file + ".shp")), encoding="latin1"
+    ) as reader:
         names = [field[0] for field in reader.fields[1:]]
         rows = [dict(zip(names, record)) for record in reader.records()]
         polygons = [shape(one.__geo_interface__) for one in reader.shapes()]
     return rows, [polygon if polygon.is_valid else make_valid(polygon) for polygon in polygons]
 
 
-def rook(polygons):
+def rook(polygons: typing.Any) -> typing.List[typing.Any]:
     """The pairs of polygons whose borders share a line of some length."""
     boxes = [polygon.bounds for polygon in polygons]
 
-    def may_touch(one, other):
-        return one[0] <= other[2] and other[0] <= one[2] and one[1] <= other[3] and other[1] <= one[3]
+    def may_touch(one: typing.Any, other: typing.Any) -> bool:
+        return bool(
+            one[0] <= other[2] and other[0] <= one[2] and one[1] <= other[3] and other[1] <= one[3]
+        )
 
-    return [(i, j) for i, box in enumerate(boxes) for j in range(i + 1, len(boxes))
-            if may_touch(box, boxes[j]) and polygons[i].intersection(polygons[j]).length > 0]
+    return [
+        (i, j)
+        for i, box in enumerate(boxes)
+        for j in range(i + 1, len(boxes))
+        if may_touch(box, boxes[j]) and polygons[i].intersection(polygons[j]).length > 0
+    ]
 
 
-def lines_of(packages, source):
-    """The same from a map of the package maps, which has lines with the polygon at their left and at their right: rows, edges and middles. The
-    polygons of one county are one unit."""
+def lines_of(packages: typing.Any, source: typing.Any) -> typing.Any:
+    """Returns a map of the package maps, whose lines have the polygon at their left and at their
+    right: rows, edges and middles. The polygons of one county are one unit.
+    """
     file, _, front = source.file.partition(":")
-    labels = [line.split("\t")[0].split(":")[0] for line in file_of(packages, file + ".N").read_text(encoding="latin1").splitlines()]
+    labels = [
+        line.split("\t")[0].split(":")[0]
+        for line in file_of(packages, file + ".N").read_text(encoding="latin1").splitlines()
+    ]
     names = sorted({label for label in labels if label.startswith(front)})
     place = {name: i for i, name in enumerate(names)}
     unit_of = [None] + [place.get(label) for label in labels]
+    points: typing.Any
     data, edges, points = file_of(packages, file + ".L").read_bytes(), set(), [[] for _ in names]
     for line in range(struct.unpack_from("<ii", data)[1]):
         offset, count, left, right = struct.unpack_from("<iHhh", data, 8 + 28 * line)
@@ -158,7 +272,7 @@ def lines_of(packages, source):
     return [{"NAME": name, "STATE": name.split(",")[0]} for name in names], sorted(edges), middles
 
 
-def read(packages, source):
+def read(packages: typing.Any, source: typing.Any) -> typing.Any:
     """Rows, edges and middles of a map."""
     if ":" in source.file:
         return lines_of(packages, source)
@@ -168,7 +282,8 @@ def read(packages, source):
 
 # ---- graphs
 
-def parts_of(near):
+
+def parts_of(near: typing.Any) -> typing.List[typing.Any]:
     """The parts of a graph, the smallest first."""
     left, parts = set(range(len(near))), []
     while left:
@@ -183,9 +298,10 @@ def parts_of(near):
     return sorted(parts, key=lambda part: (len(part), part))
 
 
-def joins_of(near, middles):
-    """Pairs that make one part of a graph: each time the smallest part is joined by the units whose middles are nearest. They are made
-    neighbours."""
+def joins_of(near: typing.Any, middles: typing.Any) -> typing.Any:
+    """Pairs that make one part of a graph: each time the smallest part is joined by the units whose
+    middles are nearest. They are made neighbours.
+    """
     found = []
     while len(parts := parts_of(near)) > 1:
         inside = set(parts[0])
@@ -197,15 +313,22 @@ def joins_of(near, middles):
     return found
 
 
-def made(unit, what, low, high):
+def made(unit: typing.Any, what: typing.Any, low: typing.Any, high: typing.Any) -> typing.Any:
     """A whole number from low to high - 1 that follows from a unit's id."""
-    return low + int.from_bytes(hashlib.sha256(("%s %s" % (what, unit)).encode()).digest()[:8], "big") % (high - low)
+    return low + int.from_bytes(hashlib.sha256((f"{what} {unit}").encode()).digest()[:8], "big") % (
+        high - low
+    )
 
 
 # ---- start plans
 
-def tree_of(start, members, near, draw):
-    """A random tree of all members: an order in which each unit comes after the one that it hangs on, and that."""
+
+def tree_of(
+    start: typing.Any, members: typing.Any, near: typing.Any, draw: typing.Any
+) -> typing.Any:
+    """A random tree of all members: an order in which each unit comes after the one that it hangs
+    on, and that.
+    """
     order, above, edges = [], {}, [(start, start)]
     while edges:
         at = int(draw() * len(edges))
@@ -214,12 +337,26 @@ def tree_of(start, members, near, draw):
         if unit not in above:
             above[unit] = parent
             order.append(unit)
-            edges += [(other, unit) for other in sorted(near[unit]) if other in members and other not in above]
+            edges += [
+                (other, unit)
+                for other in sorted(near[unit])
+                if other in members and other not in above
+            ]
     return order, above
 
 
-def cut_of(members, count, near, people, low, high, draw):
-    """Two connected parts of the members, and of how many districts each is to be; None where this tree has none."""
+def cut_of(
+    members: typing.Any,
+    count: typing.Any,
+    near: typing.Any,
+    people: typing.Any,
+    low: typing.Any,
+    high: typing.Any,
+    draw: typing.Any,
+) -> typing.Any:
+    """Two connected parts of the members, and of how many districts each is to be; None where this
+    tree has none.
+    """
     ordered = sorted(members)
     order, above = tree_of(ordered[int(draw() * len(ordered))], members, near, draw)
     below = {unit: people[unit] for unit in order}
@@ -228,7 +365,9 @@ def cut_of(members, count, near, people, low, high, draw):
     total, best = below[order[0]], None
     for unit in order[1:]:
         for j in range(1, count):
-            if low * j <= below[unit] <= high * j and low * (count - j) <= total - below[unit] <= high * (count - j):
+            if low * j <= below[unit] <= high * j and low * (count - j) <= total - below[
+                unit
+            ] <= high * (count - j):
                 worth = abs(below[unit] / j - total / count)
                 if best is None or (worth, unit) < best[:2]:
                     best = worth, unit, j
@@ -241,8 +380,12 @@ def cut_of(members, count, near, people, low, high, draw):
     return (part, best[2]), (set(members) - part, count - best[2])
 
 
-def partition(near, people, count, tolerance, seed):
-    """A plan of so many connected districts, each within the tolerance (a part of the ideal population); None where a bounded search has none."""
+def partition(
+    near: typing.Any, people: typing.Any, count: typing.Any, tolerance: typing.Any, seed: typing.Any
+) -> typing.Any:
+    """Returns a plan of connected districts, each within the tolerance (a part of the ideal
+    population); None if a bounded search has none.
+    """
     draw, ideal = random.Random(seed).random, sum(people) / count
     low, high = ideal * (1 - tolerance), ideal * (1 + tolerance)
     for _ in range(60 if max(people) <= high else 0):
@@ -265,101 +408,153 @@ def partition(near, people, count, tolerance, seed):
 
 # ---- the whole
 
-def clean(value):
+
+def clean(value: typing.Any) -> typing.Any:
     """A value as JSON has it; an absent text is missing."""
-    return None if value in ("", None) else value.decode("latin1") if isinstance(value, bytes) else value
+    return (
+        None
+        if value in ("", None)
+        else value.decode("latin1") if isinstance(value, bytes) else value
+    )
 
 
-def whole(value):
-    """What prepare.py makes of a number with `--numbers nearest --missing zero`."""
+def whole(value: typing.Any) -> typing.Any:
+    """Returns a number as `prepare` writes it with `--numbers nearest --missing zero`."""
     return 0 if value is None else round(value)
 
 
 class RealMap:
     """A map: its nodes, edges, the words for prepare.py, and its plans."""
 
-    def __init__(self, name, source, packages):
+    def __init__(self, name: typing.Any, source: typing.Any, packages: typing.Any) -> None:
         rows, self.edges, middles = read(packages, source)
         self.name, self.source = name, source
-        self.columns = dict(pop=source.people or "TOTPOP", first=source.first or "FIRST", second=source.second or "SECOND")
+        self.columns = dict(
+            pop=source.people or "TOTPOP", first=source.first or "FIRST",
+            second=source.second or "SECOND",
+        )
         self.nodes = [self.node_of(place, row) for place, row in enumerate(rows)]
-        self.near = [set() for _ in rows]
+        self.near: typing.Any = [set() for _ in rows]
         for i, j in self.edges:
             self.near[i].add(j)
             self.near[j].add(i)
         written = [sorted(those) for those in self.near]
         self.adjacency = [[{"id": self.nodes[j]["id"]} for j in those] for those in written]
-        self.joins = [(self.nodes[i]["id"], self.nodes[j]["id"]) for i, j in joins_of(self.near, middles)]
+        self.joins = [
+            (self.nodes[i]["id"], self.nodes[j]["id"]) for i, j in joins_of(self.near, middles)
+        ]
         self.plans = [plan for plan in map(self.plan_of, source.districts) if plan]
 
-    def node_of(self, place, row):
+    def node_of(self, place: typing.Any, row: typing.Any) -> typing.Dict[typing.Any, typing.Any]:
         source = self.source
         row = {**row, **source.derive(row)}
         unit = row[source.unit] if source.unit else place
         kept = [source.label, *([source.region] if source.region else [])]
         node = {column: clean(row[column]) for column in kept if column}
-        for what, column, low, high in (("pop", source.people, 1000, 9000), ("first", source.first, 100, 2000), ("second", source.second, 100, 2000)):
+        for what, column, low, high in (
+            ("pop", source.people, 1000, 9000), ("first", source.first, 100, 2000),
+            ("second", source.second, 100, 2000),
+        ):
             node[self.columns[what]] = clean(row[column]) if column else made(unit, what, low, high)
         return {**node, "id": unit}
 
-    def plan_of(self, districts):
-        """A plan, as a column of the nodes: its tolerance, its column, and among how many districts it splits a region."""
+    def plan_of(self, districts: typing.Any) -> typing.Any:
+        """A plan, as a column of the nodes: its tolerance, its column, and among how many districts
+        it splits a region.
+        """
         people = [whole(node[self.columns["pop"]]) for node in self.nodes]
         for tolerance in TOLERANCES:
-            plan = partition(self.near, people, districts, 0.8 * tolerance / 10000, "%s %d" % (self.name, districts))
+            plan = partition(
+                self.near, people, districts, 0.8 * tolerance / 10000, f"{self.name} {districts}"
+            )
             if plan is not None:
-                column, region, split = "PLAN%d" % districts, self.source.region, {}
+                split: typing.Dict[typing.Any, typing.Any]
+                column, region, split = f"PLAN{districts}", self.source.region, {}
                 for node, district in zip(self.nodes, plan):
-                    node[column] = "%02d" % (district + 1)
+                    node[column] = f"{district + 1:02}"
                     split.setdefault(node.get(region) if region else None, set()).add(district)
                 split.pop(None, None)
                 return districts, tolerance, column, max(map(len, split.values()), default=0)
-        print("real_maps: %s: no plan of %d districts" % (self.name, districts), file=sys.stderr)
+        print(f"real_maps: {self.name}: no plan of {districts} districts", file=sys.stderr)
         return None
 
-    def words(self):
+    def words(self) -> typing.Any:
         """The words for prepare.py, but the column of the plan."""
-        words = [word for what, column in self.columns.items() for word in ("--" + what, column)] + ["--numbers", "nearest", "--missing", "zero"]
+        words = [
+            word for what, column in self.columns.items() for word in ("--" + what, column)
+        ] + ["--numbers", "nearest", "--missing", "zero"]
         if self.source.region:
             words += ["--region", self.source.region]
-            words += ["--own-region"] if any(node[self.source.region] is None for node in self.nodes) else []
+            words += (
+                ["--own-region"]
+                if any(node[self.source.region] is None for node in self.nodes)
+                else []
+            )
         return words + [word for pair in self.joins for word in ("--join", *map(str, pair))]
 
-    def write(self, folder):
-        root = {"directed": False, "multigraph": False, "graph": [], "nodes": self.nodes, "adjacency": self.adjacency}
-        (folder / (self.name + ".json")).write_text(json.dumps(root, ensure_ascii=True), encoding="ascii")
-        return ["\t".join((self.name, str(districts), str(tolerance), column, self.source.region or "-", str(split), shlex.join(self.words())))
-                for districts, tolerance, column, split in self.plans]
+    def write(self, folder: typing.Any) -> typing.List[typing.Any]:
+        root = {
+            "directed": False,
+            "multigraph": False,
+            "graph": [],
+            "nodes": self.nodes,
+            "adjacency": self.adjacency,
+        }
+        (folder / (self.name + ".json")).write_text(
+            json.dumps(root, ensure_ascii=True), encoding="ascii"
+        )
+        return [
+            "\t".join(
+                (
+                    self.name, str(districts), str(tolerance), column, self.source.region or "-",
+                    str(split), shlex.join(self.words()),
+                )
+            )
+            for districts, tolerance, column, split in self.plans
+        ]
 
 
-def make(packages, folder, names):
+def make(packages: typing.Any, folder: typing.Any, names: typing.Any) -> None:
     unknown = sorted(set(names) - set(SOURCES))
     if unknown:
-        raise SystemExit("real_maps: there is no map %s; there are %s" % (unknown[0], ", ".join(SOURCES)))
+        raise SystemExit(f"real_maps: there is no map {unknown[0]}; there are {', '.join(SOURCES)}")
     folder.mkdir(parents=True, exist_ok=True)
-    lines = [line for name in names or SOURCES for line in RealMap(name, SOURCES[name], packages).write(folder)]
+    lines = [
+        line
+        for name in names or SOURCES
+        for line in RealMap(name, SOURCES[name], packages).write(folder)
+    ]
     (folder / "plans").write_text("".join(line + "\n" for line in lines), encoding="utf-8")
 
 
-def published(packages):
-    """How many maps have just the edges of the lists of neighbours that the packages have, and which have others."""
+def published(packages: typing.Any) -> int:
+    """Returns the number of maps with exactly the edges of the packages' lists of neighbors, and
+    the others.
+    """
     wrong, tried = 0, 0
     for name, source in SOURCES.items():
         if source.published is None:
             continue
         _, edges, _ = read(packages, source)
         words = file_of(packages, source.published + ".gal").read_text(encoding="ascii").split("\n")
-        theirs = {frozenset((int(one.split()[0]), int(other))) for one, others in zip(words[1::2], words[2::2]) for other in others.split()}
+        theirs = {
+            frozenset((int(one.split()[0]), int(other)))
+            for one, others in zip(words[1::2], words[2::2])
+            for other in others.split()
+        }
         ours = {frozenset((i + 1, j + 1)) for i, j in edges}
         tried += 1
         if theirs != ours:
             wrong += 1
-            print("WRONG %s: %d edges are not in the published list, and %d of it are lacking" % (name, len(ours - theirs), len(theirs - ours)))
-    print("the edges of %d of %d maps are those of the published lists" % (tried - wrong, tried))
+            print(
+                f"WRONG {name}: {len(ours - theirs)} edges are not in the published list, and"
+                f" {len(theirs - ours)} of it are lacking"
+            )
+    print(f"the edges of {tried - wrong} of {tried} maps are those of the published lists")
     return 1 if wrong else 0
 
 
-def answer(words):
+def answer(words: typing.Any) -> typing.Any:
     """Ends as the auditor has to: its text, its note and its status."""
     end = model.audit(words, sys.stdin.buffer.read(), [None, None])
     sys.stdout.write(end.out)
@@ -369,7 +564,7 @@ def answer(words):
 
 def main(words: argparse.Namespace) -> int:
     if words.command == "model":
-        return answer(words.words)
+        return int(answer(words.words))
     if words.command == "modules":
         import shapefile  # noqa: F401
         import shapely.geometry  # noqa: F401
@@ -383,7 +578,8 @@ def main(words: argparse.Namespace) -> int:
 def arguments() -> argparse.Namespace:
     parser = argparse.ArgumentParser(
         prog="python3 -m tests.system.real_maps", description=__doc__,
-        formatter_class=argparse.RawDescriptionHelpFormatter)
+        formatter_class=argparse.RawDescriptionHelpFormatter,
+    )
     commands = parser.add_subparsers(dest="command", required=True)
     maker = commands.add_parser("make", help="make maps")
     maker.add_argument("packages", help="the folder with the packages")

@@ -1,11 +1,11 @@
 #!/bin/bash
 # Real maps: prepared, checked, walked and audited by the real program, and each text, note and status compared with the plain model's.
 #
-# Usage: tests/system/real_maps.sh                  the two maps of examples/data, and beside them the drawn one with counties and a group; and
-#                                                   the twelve of real_maps.py where Debian's packages with their polygons are installed,
-#                                                   which counts as skipped where not
-#        tests/system/real_maps.sh fetch [FOLDER]   downloads the packages (10 MB, nothing of them is installed), makes the twelve maps in
-#                                                   the folder, or in one that is removed afterwards, and prints a row for each plan
+# Usage: tests/system/real_maps.sh                  checks the two maps of examples/data, and the drawn one with counties and a group.
+#                                                   Where Debian's packages with their polygons are installed, also the twelve maps of
+#                                                   real_maps.py. They count as skipped elsewhere.
+#        tests/system/real_maps.sh fetch [FOLDER]   downloads the packages (10 MB) and installs nothing of them. Makes the twelve maps in
+#                                                   the folder, or in one that is removed afterwards, and prints a row for each plan.
 # The program is that of rt ci and rt run, or the one that the variable DISTRICT_AUDIT names.
 #
 # RUN:
@@ -39,7 +39,7 @@ block() {
     awk -v heading="## $1" -v wanted="$2" '$0 == heading { found = 1 } found && /^```/ { fences++; next } found && fences == 2 * wanted - 1' examples/README.md
 }
 
-# What that page has below the heading $1 is a command and its report: the command prints it, and it is the plain model's last text.
+# Below the heading $1 that page has a command and its report: the command prints it, and it is the plain model's last text.
 printed() {
     block "$1" 2 >"$room/page"
     block "$1" 1 >"$room/command"

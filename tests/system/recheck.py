@@ -11,6 +11,7 @@ drawn (12, if not said), audited by the program and re-checked. The last line co
 # RUN: {auditor}
 # NEEDS: networkx
 import contextlib
+import csv
 import importlib.util
 import io
 import json
@@ -21,6 +22,7 @@ import struct
 import subprocess
 import sys
 import tempfile
+import typing
 from pathlib import Path
 
 from tests import places
@@ -32,8 +34,9 @@ CYCLE = ["--pop", "pop", "--first", "a", "--second", "b", "--district", "d"]
 REAL_KEY = "25625133bdfe4640fd1099604c66ef5bdc9757e9aac463095ef41e04bb2def94"
 
 
-def module(path, name):
+def module(path: typing.Any, name: typing.Any) -> typing.Any:
     spec = importlib.util.spec_from_file_location(name, path)
+    assert spec is not None and spec.loader is not None
     loaded = importlib.util.module_from_spec(spec)
     spec.loader.exec_module(loaded)
     return loaded
@@ -46,7 +49,7 @@ model = module(TOP / "tests" / "oracle" / "model.py", "model")
 class Counts:
     passed = failed = skipped = 0
 
-    def judge(self, name, is_right, what=""):
+    def judge(self, name: typing.Any, is_right: typing.Any, what: str = "") -> None:
         if is_right:
             self.passed += 1
         else:
@@ -57,7 +60,7 @@ class Counts:
 COUNTS = Counts()
 
 
-def checked(*words):
+def checked(*words: typing.Any) -> typing.Any:
     """The status and the text of a call of recheck."""
     recheck.WRONG.clear()
     with contextlib.redirect_stdout(io.StringIO()) as text:
@@ -65,112 +68,145 @@ def checked(*words):
     return status, text.getvalue()
 
 
-def agrees(name, *words):
+def agrees(name: typing.Any, *words: typing.Any) -> None:
     status, text = checked(*words)
     COUNTS.judge(name, status == 0, f"expected status 0, got {status}: {text}")
 
 
-def differs(name, place, *words):
+def differs(name: typing.Any, place: typing.Any, *words: typing.Any) -> None:
     """Passes where the status is 1 and some line begins with the place of the fault."""
     status, text = checked(*words)
     is_named = any(line.startswith(place) for line in text.splitlines())
-    COUNTS.judge(name, status == 1 and is_named,
-                 f"expected status 1 and '{place}', got {status}: {text}")
+    COUNTS.judge(
+        name, status == 1 and is_named, f"expected status 1 and '{place}', got {status}: {text}"
+    )
 
 
-def program(given):
+def program(given: typing.Any) -> typing.Any:
     if given:
         return given
     built = TOP / "crates" / "audit_program" / "out" / "audit_program"
     if not built.exists():
-        subprocess.run(["rt", "run"], cwd=TOP / "crates" / "audit_program",
-                       stdin=subprocess.DEVNULL, capture_output=True, check=False)
+        subprocess.run(
+            ["rt", "run"], cwd=TOP / "crates" / "audit_program", stdin=subprocess.DEVNULL,
+            capture_output=True, check=False,
+        )
     return str(built)
 
 
-def run(auditor, words, graph, folder="."):
-    return subprocess.run([auditor, *words], input=graph, capture_output=True, cwd=folder,
-                          check=False)
+def run(auditor: typing.Any, words: typing.Any, graph: typing.Any, folder: str = ".") -> typing.Any:
+    return subprocess.run(
+        [auditor, *words], input=graph, capture_output=True, cwd=folder, check=False
+    )
 
 
 # ---- the generator and the examples
 
-def vectors():
+
+def vectors() -> None:
     """Draws of RFC 8439: appendix A.1, vectors 1 and 2, and the example of section 2.3.2."""
-    for key, stream, place, draw in ((bytes(32), 0, 0, 0x903df1a0ade0b876),
-                                     (bytes(32), 0, 8, 0x7a385155bee7079f),
-                                     (bytes(range(32)), 0x4a000000, 8 * 0x0900000000000001,
-                                      0x15593bd1e4e7f110)):
+    for key, stream, place, draw in (
+        (bytes(32), 0, 0, 0x903DF1A0ADE0B876),
+        (bytes(32), 0, 8, 0x7A385155BEE7079F),
+        (bytes(range(32)), 0x4A000000, 8 * 0x0900000000000001, 0x15593BD1E4E7F110),
+    ):
         found = next(recheck.draws_of(key, stream, place, place + 1))
         COUNTS.judge(f"draw {place} of stream {stream}", found == draw, f"{found:x} for {draw:x}")
 
 
-def prepared(name, *words):
+def prepared(name: typing.Any, *words: typing.Any) -> typing.Any:
     command = places.package_command("prepare")
-    return subprocess.run([*command, EXAMPLES / name, *words], env=places.package_environment(),
-                          capture_output=True, check=True).stdout
+    return subprocess.run(
+        [*command, EXAMPLES / name, *words], env=places.package_environment(), capture_output=True,
+        check=True,
+    ).stdout
 
 
-def cases():
+def cases() -> typing.Iterator[typing.Any]:
     """A name, the words and the graph of each example."""
     real = ["--slack", "1000", "--key", REAL_KEY, "--steps", "2047", "--hub-steps", "500"]
     births = ["--pop", "BIR74", "--first", "NWBIR74", "--second", "WBIR74", "--district", "PLAN11"]
     homes = ["--pop", "POP8", "--first", "OWNING", "--second", "OTHERS", "--district", "PLAN8"]
     grid = ["--pop", "TOTPOP", "--first", "DEM", "--second", "REP", "--district", "CD"]
-    groups = ["--slack", "1000", "--region", "county", "--max-splits", "3", "--group", "bvap",
-              "--max-split-regions", "3", "--group-of", "vap", "--group-districts", "2"]
+    groups = [
+        "--slack", "1000", "--region", "county", "--max-splits", "3", "--group", "bvap",
+        "--max-split-regions", "3", "--group-of", "vap", "--group-districts", "2",
+    ]
     small = ["--slack", "5000", "--key", ZEROS.upper(), "--walks", "2", "--steps", "63"]
     yield "path", [*CYCLE, *small, "--ask", "gap:low,cut-edges:low"], "path.json"
-    yield "cycle", [*CYCLE, *small, "--ends", "20", "--hub-steps", "9", "--stop", "3", "--shift",
-                    "yes", "--serial", "yes", "--max-cut", "3",
-                    "--ask", "gap:low,seats:high,mean-median:low,cut-edges:high"], "cycle.json"
-    yield "counties", [*CYCLE, *small, "--region", "county", "--max-split", "1",
-                       "--ask", "gap:low"], "counties.json"
-    yield "groups", [*CYCLE, *groups, "--source", "yes", "--key", REAL_KEY, "--steps", "1000",
-                     "--ends", "5", "--hub-steps", "300", "--ask",
-                     "mean-median:high,cut-edges:low"], "groups.json"
-    yield "grid", [*grid, "--slack", "1000", "--key", REAL_KEY, "--steps", "5000", "--ends", "3",
-                   "--hub-steps", "2000", "--ask", "seats:low,gap:high,cut-edges:low"], "grid.json"
-    yield "nc", [*births, *real, "--walks", "2", "--ends", "19", "--serial", "yes", "--ask",
-                 "mean-median:high,cut-edges:low"], prepared("nc.json", *births, "--slack", "1000")
-    yield "ny8", [*homes, *real, "--region", "COUNTY", "--max-split", "4", "--ends", "9",
-                  "--shift", "yes", "--ask", "gap:high,cut-edges:low"], prepared(
-        "ny8.json", *homes, "--slack", "1000", "--numbers", "nearest", "--region", "COUNTY")
+    yield "cycle", [
+        *CYCLE, *small, "--ends", "20", "--hub-steps", "9", "--stop", "3", "--shift", "yes",
+        "--serial", "yes", "--max-cut", "3", "--ask",
+        "gap:low,seats:high,mean-median:low,cut-edges:high",
+    ], "cycle.json"
+    yield "counties", [
+        *CYCLE, *small, "--region", "county", "--max-split", "1", "--ask", "gap:low",
+    ], "counties.json"
+    yield "groups", [
+        *CYCLE, *groups, "--source", "yes", "--key", REAL_KEY, "--steps", "1000", "--ends", "5",
+        "--hub-steps", "300", "--ask", "mean-median:high,cut-edges:low",
+    ], "groups.json"
+    yield "grid", [
+        *grid, "--slack", "1000", "--key", REAL_KEY, "--steps", "5000", "--ends", "3",
+        "--hub-steps", "2000", "--ask", "seats:low,gap:high,cut-edges:low",
+    ], "grid.json"
+    yield "nc", [
+        *births, *real, "--walks", "2", "--ends", "19", "--serial", "yes", "--ask",
+        "mean-median:high,cut-edges:low",
+    ], prepared("nc.json", *births, "--slack", "1000")
+    yield "ny8", [
+        *homes, *real, "--region", "COUNTY", "--max-split", "4", "--ends", "9", "--shift", "yes",
+        "--ask", "gap:high,cut-edges:low",
+    ], prepared("ny8.json", *homes, "--slack", "1000", "--numbers", "nearest", "--region", "COUNTY")
 
 
-def examples(auditor, room):
+def examples(auditor: typing.Any, room: typing.Any) -> None:
     for name, words, graph in cases():
         data = (EXAMPLES / graph).read_bytes() if isinstance(graph, str) else graph
         (room / "graph").write_bytes(data)
         (room / "report").write_bytes(run(auditor, ["run", *words], data).stdout)
         agrees(name, room / "graph", room / "report", *words)
         agrees(f"{name}, one trajectory", room / "graph", room / "report", *words, "--id", "0")
-    words = ["--slack", "1000", "--key", ZEROS, "--steps", "4095", "--serial", "yes", "--ends", "2",
-             "--ask", "cut-edges:low,gap:high"]
+    words = [
+        "--slack", "1000", "--key", ZEROS, "--steps", "4095", "--serial", "yes", "--ends", "2",
+        "--ask", "cut-edges:low,gap:high",
+    ]
     (room / "report").write_bytes(run(auditor, ["make", "--size", "2", *words], b"").stdout)
     agrees("make", "make", room / "report", "--size", "2", *words)
 
 
 # ---- planted faults
 
-FAULTY = [*CYCLE, "--slack", "5000", "--key", ZEROS, "--walks", "2", "--steps", "40", "--ends",
-          "6", "--hub-steps", "17", "--shift", "yes", "--ask", "gap:low,cut-edges:low"]
+FAULTY = [
+    *CYCLE, "--slack", "5000", "--key", ZEROS, "--walks", "2", "--steps", "40", "--ends", "6",
+    "--hub-steps", "17", "--shift", "yes", "--ask", "gap:low,cut-edges:low",
+]
 
 
-def trace_of(job, thin, found=None):
+def trace_of(job: typing.Any, thin: typing.Any, found: typing.Any = None) -> str:
     """The trace of all trajectories by the plain model."""
     setting = job.setting
-    texts = [f"{score} {tail} start {job.value(job.plan, score)}/{job.denominator(score)}"
-             for score, tail in setting.asks]
-    lines = ["district-trace 1", "key " + setting.key.hex(), *model.head(job),
-             f"walks {setting.walks} steps {setting.steps} ends {setting.ends} "
-             f"hub-steps {setting.hub_steps}", *(f"ask {text}" for text in texts)]
+    texts = [
+        f"{score} {tail} start {job.value(job.plan, score)}/{job.denominator(score)}"
+        for score, tail in setting.asks
+    ]
+    lines = [
+        "district-trace 1",
+        "key " + setting.key.hex(),
+        *model.head(job),
+        (
+            f"walks {setting.walks} steps {setting.steps} ends {setting.ends} "
+            f"hub-steps {setting.hub_steps}"
+        ),
+        *(f"ask {text}" for text in texts),
+    ]
     hub = job.walk(tuple(job.plan), 1, setting.hub_steps)[0][-1]
     for number in range(setting.walks + setting.ends):
         end = number - setting.walks
         steps = setting.steps if end < 0 else setting.hub_steps
-        plans, _ = job.walk(tuple(job.plan) if end < 0 else hub,
-                            2 * number if end < 0 else 2 * end + 3, steps)
+        plans, _ = job.walk(
+            tuple(job.plan) if end < 0 else hub, 2 * number if end < 0 else 2 * end + 3, steps
+        )
         lines.append(f"trace id {number} steps {steps} thin {thin}")
         last = job.plan
         for at in [*range(0, steps, thin), steps]:
@@ -183,7 +219,7 @@ def trace_of(job, thin, found=None):
 
 
 @contextlib.contextmanager
-def replaced(owner, name, wrong):
+def replaced(owner: typing.Any, name: typing.Any, wrong: typing.Any) -> typing.Iterator[typing.Any]:
     right = getattr(owner, name)
     setattr(owner, name, wrong(right))
     model.OUTCOMES.clear()
@@ -194,13 +230,16 @@ def replaced(owner, name, wrong):
     model.draws.cache_clear()
 
 
-def skipping(right):
-    return lambda job, plan, stream, steps: walked(job, plan, [
-        *model.draws(job.setting.key, stream, steps + 1)][:8] + [
-        *model.draws(job.setting.key, stream, steps + 1)][9:])
+def skipping(right: typing.Any) -> typing.Any:
+    return lambda job, plan, stream, steps: walked(
+        job,
+        plan,
+        [*model.draws(job.setting.key, stream, steps + 1)][:8]
+        + [*model.draws(job.setting.key, stream, steps + 1)][9:],
+    )
 
 
-def walked(job, plan, draws):
+def walked(job: typing.Any, plan: typing.Any, draws: typing.Any) -> typing.Any:
     """The plain model's walk with these draws."""
     with_draws = model.draws
     model.draws = lambda key, stream, count: draws
@@ -213,32 +252,36 @@ def walked(job, plan, draws):
 WALK = model.Job.walk
 
 
-def swap_halves(right):
-    def halves(key, stream, place):
+def swap_halves(right: typing.Any) -> typing.Any:
+    def halves(key: typing.Any, stream: typing.Any, place: typing.Any) -> typing.List[typing.Any]:
         return [(draw >> 32) | (draw & 0xFFFFFFFF) << 32 for draw in right(key, stream, place)]
+
     return halves
 
 
-def wrong_hub(right):
+def wrong_hub(right: typing.Any) -> typing.Any:
     """The start plan is taken for the hub."""
     return lambda job, plan, stream, steps: right(job, plan, stream, steps * (stream != 1))
 
 
-def swapped_streams(right):
+def swapped_streams(right: typing.Any) -> typing.Any:
     """Walks 0 and 1 have each other's stream."""
     return lambda job, plan, stream, steps: right(
-        job, plan, {0: 2, 2: 0}.get(stream, stream), steps)
+        job, plan, {0: 2, 2: 0}.get(stream, stream), steps
+    )
 
 
-def loose_bounds(right):
+def loose_bounds(right: typing.Any) -> typing.Any:
     """A district may have one person too many, or too few."""
-    def is_legal(job, plan):
+
+    def is_legal(job: typing.Any, plan: typing.Any) -> typing.Any:
         low, high = job.low, job.high
         job.low, job.high = low - 1, high + 1
         try:
             return right(job, plan)
         finally:
             job.low, job.high = low, high
+
     return is_legal
 
 
@@ -246,31 +289,52 @@ def loose_bounds(right):
 MODEL_FAULTS = (
     ("a skipped step", model.Job, "walk", skipping, "report line"),
     ("a wrong draw order", model, "block", swap_halves, "report line"),
-    ("a miscounted tie", model, "is_inside",
-     lambda right: lambda value, start, tail: value != start and right(value, start, tail),
-     "report line 6, word 10 after count"),
+    (
+        "a miscounted tie",
+        model,
+        "is_inside",
+        lambda right: lambda value, start, tail: value != start and right(value, start, tail),
+        "report line 6, word 10 after count",
+    ),
     ("a wrong hub", model.Job, "walk", wrong_hub, "report line 11, word 7 after rank"),
     ("swapped streams", model.Job, "walk", swapped_streams, "report line"),
-    ("a bound that is rounded down", model, "bound",
-     lambda right: lambda count, of: right(count, of) - 1, "report line 6, word 14 after bound"),
+    (
+        "a bound that is rounded down",
+        model,
+        "bound",
+        lambda right: lambda count, of: right(count, of) - 1,
+        "report line 6, word 14 after bound",
+    ),
     ("loose population bounds", model.Job, "is_legal", loose_bounds, "report line"),
-    ("districts that are not connected", model.Job, "reached",
-     lambda right: lambda job, members: members, "report line"),
-    ("a wrong rank", model, "part", lambda right: lambda rank, of: right(rank - 1, of),
-     "report line 11, word 7 after rank"),
+    (
+        "districts that are not connected",
+        model.Job,
+        "reached",
+        lambda right: lambda job, members: members,
+        "report line",
+    ),
+    (
+        "a wrong rank",
+        model,
+        "part",
+        lambda right: lambda rank, of: right(rank - 1, of),
+        "report line 11, word 7 after rank",
+    ),
 )
 
 
-def wheel():
+def wheel() -> typing.Any:
     """A hub and a ring of six units: one district may have a hole or break in two."""
     votes = [(3, 1), (1, 2), (1, 2), (2, 1), (0, 4), (5, 1), (2, 2)]
-    nodes = [{"id": u, "pop": 1, "a": a, "b": b, "d": int(u in (0, 1, 2, 6))}
-             for u, (a, b) in enumerate(votes)]
+    nodes = [
+        {"id": u, "pop": 1, "a": a, "b": b, "d": int(u in (0, 1, 2, 6))}
+        for u, (a, b) in enumerate(votes)
+    ]
     ring = [[{"id": 0}, {"id": 1 + u % 6}, {"id": 1 + (u + 4) % 6}] for u in range(1, 7)]
     return json.dumps({"nodes": nodes, "adjacency": [[{"id": u} for u in range(1, 7)], *ring]})
 
 
-def right_texts(auditor, graph, room):
+def right_texts(auditor: typing.Any, graph: typing.Any, room: typing.Any) -> typing.Any:
     """The report and the trace by the plain model, which are those of the program."""
     setting = model.Setting(["run", *FAULTY])
     job = model.job_of(setting, graph)
@@ -279,11 +343,26 @@ def right_texts(auditor, graph, room):
     (room / "graph").write_bytes(graph)
     (room / "right").write_text(report)
     (room / "trace").write_text(trace)
-    COUNTS.judge("the model's report", run(auditor, ["run", *FAULTY], graph).stdout.decode()
-                 == report, "it is not the program's")
-    told = run(auditor, ["trace", "--ids", "0-7", "--thin", "7", *(
-        word for k, word in enumerate(FAULTY) if "--shift" not in FAULTY[max(0, k - 1):k + 1])],
-        graph)
+    COUNTS.judge(
+        "the model's report", run(auditor, ["run", *FAULTY], graph).stdout.decode() == report,
+        "it is not the program's",
+    )
+    told = run(
+        auditor,
+        [
+            "trace",
+            "--ids",
+            "0-7",
+            "--thin",
+            "7",
+            *(
+                word
+                for k, word in enumerate(FAULTY)
+                if "--shift" not in FAULTY[max(0, k - 1):k + 1]
+            ),
+        ],
+        graph,
+    )
     if b"unknown command trace" in told.stderr:
         print("recheck: not tried, for the program has no traces: its own trace")
         COUNTS.skipped += 1
@@ -291,12 +370,14 @@ def right_texts(auditor, graph, room):
         COUNTS.judge("the model's trace", told.stdout.decode() == trace, told.stderr.decode())
     agrees("a right report", room / "graph", room / "right", *FAULTY)
     agrees("a right trace", room / "graph", room / "right", *FAULTY, "--trace", room / "trace")
-    agrees("segments of a right trace", room / "graph", room / "right", *CYCLE, "--trace",
-           room / "trace", "--segments", "1", "--seed", "a public text")
+    agrees(
+        "segments of a right trace", room / "graph", room / "right", *CYCLE, "--trace",
+        room / "trace", "--segments", "1", "--seed", "a public text",
+    )
     return job, report, trace
 
 
-def model_faults(graph, room, job, report):
+def model_faults(graph: typing.Any, room: typing.Any, job: typing.Any, report: typing.Any) -> None:
     for name, owner, function, wrong, place in MODEL_FAULTS:
         with replaced(owner, function, wrong):
             bad = model.audit(["run", *FAULTY], graph, [None, None]).out
@@ -306,11 +387,13 @@ def model_faults(graph, room, job, report):
         differs(name, place, room / "graph", room / "bad", *FAULTY)
         (room / "bad trace").write_text(bad_trace)
         if bad_trace != (room / "trace").read_text():
-            differs(f"{name}, in a trace", "trace line", room / "graph", room / "right", *CYCLE,
-                    "--trace", room / "bad trace")
+            differs(
+                f"{name}, in a trace", "trace line", room / "graph", room / "right", *CYCLE,
+                "--trace", room / "bad trace",
+            )
 
 
-def changed_digits(room, report):
+def changed_digits(room: typing.Any, report: typing.Any) -> None:
     """Each digit of the report in turn."""
     missed = []
     for at, digit in enumerate(report):
@@ -322,24 +405,29 @@ def changed_digits(room, report):
     COUNTS.judge("each changed digit", not missed, f"not found in the lines {missed}")
 
 
-def trace_faults(room, job, trace):
+def trace_faults(room: typing.Any, job: typing.Any, trace: typing.Any) -> None:
     """A wrong plan, a missing line, and a plan that is not legal."""
     lines = trace.split("\n")
     title = next(n for n, line in enumerate(lines) if line.startswith("trace id 0"))
     row = next(n for n in range(title + 2, len(lines)) if ":" in lines[n])
     merged = " ".join(f"{u}:0" for u, district in enumerate(job.plan) if district)
     for name, place, bad in (
-            ("a wrong plan", f"trace line {row + 1}",
-             [*lines[:row], lines[row].rsplit(" ", 1)[0], *lines[row + 1:]]),
-            ("a missing line", f"trace line {row + 1}", [*lines[:row], *lines[row + 1:]]),
-            ("an illegal plan", f"trace line {title + 2}, the plan is legal",
-             [*lines[:title + 1], f"{lines[title + 1]} {merged}", *lines[title + 2:]])):
+        (
+            "a wrong plan", f"trace line {row + 1}",
+            [*lines[:row], lines[row].rsplit(" ", 1)[0], *lines[row + 1:]],
+        ),
+        ("a missing line", f"trace line {row + 1}", [*lines[:row], *lines[row + 1:]]),
+        (
+            "an illegal plan",
+            f"trace line {title + 2}, the plan is legal",
+            [*lines[: title + 1], f"{lines[title + 1]} {merged}", *lines[title + 2:]],
+        ),
+    ):
         (room / "bad trace").write_text("\n".join(bad))
-        differs(name, place, room / "graph", room / "right", *CYCLE, "--trace",
-                room / "bad trace")
+        differs(name, place, room / "graph", room / "right", *CYCLE, "--trace", room / "bad trace")
 
 
-def checkpoint_faults(room, job):
+def checkpoint_faults(room: typing.Any, job: typing.Any) -> None:
     """A changed number of an outcome below a right SHA-256, in both versions."""
     found = dict(enumerate(model.outcomes(job, "checkpoints")))
     for version in (1, 2):
@@ -352,8 +440,9 @@ def checkpoint_faults(room, job):
         agrees(f"a right checkpoint of version {version}", *words)
         agrees(f"an outcome of version {version}", *words, "--sample", "1", "--seed", "x")
         moved, values, bins = found[4]
-        bad = model.checkpoint(job.digest(), 0, {**found, 4: (moved, [values[0] + 1, values[1]],
-                                                              bins)}, version)
+        bad = model.checkpoint(
+            job.digest(), 0, {**found, 4: (moved, [values[0] + 1, values[1]], bins)}, version
+        )
         path.write_bytes(bad)
         differs(f"a changed outcome of version {version}", f"{path}: outcome 4, word 2", *words)
         path.write_bytes(model.sealed(right[:12] + bytes(32) + right[44:-32]))
@@ -364,36 +453,108 @@ def checkpoint_faults(room, job):
         differs(f"a short file of version {version}", f"{path}: no intact", *words)
 
 
-def faults(auditor, room):
+TABLE = """id,hub and ring,"halves"
+0,x,7
+1,x,7
+2,y,7
+3,y,10
+4,y,10
+5,y,10
+6,y,7
+"""
+
+
+def plans_input(room: typing.Any, name: typing.Any, table: typing.Any) -> bytes:
+    """Writes the wheel, as one line, with a table behind it, and returns the bytes."""
+    data: bytes = wheel().encode() + b"\n" + table.encode()
+    (room / name).write_bytes(data)
+    return data
+
+
+def plan_reports(auditor: typing.Any, room: typing.Any) -> typing.Any:
+    """The reports of three plans by the plain model, which are those of the program."""
+    data = plans_input(room, "plans", TABLE.replace("hub and ring", "hub-and-ring"))
+    text = model.audit(["plans", *FAULTY], data, [None, None]).out
+    (room / "plan reports").write_text(text)
+    came = run(auditor, ["plans", *FAULTY], data).stdout.decode()
+    COUNTS.judge("the model's reports of plans", came == text, "they are not the program's")
+    agrees("right reports of plans", room / "plans", room / "plan reports", *FAULTY)
+    agrees("one trajectory of each plan", room / "plans", room / "plan reports", *CYCLE, "--id",
+           "1")
+    return text
+
+
+def plans_faults(auditor: typing.Any, room: typing.Any) -> None:
+    """Faults in the reports of several plans, each named with its plan."""
+    text = plan_reports(auditor, room)
+    own, ring, halves = re.split(r"(?m)^(?=plan )", text)[1:]
+    shown = re.sub(r"count (\d+)", lambda found: f"count {int(found[1]) % 41 + 1}", ring, count=1)
+    for name, place, bad in (
+            ("a wrong count in a plan", "plan hub-and-ring: report line 6, word 10 after count",
+             own + shown + halves),
+            ("the report of another plan", "plan halves: report line",
+             own + ring + ring.replace("hub-and-ring", "halves")),
+            ("a plan that is left out", "the plans, word 3", own + ring),
+            ("plans in another order", "plan halves: report line", own + halves + ring),
+            ("a plan of another name", "the plans, word 2",
+             text.replace("plan hub-and-ring", "plan hub")),
+            ("a text behind the plans", "plan halves: report line 14", text + "more\n")):
+        (room / "bad plans").write_text(bad)
+        differs(name, place, room / "plans", room / "bad plans", *FAULTY)
+    for owner, function, wrong, place in (
+            (model.Job, "walk", skipping, "plan d: report line"),
+            (model, "is_inside", lambda right: lambda value, start, tail: value != start
+             and right(value, start, tail), "plan halves: report line 6, word 10 after count")):
+        with replaced(owner, function, wrong):
+            bad = model.audit(["plans", *FAULTY], (room / "plans").read_bytes(), [None, None]).out
+        (room / "bad plans").write_text(bad)
+        differs(f"{function}: a wrong model of several plans", place, room / "plans",
+                room / "bad plans", *FAULTY)
+    right = TABLE.replace("hub and ring", "hub-and-ring")
+    plans_input(room, "moved", right.replace("2,y,7", "2,y,10"))
+    differs("a unit of another district", "plan halves: report line", room / "moved",
+            room / "plan reports", *FAULTY)
+    plans_input(room, "twice", right + "6,y,7\n")
+    differs("a unit that stands twice", "the table's units, word 1", room / "twice",
+            room / "plan reports", *FAULTY)
+    plans_input(room, "short", right.replace("6,y,7\n", ""))
+    status, text = checked(room / "short", room / "plan reports", *FAULTY)
+    COUNTS.judge("a unit that is missing", status == 2, text)
+
+
+def faults(auditor: typing.Any, room: typing.Any) -> None:
     graph = wheel().encode()
     job, report, trace = right_texts(auditor, graph, room)
     model_faults(graph, room, job, report)
     changed_digits(room, report)
     trace_faults(room, job, trace)
     checkpoint_faults(room, job)
+    plans_faults(auditor, room)
     status, text = checked(room / "graph", room / "right", *CYCLE, "--id", "0,8")
     COUNTS.judge("a trajectory that is not there", status == 2, text)
     # An endpoint alone: the rank has to be possible.
     bad = re.sub(r"rank \d+ of 7 p .*", "rank 8 of 7 p 1.142857143", report)
     (room / "bad").write_text(bad)
-    differs("an impossible rank", "report line 11", room / "graph", room / "bad", *CYCLE, "--id",
-            "3")
+    differs(
+        "an impossible rank", "report line 11", room / "graph", room / "bad", *CYCLE, "--id", "3"
+    )
 
 
 # ---- drawn jobs
 
-def drawn_graph(rng):
+
+def drawn_graph(rng: typing.Any) -> bytes:
     """A drawn grid with diagonals and holes in connected districts, and its number of districts."""
     rows, columns = rng.randrange(2, 8), rng.randrange(3, 9)
     units = [(i, j) for i in range(rows) for j in range(columns) if rng.random() < 0.95]
     places = {at: u for u, at in enumerate(units)}
-    near = [set() for _ in units]
+    near: typing.Any = [set() for _ in units]
     for (i, j), u in places.items():
         for other in ((i + 1, j), (i, j + 1), *(((i + 1, j + 1),) * (rng.random() < 0.5))):
             if other in places:
                 near[u].add(places[other])
                 near[places[other]].add(u)
-    districts = rng.randrange(2, 5)
+    districts = min(rng.randrange(2, 5), len(units))
     plan = {u: d for d, u in enumerate(rng.sample(range(len(units)), districts))}
     while True:
         edge = [(u, v) for u in plan for v in near[u] if v not in plan]
@@ -405,39 +566,97 @@ def drawn_graph(rng):
     nodes = []
     for u in sorted(plan):
         vap = rng.randrange(20)
-        nodes.append({"id": rng.choice([u, str(u)]), "pop": rng.choice([1, 1, rng.randrange(5)]),
-                      "a": rng.randrange(6), "b": rng.randrange(6), "d": labels[plan[u]],
-                      "county": units[u][1] // 3, "vap": vap, "bvap": rng.randrange(vap + 1)})
+        nodes.append(
+            {
+                "id": rng.choice([u, str(u)]),
+                "pop": rng.choice([1, 1, rng.randrange(5)]),
+                "a": rng.randrange(6),
+                "b": rng.randrange(6),
+                "d": labels[plan[u]],
+                "county": units[u][1] // 3,
+                "vap": vap,
+                "bvap": rng.randrange(vap + 1),
+                "keep": rng.choice([True, False, False, 0, 0, 3]),
+            }
+        )
     keep = {u: nodes[k]["id"] for k, u in enumerate(sorted(plan))}
-    rows = [[{"id": keep[v]} for v in rng.sample(sorted(near[u]), len(near[u])) if v in keep
-             and (u < v or rng.random() < 0.7)] for u in sorted(plan)]
+    rows = [
+        [
+            {"id": keep[v]}
+            for v in rng.sample(sorted(near[u]), len(near[u]))
+            if v in keep and (u < v or rng.random() < 0.7)
+        ]
+        for u in sorted(plan)
+    ]
     return json.dumps({"nodes": nodes, "adjacency": rows, "directed": False}).encode()
 
 
-def drawn_words(rng):
+def drawn_words(rng: typing.Any) -> typing.Any:
     """The words of a drawn run."""
     asks = rng.sample(sorted(model.ALL_ASKS), rng.randrange(1, 5))
     ends, stops = rng.choice([0, 1, 9]), rng.random() < 0.3
-    words = [*CYCLE, "--slack", str(rng.choice([1000, 3000, 6000, 10000])), "--key",
-             f"{rng.getrandbits(256):064x}", "--walks", str(rng.randrange(0 if ends else 1, 3)),
-             "--steps", str(2 ** rng.randrange(1, 11) - 1), "--ends", str(ends), "--hub-steps",
-             str(rng.randrange(1, 300)), "--ask", ",".join(asks)]
-    for name, values in (("--shift", ["yes"]), ("--serial", ["yes"]), ("--source", ["yes"]),
-                         ("--max-cut", range(8, 60)), ("--stop", [1, 2] if ends and stops else [])):
+    words = [
+        *CYCLE, "--slack", str(rng.choice([1000, 3000, 6000, 10000])), "--key",
+        f"{rng.getrandbits(256):064x}", "--walks", str(rng.randrange(0 if ends else 1, 3)),
+        "--steps", str(2 ** rng.randrange(1, 11) - 1), "--ends", str(ends), "--hub-steps",
+        str(rng.randrange(1, 300)), "--ask", ",".join(asks),
+    ]
+    for name, values in (
+        ("--shift", ["yes"]), ("--serial", ["yes"]), ("--source", ["yes"]),
+        ("--max-cut", range(8, 60)), ("--stop", [1, 2] if ends and stops else []),
+    ):
         if values and rng.random() < 0.4:
             words += [name, str(rng.choice(values))]
     if rng.random() < 0.4:
-        words += ["--region", "county", *rng.choice([
-            [], ["--max-split", "3"], ["--max-splits", str(rng.randrange(1, 9))],
-            ["--max-split-regions", str(rng.randrange(1, 4))]])]
+        words += [
+            "--region",
+            "county",
+            *rng.choice(
+                [
+                    [], ["--max-split", "3"], ["--max-splits", str(rng.randrange(1, 9))],
+                    ["--max-split-regions", str(rng.randrange(1, 4))],
+                ]
+            ),
+        ]
     if rng.random() < 0.4:
-        words += ["--group", "bvap", *rng.choice([[], ["--group-of", "vap"]]),
-                  "--group-districts", str(rng.randrange(3))]
-    return words
+        words += [
+            "--group", "bvap", *rng.choice([[], ["--group-of", "vap"]]), "--group-districts",
+            str(rng.randrange(3)), *rng.choice([[], ["--group-share", "4000"]]),
+        ]
+    return words + (["--freeze", "keep"] if rng.random() < 0.3 else [])
 
 
-def campaign(auditor, room, jobs, seed):
-    rng, done, moved, traced = random.Random(seed), 0, 0, 0
+def drawn_table(rng: typing.Any, job: typing.Any) -> bytes:
+    """A table of plans to which drawn walks of a job lead, with drawn labels and line ends."""
+    plans = [job.walk(tuple(job.plan), stream, rng.randrange(1, 60))[0][-1]
+             for stream in range(1, rng.randrange(2, 5))]
+    labels = rng.choice([["2", "10", "1", "9"], ["b", "a", "é", "z"], ['a,"b"', "c d", "", "x"]])
+    out = io.StringIO(newline="")
+    table = csv.writer(out, lineterminator=rng.choice(["\n", "\r\n"]))
+    table.writerow(["id", *rng.sample(["one", "two", 'th"ree', "two"], len(plans))])
+    names = [node["id"] for node in job.nodes]
+    for u in rng.sample(range(len(names)), len(names)):
+        table.writerow([names[u], *(labels[plan[u]] for plan in plans)])
+    return out.getvalue().encode()
+
+
+def drawn_plans(
+    auditor: typing.Any, room: typing.Any, rng: typing.Any, graph: typing.Any, words: typing.Any
+) -> None:
+    """Several plans of a drawn job, audited by the program and re-checked."""
+    job = model.job_of(model.Setting(["run", *words]), graph)
+    job.nodes = json.loads(graph)["nodes"]
+    data = graph + b"\n" + drawn_table(rng, job)
+    end = run(auditor, ["plans", *words], data)
+    (room / "plans").write_bytes(data)
+    (room / "plan reports").write_bytes(end.stdout)
+    COUNTS.judge(f"plans: {words}", end.returncode == 0, end.stderr.decode())
+    agrees(f"reports of plans: {words}", room / "plans", room / "plan reports", *words,
+           *rng.choice([[], ["--sample", "2", "--seed", "drawn"]]))
+
+
+def campaign(auditor: typing.Any, room: typing.Any, jobs: typing.Any, seed: typing.Any) -> None:
+    rng, done, moved, traced, many = random.Random(seed), 0, 0, 0, 0
     has_trace = b"unknown command" not in run(auditor, ["trace"], b"").stderr
     while done < jobs:
         graph, words = drawn_graph(rng), drawn_words(rng)
@@ -452,27 +671,47 @@ def campaign(auditor, room, jobs, seed):
             (room / "graph").write_bytes(graph)
             (room / "report").write_bytes(end.stdout)
             given = words if rng.random() < 0.5 or "--source" not in words else []
-            agrees(f"job {done}: {words}", room / "graph", room / "report", *given, *(
-                ["--checkpoints", folder, "--id", "0"] if saving and rng.random() < 0.5
-                else []))
+            agrees(
+                f"job {done}: {words}",
+                room / "graph",
+                room / "report",
+                *given,
+                *(["--checkpoints", folder, "--id", "0"] if saving and rng.random() < 0.5 else []),
+            )
+        if rng.random() < 0.3:
+            drawn_plans(auditor, room, rng, graph, words)
+            many += 1
         if has_trace and rng.random() < 0.5:
-            plain = [w for pair in zip(words[::2], words[1::2]) for w in pair
-                     if pair[0] not in ("--shift", "--serial", "--stop")]
+            plain = [
+                w
+                for pair in zip(words[::2], words[1::2])
+                for w in pair
+                if pair[0] not in ("--shift", "--serial", "--stop")
+            ]
             last = sum(int(words[words.index(name) + 1]) for name in ("--walks", "--ends")) - 1
-            told = run(auditor, ["trace", "--ids", f"0-{last}", "--thin", str(rng.choice(
-                [1, 7, 50, 1000])), *plain], graph)
+            told = run(
+                auditor,
+                [
+                    "trace", "--ids", f"0-{last}", "--thin", str(rng.choice([1, 7, 50, 1000])),
+                    *plain,
+                ],
+                graph,
+            )
             (room / "trace").write_bytes(told.stdout)
-            agrees(f"trace of job {done}: {words}", room / "graph", room / "report", *given,
-                   "--trace", room / "trace", *rng.choice([[], ["--segments", "2"]]))
+            agrees(
+                f"trace of job {done}: {words}", room / "graph", room / "report", *given, "--trace",
+                room / "trace", *(["--segments", "2"] if rng.choice([0, 1]) else []),
+            )
             traced += 1
         moved += b"moved 0" not in end.stdout
         done += 1
         if done % 50 == 0:
             print(f"recheck: {done} drawn jobs, {COUNTS.failed} failed", flush=True)
-    print(f"{done} drawn jobs, of which {moved} had no walk without a move, and {traced} traces")
+    print(f"{done} drawn jobs, of which {moved} had no walk without a move, {traced} traces, and "
+          f"{many} calls on several plans")
 
 
-def main(args):
+def main(args: typing.Any) -> int:
     auditor = os.path.abspath(program(args[0] if args else None))
     jobs, seed = (int(word) for word in (*args[1:], *("12", "1")[len(args[1:]):]))
     with tempfile.TemporaryDirectory() as folder:

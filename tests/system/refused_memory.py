@@ -3,24 +3,29 @@
 Usage: python3 -m tests.system.refused_memory PROGRAM [DRAWN|each [SEED]]
        python3 -m tests.system.refused_memory PROGRAM jobs COUNT [SEED]
        python3 -m tests.system.refused_memory FOLDERS folders
-Builds a small library with gcc that stands before the C library's allocations and refuses the one with a given number, or that one and all
-after it, and runs the program under it for each number from 1 until a run ends in which none was refused: over an outlier trajectory, the
-parallel test, a run with a long way to its hub that saves, the serial test with the tally of seats, a run of three workers, a run with regions, one with each rule and the origin, one that
-stops early, one of several plans, three traces, of which one walks a long way, a made grid, each run of a chain that is halted and resumed, and one that goes on from the first version of the format with the tally. The
-status must be 3 or the run's own; after 3 the output must be empty and both files as before; else output, note and files must be those of the
-run with all its memory. Status 3 must come early: where a run takes more than a second of a processor, in less than a tenth of that, since nothing is walked before
-all memory is taken.
-With a number only so many allocations of each run are refused, alone and with all after them by turns, drawn each from an equal part of those
-that the run makes. With `each` every one is refused once: a call that does not return where there is no memory for it is found so, which no
-contract says of a function that may wait for another thread.
-With `jobs` every allocation is refused, alone and with all after it, in so many jobs that are drawn as fuzz.py draws them before it breaks some: words
-of every kind, a graph, and slots as earlier runs left them. Where several workers save, which outcomes a save has depends on chance, and the files
-are not compared.
-With `folders` the program is audit_folders, and every allocation is refused, alone and with all after it, in calls of audit_slots and of
-audit_gather: a look, gatherings, and one that is refused in several lines. Out of memory while a folder is read has to be told as such, never as
-a slot that cannot be read or as a folder that differs. After status 3 no folder has changed.
-Prints how many runs there were, and each that is not so, by its name. The last line counts them; ends with 1 where one is not so. Where gcc is missing,
-that counts as skipped.
+Builds a small library with gcc that stands before the C library's allocations and refuses the one
+with a given number, or that one and all after it, and runs the program under it for each number
+from 1 until a run ends in which none was refused: over an outlier trajectory, the parallel test, a
+run with a long way to its hub that saves, the serial test with the tally of seats, a run of three
+workers, a run with regions, one with each rule and the origin, one that stops early, one of several
+plans, three traces, of which one walks a long way, a made grid, each run of a chain that is halted
+and resumed, and one that goes on from the first version of the format with the tally. The status
+must be 3 or the run's own; after 3 the output must be empty and both files as before; else output,
+note and files must be those of the run with all its memory. Status 3 must come early: where a run
+takes more than a second of a processor, in less than a tenth of that, since nothing is walked
+before all memory is taken. With a number only so many allocations of each run are refused, alone
+and with all after them by turns, drawn each from an equal part of those that the run makes. With
+`each` every one is refused once: a call that does not return where there is no memory for it is
+found so, which no contract says of a function that may wait for another thread. With `jobs` every
+allocation is refused, alone and with all after it, in so many jobs that are drawn as fuzz.py draws
+them before it breaks some: words of every kind, a graph, and slots as earlier runs left them. Where
+several workers save, which outcomes a save has depends on chance, and the files are not compared.
+With `folders` the program is audit_folders, and every allocation is refused, alone and with all
+after it, in calls of audit_slots and of audit_gather: a look, gatherings, and one that is refused
+in several lines. Out of memory while a folder is read has to be told as such, never as a slot that
+cannot be read or as a folder that differs. After status 3 no folder has changed. Prints how many
+runs there were, and each that is not so, by its name. The last line counts them; ends with 1 where
+one is not so. Where gcc is missing, that counts as skipped.
 """
 # RUN: {auditor} each
 # RUN refused_memory_of_folders: {folders} folders
@@ -35,6 +40,7 @@ import shutil
 import subprocess
 import sys
 import tempfile
+import typing
 
 from tests.differential import fuzz
 from tests.oracle import model
@@ -129,49 +135,154 @@ void free(void *old) {
     if ((char *)old >= early && (char *)old < early + sizeof early) return;
     if (!real) real = next("free");
     real(old);
-}
-"""
+}"""
 BASE = "--pop pop --first a --second b --district d".split()
 KEY = ["--key", "0" * 64]
 CHAIN = ["run", *BASE, "--slack", "5000", *KEY, "--walks", "12", "--steps", "8", "--ask", "gap:low"]
-TWO = (b'{"directed":false,"multigraph":false,"graph":[],"nodes":[{"pop":1,"a":1,"b":0,"d":1,"id":0},{"pop":1,"a":0,"b":1,"d":2,"id":1}],'
-       b'"adjacency":[[{"id":1}],[{"id":0}]]}')
+TWO = (
+    b'{"directed":false,"multigraph":false,"graph":[],"nodes":[{"pop":1,"a":1,"b":0,"d":1,"id":0},'
+    b'{"pop":1,"a":0,"b":1,"d":2,"id":1}],"adjacency":[[{"id":1}],[{"id":0}]]}'
+)
 SAVED = ["--save", "2", "--budget", "5"]
 OLD = "first version"
 
 
-def runs():
-    """Chains of runs, each the words and the graph; the first of a chain starts with no file, and that of OLD with one of the first version."""
+def runs() -> typing.Dict[typing.Any, typing.Any]:
+    """Chains of runs, each the words and the graph; the first of a chain starts with no file, and
+    that of OLD with one of the first version.
+    """
     cycle, counties = ((DATA / name).read_bytes() for name in ("cycle.json", "counties.json"))
     return {
         "check": [(["check", *BASE, "--slack", "5000"], cycle)],
-        "one walk": [(["run", *BASE, "--slack", "5000", *KEY, "--steps", "8", "--ask", "gap:low,gap:high"], cycle)],
-        "parallel test": [(["run", *BASE, *KEY, "--steps", "3", "--ends", "2", "--hub-steps", "8", "--ask", "gap:low"], TWO)],
-        "long hub": [(["run", *BASE, *KEY, "--steps", "3", "--ends", "2", "--hub-steps", "30000000", "--ask", "gap:low", "--save", "1"], TWO)],
-        "serial test": [(["run", *BASE, "--slack", "5000", *KEY, "--steps", "7", "--ask", "gap:low,seats:high", "--serial", "yes", "--shift", "yes"],
-                         cycle)],
+        "one walk": [
+            (
+                [
+                    "run", *BASE, "--slack", "5000", *KEY, "--steps", "8", "--ask",
+                    "gap:low,gap:high",
+                ],
+                cycle,
+            )
+        ],
+        "parallel test": [
+            (
+                [
+                    "run", *BASE, *KEY, "--steps", "3", "--ends", "2", "--hub-steps", "8", "--ask",
+                    "gap:low",
+                ],
+                TWO,
+            )
+        ],
+        "long hub": [
+            (
+                [
+                    "run", *BASE, *KEY, "--steps", "3", "--ends", "2", "--hub-steps", "30000000",
+                    "--ask", "gap:low", "--save", "1",
+                ],
+                TWO,
+            )
+        ],
+        "serial test": [
+            (
+                [
+                    "run", *BASE, "--slack", "5000", *KEY, "--steps", "7", "--ask",
+                    "gap:low,seats:high", "--serial", "yes", "--shift", "yes",
+                ],
+                cycle,
+            )
+        ],
         "three workers": [([*CHAIN, "--workers", "3"], cycle)],
-        "regions": [(["run", *BASE, "--slack", "5000", *KEY, "--walks", "3", "--steps", "7", "--ask", "gap:low", "--region", "county", "--max-split",
-                      "2", "--serial", "yes", "--workers", "2"], counties)],
-        "each rule": [(["run", *BASE, "--slack", "5000", *KEY, "--walks", "2", "--steps", "7", "--ask", "gap:low", "--region", "county", "--max-splits", "2",
-                        "--max-split-regions", "2", "--group", "a", "--group-of", "b", "--group-districts", "1", "--source", "yes"], counties)],
-        "early stops": [(["run", *BASE, "--slack", "5000", *KEY, "--steps", "8", "--ends", "5", "--hub-steps", "8", "--stop", "2", "--ask",
-                          "gap:low,cut-edges:high", "--workers", "2"], cycle)],
-        "several plans": [(["plans", *BASE, "--slack", "5000", *KEY, "--steps", "7", "--ends", "2", "--hub-steps", "4", "--ask", "gap:low",
-                            "--serial", "yes", "--workers", "2", "--group", "a", "--source", "yes"], several(cycle))],
-        "trace": [(["trace", *BASE, "--slack", "5000", *KEY, "--walks", "2", "--steps", "8", "--ends", "1", "--hub-steps", "8", "--ask", "gap:low",
-                    "--ids", "1-2", "--thin", "3"], cycle)],
-        "trace by rules": [(["trace", *BASE, "--slack", "5000", *KEY, "--steps", "7", "--ask", "gap:low", "--region", "county", "--max-splits", "2",
-                             "--group", "a", "--group-of", "b", "--group-districts", "1", "--source", "yes", "--thin", "2"], counties)],
-        "long trace": [(["trace", *BASE, *KEY, "--ends", "1", "--hub-steps", "30000000", "--ask", "gap:low", "--ids", "1", "--thin", "10000000"], TWO)],
-        "make": [(["make", "--size", "1", "--slack", "3000", *KEY, "--steps", "50", "--ask", "mean-median:low,cut-edges:high"], b"")],
-        "chain": [([*CHAIN, *SAVED], cycle), ([*CHAIN, *SAVED, "--resume", "yes"], cycle), ([*CHAIN, *SAVED, "--resume", "yes"], cycle)],
-        OLD: [([*CHAIN, *SAVED, "--resume", "yes", "--shift", "yes"], cycle), ([*CHAIN, "--save", "3", "--resume", "yes", "--shift", "yes"], cycle),
-              ([*CHAIN, "--save", "3", "--resume", "yes", "--workers", "3"], cycle)],
+        "regions": [
+            (
+                [
+                    "run", *BASE, "--slack", "5000", *KEY, "--walks", "3", "--steps", "7", "--ask",
+                    "gap:low", "--region", "county", "--max-split", "2", "--serial", "yes",
+                    "--workers", "2",
+                ],
+                counties,
+            )
+        ],
+        "each rule": [
+            (
+                [
+                    "run", *BASE, "--slack", "5000", *KEY, "--walks", "2", "--steps", "7", "--ask",
+                    "gap:low", "--region", "county", "--max-splits", "2", "--max-split-regions",
+                    "2", "--group", "a", "--group-of", "b", "--group-districts", "1", "--source",
+                    "yes",
+                ],
+                counties,
+            )
+        ],
+        "early stops": [
+            (
+                [
+                    "run", *BASE, "--slack", "5000", *KEY, "--steps", "8", "--ends", "5",
+                    "--hub-steps", "8", "--stop", "2", "--ask", "gap:low,cut-edges:high",
+                    "--workers", "2",
+                ],
+                cycle,
+            )
+        ],
+        "several plans": [
+            (
+                [
+                    "plans", *BASE, "--slack", "5000", *KEY, "--steps", "7", "--ends", "2",
+                    "--hub-steps", "4", "--ask", "gap:low", "--serial", "yes", "--workers", "2",
+                    "--group", "a", "--source", "yes",
+                ],
+                several(cycle),
+            )
+        ],
+        "trace": [
+            (
+                [
+                    "trace", *BASE, "--slack", "5000", *KEY, "--walks", "2", "--steps", "8",
+                    "--ends", "1", "--hub-steps", "8", "--ask", "gap:low", "--ids", "1-2", "--thin",
+                    "3",
+                ],
+                cycle,
+            )
+        ],
+        "trace by rules": [
+            (
+                [
+                    "trace", *BASE, "--slack", "5000", *KEY, "--steps", "7", "--ask", "gap:low",
+                    "--region", "county", "--max-splits", "2", "--group", "a", "--group-of", "b",
+                    "--group-districts", "1", "--source", "yes", "--thin", "2",
+                ],
+                counties,
+            )
+        ],
+        "long trace": [
+            (
+                [
+                    "trace", *BASE, *KEY, "--ends", "1", "--hub-steps", "30000000", "--ask",
+                    "gap:low", "--ids", "1", "--thin", "10000000",
+                ],
+                TWO,
+            )
+        ],
+        "make": [
+            (
+                [
+                    "make", "--size", "1", "--slack", "3000", *KEY, "--steps", "50", "--ask",
+                    "mean-median:low,cut-edges:high",
+                ],
+                b"",
+            )
+        ],
+        "chain": [
+            ([*CHAIN, *SAVED], cycle), ([*CHAIN, *SAVED, "--resume", "yes"], cycle),
+            ([*CHAIN, *SAVED, "--resume", "yes"], cycle),
+        ],
+        OLD: [
+            ([*CHAIN, *SAVED, "--resume", "yes", "--shift", "yes"], cycle),
+            ([*CHAIN, "--save", "3", "--resume", "yes", "--shift", "yes"], cycle),
+            ([*CHAIN, "--save", "3", "--resume", "yes", "--workers", "3"], cycle),
+        ],
     }
 
 
-def several(graph):
+def several(graph: typing.Any) -> typing.Any:
     """The graph as one line, and a table with two more plans of its units."""
     ids = [unit["id"] for unit in json.loads(graph)["nodes"]]
     half = len(ids) // 2
@@ -179,7 +290,7 @@ def several(graph):
     return graph.replace(b"\n", b"") + "\n".join(["", "id,halves,turned", *rows, ""]).encode()
 
 
-def built(folder):
+def built(folder: typing.Any) -> typing.Any:
     source, library = folder / "refuse.c", folder / "refuse.so"
     source.write_text(LIBRARY)
     subprocess.run(["gcc", "-shared", "-fPIC", "-O1", "-o", library, source, "-ldl"], check=True)
@@ -189,31 +300,48 @@ def built(folder):
 class Room:
     """A folder for the runs, with the library and the two files."""
 
-    def __init__(self, program, folder):
-        self.program, self.library, self.mark, self.slots = program, built(folder), folder / "mark", folder / "slots"
+    def __init__(self, program: typing.Any, folder: typing.Any) -> None:
+        self.program, self.library, self.mark, self.slots = (
+            program, built(folder), folder / "mark", folder / "slots",
+        )
         self.counted, self.seconds = folder / "counted", 0
         self.slots.mkdir()
 
-    def hold(self, held):
+    def hold(self, held: typing.Any) -> None:
         shutil.rmtree(self.slots)
         self.slots.mkdir()
         for name, data in held.items():
             (self.slots / name).write_bytes(data)
 
-    def held(self):
+    def held(self) -> typing.Dict[typing.Any, typing.Any]:
         return {path.name: path.read_bytes() for path in self.slots.iterdir()}
 
-    def run(self, words, graph, held, number=0, is_all=False):
+    def run(
+        self,
+        words: typing.Any,
+        graph: typing.Any,
+        held: typing.Any,
+        number: int = 0,
+        is_all: bool = False,
+    ) -> typing.Any:
         """Status, output, note, files, and whether an allocation was refused."""
         self.hold(held)
         self.mark.unlink(missing_ok=True)
-        given = {**os.environ, "LD_PRELOAD": str(self.library), "REFUSE": str(number), "REFUSED_MARK": str(self.mark),
-                 "ALLOCATIONS": str(self.counted)}
+        given = {
+            **os.environ,
+            "LD_PRELOAD": str(self.library),
+            "REFUSE": str(number),
+            "REFUSED_MARK": str(self.mark),
+            "ALLOCATIONS": str(self.counted),
+        }
         if is_all:
             given["REFUSE_ALL"] = "1"
         begun = taken()
         try:
-            done = subprocess.run([self.program, *words], input=graph, capture_output=True, cwd=self.slots, env=given, timeout=20, check=False)
+            done = subprocess.run(
+                [self.program, *words], input=graph, capture_output=True, cwd=self.slots, env=given,
+                timeout=20, check=False,
+            )
         except subprocess.TimeoutExpired:
             return "none after 20 seconds", b"", b"", held, self.mark.exists()
         finally:
@@ -226,26 +354,36 @@ class Folders(Room):
 
     NAMES = ("slots", "p", "q")
 
-    def hold(self, held):
+    def hold(self, held: typing.Any) -> None:
         for name in self.NAMES:
             shutil.rmtree(self.slots.parent / name, ignore_errors=True)
             (self.slots.parent / name).mkdir()
         for name, data in held.items():
             (self.slots / name).write_bytes(data)
 
-    def held(self):
-        return {os.path.relpath(path, self.slots): path.read_bytes() for name in self.NAMES for path in (self.slots.parent / name).iterdir()}
+    def held(self) -> typing.Dict[typing.Any, typing.Any]:
+        return {
+            os.path.relpath(path, self.slots): path.read_bytes()
+            for name in self.NAMES
+            for path in (self.slots.parent / name).iterdir()
+        }
 
 
-def folder_calls():
+def folder_calls() -> typing.Dict[typing.Any, typing.Any]:
     """Calls of both programs: the words, and what the folders hold."""
     job = model.job_of(model.Setting(CHAIN), (DATA / "cycle.json").read_bytes())
     digest, every = job.digest(), dict(enumerate(model.outcomes(job, job.digest())))
 
-    def held(name, *parts):
-        return {f"{name}audit-{at}.ckpt": model.checkpoint(digest, at, {one: every[one] for one in ids}) for at, ids in enumerate(parts)}
+    def held(name: typing.Any, *parts: typing.Any) -> typing.Dict[typing.Any, typing.Any]:
+        return {
+            f"{name}audit-{at}.ckpt": model.checkpoint(digest, at, {one: every[one] for one in ids})
+            for at, ids in enumerate(parts)
+        }
 
-    own, others = held("", range(2), range(3)), {**held("../p/", range(2, 5), range(2, 6)), **held("../q/", range(5, 9))}
+    own, others = held("", range(2), range(3)), {
+        **held("../p/", range(2, 5), range(2, 6)),
+        **held("../q/", range(5, 9)),
+    }
     changed = {one: (every[one][0] ^ 1, *every[one][1:]) for one in range(5, 9)}
     differing = {**others, "../q/audit-0.ckpt": model.checkpoint(digest, 0, changed)}
     both = ["../p", "../q", *CHAIN]
@@ -255,12 +393,17 @@ def folder_calls():
         "audit_gather that looks": (["gather", "--look", "yes", *both], {**own, **others}),
         "audit_gather": (["gather", *both], {**own, **others}),
         "audit_gather into an empty folder": (["gather", *both], others),
-        "audit_gather that is refused": (["gather", "../nowhere", "../elsewhere", *both], differing),
+        "audit_gather that is refused": (
+            ["gather", "../nowhere", "../elsewhere", *both],
+            differing,
+        ),
     }
 
 
-def refuse_folders(room, tally):
-    """Refuses each allocation of the calls on folders; each call has to end with the model's status where none is refused."""
+def refuse_folders(room: typing.Any, tally: typing.Any) -> None:
+    """Refuses each allocation of the calls on folders; each call has to end with the model's status
+    where none is refused.
+    """
     graph = (DATA / "cycle.json").read_bytes()
     for name, (words, held) in folder_calls().items():
         tries = Tries(room, name, words, graph, held)
@@ -271,60 +414,90 @@ def refuse_folders(room, tally):
         tally.add(tries)
 
 
-def wanted_of(words, graph, held):
-    """What the model says: the status and both texts."""
-    def slots(name):
+def wanted_of(words: typing.Any, graph: typing.Any, held: typing.Any) -> typing.Any:
+    """Returns the model's status and both texts."""
+
+    def slots(name: typing.Any) -> typing.Any:
         return folder_model.Folder([held.get(f"{name}audit-{at}.ckpt") for at in (0, 1)])
 
     folders = {".": slots(""), "../p": slots("../p/"), "../q": slots("../q/")}
-    end = (folder_model.slots if words[0] == "slots" else folder_model.gather)(words[1:], graph, folders)
+    end = (folder_model.slots if words[0] == "slots" else folder_model.gather)(
+        words[1:], graph, folders
+    )
     return end.status, end.out, end.note
 
 
-def taken():
+def taken() -> typing.Any:
     """The seconds of a processor that all runs up to now took."""
     return resource.getrusage(resource.RUSAGE_CHILDREN).ru_utime
 
 
-def wrong(end, own, held, is_told):
-    """What is wrong with an end, or None. With `is_told` it is told which outcomes each save has, as it is of one worker."""
+def wrong(end: typing.Any, own: typing.Any, held: typing.Any, is_told: typing.Any) -> typing.Any:
+    """Returns what is wrong with an end, or None.
+
+    With `is_told` it is told which outcomes each save has, as it is of one worker.
+    """
     status, out, note, after, _ = end
     if status == 3 and own[0] != 3:
         if out or after != held:
             return "status 3, and the output or the files changed"
         return None if note in (b"memory\n", b"") else f"status 3 with the note {note}"
     parts = 4 if is_told else 3
-    return None if end[:parts] == own[:parts] else f"status {status}, and not all as with all memory: {note}"
+    return (
+        None
+        if end[:parts] == own[:parts]
+        else f"status {status}, and not all as with all memory: {note}"
+    )
 
 
-def drawn_of(made, most, draw):
-    """A few of so many allocations, each from an equal part of them, and whether all after it are refused too."""
+def drawn_of(made: typing.Any, most: typing.Any, draw: typing.Any) -> typing.List[typing.Any]:
+    """Returns a few allocations, each from an equal part of all, and whether all after it are
+    refused too.
+    """
     parts = min(most, made)
-    return [(draw.randint(made * part // parts + 1, made * (part + 1) // parts), part % 2 == 1) for part in range(parts)]
+    return [
+        (draw.randint(made * part // parts + 1, made * (part + 1) // parts), part % 2 == 1)
+        for part in range(parts)
+    ]
 
 
 class Tries:
-    """How many runs of one job there were with refused memory, how many ended with 3, and those that are wrong."""
+    """Returns the number of runs of one job with refused memory, the number that ended with 3, and
+    the wrong ones.
+    """
 
-    def __init__(self, room, name, words, graph, held):
+    def __init__(
+        self,
+        room: typing.Any,
+        name: typing.Any,
+        words: typing.Any,
+        graph: typing.Any,
+        held: typing.Any,
+    ) -> None:
         self.room, self.name, self.job, self.held = room, name, (words, graph, held), held
         self.own, self.seconds = room.run(*self.job), room.seconds
         self.made = int.from_bytes(room.counted.read_bytes(), sys.byteorder)
         self.is_told = "--workers" not in words or "--save" not in words
+        self.found: typing.List[typing.Any]
         self.count, self.threes, self.found = 0, 0, []
 
-    def refuse(self, number, is_all):
+    def refuse(self, number: typing.Any, is_all: typing.Any) -> typing.Any:
         """Makes the run without an allocation, and answers whether there was one to refuse."""
         end = self.room.run(*self.job, number, is_all)
         self.count, self.threes = self.count + end[4], self.threes + (end[0] == 3)
         why = wrong(end, self.own, self.held, self.is_told)
         if end[0] == 3 and 1 < self.seconds < 10 * self.room.seconds:
-            why = f"status 3 after {self.room.seconds:.1f} seconds of a processor, where the run itself takes {self.seconds:.1f}"
+            why = (
+                f"status 3 after {self.room.seconds:.1f} seconds of a processor, where the run"
+                f" itself takes {self.seconds:.1f}"
+            )
         if why:
-            self.found.append(f"{self.name}, allocation {number}{' and all after it' if is_all else ''}: {why}")
+            self.found.append(
+                f"{self.name}, allocation {number}{' and all after it' if is_all else ''}: {why}"
+            )
         return end[4]
 
-    def refuse_each(self):
+    def refuse_each(self) -> None:
         for is_all in (False, True):
             number = 1
             while self.refuse(number, is_all):
@@ -332,17 +505,26 @@ class Tries:
 
 
 class Tally:
-    """What all jobs add up to."""
+    """Returns the sums over all jobs."""
 
-    def __init__(self):
+    def __init__(self) -> None:
+        self.found: typing.List[typing.Any]
         self.count, self.threes, self.found = 0, 0, []
 
-    def add(self, tries):
-        print(f"{tries.name}: status {tries.own[0]}, {tries.count} runs with refused memory, {tries.threes} of them with status 3", flush=True)
-        self.count, self.threes, self.found = self.count + tries.count, self.threes + tries.threes, self.found + tries.found
+    def add(self, tries: typing.Any) -> None:
+        print(
+            (
+                f"{tries.name}: status {tries.own[0]}, {tries.count} runs with refused memory,"
+                f" {tries.threes} of them with status 3"
+            ),
+            flush=True,
+        )
+        self.count, self.threes, self.found = (
+            self.count + tries.count, self.threes + tries.threes, self.found + tries.found,
+        )
 
 
-def refuse_runs(room, most, draw, tally):
+def refuse_runs(room: typing.Any, most: typing.Any, draw: typing.Any, tally: typing.Any) -> None:
     for name, chain in runs().items():
         held = {"audit-0.ckpt": (TEST_DATA / "version_1.ckpt").read_bytes()} if name == OLD else {}
         for place, (words, graph) in enumerate(chain):
@@ -356,18 +538,25 @@ def refuse_runs(room, most, draw, tally):
             held = tries.own[3]
 
 
-def drawn_job(draw, graphs):
+def drawn_job(draw: typing.Any, graphs: typing.Any) -> typing.Any:
     """Words, a graph, and slots as up to two earlier runs left them."""
     graph, words, slots = draw.choice(graphs), fuzz.good_words(draw), [None, None]
     if words[0] == "run":
         for number in range(draw.randint(0, 2)):
-            before = [*words, "--save", "2", "--budget", str(draw.randint(0, 6)), *(["--resume", "yes"] if number else []), *fuzz.tally(draw)]
+            before = [
+                *words, "--save", "2", "--budget", str(draw.randint(0, 6)),
+                *(["--resume", "yes"] if number else []), *fuzz.tally(draw),
+            ]
             slots = model.audit(before, graph, slots).slots
         words = [*words, *fuzz.saving(draw)]
-    return words, graph, {f"audit-{at}.ckpt": data for at, data in enumerate(slots) if data is not None}
+    return (
+        words,
+        graph,
+        {f"audit-{at}.ckpt": data for at, data in enumerate(slots) if data is not None},
+    )
 
 
-def main(program, drawn="0", *more):
+def main(program: typing.Any, drawn: str = "0", *more: typing.Any) -> int:
     if shutil.which("gcc") is None:
         print("no memory refused: gcc is not installed")
         print("refused_memory.py: 0 passed, 0 failed, 1 skipped")
@@ -375,7 +564,9 @@ def main(program, drawn="0", *more):
     jobs, more = (int(more[0]), more[1:]) if drawn == "jobs" else (0, more)
     draw, tally = random.Random(int(more[0]) if more else 1), Tally()
     with tempfile.TemporaryDirectory() as name:
-        room = (Folders if drawn == "folders" else Room)(os.path.abspath(program), pathlib.Path(name))
+        room = (Folders if drawn == "folders" else Room)(
+            os.path.abspath(program), pathlib.Path(name)
+        )
         if drawn == "folders":
             refuse_folders(room, tally)
         elif drawn == "jobs":
@@ -392,7 +583,10 @@ def main(program, drawn="0", *more):
     if not threes:
         found.append("no run ended with status 3")
         print("WRONG:", found[-1], "- does the program take its memory from the C library?")
-    print(f"{count} runs with refused memory, {threes} with status 3 and all others with their own; {len(found)} wrong")
+    print(
+        f"{count} runs with refused memory, {threes} with status 3 and all others with their own;"
+        f" {len(found)} wrong"
+    )
     print(f"refused_memory.py: {max(count - len(found), 0)} passed, {len(found)} failed, 0 skipped")
     return 1 if found else 0
 
@@ -400,10 +594,15 @@ def main(program, drawn="0", *more):
 def arguments() -> argparse.Namespace:
     parser = argparse.ArgumentParser(
         prog="python3 -m tests.system.refused_memory", description=__doc__,
-        formatter_class=argparse.RawDescriptionHelpFormatter)
+        formatter_class=argparse.RawDescriptionHelpFormatter,
+    )
     parser.add_argument("program", help="the built auditor")
-    parser.add_argument("drawn", nargs="?", default="0",
-                        help="how many allocations are refused in each run; `each`, or `jobs`")
+    parser.add_argument(
+        "drawn",
+        nargs="?",
+        default="0",
+        help="how many allocations are refused in each run; `each`, or `jobs`",
+    )
     parser.add_argument("more", nargs="*", help="the number of jobs, and what all is drawn from")
     return parser.parse_args()
 

@@ -20,7 +20,7 @@ WORDS = [
     "0" * 64,
     *"--walks 6 --steps 20000 --ends 9 --hub-steps 5000 --ask cut-edges:low".split(),
 ]
-# What stands between the two lines of a job that say what to change.
+# The text between the two lines of a job that say what to change.
 CHANGED = re.compile(r"(?<=# ---- change from here)(.*?\n).*?(?=# ---- to here)", re.S)
 
 

@@ -1,15 +1,19 @@
-"""Runs the program on a system that fails it at a given call, and at its limits; each must end as the plain model in model.py says.
+"""Runs the program on a system that fails it at a given call, and at its limits; each must end as
+the plain model in model.py says.
 
 Usage: python3 -m tests.system.system_faults PROGRAM [JOBS]
-The parts, each of which says in one line where it lacks what it needs: faults that strace injects into calls on the checkpoints, standard
-input and output; reads and writes of a few bytes, half of them interrupted, by a library that gcc builds; files at the limits of size, depth,
-units, edges, districts, regions, splits and groups; checkpoints of both versions of the format at the limits of size and count; values of words at
-the ends of their ranges; a folder that cannot be written and threads that are refused, as another user; slots that are replaced by pipes while a run
-walks; and, in the bytes of each save of several workers, how many trajectories were begun before the last of them and are missing.
-The faults of calls, short reads and writes, the limit on files and the other user are tried over so many jobs (1, if not said), which differ in key
-and questions; all else over the first alone. The faults of audit_slots and audit_gather are those of folder_faults.py.
-Prints one line for each part and each run that is not so, by its name. The last line counts the runs, and as skipped the parts that lack what they
-need; ends with 1 where a run is not so.
+The parts, each of which says in one line where it lacks what it needs: faults that strace injects
+into calls on the checkpoints, standard input and output; reads and writes of a few bytes, half of
+them interrupted, by a library that gcc builds; files at the limits of size, depth, units, edges,
+districts, regions, splits and groups; checkpoints of both versions of the format at the limits of
+size and count; values of words at the ends of their ranges; a folder that cannot be written and
+threads that are refused, as another user; slots that are replaced by pipes while a run walks; and,
+in the bytes of each save of several workers, how many trajectories were begun before the last of
+them and are missing. The faults of calls, short reads and writes, the limit on files and the other
+user are tried over so many jobs (1, if not said), which differ in key and questions; all else over
+the first alone. The faults of audit_slots and audit_gather are those of folder_faults.py. Prints
+one line for each part and each run that is not so, by its name. The last line counts the runs, and
+as skipped the parts that lack what they need; ends with 1 where a run is not so.
 """
 # RUN: {auditor}
 # NEEDS: strace
@@ -26,6 +30,7 @@ import subprocess
 import sys
 import tempfile
 import time
+import typing
 
 from tests.oracle import model
 from tests.system import power_cuts
@@ -33,8 +38,14 @@ from tests.places import DATA
 
 CYCLE = (DATA / "cycle.json").read_bytes()
 BASE = "--pop pop --first a --second b --district d".split()
-CHAIN = ["run", *BASE, "--slack", "5000", "--key", "0" * 64, "--walks", "12", "--steps", "8", "--ask", "gap:low"]
-ASKS = ("gap:low", "cut-edges:low,gap:high", "seats:high,mean-median:low", "mean-median:high,gap:low,cut-edges:high,seats:low")
+CHAIN = [
+    "run", *BASE, "--slack", "5000", "--key", "0" * 64, "--walks", "12", "--steps", "8", "--ask",
+    "gap:low",
+]
+ASKS = (
+    "gap:low", "cut-edges:low,gap:high", "seats:high,mean-median:low",
+    "mean-median:high,gap:low,cut-edges:high,seats:low",
+)
 CHECK = ["check", *BASE, "--slack", "5000"]
 NAMES = ("audit-0.ckpt", "audit-1.ckpt")
 NOBODY = 65534
@@ -71,13 +82,16 @@ class Skipped(str):
 
 
 class Room:
-    """Where runs are made, and what was not as it has to be."""
+    """A folder in which runs are made, and what was wrong."""
 
-    def __init__(self, program, folder):
-        self.program, self.folder, self.slots, self.wrong, self.count = program, folder, folder / "slots", [], 0
+    def __init__(self, program: typing.Any, folder: typing.Any) -> None:
+        self.wrong: typing.List[typing.Any]
+        self.program, self.folder, self.slots, self.wrong, self.count = (
+            program, folder, folder / "slots", [], 0,
+        )
         self.chain = CHAIN
 
-    def hold(self, slots):
+    def hold(self, slots: typing.Any) -> None:
         if self.slots.exists():
             self.slots.chmod(0o755)
             shutil.rmtree(self.slots)
@@ -86,43 +100,79 @@ class Room:
             if data is not None:
                 (self.slots / name).write_bytes(data)
 
-    def held(self):
-        return [(self.slots / name).read_bytes() if (self.slots / name).exists() else None for name in NAMES]
+    def held(self) -> typing.List[typing.Any]:
+        return [
+            (self.slots / name).read_bytes() if (self.slots / name).exists() else None
+            for name in NAMES
+        ]
 
-    def run(self, words, graph, before=(), given=None, prepared=None):
+    def run(
+        self,
+        words: typing.Any,
+        graph: typing.Any,
+        before: typing.Any = (),
+        given: typing.Any = None,
+        prepared: typing.Any = None,
+    ) -> typing.Any:
         """The status, both texts and both files."""
         graph_file, out_file = self.folder / "graph", self.folder / "out"
         graph_file.write_bytes(graph)
         with open(graph_file, "rb") as source, open(out_file, "wb") as out:
-            done = subprocess.run([*before, self.program, *words], stdin=source, stdout=out, stderr=subprocess.PIPE, cwd=self.slots,
-                                  env={**os.environ, **(given or {})}, preexec_fn=prepared, timeout=120, check=False)
+            done = subprocess.run(
+                [*before, self.program, *words], stdin=source, stdout=out, stderr=subprocess.PIPE,
+                cwd=self.slots, env={**os.environ, **(given or {})}, preexec_fn=prepared,
+                timeout=120, check=False,
+            )
         return done.returncode, out_file.read_bytes(), done.stderr, self.held()
 
-    def judge(self, name, end, status, out, note, slots):
+    def judge(
+        self,
+        name: typing.Any,
+        end: typing.Any,
+        status: typing.Any,
+        out: typing.Any,
+        note: typing.Any,
+        slots: typing.Any,
+    ) -> None:
         self.count += 1
-        for part, found, wanted in (("status", end[0], status), ("output", end[1], out.encode()), ("note", end[2], note.encode()),
-                                    ("files", end[3], slots)):
+        for part, found, wanted in (
+            ("status", end[0], status), ("output", end[1], out.encode()),
+            ("note", end[2], note.encode()), ("files", end[3], slots),
+        ):
             if found != wanted:
                 self.wrong.append(f"{name}: {part} {str(found)[:200]} and not {str(wanted)[:200]}")
                 return
 
-    def as_model(self, name, words, graph, slots=(None, None), **run):
+    def as_model(
+        self,
+        name: typing.Any,
+        words: typing.Any,
+        graph: typing.Any,
+        slots: typing.Any = (None, None),
+        **run: typing.Any,
+    ) -> None:
         """A run that must end as one on a system that does not fail."""
         self.hold(slots)
         wanted = model.audit(words, graph, list(slots))
-        self.judge(name, self.run(words, graph, **run), wanted.status, wanted.out, wanted.note, wanted.slots)
+        self.judge(
+            name, self.run(words, graph, **run), wanted.status, wanted.out, wanted.note,
+            wanted.slots,
+        )
 
 
 # ---- faults injected by strace
 
-def saved(words, slots, fails):
-    """The files after a run of which the saves with these numbers fail, which leave what the map says, and whether the run needed them all."""
+
+def saved(words: typing.Any, slots: typing.Any, fails: typing.Any) -> typing.Any:
+    """The files after a run of which the saves with these numbers fail, which leave what the map
+    says, and whether the run needed them all.
+    """
     setting = model.Setting(words)
     job = model.job_of(setting, CYCLE)
     digest = job.digest()
     seen = [model.looked(setting, digest, data) for data in slots]
     found = model.opening(seen, digest, setting) if setting.resume else {}
-    todo = [one for one in range(setting.total) if one not in found][:setting.budget]
+    todo = [one for one in range(setting.total) if one not in found][: setting.budget]
     every, slots = model.asked(job, digest), list(slots)
     newest = model.newest(seen)
     slot, generation = (0, 0) if newest is None else (1 - newest, (seen[newest].generation + 1) % 3)
@@ -131,7 +181,9 @@ def saved(words, slots, fails):
         if count == last:
             continue
         number += 1
-        data = model.checkpoint(digest, generation, {**found, **{one: every[one] for one in todo[:count]}})
+        data = model.checkpoint(
+            digest, generation, {**found, **{one: every[one] for one in todo[:count]}}
+        )
         if number in fails:
             slots[slot] = fails[number](data)
             continue
@@ -140,99 +192,248 @@ def saved(words, slots, fails):
     return slots
 
 
-def whole(data):
+def whole(data: typing.Any) -> typing.Any:
     return data
 
 
-def nothing(_data):
+def nothing(_data: typing.Any) -> bytes:
     return b""
 
 
-def front(count):
+def front(count: typing.Any) -> typing.Any:
     return lambda data: data[:count]
 
 
-def injected(room):
+ABSENT = [None, None]
+NO_WORDS: typing.List[str] = []
+FAULT, DONE = (9, "checkpoint save fault\n"), (0, "")
+
+
+class Injections:
+    """Runs of a chain in which strace has single calls fail."""
+
+    def __init__(self, room: typing.Any) -> None:
+        self.room = room
+        self.first = model.audit(
+            [*room.chain, "--save", "2", "--budget", "5"], CYCLE, [None, None]
+        ).slots
+        self.report = model.audit(room.chain, CYCLE, [None, None]).out
+        self.fresh = [*room.chain, "--save", "2"]
+        self.resumed = [*self.fresh, "--resume", "yes"]
+
+    def run(
+        self,
+        name: typing.Any,
+        words: typing.Any,
+        slots: typing.Any,
+        call: typing.Any,
+        path: typing.Any,
+        what: typing.Any,
+        end: typing.Any,
+        files: typing.Any,
+    ) -> None:
+        self.room.hold(slots)
+        trace = [
+            "strace", "-f", "-qq", "-o", "/dev/null", "-P", str(path), "-P",
+            str(self.room.slots / path), "-e", f"trace={call}", "-e", f"inject={call}:{what}",
+        ]
+        status, out, said, held = self.room.run(words, CYCLE, before=trace)
+        said = b"".join(
+            line
+            for line in said.splitlines(True)
+            if not line.startswith(b"strace: Requested path ")
+        )
+        wanted, note = end
+        self.room.judge(
+            name,
+            (status, out, said, held),
+            wanted,
+            self.report if wanted in (0, 9) else "",
+            note,
+            files,
+        )
+
+    def fail_saves(self) -> None:
+        """Has the writes and syncs of single saves fail or be interrupted."""
+        for number in (1, 2, 3, 4, 5, 6):
+            # save k is the (k + 1) div 2th of its slot while none fails
+            path, when = NAMES[(number + 1) % 2], (number + 1) // 2
+            self.run(
+                f"save {number} is not synced", self.fresh, ABSENT, "fsync", path,
+                f"error=EIO:when={when}", FAULT, saved(self.fresh, ABSENT, {number: whole}),
+            )
+            self.run(
+                f"save {number} has no room", self.fresh, ABSENT, "write", path,
+                f"error=ENOSPC:when={when}", FAULT, saved(self.fresh, ABSENT, {number: nothing}),
+            )
+            self.run(
+                f"save {number} is interrupted", self.fresh, ABSENT, "write", path,
+                f"error=EINTR:when={when}", DONE, saved(self.fresh, ABSENT, {}),
+            )
+            self.run(
+                f"the sync of save {number} is interrupted", self.fresh, ABSENT, "fsync", path,
+                f"error=EINTR:when={when}", DONE, saved(self.fresh, ABSENT, {}),
+            )
+        for when, number in ((1, 1), (2, 2)):
+            self.run(
+                f"the folder of save {number} is not synced", self.fresh, ABSENT, "fsync",
+                self.room.slots, f"error=EIO:when={when}", FAULT,
+                saved(self.fresh, ABSENT, {number: whole}),
+            )
+
+    def fail_folder(self) -> None:
+        """Has the closing of files, and calls on the folder, fail."""
+        for path in (*NAMES, self.room.slots):
+            self.run(
+                f"the closing of {path} fails", self.fresh, ABSENT, "close", path, "error=EIO",
+                DONE, saved(self.fresh, ABSENT, {}),
+            )
+        self.run(
+            "no save is synced", self.fresh, ABSENT, "fsync", NAMES[0], "error=EIO", FAULT,
+            saved(self.fresh, ABSENT, dict.fromkeys(range(1, 9), whole)),
+        )
+        self.run(
+            "the folder is never synced", self.fresh, ABSENT, "fsync", self.room.slots, "error=EIO",
+            FAULT, saved(self.fresh, ABSENT, dict.fromkeys(range(1, 9), whole)),
+        )
+        for error in ("EINVAL", "EOPNOTSUPP"):
+            self.run(
+                f"the folder is never synced, and the system says why: {error}", self.fresh, ABSENT,
+                "fsync", self.room.slots, f"error={error}", DONE, saved(self.fresh, ABSENT, {}),
+            )
+        for error in ("EOPNOTSUPP", "ENOLCK", "EINVAL", "EIO"):
+            self.run(
+                f"the folder cannot be locked: {error}", self.resumed, self.first, "flock",
+                self.room.slots, f"error={error}", DONE, saved(self.resumed, self.first, {}),
+            )
+
+    def hold_folder(self) -> None:
+        """Has another run hold the folder, and the newest file never be stored."""
+        for name, words, slots in (
+            ("going on", self.resumed, self.first), ("a new run", self.fresh, self.first),
+            ("a run in an empty folder", self.fresh, ABSENT),
+        ):
+            self.run(
+                f"another run holds the folder: {name}", words, slots, "flock", self.room.slots,
+                "error=EAGAIN", (6, "checkpoint: another run holds the folder\n"), list(slots),
+            )
+        for path, what in ((NAMES[0], "newest file"), (self.room.slots, "folder")):
+            self.run(
+                f"the {what} is not synced before the first save", self.resumed, self.first,
+                "fsync", path, "error=EIO:when=1", FAULT,
+                saved(self.resumed, self.first, {1: lambda data: self.first[1]}),
+            )
+        # A process that cannot have the newest file stored makes no save: each attempt would be
+        # its first.
+        other = model.audit(
+            [*self.room.chain, "--save", "2", "--budget", "4"], CYCLE, [None, None]
+        ).slots
+        for slots, newest in (
+            (self.first, 0), (other, 1), ([self.first[0], None], 0), ([None, other[1]], 1),
+        ):
+            for error in ("EIO", "ENOSPC", "EDQUOT"):
+                self.run(
+                    f"the newest file, in slot {newest}, is never synced: {error}", self.resumed,
+                    slots, "fsync", NAMES[newest], f"error={error}", FAULT, list(slots),
+                )
+            self.run(
+                f"the folder is never synced, and the newest file is in slot {newest}",
+                self.resumed,
+                slots,
+                "fsync",
+                self.room.slots,
+                "error=EIO",
+                FAULT,
+                list(slots),
+            )
+
+    def fail_files(self) -> None:
+        """Has looking at files and opening them fail."""
+        for path in NAMES:
+            self.run(
+                f"{path} cannot be looked at", self.resumed, self.first, "statx", path, "error=EIO",
+                (6, "checkpoint load fault\n"), self.first,
+            )
+        self.run(
+            "a new file is refused", self.fresh, ABSENT, "openat", NAMES[0], "error=EACCES:when=2",
+            FAULT, saved(self.fresh, ABSENT, {1: lambda data: None}),
+        )
+        self.run(
+            "an old file is not opened", self.resumed, self.first, "openat", NAMES[1],
+            "error=EMFILE:when=3", FAULT,
+            saved(self.resumed, self.first, {1: lambda data: self.first[1]}),
+        )
+        for path in NAMES:
+            for error in ("EACCES", "EIO", "EMFILE", "ELOOP", "ENOTDIR"):
+                self.run(
+                    f"{path} cannot be opened: {error}", self.resumed, self.first, "openat", path,
+                    f"error={error}:when=1", (6, "checkpoint load fault\n"), self.first,
+                )
+                self.run(
+                    f"{path} cannot be opened by a new run: {error}", self.fresh, self.first,
+                    "openat", path, f"error={error}:when=1", (6, "checkpoint load fault\n"),
+                    self.first,
+                )
+            self.run(
+                f"{path} cannot be opened for want of memory", self.resumed, self.first, "openat",
+                path, "error=ENOMEM:when=1", (3, "memory\n"), self.first,
+            )
+            self.run(
+                f"the opening of {path} is interrupted", self.resumed, self.first, "openat", path,
+                "error=EINTR:when=1", DONE, saved(self.resumed, self.first, {}),
+            )
+            for when in (1, 2):
+                self.run(
+                    f"read {when} of {path} fails", self.resumed, self.first, "read", path,
+                    f"error=EIO:when={when}", (6, "checkpoint load fault\n"), self.first,
+                )
+                self.run(
+                    f"read {when} of {path} is interrupted", self.resumed, self.first, "read", path,
+                    f"error=EINTR:when={when}", DONE, saved(self.resumed, self.first, {}),
+                )
+        graph, out = self.room.folder / "graph", self.room.folder / "out"
+        for when in (1, 2):
+            self.run(
+                f"read {when} of the graph fails", self.resumed, self.first, "read", graph,
+                f"error=EIO:when={when}", (4, "read fault\n"), self.first,
+            )
+            self.run(
+                f"read {when} of the graph is interrupted", self.resumed, self.first, "read", graph,
+                f"error=EINTR:when={when}", DONE, saved(self.resumed, self.first, {}),
+            )
+        for error in ("EIO", "ENOSPC", "EPIPE", "EFBIG"):
+            self.run(
+                f"the report is not written: {error}", self.resumed, self.first, "write", out,
+                f"error={error}:when=1", (5, "write fault\n"), saved(self.resumed, self.first, {}),
+            )
+        self.run(
+            "the writing of the report is interrupted", self.resumed, self.first, "write", out,
+            "error=EINTR:when=1", DONE, saved(self.resumed, self.first, {}),
+        )
+
+
+def injected(room: typing.Any) -> typing.Any:
     if not power_cuts.can_trace():
         return Skipped("no faults injected: strace is not installed, or may not trace here")
-    first = model.audit([*room.chain, "--save", "2", "--budget", "5"], CYCLE, [None, None]).slots
-    report = model.audit(room.chain, CYCLE, [None, None]).out
-    fresh, resumed = [*room.chain, "--save", "2"], [*room.chain, "--save", "2", "--resume", "yes"]
-
-    def run(name, words, slots, call, path, what, end, files):
-        room.hold(slots)
-        trace = ["strace", "-f", "-qq", "-o", "/dev/null", "-P", str(path), "-P", str(room.slots / path), "-e", f"trace={call}",
-                 "-e", f"inject={call}:{what}"]
-        status, out, said, held = room.run(words, CYCLE, before=trace)
-        said = b"".join(line for line in said.splitlines(True) if not line.startswith(b"strace: Requested path "))
-        wanted, note = end
-        room.judge(name, (status, out, said, held), wanted, report if wanted in (0, 9) else "", note, files)
-
-    absent, fault, done = [None, None], (9, "checkpoint save fault\n"), (0, "")
-    for number in (1, 2, 3, 4, 5, 6):
-        # save k is the (k + 1) div 2th of its slot while none fails
-        path, when = NAMES[(number + 1) % 2], (number + 1) // 2
-        run(f"save {number} is not synced", fresh, absent, "fsync", path, f"error=EIO:when={when}", fault, saved(fresh, absent, {number: whole}))
-        run(f"save {number} has no room", fresh, absent, "write", path, f"error=ENOSPC:when={when}", fault, saved(fresh, absent, {number: nothing}))
-        run(f"save {number} is interrupted", fresh, absent, "write", path, f"error=EINTR:when={when}", done, saved(fresh, absent, {}))
-        run(f"the sync of save {number} is interrupted", fresh, absent, "fsync", path, f"error=EINTR:when={when}", done, saved(fresh, absent, {}))
-    for when, number in ((1, 1), (2, 2)):
-        run(f"the folder of save {number} is not synced", fresh, absent, "fsync", room.slots, f"error=EIO:when={when}", fault,
-            saved(fresh, absent, {number: whole}))
-    for path in (*NAMES, room.slots):
-        run(f"the closing of {path} fails", fresh, absent, "close", path, "error=EIO", done, saved(fresh, absent, {}))
-    run("no save is synced", fresh, absent, "fsync", NAMES[0], "error=EIO", fault, saved(fresh, absent, dict.fromkeys(range(1, 9), whole)))
-    run("the folder is never synced", fresh, absent, "fsync", room.slots, "error=EIO", fault, saved(fresh, absent, dict.fromkeys(range(1, 9), whole)))
-    for error in ("EINVAL", "EOPNOTSUPP"):
-        run(f"the folder is never synced, and the system says why: {error}", fresh, absent, "fsync", room.slots, f"error={error}", done,
-            saved(fresh, absent, {}))
-    for error in ("EOPNOTSUPP", "ENOLCK", "EINVAL", "EIO"):
-        run(f"the folder cannot be locked: {error}", resumed, first, "flock", room.slots, f"error={error}", done, saved(resumed, first, {}))
-    for name, words, slots in (("going on", resumed, first), ("a new run", fresh, first), ("a run in an empty folder", fresh, absent)):
-        run(f"another run holds the folder: {name}", words, slots, "flock", room.slots, "error=EAGAIN",
-            (6, "checkpoint: another run holds the folder\n"), list(slots))
-    for path, what in ((NAMES[0], "newest file"), (room.slots, "folder")):
-        run(f"the {what} is not synced before the first save", resumed, first, "fsync", path, "error=EIO:when=1", fault,
-            saved(resumed, first, {1: lambda data: first[1]}))
-    # A process that cannot have the newest file stored makes no save at all: each attempt would be its first.
-    other = model.audit([*room.chain, "--save", "2", "--budget", "4"], CYCLE, [None, None]).slots
-    for slots, newest in ((first, 0), (other, 1), ([first[0], None], 0), ([None, other[1]], 1)):
-        for error in ("EIO", "ENOSPC", "EDQUOT"):
-            run(f"the newest file, in slot {newest}, is never synced: {error}", resumed, slots, "fsync", NAMES[newest], f"error={error}", fault, list(slots))
-        run(f"the folder is never synced, and the newest file is in slot {newest}", resumed, slots, "fsync", room.slots, "error=EIO", fault, list(slots))
-    for path in NAMES:
-        run(f"{path} cannot be looked at", resumed, first, "statx", path, "error=EIO", (6, "checkpoint load fault\n"), first)
-    run("a new file is refused", fresh, absent, "openat", NAMES[0], "error=EACCES:when=2", fault, saved(fresh, absent, {1: lambda data: None}))
-    run("an old file is not opened", resumed, first, "openat", NAMES[1], "error=EMFILE:when=3", fault, saved(resumed, first, {1: lambda data: first[1]}))
-    for path in NAMES:
-        for error in ("EACCES", "EIO", "EMFILE", "ELOOP", "ENOTDIR"):
-            run(f"{path} cannot be opened: {error}", resumed, first, "openat", path, f"error={error}:when=1", (6, "checkpoint load fault\n"), first)
-            run(f"{path} cannot be opened by a new run: {error}", fresh, first, "openat", path, f"error={error}:when=1", (6, "checkpoint load fault\n"), first)
-        run(f"{path} cannot be opened for want of memory", resumed, first, "openat", path, "error=ENOMEM:when=1", (3, "memory\n"), first)
-        run(f"the opening of {path} is interrupted", resumed, first, "openat", path, "error=EINTR:when=1", done, saved(resumed, first, {}))
-        for when in (1, 2):
-            run(f"read {when} of {path} fails", resumed, first, "read", path, f"error=EIO:when={when}", (6, "checkpoint load fault\n"), first)
-            run(f"read {when} of {path} is interrupted", resumed, first, "read", path, f"error=EINTR:when={when}", done, saved(resumed, first, {}))
-    graph, out = room.folder / "graph", room.folder / "out"
-    for when in (1, 2):
-        run(f"read {when} of the graph fails", resumed, first, "read", graph, f"error=EIO:when={when}", (4, "read fault\n"), first)
-        run(f"read {when} of the graph is interrupted", resumed, first, "read", graph, f"error=EINTR:when={when}", done, saved(resumed, first, {}))
-    for error in ("EIO", "ENOSPC", "EPIPE", "EFBIG"):
-        run(f"the report is not written: {error}", resumed, first, "write", out, f"error={error}:when=1", (5, "write fault\n"), saved(resumed, first, {}))
-    run("the writing of the report is interrupted", resumed, first, "write", out, "error=EINTR:when=1", done, saved(resumed, first, {}))
+    faults = Injections(room)
+    faults.fail_saves()
+    faults.fail_folder()
+    faults.hold_folder()
+    faults.fail_files()
     return "faults injected by strace"
 
 
 # ---- a few bytes a call
 
-def short(room):
+
+def short(room: typing.Any) -> typing.Any:
     if shutil.which("gcc") is None:
         return Skipped("no short reads and writes: gcc is not installed")
     source, library = room.folder / "short.c", room.folder / "short.so"
     source.write_text(SHORT)
     subprocess.run(["gcc", "-shared", "-fPIC", "-O1", "-o", library, source, "-ldl"], check=True)
     given, slots = {"LD_PRELOAD": str(library)}, [None, None]
-    for more in ([], ["--resume", "yes"], ["--resume", "yes"]):
+    for more in (NO_WORDS, ["--resume", "yes"], ["--resume", "yes"]):
         words = [*room.chain, "--save", "2", "--budget", "5", *more]
         room.as_model("seven bytes a call", words, CYCLE, slots, given=given)
         slots = model.audit(words, CYCLE, slots).slots
@@ -242,9 +443,12 @@ def short(room):
     return "seven bytes a call, every other call interrupted"
 
 
-def file_size(room):
-    """A limit on files: a save is cut off after so many bytes, and the other slot holds what was saved before."""
-    def limited():
+def file_size(room: typing.Any) -> str:
+    """A limit on files: a save is cut off in its middle, and the other slot holds what was saved
+    before.
+    """
+
+    def limited() -> None:
         signal.signal(signal.SIGXFSZ, signal.SIG_IGN)
         resource.setrlimit(resource.RLIMIT_FSIZE, (600, 600))
 
@@ -259,132 +463,238 @@ def file_size(room):
 
 # ---- limits
 
-def node(at, district, pop=1, a=1, b=1):
+
+def node(
+    at: typing.Any, district: typing.Any, pop: int = 1, a: int = 1, b: int = 1
+) -> typing.Dict[typing.Any, typing.Any]:
     return {"pop": pop, "a": a, "b": b, "d": district, "id": at}
 
 
-def text(nodes, adjacency):
+def text(nodes: typing.Any, adjacency: typing.Any) -> bytes:
     return json.dumps({"nodes": nodes, "adjacency": adjacency}, separators=(",", ":")).encode()
 
 
-def path_of(count, district):
-    return text([node(at, district(at)) for at in range(count)], [[{"id": at + 1}] if at + 1 < count else [] for at in range(count)])
+def path_of(count: typing.Any, district: typing.Any) -> typing.Any:
+    return text(
+        [node(at, district(at)) for at in range(count)],
+        [[{"id": at + 1}] if at + 1 < count else [] for at in range(count)],
+    )
 
 
-def many_edges(count):
+def many_edges(count: typing.Any) -> typing.Any:
     units = 895
-    nodes, adjacency = [node(at, at * 2 // units) for at in range(units)], [[] for _ in range(units)]
+    adjacency: typing.Any
+    nodes, adjacency = [node(at, at * 2 // units) for at in range(units)], [
+        [] for _ in range(units)
+    ]
     pairs = ((u, v) for step in range(1, units) for u in range(units - step) for v in (u + step,))
     for (u, v), _ in zip(pairs, range(count)):
         adjacency[u].append({"id": v})
     return text(nodes, adjacency)
 
 
-def limits(room):
+def limits(room: typing.Any) -> str:
     room.as_model("the most bytes", CHECK, CYCLE + b" " * (model.MOST_INPUT - len(CYCLE)))
     room.as_model("a byte too many", CHECK, CYCLE + b" " * (model.MOST_INPUT + 1 - len(CYCLE)))
     for deep in (126, 127):
         for one, other in ((b"[", b"]"), (b'{"a":', b"}")):
             nested = one * deep + b"1" + other * deep
-            room.as_model(f"{deep + 1} levels", CHECK, CYCLE.replace(b'"graph": []', b'"graph": ' + nested))
+            room.as_model(
+                f"{deep + 1} levels", CHECK, CYCLE.replace(b'"graph": []', b'"graph": ' + nested)
+            )
+    limits_of_counts(room)
+    limits_of_values(room)
+    return "files at the limits"
+
+
+def limits_of_counts(room: typing.Any) -> None:
+    """Checks as many units, edges, districts, regions and majorities as may be, and one more."""
     for count in (100000, 100001):
-        room.as_model(f"{count} units", CHECK, path_of(count, lambda at: at // 50000 if at < 100000 else 1))
+        room.as_model(
+            f"{count} units", CHECK, path_of(count, lambda at: at // 50000 if at < 100000 else 1)
+        )
     for count in (400000, 400001):
         room.as_model(f"{count} edges", CHECK, many_edges(count))
     for count in (1, 2, 200, 201):
         room.as_model(f"{count} districts", CHECK, path_of(count, lambda at: at))
     for count in (5000, 5001):
-        room.as_model(f"{count} regions", [*CHECK, "--region", "id"], path_of(count, lambda at: at * 2 // count))
+        room.as_model(
+            f"{count} regions", [*CHECK, "--region", "id"],
+            path_of(count, lambda at: at * 2 // count),
+        )
     for most in (1, 199, 200):
-        room.as_model("a region in 200 districts", [*CHECK, "--region", "pop", "--max-split", str(most)], path_of(200, lambda at: at))
+        room.as_model(
+            "a region in 200 districts", [*CHECK, "--region", "pop", "--max-split", str(most)],
+            path_of(200, lambda at: at),
+        )
     for name, numbers in (("--max-splits", (198, 199)), ("--max-split-regions", (0, 1))):
         for most in numbers:
-            room.as_model("a region in 200 districts", [*CHECK, "--region", "pop", name, str(most)], path_of(200, lambda at: at))
+            room.as_model(
+                "a region in 200 districts", [*CHECK, "--region", "pop", name, str(most)],
+                path_of(200, lambda at: at),
+            )
     for count in (199, 200, 201):
-        room.as_model(f"{count} majorities", [*CHECK, "--group", "a", "--group-districts", str(count)], path_of(200, lambda at: at))
-    for low, high in ((0, 1), (10 ** 9, 10 ** 9 + 1), (10 ** 9 - 1, 10 ** 9), (-1, 0)):
+        room.as_model(
+            f"{count} majorities", [*CHECK, "--group", "a", "--group-districts", str(count)],
+            path_of(200, lambda at: at),
+        )
+
+
+def limits_of_values(room: typing.Any) -> None:
+    """Checks the greatest and least numbers and labels, and those past them."""
+    for low, high in ((0, 1), (10**9, 10**9 + 1), (10**9 - 1, 10**9), (-1, 0)):
         for number in (low, high):
             nodes = [node(0, 0, number, number, 0), node(1, 1, number, 0, number)]
             for score in ("gap:low", "mean-median:high", "seats:low"):
-                room.as_model(f"numbers of {number}", [*CHAIN[:-1], score], text(nodes, [[{"id": 1}], []]))
+                room.as_model(
+                    f"numbers of {number}", [*CHAIN[:-1], score], text(nodes, [[{"id": 1}], []])
+                )
             room.as_model(f"numbers of {number}", CHECK, text(nodes, [[{"id": 1}], []]))
-            room.as_model(f"a group of {number}", [*CHECK, "--group", "a", "--group-of", "b", "--group-districts", "1"], text(nodes, [[{"id": 1}], []]))
-    for label in (2 ** 64 - 1, 2 ** 64, -2 ** 63, -2 ** 63 - 1, -0.0, "", "\u0000", "\U0001f5f3"):
-        room.as_model(f"the label and id {label!r}", CHECK, text([node(label, 0), node(7, label)], [[{"id": 7}], []]))
-    return "files at the limits"
+            room.as_model(
+                f"a group of {number}",
+                [*CHECK, "--group", "a", "--group-of", "b", "--group-districts", "1"],
+                text(nodes, [[{"id": 1}], []]),
+            )
+    for label in (
+        2**64 - 1, 2**64, -(2**63), -(2**63) - 1, -0.0, "", "\u0000", "\U0001f5f3",
+    ):
+        room.as_model(
+            f"the label and id {label!r}", CHECK,
+            text([node(label, 0), node(7, label)], [[{"id": 7}], []]),
+        )
 
 
-def checkpoints(room):
-    """Checkpoints of as many outcomes as there may be, and of one more; of both versions, for runs with the tally of seats and without."""
+def checkpoints(room: typing.Any) -> str:
+    """Checkpoints of as many outcomes as there may be, and of one more; of both versions, for runs
+    with the tally of seats and without.
+    """
     words = with_values(CHAIN, {"--walks": "100000", "--steps": "1", "--resume": "yes"})
     own = model.job_of(model.Setting(words), CYCLE).digest()
     most = {one: (one % 2, [1 + one % 2], (0, 0, 0, 1, 1, 0, 0, 0, 0)) for one in range(100000)}
     for version in (1, 2):
-        for more in ([], ["--workers", "4"], ["--shift", "yes", "--save", "1", "--budget", "0"]):
-            room.as_model(f"100000 outcomes of version {version}", [*words, *more], CYCLE, (model.checkpoint(own, 1, most, version), None))
+        for more in (
+            NO_WORDS, ["--workers", "4"], ["--shift", "yes", "--save", "1", "--budget", "0"]
+        ):
+            room.as_model(
+                f"100000 outcomes of version {version}", [*words, *more], CYCLE,
+                (model.checkpoint(own, 1, most, version), None),
+            )
         other = {one: outcome for one, outcome in most.items() if one > 0}
-        room.as_model(f"another job's 99999 outcomes of version {version}", words, CYCLE, (None, model.checkpoint(bytes(32), 1, other, version)))
-        room.as_model(f"100001 outcomes of version {version}", words, CYCLE, (model.checkpoint(own, 1, {**most, 100000: most[0]}, version), None))
+        room.as_model(
+            f"another job's 99999 outcomes of version {version}", words, CYCLE,
+            (None, model.checkpoint(bytes(32), 1, other, version)),
+        )
+        room.as_model(
+            f"100001 outcomes of version {version}", words, CYCLE,
+            (model.checkpoint(own, 1, {**most, 100000: most[0]}, version), None),
+        )
     chain = with_values(CHAIN, {"--steps": "7"})
-    bare, binned = (model.audit([*chain, "--save", "100", "--shift", shift], CYCLE, [None, None]).slots[0] for shift in ("no", "yes"))
-    old = model.checkpoint(bare[12:44], 0, {one[0]: (one[1], one[2:6], one[6:]) for one in model.decoded(bare).records[:5]}, 1)
+    bare, binned = (
+        model.audit([*chain, "--save", "100", "--shift", shift], CYCLE, [None, None]).slots[0]
+        for shift in ("no", "yes")
+    )
+    old = model.checkpoint(
+        bare[12:44],
+        0,
+        {one[0]: (one[1], one[2:6], one[6:]) for one in model.decoded(bare).records[:5]},
+        1,
+    )
     for slots in ((old, None), (old, binned), (binned, old), (bare, None), (binned, bare)):
         for shift in ("no", "yes"):
             for serial in ("no", "yes"):
                 said = [*chain, "--resume", "yes", "--shift", shift, "--serial", serial]
                 room.as_model("checkpoints of both versions", said, CYCLE, slots)
-                room.as_model("checkpoints of both versions", [*said, "--save", "5", "--budget", "7"], CYCLE, slots)
+                room.as_model(
+                    "checkpoints of both versions", [*said, "--save", "5", "--budget", "7"], CYCLE,
+                    slots,
+                )
     return "checkpoints at the limits, and of both versions"
 
 
-def with_values(words, values):
+def with_values(words: typing.Any, values: typing.Any) -> typing.List[typing.Any]:
     """The words, some names of which have other values or come anew."""
     given = dict(zip(words[1::2], words[2::2])) | values
     return [words[0], *(word for pair in given.items() for word in pair)]
 
 
-def ranges(room):
-    """Each number word at both ends of its range and past them, and the words of yes and no; the graph of a run is no JSON, so that good words end
-    with status 2."""
+def ranges(room: typing.Any) -> str:
+    """Each number word at both ends of its range and past them, and the words of yes and no; the
+    graph of a run is no JSON, so that good words end with status 2.
+    """
     for command in ("check", "run", "make"):
-        words = {"check": CHECK, "run": CHAIN, "make": ["make", "--size", "1", *CHAIN[11:]]}[command]
+        words = {"check": CHECK, "run": CHAIN, "make": ["make", "--size", "1", *CHAIN[11:]]}[
+            command
+        ]
         for name, (low, high) in model.RANGES.items():
             if name not in model.COMMANDS[command] or command == "make" and name != "--size":
                 continue
-            for number in (low - 1, low, high, high + 1, 2 ** 32 + low, 2 ** 64 + low):
+            for number in (low - 1, low, high, high + 1, 2**32 + low, 2**64 + low):
                 said = with_values(words, {name: str(number)})
                 if command == "make" and number in range(low, high + 1):
                     continue
                 room.as_model(f"{name} {number}", said, b"")
-    for number in (0, 1, 2, 199, 200, 201, 2 ** 32 + 1):
+    ranges_of_rules(room)
+    ranges_of_words(room)
+    return "values of words at the ends of their ranges"
+
+
+def ranges_of_rules(room: typing.Any) -> None:
+    """Checks the limits of rules with and without the column that they need."""
+    for number in (0, 1, 2, 199, 200, 201, 2**32 + 1):
         for region in ("d", "b", ""):
-            room.as_model(f"--max-split {number}", with_values(CHECK, {"--max-split": str(number), "--region": region}), CYCLE)
-    for name, column in (("--max-splits", "--region"), ("--max-split-regions", "--region"), ("--group-districts", "--group")):
+            room.as_model(
+                f"--max-split {number}",
+                with_values(CHECK, {"--max-split": str(number), "--region": region}), CYCLE,
+            )
+    for name, column in (
+        ("--max-splits", "--region"), ("--max-split-regions", "--region"),
+        ("--group-districts", "--group"),
+    ):
         low, high = model.RANGES[name]
-        for number in (low, low + 1, high - 1, high, high + 1, 2 ** 32 + 1):
+        for number in (low, low + 1, high - 1, high, high + 1, 2**32 + 1):
             for value in ("d", "a", ""):
-                room.as_model(f"{name} {number}", with_values(CHECK, {name: str(number), column: value}), CYCLE)
+                room.as_model(
+                    f"{name} {number}", with_values(CHECK, {name: str(number), column: value}),
+                    CYCLE,
+                )
     for group in ("a", ""):
         for whole in ("b", "d", ""):
-            room.as_model(f"--group {group} --group-of {whole}", with_values(CHECK, {"--group": group, "--group-of": whole}), CYCLE)
+            room.as_model(
+                f"--group {group} --group-of {whole}",
+                with_values(CHECK, {"--group": group, "--group-of": whole}), CYCLE,
+            )
+
+
+def ranges_of_words(room: typing.Any) -> None:
+    """Checks words of yes and no, and the numbers of steps that a serial test takes."""
     for name in ("--resume", "--shift", "--serial", "--source"):
         for value in ("yes", "no", "Yes", "maybe", "", "yes ", "1"):
             room.as_model(f"{name} {value}", with_values(CHAIN, {"--steps": "7", name: value}), b"")
             room.as_model(f"{name} {value}", with_values(CHECK, {name: value}), CYCLE)
-    for steps in ("0", "08", "1", "2", "3", "7", "8", "9", "1023", "1024", "536870910", "536870911", "536870912", "1000000000", "1000000001"):
-        room.as_model(f"--serial yes with --steps {steps}", with_values(CHAIN, {"--steps": steps, "--serial": "yes"}), b"")
-        room.as_model(f"--serial maybe with --steps {steps}", with_values(CHAIN, {"--steps": steps, "--serial": "maybe", "--shift": "maybe"}), b"")
-    return "values of words at the ends of their ranges"
+    for steps in (
+        "0", "08", "1", "2", "3", "7", "8", "9", "1023", "1024", "536870910", "536870911",
+        "536870912", "1000000000", "1000000001",
+    ):
+        room.as_model(
+            f"--serial yes with --steps {steps}",
+            with_values(CHAIN, {"--steps": steps, "--serial": "yes"}), b"",
+        )
+        room.as_model(
+            f"--serial maybe with --steps {steps}",
+            with_values(CHAIN, {"--steps": steps, "--serial": "maybe", "--shift": "maybe"}),
+            b"",
+        )
 
 
 # ---- a slot that changes while a run walks
 
-def is_walking(process):
-    """Whether the threads of a run are there: its slots were looked at, and nothing was saved yet."""
+
+def is_walking(process: typing.Any) -> bool:
+    """Returns whether a run has its threads: slots were looked at, and nothing is saved yet."""
     return len(os.listdir(f"/proc/{process.pid}/task")) > 1
 
 
-def stopped(process):
+def stopped(process: typing.Any) -> bool:
     """Stops a run as soon as it walks; whether it did not end before."""
     while process.poll() is None:
         try:
@@ -394,16 +704,24 @@ def stopped(process):
         except FileNotFoundError:
             break
         time.sleep(0.001)
-    while process.poll() is None and not re.search(r"^State:\s+T", pathlib.Path(f"/proc/{process.pid}/status").read_text(), re.MULTILINE):
+    while process.poll() is None and not re.search(
+        r"^State:\s+T", pathlib.Path(f"/proc/{process.pid}/status").read_text(), re.MULTILINE
+    ):
         time.sleep(0.001)
     return process.poll() is None
 
 
-def walk_over(room, words, change):
-    """How a run ends under whose slots something changes while it walks; None where it had saved before."""
+def walk_over(room: typing.Any, words: typing.Any, change: typing.Any) -> typing.Any:
+    """How a run ends under whose slots something changes while it walks; None where it had saved
+    before.
+    """
     room.hold([None, None])
-    process = subprocess.Popen([room.program, *words], stdin=subprocess.PIPE, stdout=subprocess.PIPE, stderr=subprocess.PIPE, cwd=room.slots)
+    process = subprocess.Popen(
+        [room.program, *words], stdin=subprocess.PIPE, stdout=subprocess.PIPE,
+        stderr=subprocess.PIPE, cwd=room.slots,
+    )
     try:
+        assert process.stdin is not None
         process.stdin.write(CYCLE)
         process.stdin.close()
         process.stdin = None
@@ -420,33 +738,48 @@ def walk_over(room, words, change):
         process.wait()
 
 
-def pipes(room):
-    """No save opens a pipe, which would wait for ever for a reader; each fails, and the run goes on to its report."""
+def pipes(room: typing.Any) -> str:
+    """No save opens a pipe, which would wait for ever for a reader; each fails, and the run goes on
+    to its report.
+    """
     for place in (0, 1):
         steps, end = 1000000, None
         while end is None and steps <= 256000000:
-            words = with_values(room.chain, {"--walks": "4", "--steps": str(steps), "--workers": "2"})
-            end = walk_over(room, [*words, "--save", "1"], lambda: os.mkfifo(room.slots / NAMES[place]))
+            words = with_values(
+                room.chain, {"--walks": "4", "--steps": str(steps), "--workers": "2"}
+            )
+            end = walk_over(
+                room, [*words, "--save", "1"], lambda: os.mkfifo(room.slots / NAMES[place])
+            )
             steps *= 4
         name = f"slot {place} becomes a pipe while the run walks"
         room.count += 1
-        report = subprocess.run([room.program, *words], input=CYCLE, capture_output=True, cwd=room.folder, check=False).stdout
+        report = subprocess.run(
+            [room.program, *words], input=CYCLE, capture_output=True, cwd=room.folder, check=False
+        ).stdout
         if end != (9, report, b"checkpoint save fault\n"):
-            room.wrong.append(f"{name}: {str(end)[:300]} and not status 9, the whole report and the note of a failed save")
+            room.wrong.append(
+                f"{name}: {str(end)[:300]} and not status 9, the whole report and the note of a"
+                " failed save"
+            )
         elif not (room.slots / NAMES[place]).is_fifo() or (room.slots / NAMES[1 - place]).exists():
-            room.wrong.append(f"{name}: the folder holds {sorted(one.name for one in room.slots.iterdir())}, and not the pipe alone")
+            room.wrong.append(
+                f"{name}: the folder holds {sorted(one.name for one in room.slots.iterdir())}, and"
+                " not the pipe alone"
+            )
     return "slots that become pipes while a run walks"
 
 
 # ---- outcomes that workers hold
 
-# So many workers have room for 25 outcomes each between two saves. A walk takes so long that they hardly ever wait for one another, and another
-# worker has one walk under way at most. Over loaded processors a few outcomes more may be held while a save is made.
+# This number of workers has room for 25 outcomes each between two saves. A walk takes so long that
+# they hardly ever wait for one another, and another worker has one walk under way at most. Over
+# loaded processors a few outcomes more may be held while a save is made.
 HOLDING = {"--workers": "4", "--walks": "1010", "--steps": "60000", "--save": "101"}
 MOST_MISSING = 9
 
 
-def missing(room, words):
+def missing(room: typing.Any, words: typing.Any) -> typing.Any:
     """For each save of a run: of how many ids below its greatest it has no outcome."""
     counts, written = [], {}
     folder = room.folder / "traced"
@@ -462,91 +795,136 @@ def missing(room, words):
     return counts
 
 
-def buffered(room):
-    """What a kill after a save loses: workers hold outcomes only while another one posts, and hand them in as soon as it is done."""
+def buffered(room: typing.Any) -> typing.Any:
+    """Checks what a kill after a save loses: workers buffer outcomes only while another one posts,
+    and hand them in as soon as it is done.
+    """
     if not power_cuts.can_trace():
-        return Skipped("no outcomes counted that workers hold: strace is not installed, or may not trace here")
+        return Skipped(
+            "no outcomes counted that workers hold: strace is not installed, or may not trace here"
+        )
     words = with_values(room.chain, HOLDING)
     counts = missing(room, words)
     room.count += 1
     middle = sorted(counts)[len(counts) // 2] if counts else None
     if len(counts) != 10 or middle > MOST_MISSING:
-        room.wrong.append(f"outcomes that workers hold: of the ids before its last one each save lacks {counts}, whose median is {middle}; "
-                          f"10 saves and a median of at most {MOST_MISSING} are expected")
+        room.wrong.append(
+            f"outcomes that workers hold: of the ids before its last one each save lacks {counts},"
+            f" whose median is {middle}; 10 saves and a median of at most {MOST_MISSING} are"
+            " expected"
+        )
     return "outcomes that workers hold at each save"
 
 
 # ---- another user
 
-def other_user(room):
+
+def other_user(room: typing.Any) -> typing.Any:
     if os.getuid() != 0:
         return Skipped("no folder of another user, and threads not refused: not run as root")
     room.folder.chmod(0o755)
     program, room.program = room.program, str(room.folder / "program")
     shutil.copy(program, room.program)
 
-    def nobody(limit=None):
-        def prepare():
+    def nobody(limit: typing.Any = None) -> typing.Any:
+        def prepare() -> None:
             if limit is not None:
                 resource.setrlimit(resource.RLIMIT_NPROC, (limit, limit))
             os.setgroups([])
             os.setgid(NOBODY)
             os.setuid(NOBODY)
+
         return prepare
 
     report = model.audit(room.chain, CYCLE, [None, None]).out
     first = model.audit([*room.chain, "--save", "2", "--budget", "5"], CYCLE, [None, None]).slots
-    for slots, more in (((None, None), []), (first, ["--resume", "yes"])):
+    for slots, more in (((None, None), NO_WORDS), (first, ["--resume", "yes"])):
         room.hold(slots)
         for name in NAMES:
             if (room.slots / name).exists():
                 (room.slots / name).chmod(0o444)
         end = room.run([*room.chain, "--save", "2", *more], CYCLE, prepared=nobody())
-        room.judge("a folder that cannot be written", end, 9, report, "checkpoint save fault\n", list(slots))
+        room.judge(
+            "a folder that cannot be written", end, 9, report, "checkpoint save fault\n",
+            list(slots),
+        )
     room.hold(first)
     (room.slots / NAMES[1]).chmod(stat.S_IWUSR)
-    room.judge("a file that cannot be read", room.run([*room.chain, "--save", "2", "--resume", "yes"], CYCLE, prepared=nobody()),
-               6, "", "checkpoint load fault\n", first)
-    for more in ([], ["--save", "3"], ["--save", "1", "--budget", "7"]):
+    room.judge(
+        "a file that cannot be read",
+        room.run([*room.chain, "--save", "2", "--resume", "yes"], CYCLE, prepared=nobody()),
+        6,
+        "",
+        "checkpoint load fault\n",
+        first,
+    )
+    for more in (NO_WORDS, ["--save", "3"], ["--save", "1", "--budget", "7"]):
         for workers in ("2", "32"):
             words = [*room.chain, *more]
             room.hold([None, None])
             room.slots.chmod(0o777)
             wanted = model.audit(words, CYCLE, [None, None])
             end = room.run([*words, "--workers", workers], CYCLE, prepared=nobody(1))
-            room.judge(f"{workers} workers where threads are refused", end, wanted.status, wanted.out, wanted.note, wanted.slots)
+            room.judge(
+                f"{workers} workers where threads are refused", end, wanted.status, wanted.out,
+                wanted.note, wanted.slots,
+            )
     room.program = program
     return "a folder and a file of another user, and threads that are refused"
 
 
-def chain_of(number):
+def chain_of(number: typing.Any) -> typing.Any:
     """The words of a job: those of CHAIN with another key and other questions."""
-    return with_values(CHAIN, {"--key": f"{number:x}".rjust(64, "0"), "--ask": ASKS[number % len(ASKS)]})
+    return with_values(
+        CHAIN, {"--key": f"{number:x}".rjust(64, "0"), "--ask": ASKS[number % len(ASKS)]}
+    )
 
 
-def main(program, jobs="1"):
-    parts, skipped = [(part, number) for number in range(int(jobs)) for part in (injected, short, file_size, other_user)], 0
+def main(program: typing.Any, jobs: str = "1") -> int:
+    parts, skipped = [
+        (part, number)
+        for number in range(int(jobs))
+        for part in (injected, short, file_size, other_user)
+    ], 0
     with tempfile.TemporaryDirectory() as name:
         room = Room(os.path.abspath(program), pathlib.Path(name))
-        for part, number in [(limits, 0), (checkpoints, 0), (ranges, 0), (pipes, 0), (buffered, 0), *parts]:
+        for part, number in [
+            (limits, 0), (checkpoints, 0), (ranges, 0), (pipes, 0), (buffered, 0), *parts,
+        ]:
             room.chain = chain_of(number)
             count, wrong = room.count, len(room.wrong)
             said = part(room)
             skipped += isinstance(said, Skipped)
-            print(said if isinstance(said, Skipped) else f"{said}: {room.count - count} runs, {len(room.wrong) - wrong} not as they have to be", flush=True)
+            print(
+                (
+                    said
+                    if isinstance(said, Skipped)
+                    else (
+                        f"{said}: {room.count - count} runs, {len(room.wrong) - wrong} not as they"
+                        " have to be"
+                    )
+                ),
+                flush=True,
+            )
     for one in room.wrong:
         print("WRONG:", one)
-    print(f"system_faults.py: {room.count - len(room.wrong)} passed, {len(room.wrong)} failed, {skipped} skipped")
+    print(
+        f"system_faults.py: {room.count - len(room.wrong)} passed, {len(room.wrong)} failed,"
+        f" {skipped} skipped"
+    )
     return 1 if room.wrong else 0
 
 
 def arguments() -> argparse.Namespace:
     parser = argparse.ArgumentParser(
         prog="python3 -m tests.system.system_faults", description=__doc__,
-        formatter_class=argparse.RawDescriptionHelpFormatter)
+        formatter_class=argparse.RawDescriptionHelpFormatter,
+    )
     parser.add_argument("program", help="the built auditor")
-    parser.add_argument("jobs", nargs="?", type=int, default=1,
-                        help="how many jobs the faults of calls are tried over")
+    parser.add_argument(
+        "jobs", nargs="?", type=int, default=1,
+        help="how many jobs the faults of calls are tried over",
+    )
     return parser.parse_args()
 
 

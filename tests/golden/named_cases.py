@@ -1,0 +1,117 @@
+"""The named cases of the crate `case_runner`: the lines of its files, and the parts of its output.
+
+A line of a file is `NAME REST`. The output of a case begins with a line `case NAME`.
+"""
+import pathlib
+import re
+import sys
+import typing
+
+from tests.checks import Checks, run
+from tests.places import CASES
+
+NAME = re.compile("[a-z]+(_[a-z0-9]+)*")
+COMMANDS = ("check", "run", "make", "plans", "trace")
+# The number of words before those of the call, in the files whose cases may ask for a text.
+WORDS_BEFORE = {"cases": 4, "slots": 6}
+# The files of cases, in the order in which the program runs them.
+FILES = ("cases", "slots", "graphs", "faults", "sure", "crowds", "counted", "timed")
+
+
+class Case(typing.NamedTuple):
+    """A name, and a text that belongs to it: the rest of a line, or a part of an output."""
+
+    name: str
+    text: str
+
+
+def lines_of(path: pathlib.Path) -> typing.List[Case]:
+    """Returns the lines of a file of cases; a line without a space has an empty rest."""
+    lines = path.read_text().split("\n")[:-1]
+    return [Case(*line.partition(" ")[::2]) for line in lines]
+
+
+def is_question(words: typing.Sequence[str]) -> bool:
+    """Returns whether the words ask for a text about the program, which no model prints."""
+    if len(words) == 2:
+        return words[0] in COMMANDS and words[1] == "--help"
+    return list(words) in (["--help"], ["--version"])
+
+
+def modeled(file: str) -> typing.List[Case]:
+    """Returns the lines of a file of cases that a plain program can answer."""
+    lines = lines_of(CASES / "data" / file)
+    if file not in WORDS_BEFORE:
+        return lines
+    return [line for line in lines if not is_question(line.text.split()[WORDS_BEFORE[file]:])]
+
+
+def parts_of(output: str) -> typing.List[Case]:
+    """Returns the parts of an output, without the lines of the names.
+
+    A text before the first name is a part with an empty name.
+    """
+    front, *rest = re.split("^case (.*)\n", output, flags=re.M)
+    parts = [Case(name, text) for name, text in zip(rest[::2], rest[1::2])]
+    return [Case("", front), *parts] if front else parts
+
+
+def stdout_parts() -> typing.List[Case]:
+    """Returns the parts that the program must print."""
+    return parts_of((CASES / "stdout").read_text())
+
+
+def repeated(names: typing.Sequence[str]) -> typing.List[str]:
+    """Returns the names that occur more than once."""
+    return sorted({name for name in names if names.count(name) > 1})
+
+
+def check_order(
+    checks: Checks, check: str, came: typing.Sequence[str], expected: typing.Sequence[str]
+) -> None:
+    """Checks that two lists of names are equal; shows five names from where they differ."""
+    pairs = enumerate(zip(came, expected))
+    place = next((at for at, (one, other) in pairs if one != other), min(len(came), len(expected)))
+    checks.is_true(
+        check,
+        came == expected,
+        f"from case {place}: {', '.join(expected[place:place + 5])}",
+        ", ".join(came[place:place + 5]),
+    )
+
+
+def compare(
+    checks: Checks,
+    front: str,
+    came: typing.Sequence[Case],
+    expected: typing.Sequence[Case],
+) -> None:
+    """Checks that two outputs have the same cases in the same order, and the same text for each.
+
+    Each case is one check, named for the case.
+    """
+    names = [case.name for case in expected]
+    check_order(checks, f"{front}/order", [case.name for case in came], names)
+    texts = dict(came)
+    for name, text in expected:
+        if name in texts:
+            checks.is_same_text(f"{front}/{name}", texts[name], text)
+        else:
+            checks.is_true(f"{front}/{name}", False, text, "no such case")
+
+
+def compare_with_model(
+    checks: Checks, model: str, files: typing.Sequence[str], left_out: typing.Sequence[str] = ()
+) -> None:
+    """Checks the parts of `stdout` of these files against what a plain program prints of them.
+
+    It must print each case of the files except those that are left out, and those that ask for a
+    text about the program.
+    """
+    end = run([sys.executable, "-m", f"tests.golden.{model}", CASES / "data"])
+    if not checks.ended(f"{model}/ends", end):
+        return
+    names = {line.name for file in files for line in modeled(file)}
+    names.difference_update(left_out)
+    came = [part for part in stdout_parts() if part.name in names]
+    compare(checks, model, came, parts_of(end.out))
