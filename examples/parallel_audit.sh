@@ -52,7 +52,7 @@ if [ "${1:-}" = walk ]; then
     exit
 fi
 
-# What is not in the job log as ended with 0 is started, as often as it takes while something more is done.
+# Each part that the job log does not show as ended with 0 is started, again and again while something more is done.
 mkdir -p all
 before=-1
 while ! parallel --will-cite "${machines[@]}" --jobs "$together" --timeout "$time" --joblog parts.log --resume-failed \

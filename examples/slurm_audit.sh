@@ -33,7 +33,7 @@ cd "$(dirname "$script")" || exit 1
 folder=$PWD
 mapfile -t folders < <(for ((part = 0; part < parts; part++)); do echo "../part-$part"; done)
 
-# What the jobs write besides their reports is in `log`.
+# The folder `log` has the jobs' other output.
 submit() {
     mkdir -p "$folder/log"
     sbatch --parsable --output="$folder/log/%x-%A-%a.out" "$@"
