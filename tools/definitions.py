@@ -6,9 +6,9 @@ With no word it prints each module of definitions of this repository that the na
 of `audit`, and in the traits of its arguments, come to by imports. `path CRATE.MODULE.NAME` prints
 each definition that a name comes to, `count` how many definitions and lines each clause takes.
 `page` writes the quotes in docs/claims/THE_CLAIM.md and the counts in docs/claims/CLAIMS.md and
-docs/claims/GLOSSARY.md anew, behind their marks.
+docs/claims/DEFINITIONS.md anew, behind their marks.
 
-`check` prints nothing where docs/claims/GLOSSARY.md lists exactly those modules, no crate of
+`check` prints nothing where docs/claims/DEFINITIONS.md lists exactly those modules, no crate of
 code stands below the statement, the plain statement takes at most 130 definitions of 600 lines,
 without the words of the command line, docs/claims/THE_CLAIM.md quotes each definition that it comes
 to, and all quotes and counts are as `page` writes them. Else it prints what is not so, and ends
@@ -93,7 +93,7 @@ def listed() -> typing.Any:
     `crate` Module, Module.
     """
     found: typing.Set[typing.Any] = set()
-    with open(os.path.join(TOP, "docs", "claims", "GLOSSARY.md"), encoding="utf-8") as file:
+    with open(os.path.join(TOP, "docs", "claims", "DEFINITIONS.md"), encoding="utf-8") as file:
         for line in file:
             text = line.rstrip().rstrip("|").split("|")[-1] if line.startswith("|") else line
             for crate, modules in re.findall(r"`(\w+)` ((?:[A-Z]\w*(?:, )?)+)", text):
@@ -176,7 +176,7 @@ def crate_table() -> typing.Iterator[typing.Any]:
 
 QUOTING = [
     os.path.join(TOP, "docs", "claims", name)
-    for name in ("THE_CLAIM.md", "CLAIMS.md", "GLOSSARY.md")
+    for name in ("THE_CLAIM.md", "CLAIMS.md", "DEFINITIONS.md")
 ]
 MARK = re.compile(r"<!-- (quote|counts|crates|contract)(?: (.*?))? -->$")
 TABLES = {"counts": count_table, "crates": crate_table}
@@ -268,12 +268,12 @@ def write_page() -> None:
 
 
 def unlisted() -> typing.Iterator[typing.Any]:
-    """Returns what docs/claims/GLOSSARY.md does not list, or lists in vain."""
+    """Returns what docs/claims/DEFINITIONS.md does not list, or lists in vain."""
     modules, documented = reached(), listed()
     for crate, module in sorted(modules - documented):
-        yield f"docs/claims/GLOSSARY.md does not list {crate} {module}"
+        yield f"docs/claims/DEFINITIONS.md does not list {crate} {module}"
     for crate, module in sorted(m for m in documented if not is_own(*m)):
-        yield f"docs/claims/GLOSSARY.md lists what is not there: {crate} {module}"
+        yield f"docs/claims/DEFINITIONS.md lists what is not there: {crate} {module}"
 
 
 def code_below() -> typing.Iterator[typing.Any]:

@@ -218,7 +218,7 @@ def refuse_another_graph(report: Report, districts: list[District], edges: int, 
 
 
 def numerators(districts: list[District], cut: int) -> dict[str, int]:
-    """Returns the numerator of each score, as docs/claims/GLOSSARY.md defines them."""
+    """Returns the numerator of each score, as docs/claims/DEFINITIONS.md defines them."""
     shares = sorted(
         one.first * BILLION // (one.first + one.second) if one.first + one.second else BILLION // 2
         for one in districts
