@@ -5,11 +5,10 @@ Written from docs/claims/KERNEL.md and docs/user/FORMATS.md; needs Python 3.8 an
 
   recheck.py GRAPH REPORT [--id 0,3,serial | --sample K --seed TEXT] [words of the run]
              [--trace FILE [--segments K --seed TEXT] [--skip-hub yes]] [--checkpoints FOLDER]
-
 GRAPH is the file that the auditor read, for `plans` with the table, or the word `make`. Any word
-of the run is compared with the report. Those for columns are needed if the report has no line
-`columns`, and --size for `make`. With none of --id, --sample, --trace and --checkpoints all is
-recomputed. The status is 0 if all that was asked agrees, 1 if not, and 2 if a file is unreadable.
+of the run is compared. Those for columns are needed if the report has no line `columns`, --size for
+`make`. With none of --id, --sample, --trace and --checkpoints all is recomputed. The status is 0 if
+all that was asked agrees, 1 if not, and 2 if a file is unreadable.
 """
 import csv
 import hashlib
@@ -63,8 +62,7 @@ def rounded_up(name: str, top: int, of: int) -> str:
 
 @lru_cache(maxsize=8)
 def batch(key: bytes, stream: int, number: int) -> List[int]:
-    """The draws of BATCH blocks. A number holds one word of all of them, 64 bits apart, so that
-    a sum or a shift of one word does not reach the next."""
+    """The draws of BATCH blocks. A number holds a word of each, 64 bits apart, so none meet."""
     form, each = f"<{BATCH}Q", (2 ** (64 * BATCH) - 1) // (2 ** 64 - 1)
     mask, blocks = MASK * each, range(number * BATCH, (number + 1) * BATCH)
     counter = int.from_bytes(struct.pack(form, *blocks), "little")
@@ -186,13 +184,11 @@ class Job:
 
     @lru_cache(maxsize=None)
     def hub(self) -> List[int]:
-        walk = Walk(self, self.start)
-        walk.go(1, 0, self.n["hub-steps"], 0)
+        (walk := Walk(self, self.start)).go(1, 0, self.n["hub-steps"], 0)
         return walk.plan
 
     @lru_cache(maxsize=None)
-    def find(self, trajectory: int) -> Tally:
-        """Walks a trajectory; the number -1 stands for the serial test."""
+    def find(self, trajectory: int) -> Tally:  # the number -1 stands for the serial test
         is_end = trajectory >= self.n["walks"]
         walk = Walk(self, self.hub() if is_end else self.start)
         stream, steps = (2 ** 33 + 1, self.place) if trajectory == -1 else self.way(trajectory)
@@ -321,8 +317,7 @@ class Job:
             WRONG.append(f"{path}: no intact checkpoint")
             return
         same(f"{path}: digest of the job", self.digest(), job.hex())
-        outcomes = {row[0]: [*row[1:], *[0] * 9][:14]
-                    for row in struct.iter_unpack(form, data[52:-32])}
+        outcomes = {k: [*row, *[0] * 9][:14] for k, *row in struct.iter_unpack(form, data[52:-32])}
         ids = [number for number in sorted(outcomes) if number < self.n["walks"] + self.n["ends"]]
         same(f"{path}: ids", [*ids, count], [*outcomes, len(ids)])
         numbers = [n for n in self.pick("--sample", "trajectory", ids) if n in outcomes]
@@ -397,8 +392,7 @@ class Walk:
     def values(self) -> List[int]:
         return [self.score(score) for score, _ in self.job.asks]
 
-    def marks(self) -> List[int]:
-        """The asks in whose tail the plan is, and behind all asks its bin."""
+    def marks(self) -> List[int]:  # the asks in whose tail the plan is, and behind them its bin
         job, bin_of = self.job, min(8, max(0, self.score("seats") - self.job.seats + 4))
         tails = [k for k, value in enumerate(self.values()) if job.in_tail(k, value)]
         return [*tails, len(job.asks) + bin_of]
@@ -455,8 +449,7 @@ class Walk:
     def go(self, stream: int, begin: int, end: int, with_first: int) -> Tally:
         """Makes the steps from begin to end - 1, and tallies the plans after each, or all."""
         job, is_open, d, asks = self.job, self.open, self.job.districts, len(self.job.asks)
-        pairs = len(self.plan) * d
-        limit = 2 ** 64 // pairs * pairs
+        limit = 2 ** 64 // (pairs := len(self.plan) * d) * pairs
         tally, moved, since, marks = [0] * (asks + 9), 0, begin - with_first, self.marks()
         for step, draw in enumerate(draws_of(job.key, stream, begin, end), begin):
             if is_open[draw % pairs] and draw < limit and self.makes(*divmod(draw % pairs, d)):
