@@ -253,11 +253,12 @@ class ByHand(ScoreCase):
         self.assertEqual(scores.cut_edges(self.sample()), 6)
 
     def test_after_moves(self) -> None:
-        """Unit 10 goes to district two, and then unit 11 to three. In the first row 3 edges are
-        cut, in
-        the second 11-12 and 12-13, and then 10-11 and 12-13; between the rows 00-10, and then
-        01-11, too.
-        Ash stays in three districts; Birch lies in two, and then in three alone.
+        """The first unit of the second row goes to district two, and then the second to three.
+
+        Three edges are cut in the first row. In the second row two are cut each time: those to the
+        right of the second and the third unit, and then of the first and the third.
+        Between the rows one is cut after the first move, and two after the second. Ash stays in
+        three districts; Birch lies in two, and then in three alone.
 
         Units by rising number are 00, 01, 02, 03, 10, 11, 12, 13; district 2 is three and 3 is two.
         """
