@@ -111,12 +111,14 @@ module _ (root : Data) (a b : Job) (columns : ReadAlike a.setting.columns b.sett
       let people = numbers _ _ a.counts.population b.counts.population columns.population g.population h.population in
       let firsts = numbers _ _ a.counts.first b.counts.first columns.first g.first h.first in
       let seconds = numbers _ _ a.counts.second b.counts.second columns.second g.second h.second in
+      let none : a.counts.lengths ≡ b.counts.lengths = g.no_lengths columns.no_lengths.0 ∙ sym (h.no_lengths columns.no_lengths.1) in
       record {
         units = units;
         edges = edges;
-        counts = ap (λ (xs : List ℕ). record { population = xs; first = a.counts.first; second = a.counts.second }) people
-            ∙ ap (λ (xs : List ℕ). record { population = b.counts.population; first = xs; second = a.counts.second }) firsts
-            ∙ ap (λ (xs : List ℕ). record { population = b.counts.population; first = b.counts.first; second = xs }) seconds;
+        counts = ap (λ (xs : List ℕ). record { population = xs; first = a.counts.first; second = a.counts.second; lengths = a.counts.lengths }) people
+            ∙ ap (λ (xs : List ℕ). record { population = b.counts.population; first = xs; second = a.counts.second; lengths = a.counts.lengths }) firsts
+            ∙ ap (λ (xs : List ℕ). record { population = b.counts.population; first = b.counts.first; second = xs; lengths = a.counts.lengths }) seconds
+            ∙ ap (λ (xs : List ℕ). record { population = b.counts.population; first = b.counts.first; second = b.counts.second; lengths = xs }) none;
         districts = same_bound a.graph.units a.districts b.districts (slice_index a.start) (slice_index b.start) valid.onto second_onto there back;
         start = ext_get_or 0 a.start b.start (omega (arith, valid.complete, other.complete, units))
             (λ u l. at u (omega (arith, l, valid.complete)));

@@ -78,7 +78,7 @@ plain_ends words before after n m status k rest bytes run silent observed fit no
     let plain = subst IsPlain said_so.1 spoken in
     let whole = subst (λ (s : Setting). (s.parts ≡ 1) × (s.part ≡ 0)) said_so.1 (one_part rest said_so.0 spoken.no_saves) in
     let taken = given_jobs_are_taken bytes fit.root fit.job fit.is_text fit.is_json fit.given fit.start fit.allowed
-    (record { no_group = plain.no_group; none_due = plain.none_due; no_frozen = plain.no_frozen; any_cut = plain.any_cut }) in
+    (record { no_group = plain.no_group; none_due = plain.none_due; no_frozen = plain.no_frozen; no_lengths = plain.no_lengths; any_cut = plain.any_cut }) in
     let made = job_from taken.parsed setting [] in
     k.complete (record {
       job = made;

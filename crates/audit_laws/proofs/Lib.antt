@@ -10,6 +10,7 @@ mod Held
 mod Judged
 mod Labels
 mod Lasting
+mod Lengthless
 mod Naming
 mod Numbering
 mod One

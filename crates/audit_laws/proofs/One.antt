@@ -8,7 +8,7 @@ use Rattle.hex.specs.Hex.{encode_lower}
 use Rattle.audit_model.specs.declared.outcome.Counts.{Counts}
 use Rattle.audit_model.specs.declared.setting.Ask.{Ask}
 use Rattle.audit_model.specs.declared.setting.Score.{Score}
-use Rattle.audit_model.specs.declared.setting.Score.TheVariants.{Seats, MeanMedian, Gap, CutEdges}
+use Rattle.audit_model.specs.declared.setting.Score.TheVariants.{Seats, MeanMedian, Gap, CutEdges, CutLength}
 use Rattle.audit_model.specs.declared.setting.Setting.{Setting}
 use Rattle.audit_model.specs.declared.setting.Tail.{Tail}
 use Rattle.audit_model.specs.declared.setting.Tail.TheVariants.{Low, High}
@@ -16,6 +16,8 @@ use Rattle.audit_model.specs.Below.{count_below, map_below}
 use Rattle.audit_model.specs.Graph.{count_edges}
 use Rattle.audit_model.specs.Job.{Job}
 use Rattle.audit_model.specs.District.{district_sum, in_district}
+use Rattle.audit_model.specs.Length.{cut_length}
+use Rattle.audit_model.specs.Plan.{cut_edges}
 use Rattle.audit_model.specs.Score.{denominator, sums_of, value}
 use Rattle.audit_model.specs.Rounded.{quotient_up}
 use Rattle.audit_model.specs.Test.{bound, p_value}
@@ -23,13 +25,14 @@ use Rattle.audit_model.specs.Trajectory.{Draws, in_tail, plan_value}
 use Rattle.audit_statement.specs.Draw.{draw}
 use Rattle.audit_model.proofs.Bools.{same_bool}
 use Rattle.audit_laws.proofs.Determining.{given_jobs_are_of_one_graph, same_lists}
+use Rattle.audit_laws.proofs.Lengthless.{cut_length_none}
 use Rattle.audit_laws.proofs.Sound.{count_edges_same}
 use Rattle.audit_laws.proofs.Taking.{connected_same}
 use Rattle.audit_laws.specs.Determined.{AreOfOneGraph, ReadAlike}
 use Rattle.audit_statement.specs.Valid.{IsValid}
 use Rattle.audit_laws.specs.One.{IsSuch, ReportsAreOne}
 use Rattle.audit_statement.specs.Plain.{each_below, plain_report, plan_after, after_step}
-use Rattle.audit_statement.specs.Said.{AreSaid, IsSpelled}
+use Rattle.audit_statement.specs.Said.{AreSaid, IsSilent, IsSpelled}
 use Rattle.audit_statement.specs.Names.{score_name, tail_name}
 use Rattle.audit_statement.specs.Report.{billionths, fraction, line}
 use Rattle.audit_statement.specs.Words.{ask_of, ask_text}
@@ -51,6 +54,8 @@ spelled_back Gap Low = refl
 spelled_back Gap High = refl
 spelled_back CutEdges Low = refl
 spelled_back CutEdges High = refl
+spelled_back CutLength Low = refl
+spelled_back CutLength High = refl
 
 -- the text of an ask is read back as this ask
 ask_back : (ask : Ask) → unwrap_or (ask_of (ask_text ask)) (record { score = Seats; tail = Low }) ≡ ask
@@ -60,13 +65,14 @@ ask_back ask = spelled_back ask.score ask.tail
 same_key : {E : Type 0} (r : Result (List ℕ) E) (a b : List ℕ) → r ≡ Ok a → r ≡ Ok b → a ≡ b
 same_key r a b p q = cc
 
-module _ (words : List (List ℕ)) (a b : Setting) (s : AreSaid words a) (t : AreSaid words b) where
+module _ (words : List (List ℕ)) (a b : Setting) (s : AreSaid words a) (t : AreSaid words b) (silent : IsSilent words (codes "--length")) where
   same_columns : ReadAlike a.columns b.columns
   same_columns = record {
     population = s.population ∙ sym t.population;
     first = s.first ∙ sym t.first;
     second = s.second ∙ sym t.second;
     district = s.district ∙ sym t.district;
+    no_lengths = (s.length ∙ silent [], t.length ∙ silent []);
   }
 
   same_asks : a.asks ≡ b.asks
@@ -163,7 +169,7 @@ back a b one = record {
 
 module _ (words : List (List ℕ)) (root : Data) (a b : Job) (p q : List ℕ → Bool) (s : IsSuch words root a p) (t : IsSuch words root b q) where
   one : AreOfOneGraph a b
-  one = given_jobs_are_of_one_graph root a b (same_columns words a.setting b.setting s.set t.set) s.given t.given s.start t.start
+  one = given_jobs_are_of_one_graph root a b (same_columns words a.setting b.setting s.set t.set s.no_lengths) s.given t.given s.start t.start
 
   same_slack : a.setting.slack ≡ b.setting.slack
   same_slack = same_number _ a.setting.slack b.setting.slack s.set.slack t.set.slack
@@ -191,12 +197,21 @@ module _ (words : List (List ℕ)) (root : Data) (a b : Job) (p q : List ℕ →
 
   same_score : (plan : List ℕ) (score : Score) → plan_value a plan score ≡ plan_value b plan score
   same_score plan score =
+      let none = s.given.no_lengths (s.set.length ∙ s.no_lengths []) in
       ap (λ (cut : ℕ). value score (record {
         population = map_below a.districts (district_sum a.counts.population plan);
         first = map_below a.districts (district_sum a.counts.first plan);
         second = map_below a.districts (district_sum a.counts.second plan);
         cut = cut;
+        length = cut_length a.graph a.counts.lengths plan;
       })) (count_edges_same a.graph b.graph (λ u v. not (slice_index plan u == slice_index plan v)) one.units one.edges)
+      ∙ ap (λ (length : ℕ). value score (record {
+        population = map_below a.districts (district_sum a.counts.population plan);
+        first = map_below a.districts (district_sum a.counts.first plan);
+        second = map_below a.districts (district_sum a.counts.second plan);
+        cut = cut_edges b.graph plan;
+        length = length;
+      })) (cut_length_none a.graph a.counts.lengths plan none ∙ sym (cut_length_none b.graph a.counts.lengths plan none))
       ∙ ap (λ (counts : Counts). value score (sums_of b.graph counts a.districts plan)) one.counts
       ∙ ap (λ (districts : ℕ). value score (sums_of b.graph b.counts districts plan)) one.districts
 
@@ -219,7 +234,7 @@ module _ (words : List (List ℕ)) (root : Data) (a b : Job) (p q : List ℕ →
       let steps = same_number _ a.setting.steps b.setting.steps s.set.steps t.set.steps in
       let ends = same_number _ a.setting.ends b.setting.ends s.set.ends t.set.ends in
       let hub_steps = same_number _ a.setting.hub_steps b.setting.hub_steps s.set.hub_steps t.set.hub_steps in
-      let asks = same_asks words a.setting b.setting s.set t.set in
+      let asks = same_asks words a.setting b.setting s.set t.set s.no_lengths in
       let scores = same_scores in
       let visits = same_visits in
       let draws : draw a.setting.key ≡ draw b.setting.key = ap draw key in

@@ -29,7 +29,7 @@ use Rattle.audit_laws.specs.Promised.{PromisedCallsAuditPlainly}
 use Rattle.audit_statement.specs.Given.{IsGiven}
 use Rattle.audit_statement.specs.Said.{AreSaid}
 use Rattle.audit_laws.proofs.Saying.{IsPlain, run_words, silent_is_plain, words_say}
-use Rattle.audit_laws.proofs.Read.{no_frozen_read, no_group_read, read_jobs_are_given}
+use Rattle.audit_laws.proofs.Read.{no_frozen_read, no_group_read, no_lengths_read, read_jobs_are_given}
 use Rattle.audit_statement.specs.Valid.{IsValid}
 use Rattle.audit_statement.specs.Plain.{Decides, plain_report}
 use Rattle.audit_laws.proofs.Judged.{IsJudged, judged_is}
@@ -111,6 +111,8 @@ module _ (words : List (List ℕ)) (before after : World) (done : IsDone words b
         none_due = ap (λ (s : Setting). s.group_districts) set ∙ plain.none_due;
         none_frozen = ap (λ (j : Job). j.frozen) (sym judged_so.made)
             ∙ no_frozen_read bytes setting.columns judged_so.parsed plain.no_frozen judged_so.read_so;
+        none_long = ap (λ (j : Job). j.counts.lengths) (sym judged_so.made)
+            ∙ no_lengths_read bytes setting.columns judged_so.parsed plain.no_lengths judged_so.read_so;
       }
 
   asks : AsksPlainly job
@@ -121,6 +123,8 @@ module _ (words : List (List ℕ)) (before after : World) (done : IsDone words b
     any_cut = ap (λ (s : Setting). s.max_cut) set ∙ plain.any_cut;
     no_group = ap (λ (j : Job). j.group.members) (sym judged_so.made)
         ∙ no_group_read bytes setting.columns judged_so.parsed plain.no_group judged_so.read_so;
+    no_lengths = ap (λ (s : Setting). s.columns.length) set ∙ plain.no_lengths;
+    any_length = ap (λ (s : Setting). s.max_length) set ∙ plain.any_length;
     no_origin = ap (λ (j : Job). j.origin) (sym judged_so.made);
     few_asks = (run_asks job.setting.command job.setting (ap (λ (s : Setting). s.command) set ∙ plain.run) done.prepared.sound.within.setting.command).few_asks;
   }

@@ -8,10 +8,10 @@ use Rattle.audit_model.specs.declared.fault.Column.TheVariants as column
 use Rattle.audit_model.specs.declared.fault.GraphFault.{GraphFault}
 use Rattle.audit_model.specs.declared.fault.Part.{Part}
 use Rattle.audit_model.specs.declared.setting.Columns.{Columns}
-use Rattle.audit_model.specs.Below.{map_below}
+use Rattle.audit_model.specs.Below.{join_below, map_below}
 use Rattle.audit_model.specs.JobOf.{job_from}
 use Rattle.audit_model.specs.Parsed.{Parsed}
-use Rattle.audit_statement.specs.Reading.{count_at, node_count, parsed, document, refusal, bad_part, accepted_or, of_root, of_json, reading, flag_at}
+use Rattle.audit_statement.specs.Reading.{count_at, node_count, parsed, document, refusal, bad_part, accepted_or, of_root, of_json, reading, flag_at, lengths_at}
 use Rattle.audit_statement.specs.Given.{IsGiven}
 use Rattle.audit_laws.specs.Taken.{ReadJobsAreGiven}
 use Rattle.audit_laws.proofs.Reading.{given_is}
@@ -70,6 +70,14 @@ no_frozen_read bytes columns p none e =
     let d = document is.root in
     ap (λ (q : Parsed). q.frozen) (sym is.same)
     ∙ ap (λ (key : List ℕ). cond (not (length key == 0)) (map_below (node_count d) (flag_at d columns)) []) none
+
+-- if no column of lengths is named, no lengths are read
+pub no_lengths_read : (bytes : List ℕ) (columns : Columns) (p : Parsed) → columns.length ≡ [] → reading bytes columns ≡ Ok p → p.counts.lengths ≡ []
+no_lengths_read bytes columns p none e =
+    let is = read_is bytes columns p e in
+    let d = document is.root in
+    ap (λ (q : Parsed). q.counts.lengths) (sym is.same)
+    ∙ ap (λ (key : List ℕ). cond (not (length key == 0)) (join_below (node_count d) (lengths_at d columns)) []) none
 
 -- the JSON of the bytes gives whatever is read from them
 pub read_jobs_are_given : ReadJobsAreGiven

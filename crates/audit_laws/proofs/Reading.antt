@@ -18,14 +18,14 @@ use Rattle.audit_model.specs.declared.setting.Columns.{Columns}
 use Rattle.audit_model.specs.declared.setting.Label.{Label}
 use Rattle.audit_model.specs.declared.setting.Label.TheVariants.{Whole, Word}
 use Rattle.audit_model.specs.declared.setting.Setting.{Setting}
-use Rattle.audit_model.specs.Below.{any_below, count_below, map_below}
+use Rattle.audit_model.specs.Below.{any_below, count_below, join_below, map_below}
 use Rattle.audit_model.specs.First.{first_some, first_below, first_some_below}
 use Rattle.audit_model.specs.Graph.{count_edges}
 use Rattle.audit_model.specs.JobOf.{job_from}
 use Rattle.audit_model.specs.Label.{label_before, label_cmp, same_label}
 use Rattle.audit_model.specs.Limits.{most_people, most_units, most_edges, most_districts}
 use Rattle.dual_json.specs.Names.{label_total}
-use Rattle.audit_statement.specs.Reading.{refused_if, is_no_flag, graph, label_count, missing_column, names_frozen, names_group, flag_of, repeated_id, first_entry, Document, document, parsed, refusal, bad_part, bad_number, elements, list_of, list_at, node, node_count, entries, entry, id_of, label_of, same_id, key_of, cell, count_of, count_at, label_at, is_new_label, district_at}
+use Rattle.audit_statement.specs.Reading.{refused_if, is_no_flag, graph, label_count, missing_column, names_frozen, names_group, flag_of, repeated_id, first_entry, Document, document, parsed, refusal, bad_part, bad_number, elements, list_of, list_at, node, node_count, entries, entry, id_of, label_of, same_id, key_of, cell, count_of, count_at, label_at, length_fault, lengths_at, is_new_label, district_at}
 use Rattle.audit_model.proofs.Below.{length-map_below, get_or-map_below, any_below_some, any_below_from}
 use Rattle.audit_model.proofs.Connected.{grows}
 use Rattle.audit_model.proofs.First.{first_below_none, first_some_below_none}
@@ -232,6 +232,7 @@ module _ (setting : Setting) (root : Data) (shape : bad_part root ≡ None) (sou
       ∷ first_some_below (node_count d) (bad_number d columns)
       ∷ option_map fault.BadLabel (first_below (node_count d) (λ i. is_none (option_and_then label_of (cell d columns i column.District))))
       ∷ refused_if (nat_lt (label_count d columns) 2 || nat_lt most_districts (label_count d columns)) (fault.DistrictCount (label_count d columns))
+      ∷ length_fault d columns
       ∷ []
 
   abbrev bad_numbers : ℕ → List (Option Column)
@@ -339,6 +340,7 @@ module _ (setting : Setting) (root : Data) (shape : bad_part root ≡ None) (sou
     population = counted column.Population (λ i l. cond_some_none (is_none (option_and_then (count_of d columns) (cell d columns i column.Population))) column.Population (numbers i l 0));
     first = counted column.First (λ i l. cond_some_none (is_none (option_and_then (count_of d columns) (cell d columns i column.First))) column.First (numbers i l 1));
     second = counted column.Second (λ i l. cond_some_none (is_none (option_and_then (count_of d columns) (cell d columns i column.Second))) column.Second (numbers i l 2));
+    no_lengths = ap (λ (key : List ℕ). cond (not (length key == 0)) (join_below (node_count d) (lengths_at d columns)) []);
     labels = map_below (node_count d) (label_at d columns);
     labels_are = by_place d.nodes (label_under columns.district) Some (label_at d columns) null label_there;
     order = λ u v l m.

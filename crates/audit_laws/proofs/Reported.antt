@@ -14,7 +14,8 @@ use Rattle.audit_model.specs.declared.setting.Ask.{Ask}
 use Rattle.audit_model.specs.Below.{count_below, map_below}
 use Rattle.audit_model.specs.Graph.{count_edges}
 use Rattle.audit_model.specs.Job.{Job}
-use Rattle.audit_model.specs.Limits.{most_edges}
+use Rattle.audit_model.specs.Length.{cut_length}
+use Rattle.audit_model.specs.Limits.{most_edges, most_length}
 use Rattle.audit_model.specs.Meets.{majorities}
 use Rattle.audit_model.specs.Plan.{IsLegal, is_legal}
 use Rattle.audit_model.specs.Proposal.{proposal, counted_draws}
@@ -27,17 +28,19 @@ use Rattle.audit_model.proofs.Below.{count_below_same}
 use Rattle.audit_model.proofs.Bools.{same_bool}
 use Rattle.audit_model.proofs.Legal.{legal_passes, passes_legal}
 use Rattle.audit_model.proofs.Meeting.{default_meets}
-use Rattle.audit_statement.specs.Report.{ask_words, billionths, ends_line, ends_lines, frozen_line, graph_line, group_line, line, origin_lines, population_line, report, rule_lines, serial_lines, setting_line, share_line, shift_line, split_line, splits_line, stop_line, test_lines, thread_report, title_line, walk_line, walk_lines}
+use Rattle.audit_laws.proofs.Lengthless.{cut_length_none}
+use Rattle.audit_statement.specs.Report.{ask_words, billionths, cut_length_line, ends_line, ends_lines, frozen_line, graph_line, group_line, length_line, length_lines, line, origin_lines, population_line, report, rule_lines, serial_lines, setting_line, share_line, shift_line, split_line, splits_line, stop_line, test_lines, thread_report, title_line, walk_line, walk_lines}
 use Rattle.audit_statement.specs.Valid.{IsValid}
 use Rattle.audit_statement.specs.Plain.{Decides, after_step, plan_after, each_below, is_extreme, end, start_rank, outlier_line, parallel_line, plain_report}
 
--- a job without rules beyond legality: all edges may be cut, there are no regions, no majorities are required, and no
--- unit is frozen
+-- a job without rules beyond legality: all edges may be cut, there are no regions, no majorities are required, no unit
+-- is frozen, and edges have no lengths
 pub record HasNoRules (job : Job) : Type 0 where
   pub enough : count_edges job.graph (λ u v. true) ≤ job.setting.max_cut
   pub none : job.regions ≡ []
   pub none_due : job.setting.group_districts ≡ 0
   pub none_frozen : job.frozen ≡ []
+  pub none_long : job.counts.lengths ≡ []
 
 -- ---- valid plans are legal
 
@@ -53,6 +56,7 @@ valid_is_legal job plan free h = record {
   connected = h.connected;
   balanced = h.balanced;
   meeting = default_meets job plan free.enough free.none free.none_due free.none_frozen;
+  short = let none = cut_length_none job.graph job.counts.lengths plan free.none_long in omega (arith, none);
 }
 
 -- ---- the same plans are visited
@@ -209,6 +213,8 @@ pub record AsksPlainly (job : Job) : Type 0 where
   pub no_shift : job.setting.shift ≡ false
   pub any_cut : job.setting.max_cut ≡ most_edges
   pub no_group : job.group.members ≡ []
+  pub no_lengths : job.setting.columns.length ≡ []
+  pub any_length : job.setting.max_length ≡ most_length
   pub no_origin : job.origin ≡ None
   pub few_asks : length job.setting.asks ≤ 4
 
@@ -334,10 +340,12 @@ module _ (job : Job) (free : HasNoRules job) (plain : AsksPlainly job) (valid : 
   rule_lines_are : rule_lines job ≡ []
   rule_lines_are =
       ap (λ (most : ℕ). cond (nat_lt most most_edges) (line (codes "max-cut" ∷ decimal most ∷ [])) []
-      ++ region_line job.regions ++ all_line job.regions ++ majority_line job.group.members ++ part_line job.group.members ++ frozen_line job.frozen) plain.any_cut
-      ∙ ap (λ (regions : List ℕ). region_line regions ++ all_line regions ++ majority_line job.group.members ++ part_line job.group.members ++ frozen_line job.frozen) free.none
-      ∙ ap (λ (members : List ℕ). majority_line members ++ part_line members ++ frozen_line job.frozen) plain.no_group
-      ∙ ap frozen_line free.none_frozen
+      ++ region_line job.regions ++ all_line job.regions ++ majority_line job.group.members ++ part_line job.group.members ++ frozen_line job.frozen ++ length_lines job) plain.any_cut
+      ∙ ap (λ (regions : List ℕ). region_line regions ++ all_line regions ++ majority_line job.group.members ++ part_line job.group.members ++ frozen_line job.frozen ++ length_lines job) free.none
+      ∙ ap (λ (members : List ℕ). majority_line members ++ part_line members ++ frozen_line job.frozen ++ length_lines job) plain.no_group
+      ∙ ap (λ (frozen : List ℕ). frozen_line frozen ++ length_lines job) free.none_frozen
+      ∙ ap (λ (column : List ℕ). cut_length_line (cut_length job.graph job.counts.lengths job.start) column ++ length_line job.setting.max_length) plain.no_lengths
+      ∙ ap (λ (most : ℕ). length_line most) plain.any_length
     where
       region_line : List ℕ → List ℕ
       region_line regions = split_line job.setting.max_split regions

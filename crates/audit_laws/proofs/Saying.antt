@@ -8,14 +8,14 @@ use Rattle.std.proofs.lemmas.Bool.{and_parts, eqb-true, leb-true, ltb-true, or_c
 use Rattle.std.proofs.lemmas.Slice.Eq.{bytes_eq-Decides}
 use Rattle.hex.specs.Hex.{decode_sized}
 use Rattle.audit_model.specs.declared.fault.Name.{Name}
-use Rattle.audit_model.specs.declared.fault.Name.TheVariants.{Pop, First, Second, District, Slack, Key, Walks, Steps, Ends, HubSteps, Ask, Save, Resume, MaxCut, Shift, Stop, Serial, Region, Parts, Part, Group, GroupDistricts, Source, Freeze}
+use Rattle.audit_model.specs.declared.fault.Name.TheVariants.{Pop, First, Second, District, Slack, Key, Walks, Steps, Ends, HubSteps, Ask, Save, Resume, MaxCut, Shift, Stop, Serial, Region, Parts, Part, Group, GroupDistricts, Source, Freeze, Length, MaxLength}
 use Rattle.audit_model.specs.declared.fault.WordFault.{WordFault}
 use Rattle.audit_model.specs.declared.setting.Ask.{Ask as AskOf}
 use Rattle.audit_model.specs.declared.setting.Command.TheVariants.{Run}
 use Rattle.audit_model.specs.declared.setting.Setting.{Setting}
-use Rattle.audit_model.specs.Limits.{most_edges}
+use Rattle.audit_model.specs.Limits.{most_edges, most_length}
 use Rattle.audit_model.specs.Names.{name_text}
-use Rattle.audit_statement.specs.Words.{NameAndValue, all_asks, as_run, ask_of, ask_text, asks_of, default_of, digits_value, fault_of, has_majority_group, is_empty, is_number, number_named, number_of, pairs, parts_between, saves_parts, setting_of, setting_or, text_of, with_ask}
+use Rattle.audit_statement.specs.Words.{NameAndValue, all_asks, as_run, ask_of, ask_text, asks_of, default_of, digits_value, fault_of, has_length, has_majority_group, is_empty, is_number, number_named, number_of, pairs, parts_between, saves_parts, setting_of, setting_or, text_of, with_ask}
 use Rattle.audit_laws.proofs.Words.{good}
 use Rattle.audit_statement.specs.Said.{ArePlain, AreSaid, IsSilent, IsSpelled, said}
 
@@ -119,6 +119,8 @@ pub record IsPlain (setting : Setting) : Type 0 where
   pub no_group : setting.columns.group ≡ []
   pub none_due : setting.group_districts ≡ 0
   pub no_frozen : setting.columns.frozen ≡ []
+  pub no_lengths : setting.columns.length ≡ []
+  pub any_length : setting.max_length ≡ most_length
   pub untold : setting.source ≡ false
 
 -- ---- the whole setting
@@ -141,6 +143,7 @@ module _ (rest : List (List ℕ)) (faultless : fault_of Run (pairs rest) ≡ Non
     first = text First;
     second = text Second;
     district = text District;
+    length = text Length;
     slack = number Slack 0 10000 (omega arith) (good Run words 4 Slack faultless refl);
     key = ap (λ (t : List ℕ). decode_sized t 32) (sym (text Key)) ∙ ok_back (decode_sized (text_of Run words Key) 32) (good Run words 5 Key faultless refl);
     walks = number Walks 0 100000 (omega arith) (good Run words 6 Walks faultless refl);
@@ -149,7 +152,7 @@ module _ (rest : List (List ℕ)) (faultless : fault_of Run (pairs rest) ≡ Non
     hub_steps = number HubSteps 1 (10 ^ 9) (omega arith) (good Run words 9 HubSteps faultless refl);
     asks = asks_spelled (parts_between 44 (text_of Run words Ask))
         (and_parts (is_some (asks_of (parts_between 44 (text_of Run words Ask)))) _
-        (and_parts _ _ (good Run words 10 Ask faultless refl)).0).0
+        (and_parts _ _ (and_parts _ _ (good Run words 10 Ask faultless refl)).0).0).0
         ∙ ap (parts_between 44) (text Ask);
   }
 
@@ -182,6 +185,17 @@ none_due rest faultless none =
       | inr e ↦ let there : false ≡ true = sym (ap (λ (t : List ℕ). not (length t == 0)) none) ∙ e in cc
     ]
 
+-- if no column of lengths is named, the length of the cut edges is not limited
+any_length : (rest : List (List ℕ)) → fault_of Run (pairs rest) ≡ None → text_of Run (pairs rest) Length ≡ [] → number_named Run (pairs rest) MaxLength ≡ most_length
+any_length rest faultless none =
+    let words = pairs rest in
+    let most = number_named Run words MaxLength in
+    let named = (and_parts (is_number 0 most_length (text_of Run words MaxLength)) (has_length Run words) (good Run words 32 MaxLength faultless refl)).1 in
+    elim (or_cases (most == most_length) (not (is_empty Run words Length)) named) [
+      | inl e ↦ eqb-true most most_length e
+      | inr e ↦ let there : false ≡ true = sym (ap (λ (t : List ℕ). not (length t == 0)) none) ∙ e in cc
+    ]
+
 -- accepted arguments without optional features give a plain setting
 pub silent_is_plain : (rest : List (List ℕ)) → fault_of Run (pairs rest) ≡ None → ArePlain rest → IsPlain (as_run Run (pairs rest))
 unfolding digits
@@ -197,5 +211,7 @@ silent_is_plain rest faultless h = record {
   no_group = silent_text rest Group (h 7 [] (omega arith));
   none_due = none_due rest faultless (silent_text rest Group (h 7 [] (omega arith)));
   no_frozen = silent_text rest Freeze (h 9 [] (omega arith));
+  no_lengths = silent_text rest Length (h 10 [] (omega arith));
+  any_length = any_length rest faultless (silent_text rest Length (h 10 [] (omega arith)));
   untold = ap (λ (t : List ℕ). bytes_eq t (codes "yes")) (silent_text rest Source (h 8 [] (omega arith)));
 }

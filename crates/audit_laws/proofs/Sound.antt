@@ -3,7 +3,7 @@ use Rattle.std.proofs.Common.{◌≡◌, ◌≢◌, ◌⊎◌, ℕ, ◌<◌, ◌
 use Rattle.std.specs.Prelude.{◌==◌, codes, is_some, is_none, unwrap_or, option_map, option_and_then, slice_index}
 use Rattle.std.specs.List.{All, slice_index_or, list_all}
 use Rattle.std.specs.Str.{is_utf8}
-use Rattle.std.proofs.lemmas.Bool.{and_from, eq-eqb, false_from_ne_true, le-leb, le-ltb, not_from_true, or_from}
+use Rattle.std.proofs.lemmas.Bool.{and_from, cond-false, eq-eqb, false_from_ne_true, le-leb, le-ltb, not_from_true, or_from}
 use Rattle.std.proofs.lemmas.List.{get_or-map, length-map}
 use Rattle.serde_json.specs.Data.{Data, null, boolean, number, string, array, object}
 use Rattle.serde_json.specs.Find.{get, as_bool, as_object}
@@ -21,7 +21,7 @@ use Rattle.audit_model.specs.Job.{Job}
 use Rattle.audit_model.specs.Label.{label_before}
 use Rattle.audit_model.specs.Limits.{most_people, most_units, most_edges, most_districts}
 use Rattle.dual_json.proofs.Shapes.{not_refused, parts_good}
-use Rattle.audit_statement.specs.Reading.{accepted_or, bad_number, bad_part, cell, count_of, Document, district_at, document, entries, entry, first_entry, graph, id_of, key_of, label_at, label_count, label_of, list_at, list_of, missing_column, names_frozen, names_group, node, node_count, of_json, of_root, parsed, reading, refusal, repeated_id, same_id}
+use Rattle.audit_statement.specs.Reading.{accepted_or, bad_number, bad_part, cell, count_of, Document, district_at, document, entries, entry, first_entry, graph, id_of, key_of, label_at, label_count, label_of, length_fault, list_at, list_of, missing_column, names_frozen, names_group, names_length, node, node_count, of_json, of_root, parsed, reading, refusal, repeated_id, same_id}
 use Rattle.audit_model.proofs.Below.{any_below_from, any_below_none, count_below_same}
 use Rattle.audit_model.proofs.Bools.{same_bool}
 use Rattle.audit_model.proofs.First.{none_first_below, none_some_below}
@@ -99,7 +99,7 @@ there f None x e = cc
 there f (Some a) x e = refl
 
 module _ (root : Data) (job : Job) (g : IsGiven root job) (fit : IsAllowed root job) (valid : IsValid job job.start) (no_group : job.setting.columns.group ≡ [])
-    (no_frozen : job.setting.columns.frozen ≡ []) where
+    (no_frozen : job.setting.columns.frozen ≡ []) (no_lengths : job.setting.columns.length ≡ []) where
   abbrev columns : Columns
   columns = job.setting.columns
 
@@ -185,6 +185,9 @@ module _ (root : Data) (job : Job) (g : IsGiven root job) (fit : IsAllowed root 
   unfrozen : (refused : Bool) → (names_frozen d columns && refused) ≡ false
   unfrozen refused = ap (λ (key : List ℕ). not (length key == 0) && refused) no_frozen
 
+  unlong : length_fault d columns ≡ None
+  unlong = cond-false {A = Option GraphFault} (names_length d columns) _ None (ap (λ (key : List ℕ). not (length key == 0)) no_lengths)
+
   cell_at : (c : Column) (numbers : List ℕ) → map (get (key_of d columns c)) g.nodes ≡ map count numbers
       → (i : ℕ) → i < node_count d → cell d columns i c ≡ count (slice_index numbers i)
   cell_at c numbers e i l = at_place (get (key_of d columns c)) count d.nodes numbers null 0 (ap (map (get (key_of d columns c))) nodes_same ∙ e) i l
@@ -259,7 +262,8 @@ module _ (root : Data) (job : Job) (g : IsGiven root job) (fit : IsAllowed root 
       (or_of_none _ _ (map_none _ _ (none_first_below (node_count d) _ (λ i l. ap is_none (label_there i l))))
       (or_of_none _ _ (not_refused _ _ (or_from _ _ (le-ltb (label_count d columns) 2 (omega (arith, districts_same, fit.two)))
       (le-ltb most_districts (label_count d columns) (omega (arith, districts_same, fit.districts)))))
-      refl)))))))))))
+      (or_of_none _ _ unlong
+      refl))))))))))))
 
   pub read_so : (bytes : List ℕ) → is_utf8 bytes ≡ true → read bytes ≡ Some root → reading bytes columns ≡ Ok (parsed d columns)
   unfolding reading

@@ -15,6 +15,7 @@ use Rattle.audit_model.proofs.Accepted.{legal_is_accepted}
 use Rattle.audit_model.proofs.Below.{get_or-map_below, length-map_below}
 use Rattle.audit_model.proofs.Meeting.{default_meets}
 use Rattle.audit_laws.proofs.Determining.{IsNumbered, one_graph, valid_is_numbered}
+use Rattle.audit_laws.proofs.Lengthless.{cut_length_none}
 use Rattle.audit_laws.proofs.Labels.{districts_onto}
 use Rattle.audit_laws.proofs.Reading.{given_is}
 use Rattle.audit_laws.proofs.Sound.{edges_same, read_so, shape, sound}
@@ -78,8 +79,8 @@ module _ (root : Data) (job : Job) (g : IsGiven root job) (fit : IsAllowed root 
       }
 
   pub same : AreOfOneGraph made job
-  same = one_graph root made job (record { population = refl; first = refl; second = refl; district = refl })
-      (given_is job.setting root (shape root job g fit valid free.no_group free.no_frozen) (sound root job g fit valid free.no_group free.no_frozen)) g numbered (valid_is_numbered job valid)
+  same = one_graph root made job (record { population = refl; first = refl; second = refl; district = refl; no_lengths = (free.no_lengths, free.no_lengths) })
+      (given_is job.setting root (shape root job g fit valid free.no_group free.no_frozen free.no_lengths) (sound root job g fit valid free.no_group free.no_frozen free.no_lengths)) g numbered (valid_is_numbered job valid)
 
   -- the job with the parsed graph
   abbrev with : Counts → List ℕ → ℕ → Job
@@ -111,8 +112,9 @@ module _ (root : Data) (job : Job) (g : IsGiven root job) (fit : IsAllowed root 
             (λ u v p q. sym (same.edges u v (omega (arith, p, units)) (omega (arith, q, units)))) (valid.connected k l);
         balanced = valid.balanced;
         meeting = default_meets (with job.counts job.start job.districts) job.start
-            (omega (arith, free.any_cut, edges_same root job g fit valid free.no_group free.no_frozen, fit.edges)) refl free.none_due
+            (omega (arith, free.any_cut, edges_same root job g fit valid free.no_group free.no_frozen free.no_lengths, fit.edges)) refl free.none_due
             (ap (λ (key : List ℕ). cond (not (length key == 0)) (map_below (node_count d) (flag_at d job.setting.columns)) []) free.no_frozen);
+        short = let none = cut_length_none (graph d) job.counts.lengths job.start (g.no_lengths free.no_lengths) in omega (arith, none);
       }
 
   pub accepted : job_of (parsed d job.setting.columns) job.setting [] ≡ Ok made
@@ -124,7 +126,7 @@ module _ (root : Data) (job : Job) (g : IsGiven root job) (fit : IsAllowed root 
 pub given_jobs_are_taken : GivenJobsAreTaken
 given_jobs_are_taken bytes root job text json g valid fit free = record {
   parsed = parsed (document root) job.setting.columns;
-  read_so = read_so root job g fit valid free.no_group free.no_frozen bytes text json;
+  read_so = read_so root job g fit valid free.no_group free.no_frozen free.no_lengths bytes text json;
   accepted = accepted root job g fit valid free;
   same = same root job g fit valid free;
 }

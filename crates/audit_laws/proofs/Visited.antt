@@ -127,6 +127,7 @@ legal_from job origin plan h = record {
   connected = h.connected;
   balanced = h.balanced;
   meeting = h.meeting;
+  short = h.short;
 }
 
 -- the start plan of an accepted job with regions is legal

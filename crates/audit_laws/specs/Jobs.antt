@@ -16,7 +16,7 @@ use Rattle.audit_model.specs.Trajectory.{no_bins}
 abbrev pub run_of : ℕ → ℕ → ℕ → ℕ → ℕ → List Ask → Setting
 run_of slack walks steps ends hub_steps asks = record {
   command = Run;
-  columns = record { population = []; first = []; second = []; district = []; group = []; whole = []; frozen = [] };
+  columns = record { population = []; first = []; second = []; district = []; group = []; whole = []; frozen = []; length = [] };
   slack = slack;
   key = replicate 32 0;
   walks = walks;
@@ -45,6 +45,7 @@ run_of slack walks steps ends hub_steps asks = record {
   first_id = 0;
   last_id = 0;
   thin = 1;
+  max_length = 1717986918000000;
 }
 
 -- no group
@@ -84,7 +85,7 @@ path_of_three = record { units = 3; neighbours = (1 ∷ []) ∷ (0 ∷ 2 ∷ [])
 
 -- one person in each unit
 abbrev pub counts_of_votes : List ℕ → List ℕ → ℕ → Counts
-counts_of_votes first second units = record { population = replicate units 1; first = first; second = second }
+counts_of_votes first second units = record { population = replicate units 1; first = first; second = second; lengths = [] }
 
 -- the job of a graph of four units with two districts
 abbrev pub job_of_four : Graph → Setting → Job
@@ -108,6 +109,13 @@ limited_job max_splits max_split_regions group_districts = record (job_of_four p
   max_split_regions = max_split_regions;
   group_districts = group_districts;
 })) { regions = 0 ∷ 1 ∷ 1 ∷ 0 ∷ []; group = group_of_four }
+
+-- the job of four units in a row, with edges of the lengths 9, 7 and 5, under this limit on the length of cut edges
+abbrev pub job_of_lengths : ℕ → List Ask → Job
+job_of_lengths max_length asks = record (job_of_four path_of_four (record (run_of 5000 1 8 0 1000 asks) {
+  columns = record { population = []; first = []; second = []; district = []; group = []; whole = []; frozen = []; length = 108 ∷ [] };
+  max_length = max_length;
+})) { counts = record (counts_of_votes (3 ∷ 1 ∷ 1 ∷ 2 ∷ []) (1 ∷ 2 ∷ 2 ∷ 1 ∷ []) 4) { lengths = 9 ∷ 9 ∷ 7 ∷ 7 ∷ 5 ∷ 5 ∷ [] } }
 
 -- the first draws of stream 0 under the all-zero key
 abbrev pub first_draws : List ℕ

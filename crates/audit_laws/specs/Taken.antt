@@ -23,11 +23,13 @@ pub record AreTaken (bytes : List ℕ) (job : Job) : Type 0 where
   pub accepted : job_of parsed job.setting [] ≡ Ok (job_from parsed job.setting [])
   pub same : AreOfOneGraph (job_from parsed job.setting []) job
 
--- no group and no frozen units are named, no majorities are required, and the limit on cut edges is the largest
+-- no group, no frozen units and no lengths are named, no majorities are required, and the limit on cut edges is the
+-- largest
 pub record LimitsNothing (setting : Setting) : Type 0 where
   pub no_group : setting.columns.group ≡ []
   pub none_due : setting.group_districts ≡ 0
   pub no_frozen : setting.columns.frozen ≡ []
+  pub no_lengths : setting.columns.length ≡ []
   pub any_cut : setting.max_cut ≡ most_edges
 
 -- the law that bytes of a job with a valid start plan within the limits are accepted, if no regions are read and the

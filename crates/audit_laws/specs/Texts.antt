@@ -9,11 +9,19 @@ use Rattle.audit_model.specs.Parsed.{Parsed}
 
 -- the columns of these texts
 abbrev pub columns : Columns
-columns = record { population = codes "pop"; first = codes "a"; second = codes "b"; district = codes "d"; group = []; whole = []; frozen = [] }
+columns = record { population = codes "pop"; first = codes "a"; second = codes "b"; district = codes "d"; group = []; whole = []; frozen = []; length = [] }
 
 -- four units in a row, with numbers as ids and labels
 abbrev pub path_text : List ℕ
 path_text = codes "{\"directed\":false,\"multigraph\":false,\"graph\":[],\"nodes\":[{\"pop\":1,\"a\":3,\"b\":1,\"d\":1,\"id\":0},{\"pop\":1,\"a\":1,\"b\":2,\"d\":1,\"id\":1},{\"pop\":1,\"a\":1,\"b\":2,\"d\":2,\"id\":2},{\"pop\":1,\"a\":2,\"b\":1,\"d\":2,\"id\":3}],\"adjacency\":[[{\"id\":1}],[{\"id\":0},{\"id\":2}],[{\"id\":1},{\"id\":3}],[{\"id\":2}]]}"
+
+-- the path of four units, with lengths of its edges
+abbrev pub length_text : List ℕ
+length_text = codes "{\"directed\":false,\"multigraph\":false,\"graph\":[],\"nodes\":[{\"pop\":1,\"a\":3,\"b\":1,\"d\":1,\"id\":0},{\"pop\":1,\"a\":1,\"b\":2,\"d\":1,\"id\":1},{\"pop\":1,\"a\":1,\"b\":2,\"d\":2,\"id\":2},{\"pop\":1,\"a\":2,\"b\":1,\"d\":2,\"id\":3}],\"adjacency\":[[{\"l\":9,\"id\":1}],[{\"l\":9,\"id\":0},{\"l\":7,\"id\":2}],[{\"l\":7,\"id\":1},{\"l\":5,\"id\":3}],[{\"l\":5,\"id\":2}]]}"
+
+-- the path of four units, with an edge whose lengths differ
+abbrev pub unequal_text : List ℕ
+unequal_text = codes "{\"directed\":false,\"multigraph\":false,\"graph\":[],\"nodes\":[{\"pop\":1,\"a\":3,\"b\":1,\"d\":1,\"id\":0},{\"pop\":1,\"a\":1,\"b\":2,\"d\":1,\"id\":1},{\"pop\":1,\"a\":1,\"b\":2,\"d\":2,\"id\":2},{\"pop\":1,\"a\":2,\"b\":1,\"d\":2,\"id\":3}],\"adjacency\":[[{\"l\":9,\"id\":1}],[{\"l\":9,\"id\":0},{\"l\":7,\"id\":2}],[{\"l\":6,\"id\":1},{\"l\":5,\"id\":3}],[{\"l\":5,\"id\":2}]]}"
 
 -- the path of four units, and a table with one plan
 abbrev pub path_and_plans : List ℕ

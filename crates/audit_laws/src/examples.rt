@@ -3,6 +3,7 @@
 pub mod formats;
 pub mod frozen;
 pub mod further;
+pub mod lengths;
 pub mod limits;
 pub mod model;
 pub mod origins;

@@ -8,9 +8,10 @@ use Rattle.std.proofs.lemmas.Nat.{mul-le, div-add-mod', le-div}
 use Rattle.audit_model.specs.Below.{above_all}
 use Rattle.audit_model.specs.First.{first_some, first_below}
 use Rattle.audit_model.specs.Job.{Job, total_population}
-use Rattle.audit_model.specs.JobOf.{has_no_votes, is_unbalanced, is_parted, cuts_too_many, is_oversplit, votes_fault, bounds_fault, path_fault, cut_fault, split_fault, splits_fault, split_regions_fault, group_fault, out_of_bounds, disconnected, oversplit, plan_fault}
+use Rattle.audit_model.specs.JobOf.{has_no_votes, is_unbalanced, is_parted, cuts_too_many, is_oversplit, votes_fault, bounds_fault, path_fault, cut_fault, split_fault, splits_fault, split_regions_fault, group_fault, length_fault, out_of_bounds, disconnected, oversplit, plan_fault}
 use Rattle.audit_model.specs.declared.fault.PlanFault.{PlanFault}
-use Rattle.audit_model.specs.declared.fault.PlanFault.TheVariants.{NoVotes, TooManyCut, TooManySplits, TooManySplitRegions, TooFewMajorities}
+use Rattle.audit_model.specs.declared.fault.PlanFault.TheVariants.{NoVotes, TooManyCut, TooManySplits, TooManySplitRegions, TooFewMajorities, TooLong}
+use Rattle.audit_model.specs.Length.{cut_length}
 use Rattle.audit_model.specs.Meets.{majorities, split_of, split_regions, splits_in_all}
 use Rattle.audit_model.specs.Path.{is_connected}
 use Rattle.audit_model.specs.District.{in_district, district_sum}
@@ -58,8 +59,11 @@ balanced_between job population above =
 -- ---- accepted start plans
 
 -- the faults from the group on
+after_split_regions : Job → List (Option PlanFault)
+after_split_regions job = group_fault job ∷ length_fault job ∷ []
+
 after_splits : Job → List (Option PlanFault)
-after_splits job = split_regions_fault job ∷ group_fault job ∷ []
+after_splits job = split_regions_fault job ∷ after_split_regions job
 
 after_regions : Job → List (Option PlanFault)
 after_regions job = splits_fault job ∷ after_splits job
@@ -70,8 +74,8 @@ after_cut job = split_fault job ∷ after_regions job
 -- a job without a fault passes each test
 no_fault_parts : (job : Job) → plan_fault job ≡ None
     → (votes_fault job ≡ None) × (bounds_fault job ≡ None) × (path_fault job ≡ None) × (cut_fault job ≡ None) × (split_fault job ≡ None)
-    × (splits_fault job ≡ None) × (split_regions_fault job ≡ None) × (group_fault job ≡ None)
-unfolding after_cut after_regions after_splits
+    × (splits_fault job ≡ None) × (split_regions_fault job ≡ None) × (group_fault job ≡ None) × (length_fault job ≡ None)
+unfolding after_cut after_regions after_splits after_split_regions
 no_fault_parts job h =
     let first = option_or_none (votes_fault job) (first_some (bounds_fault job ∷ path_fault job ∷ cut_fault job ∷ after_cut job)) h in
     let second = option_or_none (bounds_fault job) (first_some (path_fault job ∷ cut_fault job ∷ after_cut job)) first.1 in
@@ -79,9 +83,10 @@ no_fault_parts job h =
     let fourth = option_or_none (cut_fault job) (first_some (after_cut job)) third.1 in
     let fifth = option_or_none (split_fault job) (first_some (after_regions job)) fourth.1 in
     let sixth = option_or_none (splits_fault job) (first_some (after_splits job)) fifth.1 in
-    let seventh = option_or_none (split_regions_fault job) (first_some (group_fault job ∷ [])) sixth.1 in
-    let eighth = option_or_none (group_fault job) (first_some []) seventh.1 in
-    (first.0, second.0, third.0, fourth.0, fifth.0, sixth.0, seventh.0, eighth.0)
+    let seventh = option_or_none (split_regions_fault job) (first_some (after_split_regions job)) sixth.1 in
+    let eighth = option_or_none (group_fault job) (first_some (length_fault job ∷ [])) seventh.1 in
+    let ninth = option_or_none (length_fault job) (first_some []) eighth.1 in
+    (first.0, second.0, third.0, fourth.0, fifth.0, sixth.0, seventh.0, eighth.0, ninth.0)
 
 -- without a fault, there are votes if needed, and the start plan is legal
 pub accepted_is_legal : (job : Job) → length job.start ≡ job.graph.units
@@ -117,12 +122,15 @@ accepted_is_legal job complete in_range h =
               (TooFewMajorities (majorities job.setting.group_share job.group job.start) job.setting.group_districts job.setting.group_share) parts.7);
           keeps = own_keeps job.frozen job.start;
         };
+        short = ltb-false job.setting.max_length (cut_length job.graph job.counts.lengths job.start)
+            (cond_some_none (nat_lt job.setting.max_length (cut_length job.graph job.counts.lengths job.start))
+            (TooLong (cut_length job.graph job.counts.lengths job.start) job.setting.max_length) parts.8);
       },
     )
 
 -- with votes if needed and a legal start plan, there is no fault
 pub legal_is_accepted : (job : Job) → has_no_votes job ≡ false → IsLegal job job.start → plan_fault job ≡ None
-unfolding after_cut after_regions after_splits
+unfolding after_cut after_regions after_splits after_split_regions
 legal_is_accepted job votes legal =
     ap (λ o. option_or o (first_some (bounds_fault job ∷ path_fault job ∷ cut_fault job ∷ after_cut job)))
     (cond-false (has_no_votes job) (Some NoVotes) None votes)
@@ -142,11 +150,15 @@ legal_is_accepted job votes legal =
     (cond-false (nat_lt job.setting.max_splits (splits_in_all job.regions job.start))
     (Some (TooManySplits (splits_in_all job.regions job.start) job.setting.max_splits)) None
     (le-ltb job.setting.max_splits (splits_in_all job.regions job.start) legal.meeting.few_in_all))
-    ∙ ap (λ o. option_or o (first_some (group_fault job ∷ [])))
+    ∙ ap (λ o. option_or o (first_some (after_split_regions job)))
     (cond-false (nat_lt job.setting.max_split_regions (split_regions job.regions job.start))
     (Some (TooManySplitRegions (split_regions job.regions job.start) job.setting.max_split_regions)) None
     (le-ltb job.setting.max_split_regions (split_regions job.regions job.start) legal.meeting.few_regions))
-    ∙ ap (λ o. option_or o (first_some []))
+    ∙ ap (λ o. option_or o (first_some (length_fault job ∷ [])))
     (cond-false (nat_lt (majorities job.setting.group_share job.group job.start) job.setting.group_districts)
     (Some (TooFewMajorities (majorities job.setting.group_share job.group job.start) job.setting.group_districts job.setting.group_share)) None
     (le-ltb (majorities job.setting.group_share job.group job.start) job.setting.group_districts legal.meeting.enough))
+    ∙ ap (λ o. option_or o (first_some []))
+    (cond-false (nat_lt job.setting.max_length (cut_length job.graph job.counts.lengths job.start))
+    (Some (TooLong (cut_length job.graph job.counts.lengths job.start) job.setting.max_length)) None
+    (le-ltb job.setting.max_length (cut_length job.graph job.counts.lengths job.start) legal.short))

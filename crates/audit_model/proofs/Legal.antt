@@ -4,6 +4,7 @@ use Rattle.std.specs.Prelude.{◌==◌, nat_lt, nat_le, slice_index}
 use Rattle.std.proofs.lemmas.Bool.{and_parts, and_from, eqb-true, eq-eqb, ltb-true, lt-ltb, leb-true, le-leb}
 use Rattle.audit_model.specs.Below.{all_below}
 use Rattle.audit_model.specs.Job.{Job, total_population, rules}
+use Rattle.audit_model.specs.Length.{cut_length}
 use Rattle.audit_model.specs.Meets.{meets_rules}
 use Rattle.audit_model.specs.Path.{is_connected}
 use Rattle.audit_model.specs.District.{in_district, district_sum}
@@ -39,10 +40,14 @@ module _ (job : Job) where
     meeting : Bool
     meeting = meets_rules (rules job) (cut_edges job.graph plan) plan
 
+    short : Bool
+    short = nat_le (cut_length job.graph job.counts.lengths plan) job.setting.max_length
+
     pub legal_passes : IsLegal job plan → is_legal job plan ≡ true
-    unfolding is_legal complete in_range connected balanced meeting
+    unfolding is_legal complete in_range connected balanced meeting short
     legal_passes h =
-        and_from (complete && in_range && connected && balanced) meeting
+        and_from (complete && in_range && connected && balanced && meeting) short
+        (and_from (complete && in_range && connected && balanced) meeting
         (and_from (complete && in_range && connected) balanced
         (and_from (complete && in_range) connected
         (and_from complete in_range
@@ -50,12 +55,14 @@ module _ (job : Job) where
         (all_below_from job.graph.units (λ u. nat_lt (slice_index plan u) job.districts) (λ u l. lt-ltb _ _ (h.in_range u l))))
         (all_below_from job.districts (λ d. is_connected job.graph (in_district plan d)) (λ d l. connected_passes job.graph (in_district plan d) (h.connected d l))))
         (all_below_from job.districts (λ d. is_balanced job (district_sum job.counts.population plan d)) (λ d l. balanced_passes (district_sum job.counts.population plan d) (h.balanced d l))))
-        (meets_passes (rules job) (cut_edges job.graph plan) plan h.meeting)
+        (meets_passes (rules job) (cut_edges job.graph plan) plan h.meeting))
+        (le-leb (cut_length job.graph job.counts.lengths plan) job.setting.max_length h.short)
 
     pub passes_legal : is_legal job plan ≡ true → IsLegal job plan
-    unfolding is_legal complete in_range connected balanced meeting
+    unfolding is_legal complete in_range connected balanced meeting short
     passes_legal h =
-        let met = and_parts (complete && in_range && connected && balanced) meeting h in
+        let within = and_parts (complete && in_range && connected && balanced && meeting) short h in
+        let met = and_parts (complete && in_range && connected && balanced) meeting within.0 in
         let last = and_parts (complete && in_range && connected) balanced met.0 in
         let third = and_parts (complete && in_range) connected last.0 in
         let second = and_parts complete in_range third.0 in
@@ -65,4 +72,5 @@ module _ (job : Job) where
           connected = λ d l. passes_connected job.graph (in_district plan d) (all_below_at job.districts (λ d. is_connected job.graph (in_district plan d)) d third.1 l);
           balanced = λ d l. passes_balanced (district_sum job.counts.population plan d) (all_below_at job.districts (λ d. is_balanced job (district_sum job.counts.population plan d)) d last.1 l);
           meeting = passes_meets (rules job) (cut_edges job.graph plan) plan met.1;
+          short = leb-true (cut_length job.graph job.counts.lengths plan) job.setting.max_length within.1;
         }

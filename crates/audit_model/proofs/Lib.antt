@@ -12,6 +12,7 @@ pub mod Fitting
 pub mod Jobs
 pub mod Labels
 pub mod Least
+pub mod Lengths
 pub mod Legal
 pub mod Limits
 pub mod ListFacts

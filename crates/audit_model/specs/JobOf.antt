@@ -3,15 +3,16 @@
 use Rattle.std.specs.Prelude.{ℕ, ◌==◌, ◌&&◌, Bool, true, false, IsFalse, not, cond, nat_lt, List, [], ◌∷◌, length, Option, Some, None, option_map, unwrap_or, Result, Ok, Err}
 use Rattle.std.specs.List.{list_any}
 use Rattle.audit_model.specs.declared.fault.PlanFault.{PlanFault}
-use Rattle.audit_model.specs.declared.fault.PlanFault.TheVariants.{NoVotes, OutOfBounds, Disconnected, TooManyCut, TooManySplit, TooManySplits, TooManySplitRegions, TooFewMajorities}
+use Rattle.audit_model.specs.declared.fault.PlanFault.TheVariants.{NoVotes, OutOfBounds, Disconnected, TooManyCut, TooManySplit, TooManySplits, TooManySplitRegions, TooFewMajorities, TooLong}
 use Rattle.audit_model.specs.declared.setting.Label.{Label}
 use Rattle.audit_model.specs.declared.setting.Score.{Score}
-use Rattle.audit_model.specs.declared.setting.Score.TheVariants.{Seats, MeanMedian, Gap, CutEdges}
+use Rattle.audit_model.specs.declared.setting.Score.TheVariants.{Seats, MeanMedian, Gap, CutEdges, CutLength}
 use Rattle.audit_model.specs.declared.setting.Setting.{Setting}
 use Rattle.audit_model.specs.Below.{above_all}
 use Rattle.audit_model.specs.First.{first_some, first_below}
 use Rattle.audit_model.specs.Graph.{has}
 use Rattle.audit_model.specs.Job.{Job, total_votes}
+use Rattle.audit_model.specs.Length.{cut_length}
 use Rattle.audit_model.specs.Limits.{IsWithinLimits}
 use Rattle.audit_model.specs.Meets.{split_of, splits_in_all, split_regions, majorities}
 use Rattle.audit_model.specs.Parsed.{Parsed}
@@ -24,6 +25,7 @@ is_gap Seats = false
 is_gap MeanMedian = false
 is_gap Gap = true
 is_gap CutEdges = false
+is_gap CutLength = false
 
 -- the least unit of a district
 abbrev pub least_unit : Job → ℕ → ℕ
@@ -93,11 +95,17 @@ group_fault job =
     cond (nat_lt (majorities job.setting.group_share job.group job.start) job.setting.group_districts)
     (Some (TooFewMajorities (majorities job.setting.group_share job.group job.start) job.setting.group_districts job.setting.group_share)) None
 
+-- the start plan's cut edges are longer in all than allowed
+abbrev pub length_fault : Job → Option PlanFault
+length_fault job =
+    cond (nat_lt job.setting.max_length (cut_length job.graph job.counts.lengths job.start))
+    (Some (TooLong (cut_length job.graph job.counts.lengths job.start) job.setting.max_length)) None
+
 -- the first fault of the start plan
 abbrev pub plan_fault : Job → Option PlanFault
 plan_fault job = first_some (
     votes_fault job ∷ bounds_fault job ∷ path_fault job ∷ cut_fault job ∷ split_fault job
-    ∷ splits_fault job ∷ split_regions_fault job ∷ group_fault job ∷ [])
+    ∷ splits_fault job ∷ split_regions_fault job ∷ group_fault job ∷ length_fault job ∷ [])
 
 abbrev pub job_or : Job → Option PlanFault → Result Job PlanFault
 job_or job None = Ok job

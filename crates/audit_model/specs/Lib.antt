@@ -8,6 +8,7 @@ pub mod Job
 pub mod JobOf
 pub mod Label
 pub mod Least
+pub mod Length
 pub mod Lent
 pub mod Limits
 pub mod Local

@@ -8,6 +8,7 @@ use Rattle.audit_model.specs.declared.setting.Command.TheVariants.{Check, Run, M
 use Rattle.audit_model.specs.declared.setting.Setting.{Setting}
 use Rattle.audit_model.specs.Graph.{Graph, IsGraph, count_edges}
 use Rattle.audit_model.specs.Job.{Job}
+use Rattle.audit_model.specs.Length.{AreLengths}
 
 -- the maximum number of units, edges, districts and regions of a graph
 abbrev pub most_units : ℕ
@@ -40,6 +41,10 @@ most_steps = 10 ^ 9
 abbrev pub most_workers : ℕ
 most_workers = 32
 
+-- the maximum total length of the edges of a graph: each is below 2 ^ 32
+abbrev pub most_length : ℕ
+most_length = 1717986918000000
+
 -- the maximum size of a saved checkpoint: 84 bytes, and 80 for each of 100,000 trajectories
 abbrev pub most_saved_bytes : ℕ
 most_saved_bytes = 8000084
@@ -49,7 +54,8 @@ pub record IsColumn (units : ℕ) (numbers : List ℕ) : Type 0 where
   pub width : length numbers ≡ units
   pub small : All (λ n. n ≤ most_people) numbers
 
--- at most 100,000 units, 400,000 edges and 200 districts, with counts and a district for each unit
+-- at most 100,000 units, 400,000 edges and 200 districts, with counts and a district for each unit, and lengths for
+-- each edge or for none
 pub record AreWithin (graph : Graph) (counts : Counts) (start : List ℕ) (districts : ℕ) : Type 0 where
   pub simple : IsGraph graph
   pub units : graph.units ≤ most_units
@@ -61,6 +67,7 @@ pub record AreWithin (graph : Graph) (counts : Counts) (start : List ℕ) (distr
   pub second : IsColumn graph.units counts.second
   pub complete : length start ≡ graph.units
   pub in_range : (u : ℕ) → u < graph.units → slice_index start u < districts
+  pub lengths : AreLengths graph counts.lengths
 
 -- the trajectories, asks and workers of a run are within their limits
 pub record IsRunSetting (s : Setting) : Type 0 where
@@ -119,6 +126,7 @@ pub record IsSetting (s : Setting) : Type 0 where
   pub few_split_regions : s.max_split_regions ≤ most_regions
   pub few_group_districts : s.group_districts ≤ most_districts
   pub few_shares : s.group_share ≤ 10000
+  pub short : s.max_length ≤ most_length
   pub part : HasPart s
   pub command : IsSettingOf s.command s
 

@@ -78,7 +78,7 @@ pub record IsRefused (words : List (List ℕ)) (left : Option (List ℕ)) (endin
 
 -- empty texts in place of columns
 abbrev pub no_columns : Columns
-no_columns = record { population = []; first = []; second = []; district = []; group = []; whole = []; frozen = [] }
+no_columns = record { population = []; first = []; second = []; district = []; group = []; whole = []; frozen = []; length = [] }
 
 -- the columns that the arguments name, or empty texts if they are refused
 abbrev pub columns_in : Result Setting WordFault → Columns

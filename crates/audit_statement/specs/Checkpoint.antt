@@ -10,7 +10,7 @@ use Rattle.audit_model.specs.declared.outcome.Outcome.{Outcome}
 use Rattle.audit_model.specs.declared.rules.Group.{Group}
 use Rattle.audit_model.specs.declared.rules.Rules.{Rules}
 use Rattle.audit_model.specs.declared.setting.Score.{Score}
-use Rattle.audit_model.specs.declared.setting.Score.TheVariants.{Seats, MeanMedian, Gap, CutEdges}
+use Rattle.audit_model.specs.declared.setting.Score.TheVariants.{Seats, MeanMedian, Gap, CutEdges, CutLength}
 use Rattle.audit_model.specs.declared.setting.Tail.{Tail}
 use Rattle.audit_model.specs.declared.setting.Tail.TheVariants.{Low, High}
 use Rattle.audit_model.specs.Below.{filter_below, map_below}
@@ -148,6 +148,7 @@ score_code Seats = 0
 score_code MeanMedian = 1
 score_code Gap = 2
 score_code CutEdges = 3
+score_code CutLength = 4
 
 -- the number of a tail in the digest
 abbrev pub tail_code : Tail → ℕ
@@ -192,12 +193,20 @@ has_newer_rules rules = has_share rules || has_frozen rules
 abbrev pub has_rules : Rules → Bool
 has_rules rules = nat_lt rules.max_cut most_edges || not (length rules.regions == 0) || has_group rules || has_frozen rules
 
--- the first digested bytes, by the rules that the job has
+-- edges have lengths
+abbrev pub has_lengths : List ℕ → Bool
+has_lengths lengths = not (length lengths == 0)
+
+-- the first digested bytes of a job without lengths, by the rules that the job has
 abbrev pub digest_name : Bool → Bool → Bool → List ℕ
 digest_name has_some has_further true = codes "district-job 4"
 digest_name has_some true false = codes "district-job 3"
 digest_name true false false = codes "district-job 2"
 digest_name false false false = codes "district-job 1"
+
+-- the first digested bytes
+abbrev pub first_bytes : Bool → Rules → List ℕ
+first_bytes has rules = cond has (codes "district-job 5") (digest_name (has_rules rules) (has_further_rules rules) (has_newer_rules rules))
 
 -- the limit on districts per region, and each unit's region, if there are regions
 abbrev pub region_bytes : ℕ → List ℕ → List ℕ
@@ -232,10 +241,16 @@ rule_bytes true units rules =
     ++ share_bytes rules ++ frozen_bytes rules
 rule_bytes false units rules = []
 
+-- the limit on the total length of the cut edges, and the length of each edge in both directions, by the units at which
+-- they begin, if edges have lengths
+abbrev pub length_bytes : ℕ → List ℕ → List ℕ
+length_bytes max_length lengths =
+    cond (has_lengths lengths) (codes "length" ++ to_be_bytes w64 max_length ++ flat_map (to_be_bytes w32) lengths) []
+
 -- all that a job's outcomes depend on, except for asking for histograms
 abbrev pub job_bytes : Job → List ℕ
 job_bytes job =
-    digest_name (has_rules (rules job)) (has_further_rules (rules job)) (has_newer_rules (rules job))
+    first_bytes (has_lengths job.counts.lengths) (rules job)
     ++ to_be_bytes w32 job.graph.units ++ to_be_bytes w32 (count_edges job.graph (λ u v. true)) ++ to_be_bytes w32 job.districts
     ++ edge_bytes job.graph
     ++ flat_map (unit_bytes job) (map_below job.graph.units (λ u. u))
@@ -245,6 +260,7 @@ job_bytes job =
     ++ to_be_bytes w32 (length job.setting.asks)
     ++ flat_map (λ ask. to_be_bytes w32 (score_code ask.score) ++ to_be_bytes w32 (tail_code ask.tail)) job.setting.asks
     ++ rule_bytes (has_rules (rules job)) job.graph.units (rules job)
+    ++ length_bytes job.setting.max_length job.counts.lengths
 
 -- the digest of a job
 unfoldable pub job_digest : Job → List ℕ

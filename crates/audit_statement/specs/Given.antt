@@ -35,7 +35,7 @@ Names ids entries u =
 
 -- The nodes are the units. Each has its own id and a list of neighbors, whose entries have ids of units. Two distinct
 -- units are adjacent if one of them lists the other. Each column gives each unit a number, and the column of districts
--- a label. Districts are numbered by rising label.
+-- a label. Districts are numbered by rising label. Edges have no lengths if no column of them is named.
 pub record IsGiven (root : Data) (job : Job) : Type 0 where
   pub nodes : List Data
   pub lists : List (List Data)
@@ -54,6 +54,7 @@ pub record IsGiven (root : Data) (job : Job) : Type 0 where
   pub population : map (get job.setting.columns.population) nodes ≡ map count job.counts.population
   pub first : map (get job.setting.columns.first) nodes ≡ map count job.counts.first
   pub second : map (get job.setting.columns.second) nodes ≡ map count job.counts.second
+  pub no_lengths : job.setting.columns.length ≡ [] → job.counts.lengths ≡ []
   pub labels : List Label
   pub labels_are : map (label_under job.setting.columns.district) nodes ≡ map Some labels
   pub order : (u v : ℕ) → u < job.graph.units → v < job.graph.units

@@ -96,6 +96,11 @@ graph_note columns (graph.Missing i c) = codes "node " ∷ decimal i ∷ codes "
 graph_note columns (graph.BadNumber i c) = codes "node " ∷ decimal i ∷ no_value c ∷ column_name columns c ∷ []
 graph_note columns (graph.BadLabel i) = codes "node " ∷ decimal i ∷ codes " has no usable label" ∷ []
 graph_note columns (graph.DistrictCount n) = decimal n ∷ codes " districts, not 2 to 200" ∷ []
+graph_note columns (graph.MissingLength i j) = codes "neighbour " ∷ decimal j ∷ codes " of node " ∷ decimal i ∷ codes " has no attribute " ∷ columns.length ∷ []
+graph_note columns (graph.BadLength i j) =
+    codes "neighbour " ∷ decimal j ∷ codes " of node " ∷ decimal i ∷ codes " has no whole number from 0 to 4294967295 in attribute " ∷ columns.length ∷ []
+graph_note columns (graph.UnequalLengths i j) =
+    codes "neighbour " ∷ decimal j ∷ codes " of node " ∷ decimal i ∷ codes " has another number in attribute " ∷ columns.length ∷ codes " than the same edge before" ∷ []
 graph_note columns graph.Memory = codes "memory" ∷ []
 
 -- the message for a fault of the regions
@@ -133,6 +138,7 @@ plan_note (plan.TooManySplit q districts most) = codes "region " ∷ decimal q �
 plan_note (plan.TooManySplits splits most) = decimal splits ∷ codes " splits of regions, more than " ∷ decimal most ∷ []
 plan_note (plan.TooManySplitRegions regions most) = decimal regions ∷ codes " regions lie in more than one district, more than " ∷ decimal most ∷ []
 plan_note (plan.TooFewMajorities districts least share) = majority_text share ++ decimal districts ∷ codes " districts, fewer than " ∷ decimal least ∷ []
+plan_note (plan.TooLong total most) = codes "cut edges of total length " ∷ decimal total ∷ codes ", more than " ∷ decimal most ∷ []
 plan_note plan.Memory = codes "memory" ∷ []
 
 -- the reason why a slot is no checkpoint, in a word or two

@@ -16,12 +16,16 @@ use Rattle.audit_model.specs.declared.fault.Part.TheVariants as part
 use Rattle.audit_model.specs.declared.setting.Columns.{Columns}
 use Rattle.audit_model.specs.declared.setting.Label.{Label}
 use Rattle.audit_model.specs.declared.setting.Label.TheVariants.{Whole, Word}
-use Rattle.audit_model.specs.Below.{any_below, count_below, filter_below, map_below}
+use Rattle.audit_model.specs.Below.{any_below, count_below, filter_below, join_below, map_below}
 use Rattle.audit_model.specs.First.{first_some, first_below, first_some_below}
 use Rattle.audit_model.specs.Graph.{Graph, count_edges}
 use Rattle.audit_model.specs.Label.{same_label, label_before}
 use Rattle.audit_model.specs.Parsed.{Parsed}
 use Rattle.audit_model.specs.Limits.{most_people, most_units, most_edges, most_districts}
+
+-- the maximum length of an edge: 2 ^ 32 - 1
+abbrev pub most_edge_length : ℕ
+most_edge_length = 4294967295
 
 -- the fault if the test passes, else nothing
 abbrev pub refused_if : {A : Type 0} → Bool → A → Option A
@@ -141,6 +145,10 @@ module _ (read_of : Document) where
     abbrev pub names_frozen : Bool
     names_frozen = not (length columns.frozen == 0)
 
+    -- a column of lengths is named
+    abbrev pub names_length : Bool
+    names_length = not (length columns.length == 0)
+
     -- a node's value in a column
     abbrev pub cell : ℕ → Column → Option Data
     cell i c = get (key_of c) (node i)
@@ -156,6 +164,32 @@ module _ (read_of : Document) where
     -- whether a node is frozen, as 1 or 0
     abbrev pub flag_at : ℕ → ℕ
     flag_at i = unwrap_or (option_and_then flag_of (cell i column.Frozen)) 0
+
+    -- the length in an adjacency entry: an integer from 0 to 2 ^ 32 - 1
+    abbrev pub length_of : Data → Option ℕ
+    length_of d = option_and_then
+        (λ value. option_and_then (λ n. cond (nat_le n most_edge_length) (Some n) None) (option_and_then as_u64 (as_number value)))
+        (get columns.length d)
+
+    -- the length in an adjacency entry, or 0 without one
+    abbrev pub length_or_zero : Data → ℕ
+    length_or_zero d = unwrap_or (length_of d) 0
+
+    -- the length in the first entry of a node's list that names the other node
+    abbrev pub listed_length : ℕ → ℕ → Option ℕ
+    listed_length i j = option_map (λ place. length_or_zero (entry i place))
+        (first_below (length (entries i)) (λ place. same_id (id_of (entry i place)) (id_of (node j))))
+
+    -- the length between two nodes, the lesser one first: that in the first of all entries by which one names the other
+    abbrev pub length_from : ℕ → ℕ → ℕ
+    length_from i j = unwrap_or (option_or (listed_length i j) (listed_length j i)) 0
+
+    abbrev pub length_between : ℕ → ℕ → ℕ
+    length_between i j = cond (nat_lt i j) (length_from i j) (length_from j i)
+
+    -- the lengths from a node to its neighbors, in their order
+    abbrev pub lengths_at : ℕ → List ℕ
+    lengths_at i = map (length_between i) (filter_below node_count (joined i))
 
     -- the number in a node's column, or 0 without one
     abbrev pub count_at : Column → ℕ → ℕ
@@ -189,6 +223,24 @@ module _ (read_of : Document) where
     abbrev pub first_entry : (Data → Bool) → (ℕ → ℕ → GraphFault) → Option GraphFault
     first_entry test f = first_some_below node_count
         (λ i. option_map (f i) (first_below (length (entries i)) (λ place. test (entry i place))))
+
+    -- the node that an entry names
+    abbrev pub node_named : Data → Option ℕ
+    node_named d = first_below node_count (λ j. same_id (id_of d) (id_of (node j)))
+
+    -- an entry of a node's list has another length than the first entry for the two nodes
+    abbrev pub is_unequal : ℕ → Data → Bool
+    is_unequal i d = unwrap_or (option_map (λ j. not (length_or_zero d == length_between i j)) (node_named d)) false
+
+    -- the first fault of the lengths, if a column of lengths is named
+    abbrev pub length_fault : Option GraphFault
+    length_fault = cond names_length
+        (first_some (
+        first_entry (λ d. is_none (get columns.length d)) fault.MissingLength
+        ∷ first_entry (λ d. is_none (length_of d)) fault.BadLength
+        ∷ first_some_below node_count
+        (λ i. option_map (fault.UnequalLengths i) (first_below (length (entries i)) (λ place. is_unequal i (entry i place))))
+        ∷ [])) None
 
     -- the first column missing in a node
     abbrev pub missing_column : ℕ → Option GraphFault
@@ -228,6 +280,7 @@ module _ (read_of : Document) where
         ∷ first_some_below node_count bad_number
         ∷ option_map fault.BadLabel (first_below node_count (λ i. is_none (option_and_then label_of (cell i column.District))))
         ∷ refused_if (nat_lt label_count 2 || nat_lt most_districts label_count) (fault.DistrictCount label_count)
+        ∷ length_fault
         ∷ [])
 
     -- the result if there is no fault
@@ -238,6 +291,7 @@ module _ (read_of : Document) where
         population = map_below node_count (count_at column.Population);
         first = map_below node_count (count_at column.First);
         second = map_below node_count (count_at column.Second);
+        lengths = cond names_length (join_below node_count lengths_at) [];
       };
       group = record {
         members = cond names_group (map_below node_count (count_at column.Group)) [];

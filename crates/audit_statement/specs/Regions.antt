@@ -22,7 +22,7 @@ document_of bytes = document (unwrap_or (cond (is_utf8 bytes) (read bytes) None)
 
 -- the column in place of the district column: regions are read and numbered as districts are
 abbrev pub as_districts : List ℕ → Columns
-as_districts column = record { population = []; first = []; second = []; district = column; group = []; whole = []; frozen = [] }
+as_districts column = record { population = []; first = []; second = []; district = column; group = []; whole = []; frozen = []; length = [] }
 
 module _ (read_of : Document) (column : List ℕ) where
   -- the first fault, in their order, each at its least node

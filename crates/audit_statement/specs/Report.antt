@@ -10,6 +10,7 @@ use Rattle.audit_model.specs.declared.setting.Ask.{Ask}
 use Rattle.audit_model.specs.declared.setting.Columns.{Columns}
 use Rattle.audit_model.specs.Graph.{count_edges}
 use Rattle.audit_model.specs.Job.{Job, total_population, total_votes}
+use Rattle.audit_model.specs.Length.{cut_length}
 use Rattle.audit_model.specs.Meets.{region_count, majorities, frozen_count}
 use Rattle.audit_model.specs.Plan.{least_population, greatest_population}
 use Rattle.audit_model.specs.Score.{denominator}
@@ -18,7 +19,7 @@ use Rattle.audit_model.specs.Stopping.{placed_asks, stops_of}
 use Rattle.audit_model.specs.Test.{bound, p_value}
 use Rattle.audit_model.specs.Trajectory.{Draws, plan_value, rank, sequence, tally, value_at}
 use Rattle.audit_statement.specs.Names.{score_name, tail_name}
-use Rattle.audit_model.specs.Limits.{most_edges, most_regions, most_splits}
+use Rattle.audit_model.specs.Limits.{most_edges, most_length, most_regions, most_splits}
 
 -- the words with single spaces between them, and a line feed at the end
 abbrev pub line : List (List ℕ) → List ℕ
@@ -81,6 +82,21 @@ abbrev pub frozen_line : List ℕ → List ℕ
 frozen_line [] = []
 frozen_line (f ∷ rest) = line (codes "frozen" ∷ decimal (frozen_count (f ∷ rest)) ∷ [])
 
+-- the total length of the start plan's cut edges, if a column of lengths is named
+abbrev pub cut_length_line : ℕ → List ℕ → List ℕ
+cut_length_line there [] = []
+cut_length_line there (c ∷ column) = line (codes "cut-length" ∷ decimal there ∷ [])
+
+-- the limit on the total length of cut edges, if there is one
+abbrev pub length_line : ℕ → List ℕ
+length_line most = cond (nat_lt most most_length) (line (codes "max-length" ∷ decimal most ∷ [])) []
+
+-- the lines of the lengths of edges
+abbrev pub length_lines : Job → List ℕ
+length_lines job =
+    cut_length_line (cut_length job.graph job.counts.lengths job.start) job.setting.columns.length
+    ++ length_line job.setting.max_length
+
 -- the rules, if there are some
 abbrev pub rule_lines : Job → List ℕ
 rule_lines job =
@@ -90,6 +106,7 @@ rule_lines job =
     ++ group_line job.setting.group_districts (majorities job.setting.group_share job.group job.start) job.group.members
     ++ share_line job.setting.group_share job.group.members
     ++ frozen_line job.frozen
+    ++ length_lines job
 
 -- the numbers of trajectories and of their steps
 abbrev pub setting_line : Job → List ℕ
@@ -185,11 +202,17 @@ abbrev pub frozen_words : List ℕ → List (List ℕ)
 frozen_words [] = []
 frozen_words (c ∷ column) = codes "freeze" ∷ quoted (c ∷ column) ∷ []
 
+-- the column of the edges' lengths, if one is named
+abbrev pub length_words : List ℕ → List (List ℕ)
+length_words [] = []
+length_words (c ∷ column) = codes "length" ∷ quoted (c ∷ column) ∷ []
+
 -- the names of the columns as JSON texts: population, votes, districts, and optional ones
 abbrev pub columns_line : Columns → List ℕ → List ℕ
 columns_line columns region = line (
     (codes "columns" ∷ quoted columns.population ∷ quoted columns.first ∷ quoted columns.second ∷ quoted columns.district ∷ [])
-    ++ region_words region ++ group_words columns.group columns.whole ++ frozen_words columns.frozen)
+    ++ region_words region ++ group_words columns.group columns.whole ++ frozen_words columns.frozen
+    ++ length_words columns.length)
 
 -- the digest of the source and its columns, if the job has an origin
 abbrev pub origin_lines : Job → Option Origin → List ℕ

@@ -16,12 +16,12 @@ abbrev pub IsSilent : List (List ℕ) → List ℕ → Type 0
 IsSilent words name = (other : List ℕ) → said words name other ≡ other
 
 -- The arguments give none of the optional features: saves, resuming, early stopping, the serial test, histograms,
--- regions, a limit on cut edges, a group, frozen units, the origin. A run that saves nothing walks all its trajectories, so parts
--- need no mention.
+-- regions, a limit on cut edges, a group, frozen units, lengths of edges, the origin. A run that saves nothing walks all its
+-- trajectories, so parts need no mention.
 abbrev pub ArePlain : List (List ℕ) → Type 0
 ArePlain words = All (IsSilent words) (
     codes "--save" ∷ codes "--resume" ∷ codes "--stop" ∷ codes "--serial" ∷ codes "--shift" ∷ codes "--region" ∷ codes "--max-cut"
-    ∷ codes "--group" ∷ codes "--source" ∷ codes "--freeze" ∷ [])
+    ∷ codes "--group" ∷ codes "--source" ∷ codes "--freeze" ∷ codes "--length" ∷ [])
 
 -- the text is the digits of the number; `decimal` keeps the last 64 digits only
 abbrev pub IsSpelled : List ℕ → ℕ → Type 0
@@ -34,6 +34,7 @@ pub record AreSaid (words : List (List ℕ)) (setting : Setting) : Type 0 where
   pub first : setting.columns.first ≡ said words (codes "--first") []
   pub second : setting.columns.second ≡ said words (codes "--second") []
   pub district : setting.columns.district ≡ said words (codes "--district") []
+  pub length : setting.columns.length ≡ said words (codes "--length") []
   pub slack : IsSpelled (said words (codes "--slack") (codes "500")) setting.slack
   pub key : decode_sized (said words (codes "--key") []) 32 ≡ Ok setting.key
   pub walks : IsSpelled (said words (codes "--walks") (codes "1")) setting.walks

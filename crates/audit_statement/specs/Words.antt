@@ -6,14 +6,14 @@ use Rattle.std.specs.List.{list_any, slice_index_or, before_first, after_first}
 use Rattle.std.specs.Option.{option_or}
 use Rattle.hex.specs.Hex.{decode_sized}
 use Rattle.audit_model.specs.declared.fault.Name.{Name}
-use Rattle.audit_model.specs.declared.fault.Name.TheVariants.{Pop, First, Second, District, Size, Slack, Key, Walks, Steps, Ends, HubSteps, Ask, Workers, Budget, Save, Resume, MaxCut, Shift, Stop, Serial, Region, MaxSplit, Parts, Part, MaxSplits, MaxSplitRegions, Group, GroupOf, GroupDistricts, Source, Ids, Thin, GroupShare, Freeze}
+use Rattle.audit_model.specs.declared.fault.Name.TheVariants.{Pop, First, Second, District, Size, Slack, Key, Walks, Steps, Ends, HubSteps, Ask, Workers, Budget, Save, Resume, MaxCut, Shift, Stop, Serial, Region, MaxSplit, Parts, Part, MaxSplits, MaxSplitRegions, Group, GroupOf, GroupDistricts, Source, Ids, Thin, GroupShare, Freeze, Length, MaxLength}
 use Rattle.audit_model.specs.declared.fault.WordFault.{WordFault}
 use Rattle.audit_model.specs.declared.fault.WordFault.TheVariants.{NoCommand, UnknownCommand, UnknownName, Twice, NoValue, MissingName, BadValue}
 use Rattle.audit_model.specs.declared.setting.Ask.{Ask as AskOf}
 use Rattle.audit_model.specs.declared.setting.Columns.{Columns}
 use Rattle.audit_model.specs.declared.setting.Command.{Command}
 use Rattle.audit_model.specs.declared.setting.Command.TheVariants.{Check, Run, Make, Plans, Trace}
-use Rattle.audit_model.specs.declared.setting.Score.TheVariants.{Seats, MeanMedian, Gap, CutEdges}
+use Rattle.audit_model.specs.declared.setting.Score.TheVariants.{Seats, MeanMedian, Gap, CutEdges, CutLength}
 use Rattle.audit_model.specs.declared.setting.Setting.{Setting}
 use Rattle.audit_model.specs.declared.setting.Tail.TheVariants.{Low, High}
 use Rattle.audit_model.specs.Below.{any_below}
@@ -22,7 +22,7 @@ use Rattle.audit_model.specs.Graph.{has}
 use Rattle.audit_model.specs.Names.{name_text}
 use Rattle.audit_model.specs.Power.{is_power_of_two}
 use Rattle.audit_statement.specs.Names.{score_name, tail_name}
-use Rattle.audit_model.specs.Limits.{most_trajectories, most_districts, most_regions, most_splits, most_steps, most_workers, most_edges}
+use Rattle.audit_model.specs.Limits.{most_trajectories, most_districts, most_regions, most_splits, most_steps, most_workers, most_edges, most_length}
 
 -- ---- the table of options
 
@@ -30,17 +30,17 @@ use Rattle.audit_model.specs.Limits.{most_trajectories, most_districts, most_reg
 abbrev pub names_of : Command → List Name
 names_of Check =
     Pop ∷ First ∷ Second ∷ District ∷ Slack ∷ MaxCut ∷ Region ∷ MaxSplit
-    ∷ MaxSplits ∷ MaxSplitRegions ∷ Group ∷ GroupOf ∷ GroupDistricts ∷ Source ∷ GroupShare ∷ Freeze ∷ []
+    ∷ MaxSplits ∷ MaxSplitRegions ∷ Group ∷ GroupOf ∷ GroupDistricts ∷ Source ∷ GroupShare ∷ Freeze ∷ Length ∷ MaxLength ∷ []
 names_of Run =
     Pop ∷ First ∷ Second ∷ District ∷ Slack ∷ Key ∷ Walks ∷ Steps ∷ Ends ∷ HubSteps ∷ Ask ∷ Workers ∷ Budget ∷ Save ∷ Resume ∷ MaxCut ∷ Shift ∷ Stop ∷ Serial ∷ Region ∷ MaxSplit ∷ Parts ∷ Part
-    ∷ MaxSplits ∷ MaxSplitRegions ∷ Group ∷ GroupOf ∷ GroupDistricts ∷ Source ∷ GroupShare ∷ Freeze ∷ []
+    ∷ MaxSplits ∷ MaxSplitRegions ∷ Group ∷ GroupOf ∷ GroupDistricts ∷ Source ∷ GroupShare ∷ Freeze ∷ Length ∷ MaxLength ∷ []
 names_of Make = Size ∷ Slack ∷ Key ∷ Walks ∷ Steps ∷ Ends ∷ HubSteps ∷ Ask ∷ Workers ∷ Budget ∷ Save ∷ Resume ∷ MaxCut ∷ Shift ∷ Stop ∷ Serial ∷ Parts ∷ Part ∷ []
 names_of Plans =
     Pop ∷ First ∷ Second ∷ District ∷ Slack ∷ Key ∷ Walks ∷ Steps ∷ Ends ∷ HubSteps ∷ Ask ∷ Workers ∷ MaxCut ∷ Shift ∷ Stop ∷ Serial ∷ Region ∷ MaxSplit
-    ∷ MaxSplits ∷ MaxSplitRegions ∷ Group ∷ GroupOf ∷ GroupDistricts ∷ Source ∷ GroupShare ∷ Freeze ∷ []
+    ∷ MaxSplits ∷ MaxSplitRegions ∷ Group ∷ GroupOf ∷ GroupDistricts ∷ Source ∷ GroupShare ∷ Freeze ∷ Length ∷ MaxLength ∷ []
 names_of Trace =
     Pop ∷ First ∷ Second ∷ District ∷ Slack ∷ Key ∷ Walks ∷ Steps ∷ Ends ∷ HubSteps ∷ Ask ∷ MaxCut ∷ Region ∷ MaxSplit
-    ∷ MaxSplits ∷ MaxSplitRegions ∷ Group ∷ GroupOf ∷ GroupDistricts ∷ Source ∷ Ids ∷ Thin ∷ GroupShare ∷ Freeze ∷ []
+    ∷ MaxSplits ∷ MaxSplitRegions ∷ Group ∷ GroupOf ∷ GroupDistricts ∷ Source ∷ Ids ∷ Thin ∷ GroupShare ∷ Freeze ∷ Length ∷ MaxLength ∷ []
 
 -- the default of an option, if it may be left out
 abbrev pub default_of : Name → Option (List ℕ)
@@ -78,6 +78,8 @@ default_of Ids = Some (codes "0")
 default_of Thin = Some (codes "1000")
 default_of GroupShare = Some (codes "5000")
 default_of Freeze = Some []
+default_of Length = Some []
+default_of MaxLength = Some (codes "1717986918000000")
 
 -- ---- values
 
@@ -117,7 +119,8 @@ all_asks =
     record { score = Seats; tail = Low } ∷ record { score = Seats; tail = High }
     ∷ record { score = MeanMedian; tail = Low } ∷ record { score = MeanMedian; tail = High }
     ∷ record { score = Gap; tail = Low } ∷ record { score = Gap; tail = High }
-    ∷ record { score = CutEdges; tail = Low } ∷ record { score = CutEdges; tail = High } ∷ []
+    ∷ record { score = CutEdges; tail = Low } ∷ record { score = CutEdges; tail = High }
+    ∷ record { score = CutLength; tail = Low } ∷ record { score = CutLength; tail = High } ∷ []
 
 -- the spelling of an ask
 abbrev pub ask_text : AskOf → List ℕ
@@ -146,6 +149,12 @@ all_different (part ∷ parts) = not (list_any (λ other. bytes_eq other part) p
 -- the text has at most four asks between commas, all distinct
 abbrev pub are_asks : List ℕ → Bool
 are_asks text = is_some (asks_of (parts_between 44 text)) && nat_le (length (parts_between 44 text)) 4 && all_different (parts_between 44 text)
+
+-- a part of the text asks for the length of the cut edges
+abbrev pub asks_for_length : List ℕ → Bool
+asks_for_length text =
+    list_any (λ part. bytes_eq part (codes "cut-length:low")) (parts_between 44 text)
+    || list_any (λ part. bytes_eq part (codes "cut-length:high")) (parts_between 44 text)
 
 -- ---- pairs of an option and a value
 
@@ -271,6 +280,14 @@ module _ (command : Command) (words : List NameAndValue) where
   abbrev pub has_share_group : Bool
   has_share_group = (number_named GroupShare == 5000) || not (is_empty Group)
 
+  -- a limit on the length of the cut edges needs lengths
+  abbrev pub has_length : Bool
+  has_length = (number_named MaxLength == most_length) || not (is_empty Length)
+
+  -- an ask for the length of the cut edges needs lengths
+  abbrev pub has_asked_length : Bool
+  has_asked_length = not (asks_for_length (text_of Ask)) || not (is_empty Length)
+
   -- a run of one of several parts saves
   abbrev pub saves_parts : Bool
   saves_parts = (number_named Parts == 1) || nat_le 1 (number_named Save)
@@ -302,7 +319,7 @@ module _ (command : Command) (words : List NameAndValue) where
   is_good Steps = is_number 1 most_steps (text_of Steps)
   is_good Ends = is_number 0 most_trajectories (text_of Ends) && has_walks
   is_good HubSteps = is_number 1 most_steps (text_of HubSteps)
-  is_good Ask = are_asks (text_of Ask)
+  is_good Ask = are_asks (text_of Ask) && has_asked_length
   is_good Workers = is_number 1 most_workers (text_of Workers)
   is_good Budget = is_number 0 most_trajectories (text_of Budget) && covers_walks
   is_good Save = is_number 0 most_trajectories (text_of Save)
@@ -325,6 +342,8 @@ module _ (command : Command) (words : List NameAndValue) where
   is_good Thin = is_number 1 most_steps (text_of Thin)
   is_good GroupShare = is_number 0 10000 (text_of GroupShare) && has_share_group
   is_good Freeze = true
+  is_good Length = true
+  is_good MaxLength = is_number 0 most_length (text_of MaxLength) && has_length
 
   -- the first fault, in their order
   abbrev pub fault_of : Option WordFault
@@ -344,6 +363,7 @@ module _ (command : Command) (words : List NameAndValue) where
     group = text_of Group;
     whole = whole_column (text_of Group) (text_of GroupOf) (text_of Pop);
     frozen = text_of Freeze;
+    length = text_of Length;
   }
 
   -- the setting of a run with these values
@@ -379,6 +399,7 @@ module _ (command : Command) (words : List NameAndValue) where
     first_id = 0;
     last_id = 0;
     thin = 1;
+    max_length = number_named MaxLength;
   }
 
 -- the setting, with the values that a command fixes
@@ -414,6 +435,7 @@ setting_for Check words = record {
   first_id = 0;
   last_id = 0;
   thin = 1;
+  max_length = number_named Check words MaxLength;
 }
 setting_for Run words = as_run Run words
 setting_for Make words = record (as_run Make words) {
@@ -425,6 +447,7 @@ setting_for Make words = record (as_run Make words) {
     group = [];
     whole = [];
     frozen = [];
+    length = [];
   };
   size = number_named Make words Size;
   region = [];
@@ -434,6 +457,7 @@ setting_for Make words = record (as_run Make words) {
   group_districts = 0;
   group_share = 5000;
   source = false;
+  max_length = most_length;
 }
 setting_for Plans words = as_run Plans words
 setting_for Trace words = record (as_run Trace words) {

@@ -11,7 +11,7 @@ use Rattle.audit_model.specs.declared.fault.Name.TheVariants.{Slack, Key, Walks,
 use Rattle.audit_model.specs.declared.setting.Ask.{Ask as AskOf}
 use Rattle.audit_model.specs.declared.setting.Command.{Command}
 use Rattle.audit_model.specs.declared.setting.Command.TheVariants.{Check, Run, Make, Plans, Trace}
-use Rattle.audit_statement.specs.Words.{NameAndValue, are_asks, as_run, asks_of, has_walks, is_number, number_named, parts_between, saves_parts, setting_for, text_of}
+use Rattle.audit_statement.specs.Words.{NameAndValue, are_asks, as_run, asks_of, has_asked_length, has_walks, is_number, number_named, parts_between, saves_parts, setting_for, text_of}
 use Rattle.audit_words.specs.Judged.{AreGood, AreReadable}
 use Rattle.audit_words.proofs.Asking.{length-asks_of, AllPairs-asks_of}
 use Rattle.audit_words.proofs.Goodness.{AreBounded, AreBounded-good, asks_of-some, number-bounds}
@@ -56,7 +56,7 @@ IsRunSetting-good command words good =
     let walks = and_parts (nat_le 1 (number_named Check words Walks + number_named Check words Ends)) (nat_le (number_named Check words Walks + number_named Check words Ends) 100000) ends.1 in
     let steps = number-bounds 1 1000000000 (text_of Check words Steps) good.steps in
     let hub_steps = number-bounds 1 1000000000 (text_of Check words HubSteps) good.hub_steps in
-    let asked = AreAsked-good (text_of Check words Ask) good.ask in
+    let asked = AreAsked-good (text_of Check words Ask) (and_parts (are_asks (text_of Check words Ask)) (has_asked_length Check words) good.ask).0 in
     let workers = number-bounds 1 32 (text_of Check words Workers) good.workers in
     record {
       some = leb-true 1 (number_named Check words Walks + number_named Check words Ends) walks.0;
@@ -120,6 +120,7 @@ IsSetting-run command words good limits is = record {
   few_split_regions = limits.max_split_regions;
   few_group_districts = limits.group_districts;
   few_shares = limits.group_share;
+  short = limits.max_length;
   part = HasPart-good command words good;
   command = is;
 }
@@ -136,6 +137,7 @@ IsSetting-good Check words good = record {
   few_split_regions = (AreBounded-good words good.2).max_split_regions;
   few_group_districts = (AreBounded-good words good.2).group_districts;
   few_shares = (AreBounded-good words good.2).group_share;
+  short = (AreBounded-good words good.2).max_length;
   part = record { some = omega arith; few = omega arith; one_of = omega arith; saves = λ several. absurd (omega (arith, several)) };
   command = record {
     no_walks = refl;
@@ -158,6 +160,7 @@ IsSetting-good Make words good = record {
   few_split_regions = omega arith;
   few_group_districts = omega arith;
   few_shares = omega arith;
+  short = omega arith;
   part = HasPart-made words (HasPart-good Make words good.0);
   command = IsRunSetting-made words (IsRunSetting-good Make words good.0);
 }
@@ -178,6 +181,7 @@ IsSetting-good Trace words good =
       few_split_regions = bounds.max_split_regions;
       few_group_districts = bounds.group_districts;
       few_shares = bounds.group_share;
+      short = bounds.max_length;
       part = record { some = part.some; few = part.few; one_of = part.one_of; saves = part.saves };
       command = record {
         run = record {

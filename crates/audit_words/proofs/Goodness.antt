@@ -4,13 +4,13 @@ use Rattle.std.proofs.lemmas.Bool.{and_parts, false≢true, leb-true}
 use Rattle.std.specs.Prelude.{◌&&◌, nat_le, is_some, unwrap_or}
 use Rattle.std.specs.List.{filter_map}
 use Rattle.audit_model.specs.declared.fault.Name.{Name}
-use Rattle.audit_model.specs.declared.fault.Name.TheVariants.{Pop, Size, Slack, Key, Walks, Steps, Ends, HubSteps, Ask, Workers, Budget, Save, Resume, MaxCut, Shift, Stop, Serial, Region, MaxSplit, Parts, Part, MaxSplits, MaxSplitRegions, Group, GroupOf, GroupDistricts, Source, GroupShare, Freeze}
+use Rattle.audit_model.specs.declared.fault.Name.TheVariants.{Pop, Size, Slack, Key, Walks, Steps, Ends, HubSteps, Ask, Workers, Budget, Save, Resume, MaxCut, Shift, Stop, Serial, Region, MaxSplit, Parts, Part, MaxSplits, MaxSplitRegions, Group, GroupOf, GroupDistricts, Source, GroupShare, Freeze, Length, MaxLength}
 use Rattle.audit_model.specs.declared.fault.WordFault.TheVariants.{BadValue}
 use Rattle.audit_model.specs.declared.setting.Ask.{Ask as AskOf}
 use Rattle.audit_model.specs.declared.setting.Command.TheVariants.{Check, Run, Make, Plans, Trace}
 use Rattle.audit_model.specs.declared.setting.Command.{Command}
 use Rattle.audit_model.proofs.Options.{some_from}
-use Rattle.audit_statement.specs.Words.{NameAndValue, all_different, are_asks, ask_of, asks_of, command_of, has_majority_group, has_share_group, has_split, has_split_regions, has_splits, is_good, is_number, names_of, number_named, number_of, parts_between, text_of}
+use Rattle.audit_statement.specs.Words.{NameAndValue, all_different, are_asks, ask_of, asks_of, command_of, has_length, has_majority_group, has_share_group, has_split, has_split_regions, has_splits, is_good, is_number, names_of, number_named, number_of, parts_between, text_of}
 use Rattle.audit_words.specs.Judged.{AreGood, AreGoodLimits, AreReadable, fault_of_pairs, fault_of_values}
 use Rattle.audit_words.proofs.Unnamed.{good_budget, good_part, good_parts, good_resume, good_save, good_serial, good_shift, good_stop, good_workers, plans_lack, trace_misses, trace_misses_tests}
 use Rattle.audit_words.proofs.Asking.{filter_map-ask_of}
@@ -30,13 +30,14 @@ limit-bounds : (low high : ℕ) (words : List NameAndValue) (name : Name) (named
 limit-bounds low high words name named good =
     number-bounds low high (text_of Check words name) (and_parts (is_number low high (text_of Check words name)) named good).0
 
--- the limits on regions and on a group as numbers within their bounds
+-- the limits on regions, on a group and on lengths as numbers within their bounds
 pub record AreBounded (words : List NameAndValue) : Type 0 where
   pub max_split : (1 ≤ number_named Check words MaxSplit) × (number_named Check words MaxSplit ≤ 200)
   pub max_splits : number_named Check words MaxSplits ≤ 995000
   pub max_split_regions : number_named Check words MaxSplitRegions ≤ 5000
   pub group_districts : number_named Check words GroupDistricts ≤ 200
   pub group_share : number_named Check words GroupShare ≤ 10000
+  pub max_length : number_named Check words MaxLength ≤ 1717986918000000
 
 -- valid limits are numbers within their bounds
 pub AreBounded-good : (words : List NameAndValue) → AreGoodLimits words → AreBounded words
@@ -46,6 +47,7 @@ AreBounded-good words good = record {
   max_split_regions = (limit-bounds 0 5000 words MaxSplitRegions (has_split_regions Check words) good.max_split_regions).1;
   group_districts = (limit-bounds 0 200 words GroupDistricts (has_majority_group Check words) good.group_districts).1;
   group_share = (limit-bounds 0 10000 words GroupShare (has_share_group Check words) good.group_share).1;
+  max_length = (limit-bounds 0 1717986918000000 words MaxLength (has_length Check words) good.max_length).1;
 }
 
 -- a valid text of asks has asks
@@ -111,7 +113,7 @@ AreGood-values words more h parts part =
 
 -- the further names of a run on a graph that is read
 abbrev names_behind : List Name
-names_behind = Region ∷ MaxSplit ∷ Parts ∷ Part ∷ MaxSplits ∷ MaxSplitRegions ∷ Group ∷ GroupOf ∷ GroupDistricts ∷ Source ∷ GroupShare ∷ Freeze ∷ []
+names_behind = Region ∷ MaxSplit ∷ Parts ∷ Part ∷ MaxSplits ∷ MaxSplitRegions ∷ Group ∷ GroupOf ∷ GroupDistricts ∷ Source ∷ GroupShare ∷ Freeze ∷ Length ∷ MaxLength ∷ []
 
 -- if no value of a spelled command is invalid, those of its setting are valid
 pub AreReadable-good : (word : List ℕ) (command : Command) (words : List NameAndValue) → Some command ≡ command_of word → fault_of_pairs command words ≡ None → fault_of_values command words ≡ None
@@ -126,6 +128,7 @@ AreReadable-good word Check words spells faultless h =
         max_split_regions = good 9 (omega arith);
         group_districts = good 12 (omega arith);
         group_share = good 14 (omega arith);
+        max_length = good 17 (omega arith);
       },
     )
 AreReadable-good word Run words spells faultless h =
@@ -137,6 +140,7 @@ AreReadable-good word Run words spells faultless h =
         max_split_regions = good 20 (omega arith);
         group_districts = good 23 (omega arith);
         group_share = good 25 (omega arith);
+        max_length = good 28 (omega arith);
       },
     )
 AreReadable-good word Make words spells faultless h =
@@ -170,6 +174,7 @@ AreReadable-good word Plans words spells faultless h =
         max_split_regions = good 19 (omega arith);
         group_districts = good 22 (omega arith);
         group_share = good 24 (omega arith);
+        max_length = good 27 (omega arith);
       },
     )
 AreReadable-good word Trace words spells faultless h =
@@ -201,6 +206,7 @@ AreReadable-good word Trace words spells faultless h =
         max_split_regions = good 15 (omega arith);
         group_districts = good 18 (omega arith);
         group_share = good 22 (omega arith);
+        max_length = good 25 (omega arith);
       },
       good 20 (omega arith),
       good 21 (omega arith),

@@ -25,14 +25,13 @@ passed : (b : Bool) (n low high : ℕ) → b ≡ true → low ≤ n → n ≤ hi
 passed true n low high e l u = rw (le-leb low n l, le-leb n high u) refl
 passed false n low high e l u = absurd (false≢true e)
 
--- a number within bounds that fit is read by the parser
-pub is_number-parsed : {E : Type 0} (low high : ℕ) (text : List ℕ) (r : Result ℕ E) → high < 2 ^ 32 → is_number low high text ≡ true → ParsesUnsigned 32 10 text r
+-- a number within bounds that fit is read by the parser of this width
+pub is_number-parsed : {E : Type 0} (bits low high : ℕ) (text : List ℕ) (r : Result ℕ E) → high < 2 ^ bits → high < 2 ^ 64 → is_number low high text ≡ true → ParsesUnsigned bits 10 text r
     → (r ≡ Ok (digits_value text)) × (decimal (digits_value text) ≡ text)
-is_number-parsed low high text r small h p =
+is_number-parsed bits low high text r fits small h p =
     let facts = tested (bytes_eq (decimal (digits_value text)) text) (digits_value text) low high h in
     let same : decimal (digits_value text) ≡ text = (bytes_eq-Decides (decimal (digits_value text)) text).0 facts.0 in
-    let below : digits_value text < 2 ^ 32 = omega (arith, facts.2) in
-    (parse-decimal 32 (digits_value text) text r below (omega (arith, below)) (sym same) p, same)
+    (parse-decimal bits (digits_value text) text r (omega (arith, facts.2, fits)) (omega (arith, facts.2)) (sym same) p, same)
 
 -- a text that is no number within the bounds gives none
 pub number-refused : (low high : ℕ) (text : List ℕ) → (is_number low high text ≡ true → ⊥) → cond (is_number low high text) (number_of text) None ≡ None
@@ -51,19 +50,19 @@ number-taken low high n text small same l u =
     subst (λ m. cond (is_number low high text) (number_of text) None ≡ Some m) value found
 
 -- a text read as a number that is printed differently, or lies outside the bounds, gives none
-pub number-other : {E : Type 0} (low high n : ℕ) (text : List ℕ) (r : Result ℕ E) → high < 2 ^ 32 → ParsesUnsigned 32 10 text r → Some n ≡ result_ok r
+pub number-other : {E : Type 0} (bits low high n : ℕ) (text : List ℕ) (r : Result ℕ E) → high < 2 ^ bits → high < 2 ^ 64 → ParsesUnsigned bits 10 text r → Some n ≡ result_ok r
     → (decimal n ≡ text → low ≤ n → n ≤ high → ⊥) → cond (is_number low high text) (number_of text) None ≡ None
-number-other low high n text r small p read other = number-refused low high text (λ is.
+number-other bits low high n text r fits small p read other = number-refused low high text (λ is.
     let facts = tested (bytes_eq (decimal (digits_value text)) text) (digits_value text) low high is in
-    let parsed = is_number-parsed low high text r small is p in
+    let parsed = is_number-parsed bits low high text r fits small is p in
     let value : Some n ≡ Some (digits_value text) = read ∙ ap result_ok parsed.0 in
     let same : n ≡ digits_value text = cc in
     other (subst (λ m. decimal m ≡ text) (sym same) parsed.1) (omega (arith, facts.1)) (omega (arith, facts.2)))
 
 -- a text that is read as no number gives none
-pub number-unread : {E : Type 0} (low high : ℕ) (text : List ℕ) (r : Result ℕ E) → high < 2 ^ 32 → ParsesUnsigned 32 10 text r → None ≡ result_ok r
+pub number-unread : {E : Type 0} (bits low high : ℕ) (text : List ℕ) (r : Result ℕ E) → high < 2 ^ bits → high < 2 ^ 64 → ParsesUnsigned bits 10 text r → None ≡ result_ok r
     → cond (is_number low high text) (number_of text) None ≡ None
-number-unread low high text r small p unread = number-refused low high text (λ is.
-    let parsed = is_number-parsed low high text r small is p in
+number-unread bits low high text r fits small p unread = number-refused low high text (λ is.
+    let parsed = is_number-parsed bits low high text r fits small is p in
     let value : ◌≡◌ {A = Option ℕ} None (Some (digits_value text)) = unread ∙ ap result_ok parsed.0 in
     cc)

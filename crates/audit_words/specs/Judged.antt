@@ -2,7 +2,7 @@
 use Rattle.std.specs.Prelude.{◌≡◌, true, not, is_none, find, List, length, Option, option_map}
 use Rattle.audit_model.specs.First.{first_some_below}
 use Rattle.audit_model.specs.declared.fault.Name.{Name}
-use Rattle.audit_model.specs.declared.fault.Name.TheVariants.{Size, Slack, Key, Walks, Steps, Ends, HubSteps, Ask, Workers, Budget, Save, Resume, MaxCut, Shift, Stop, Serial, MaxSplit, Parts, Part, MaxSplits, MaxSplitRegions, GroupDistricts, GroupShare, Ids, Thin}
+use Rattle.audit_model.specs.declared.fault.Name.TheVariants.{Size, Slack, Key, Walks, Steps, Ends, HubSteps, Ask, Workers, Budget, Save, Resume, MaxCut, Shift, Stop, Serial, MaxSplit, Parts, Part, MaxSplits, MaxSplitRegions, GroupDistricts, GroupShare, Ids, Thin, MaxLength}
 use Rattle.audit_model.specs.declared.fault.WordFault.{WordFault}
 use Rattle.audit_model.specs.declared.fault.WordFault.TheVariants.{MissingName, BadValue}
 use Rattle.audit_model.specs.declared.setting.Command.{Command}
@@ -52,13 +52,14 @@ pub record AreGood (words : List NameAndValue) : Type 0 where
   pub parts : is_good Check words Parts ≡ true
   pub part : is_good Check words Part ≡ true
 
--- each limit on regions and on a group is valid
+-- each limit on regions, on a group and on lengths is valid
 pub record AreGoodLimits (words : List NameAndValue) : Type 0 where
   pub max_split : is_good Check words MaxSplit ≡ true
   pub max_splits : is_good Check words MaxSplits ≡ true
   pub max_split_regions : is_good Check words MaxSplitRegions ≡ true
   pub group_districts : is_good Check words GroupDistricts ≡ true
   pub group_share : is_good Check words GroupShare ≡ true
+  pub max_length : is_good Check words MaxLength ≡ true
 
 -- the values from which the setting of a command is made are valid
 abbrev pub AreReadable : Command → List NameAndValue → Type 0

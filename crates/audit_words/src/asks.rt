@@ -25,6 +25,8 @@ fn ask_of(word: &str) -> Option<Ask>
         "gap:high" => (Score::Gap, Tail::High),
         "cut-edges:low" => (Score::CutEdges, Tail::Low),
         "cut-edges:high" => (Score::CutEdges, Tail::High),
+        "cut-length:low" => (Score::CutLength, Tail::Low),
+        "cut-length:high" => (Score::CutLength, Tail::High),
         _ => return None,
     };
     Some(Ask { score, tail })
@@ -35,6 +37,13 @@ fn has_part(text: &str, word: &str) -> bool
     ensures { result ≡ list_any (λ part. bytes_eq part word.now) (parts_between 44 text.now) }
 {
     text.split(',').any(|part| part == word)
+}
+
+/// Returns true if a part of the text asks for the length of the cut edges.
+pub fn asks_for_length(text: &str) -> bool
+    ensures { result ≡ definition.asks_for_length text.now }
+{
+    has_part(text, "cut-length:low") || has_part(text, "cut-length:high")
 }
 
 /// Returns true if the text is one to four different asks, separated by commas.

@@ -9,9 +9,11 @@ ghost use Rattle.audit_words.specs.Judged.{RestsOnGood};
 ghost use Rattle.audit_words.specs.Spoken.{pairs_in};
 ghost use Rattle.audit_statement.specs.Words as definition;
 
-use crate::asks::are_asks;
+use crate::asks::{are_asks, asks_for_length};
 use crate::pairs::text_of;
-use crate::values::{is_answer, is_number, is_one_line, key_of, number_in, range_of};
+use crate::values::{
+    is_answer, is_length, is_number, is_one_line, key_of, length_in, number_in, range_of,
+};
 use audit_model::fault::Name;
 use audit_model::setting::Command;
 
@@ -73,6 +75,27 @@ fn has_group_of(words: &[String]) -> bool
     text_of(words, Name::GroupOf).is_empty() || !text_of(words, Name::Group).is_empty()
 }
 
+/// Returns the limit on the length of cut edges, or 0 if its value is no number of 64 bits.
+pub fn length_at(words: &[String]) -> u64
+    ensures { definition.number_named command.Check (pairs_in words.now) name.MaxLength < 2 ^ 64 → result ≡ definition.number_named command.Check (pairs_in words.now) name.MaxLength }
+{
+    length_in(text_of(words, Name::MaxLength))
+}
+
+/// Returns true if the length of cut edges is not limited or lengths are named.
+fn has_length(words: &[String], most: u64) -> bool
+    ensures { result ≡ ((most == 1717986918000000) || not (definition.is_empty command.Check (pairs_in words.now) name.Length)) }
+{
+    most == 1_717_986_918_000_000 || !text_of(words, Name::Length).is_empty()
+}
+
+/// Returns true if no part asks for the length of cut edges or lengths are named.
+fn has_asked_length(words: &[String]) -> bool
+    ensures { result ≡ definition.has_asked_length command.Check (pairs_in words.now) }
+{
+    !asks_for_length(text_of(words, Name::Ask)) || !text_of(words, Name::Length).is_empty()
+}
+
 /// Returns true if there is one part or the run saves.
 fn saves_parts(parts: u32, save: u32) -> bool
     ensures { result ≡ ((parts == 1) || nat_le 1 save) }
@@ -107,7 +130,8 @@ pub fn is_good(command: Command, words: &[String], name: Name) -> bool
 {
     let text = text_of(words, name);
     match name {
-        Name::Pop | Name::First | Name::Second | Name::Region | Name::Group | Name::Freeze => true,
+        Name::Pop | Name::First | Name::Second | Name::Region | Name::Group => true,
+        Name::Freeze | Name::Length => true,
         Name::District => is_one_line(command, text),
         Name::Size => is_number(1, 30, text),
         Name::Slack => is_number(0, 10_000, text),
@@ -119,7 +143,7 @@ pub fn is_good(command: Command, words: &[String], name: Name) -> bool
                 && has_walks(number_at(words, Name::Walks), number_at(words, Name::Ends))
         }
         Name::HubSteps => is_number(1, 1_000_000_000, text),
-        Name::Ask => are_asks(text),
+        Name::Ask => are_asks(text) && has_asked_length(words),
         Name::Workers => is_number(1, 32, text),
         Name::Budget => {
             is_number(0, 100_000, text)
@@ -173,5 +197,6 @@ pub fn is_good(command: Command, words: &[String], name: Name) -> bool
         Name::GroupShare => {
             is_number(0, 10_000, text) && is_set_for(words, name, 5_000, Name::Group)
         }
+        Name::MaxLength => is_length(text) && has_length(words, length_at(words)),
     }
 }

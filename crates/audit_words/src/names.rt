@@ -6,7 +6,7 @@ ghost use Rattle.audit_statement.specs.Words as definition;
 use audit_model::fault::Name;
 use audit_model::setting::Command;
 
-const OF_CHECK: [Name; 16] = [
+const OF_CHECK: [Name; 18] = [
     Name::Pop,
     Name::First,
     Name::Second,
@@ -23,9 +23,11 @@ const OF_CHECK: [Name; 16] = [
     Name::Source,
     Name::GroupShare,
     Name::Freeze,
+    Name::Length,
+    Name::MaxLength,
 ];
 
-const OF_RUN: [Name; 31] = [
+const OF_RUN: [Name; 33] = [
     Name::Pop,
     Name::First,
     Name::Second,
@@ -57,6 +59,8 @@ const OF_RUN: [Name; 31] = [
     Name::Source,
     Name::GroupShare,
     Name::Freeze,
+    Name::Length,
+    Name::MaxLength,
 ];
 
 const OF_MAKE: [Name; 18] = [
@@ -80,7 +84,7 @@ const OF_MAKE: [Name; 18] = [
     Name::Part,
 ];
 
-const OF_PLANS: [Name; 26] = [
+const OF_PLANS: [Name; 28] = [
     Name::Pop,
     Name::First,
     Name::Second,
@@ -107,9 +111,11 @@ const OF_PLANS: [Name; 26] = [
     Name::Source,
     Name::GroupShare,
     Name::Freeze,
+    Name::Length,
+    Name::MaxLength,
 ];
 
-const OF_TRACE: [Name; 24] = [
+const OF_TRACE: [Name; 26] = [
     Name::Pop,
     Name::First,
     Name::Second,
@@ -134,6 +140,8 @@ const OF_TRACE: [Name; 24] = [
     Name::Thin,
     Name::GroupShare,
     Name::Freeze,
+    Name::Length,
+    Name::MaxLength,
 ];
 
 /// Returns the default value of a name, if the name may be omitted.
@@ -149,10 +157,11 @@ pub fn default_of(name: Name) -> Option<&'static str>
         Name::Part | Name::GroupDistricts | Name::Ids => Some("0"),
         Name::Resume | Name::Shift | Name::Serial | Name::Source => Some("no"),
         Name::MaxCut => Some("400000"),
-        Name::Region | Name::Group | Name::GroupOf | Name::Freeze => Some(""),
+        Name::Region | Name::Group | Name::GroupOf | Name::Freeze | Name::Length => Some(""),
         Name::MaxSplit => Some("200"),
         Name::MaxSplits => Some("995000"),
         Name::MaxSplitRegions | Name::GroupShare => Some("5000"),
+        Name::MaxLength => Some("1717986918000000"),
         Name::Pop | Name::First | Name::Second | Name::District => None,
         Name::Size | Name::Key | Name::Ask => None,
     }

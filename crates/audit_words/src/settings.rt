@@ -8,7 +8,7 @@ ghost use Rattle.audit_words.specs.Spoken.{pairs_in};
 ghost use Rattle.audit_statement.specs.Words as definition;
 
 use crate::asks::asks_of;
-use crate::fields::number_at;
+use crate::fields::{length_at, number_at};
 use crate::pairs::text_of;
 use crate::values::{key_of, number_in, range_of};
 use audit_model::fault::Name;
@@ -52,11 +52,12 @@ fn columns_of(alloc: Global, words: &[String]) -> Result<Columns, Memory>
         group: copied(alloc, text_of(words, Name::Group))?,
         whole: copied(alloc, whole_column(words))?,
         frozen: copied(alloc, text_of(words, Name::Freeze))?,
+        length: copied(alloc, text_of(words, Name::Length))?,
     })
 }
 
 fn columns_of_grid(alloc: Global) -> Result<Columns, Memory>
-    ensures { IfOk result (λ columns. columns ≡ record { population = codes "pop"; first = codes "a"; second = codes "b"; district = codes "district"; group = []; whole = []; frozen = [] }) }
+    ensures { IfOk result (λ columns. columns ≡ record { population = codes "pop"; first = codes "a"; second = codes "b"; district = codes "district"; group = []; whole = []; frozen = []; length = [] }) }
 {
     Ok(Columns {
         population: copied(alloc, "pop")?,
@@ -66,11 +67,12 @@ fn columns_of_grid(alloc: Global) -> Result<Columns, Memory>
         group: Text::new(alloc),
         whole: Text::new(alloc),
         frozen: Text::new(alloc),
+        length: Text::new(alloc),
     })
 }
 
-/// The limits on the splits of regions and on the majority districts of a group, and the share that
-/// a majority exceeds.
+/// The limits on the splits of regions, on the majority districts of a group and on the length of cut
+/// edges, and the share that a majority exceeds.
 #[derive(Clone, Copy)]
 struct Limits {
     max_split: u32,
@@ -78,6 +80,7 @@ struct Limits {
     max_split_regions: u32,
     group_districts: u32,
     group_share: u32,
+    max_length: u64,
 }
 
 fn limits_of(words: &[String]) -> Limits
@@ -87,6 +90,7 @@ fn limits_of(words: &[String]) -> Limits
     ensures max_split_regions { result.max_split_regions ≡ definition.number_named command.Check (pairs_in words.now) name.MaxSplitRegions }
     ensures group_districts { result.group_districts ≡ definition.number_named command.Check (pairs_in words.now) name.GroupDistricts }
     ensures group_share { result.group_share ≡ definition.number_named command.Check (pairs_in words.now) name.GroupShare }
+    ensures max_length { result.max_length ≡ definition.number_named command.Check (pairs_in words.now) name.MaxLength }
 {
     Limits {
         max_split: number_at(words, Name::MaxSplit),
@@ -94,6 +98,7 @@ fn limits_of(words: &[String]) -> Limits
         max_split_regions: number_at(words, Name::MaxSplitRegions),
         group_districts: number_at(words, Name::GroupDistricts),
         group_share: number_at(words, Name::GroupShare),
+        max_length: length_at(words),
     }
 }
 
@@ -135,6 +140,7 @@ fn check_setting(alloc: Global, words: &[String]) -> Result<Setting, Memory>
         first_id: 0,
         last_id: 0,
         thin: 1,
+        max_length: limits.max_length,
     })
 }
 
@@ -156,7 +162,7 @@ fn run_setting(
     ground: Ground,
 ) -> Result<Setting, Memory>
     requires { AreGood (pairs_in words.now) }
-    ensures { IfOk result (λ setting. setting ≡ record (definition.as_run command (pairs_in words.now)) { columns = ground.columns; size = ground.size; region = ground.region; max_split = ground.limits.max_split; max_splits = ground.limits.max_splits; max_split_regions = ground.limits.max_split_regions; group_districts = ground.limits.group_districts; group_share = ground.limits.group_share; source = ground.source }) }
+    ensures { IfOk result (λ setting. setting ≡ record (definition.as_run command (pairs_in words.now)) { columns = ground.columns; size = ground.size; region = ground.region; max_split = ground.limits.max_split; max_splits = ground.limits.max_splits; max_split_regions = ground.limits.max_split_regions; group_districts = ground.limits.group_districts; group_share = ground.limits.group_share; source = ground.source; max_length = ground.limits.max_length }) }
 {
     Ok(Setting {
         command,
@@ -189,6 +195,7 @@ fn run_setting(
         first_id: 0,
         last_id: 0,
         thin: 1,
+        max_length: ground.limits.max_length,
     })
 }
 
@@ -244,6 +251,7 @@ fn made_setting(alloc: Global, words: &[String]) -> Result<Setting, Memory>
             max_split_regions: 5_000,
             group_districts: 0,
             group_share: 5_000,
+            max_length: 1_717_986_918_000_000,
         },
         source: false,
     };

@@ -36,6 +36,33 @@ pub fn number_in(text: &str) -> u32
     number_within(0, u32::MAX, text).unwrap_or(0)
 }
 
+/// Returns the number if the text spells one within the bounds of a limit on lengths, without leading zeros.
+fn length_within(high: u64, text: &str) -> Option<u64>
+    ensures { result ≡ cond (definition.is_number 0 high text.now) (definition.number_of text.now) None }
+{
+    let number = text.parse::<u64>().ok()?;
+    let mut printed = Buffer::new();
+    if printed.format(number) == text && number <= high {
+        Some(number)
+    } else {
+        None
+    }
+}
+
+/// Returns true if the text spells a limit on the total length of cut edges, without leading zeros.
+pub fn is_length(text: &str) -> bool
+    ensures { result ≡ definition.is_number 0 1717986918000000 text.now }
+{
+    length_within(1_717_986_918_000_000, text).is_some()
+}
+
+/// Returns the number that the text spells, or 0 if it is no number of 64 bits.
+pub fn length_in(text: &str) -> u64
+    ensures { unwrap_or (definition.number_of text.now) 0 < 2 ^ 64 → result ≡ unwrap_or (definition.number_of text.now) 0 }
+{
+    length_within(u64::MAX, text).unwrap_or(0)
+}
+
 /// Splits a range `A-B` into its two texts. A text without a dash is both ends.
 pub fn range_of(text: &str) -> (&str, &str)
     ensures first { result.0.now ≡ definition.first_of_range text.now }

@@ -7,7 +7,7 @@ ghost use Rattle.audit_model.specs.Graph.{IsGraph, count_edges};
 ghost use Rattle.audit_model.specs.JobOf.{IsJob};
 ghost use Rattle.audit_model.specs.Limits.{IsGroup};
 ghost use Rattle.audit_statement.specs.Checkpoint as definition;
-ghost use Rattle.audit_statement.specs.Checkpoint.{digest_name, edge_bytes, frozen_bytes, group_bytes, has_frozen, has_further_rules, has_group, has_newer_rules, has_rules, has_share, limits_splits, member_bytes, region_bytes, rule_bytes, share_bytes, split_bytes, unit_bytes, score_code, tail_code};
+ghost use Rattle.audit_statement.specs.Checkpoint.{digest_name, edge_bytes, first_bytes, frozen_bytes, group_bytes, has_frozen, has_further_rules, has_group, has_lengths, has_newer_rules, has_rules, has_share, length_bytes, limits_splits, member_bytes, region_bytes, rule_bytes, share_bytes, split_bytes, unit_bytes, score_code, tail_code};
 ghost use Rattle.ckpt_format.specs.Hashed.{Hashes, ask_bytes, counts_bytes, edges_from, setting_bytes};
 
 use audit_model::rules::{Group, Rules};
@@ -22,19 +22,45 @@ pub fn job_digest(job: &Job) -> [u8; 32]
 {
     let mut hasher = Sha256::new();
     let rules = job.rules();
-    let limited = has_rules(rules);
-    hash_name(
-        &mut hasher,
-        limited,
-        has_further_rules(rules),
-        has_newer_rules(rules),
-    );
+    let lengths = job.counts().lengths.as_slice();
+    hash_first(&mut hasher, lengths, rules);
     hash_counts(&mut hasher, job);
     hash_edges(&mut hasher, job.graph());
     hash_units(&mut hasher, job);
     hash_setting(&mut hasher, job.setting());
-    hash_rules(&mut hasher, limited, job.units(), rules);
+    hash_rules(&mut hasher, has_rules(rules), job.units(), rules);
+    hash_lengths(&mut hasher, job.setting().max_length, lengths);
     hasher.finalize()
+}
+
+/// Hashes the name of the format: the fifth if edges have lengths, else the one for the rules.
+fn hash_first(hasher: &mut Sha256, lengths: &[u32], rules: &Rules)
+    ensures { Hashes hasher.old hasher.new (first_bytes (has_lengths lengths.now) rules.now) }
+{
+    if has_lengths(lengths) {
+        hash_tag(hasher, "district-job 5");
+        return;
+    }
+    hash_name_of(hasher, rules);
+}
+
+/// Returns true if edges have lengths.
+fn has_lengths(lengths: &[u32]) -> bool
+    ensures { result ≡ has_lengths lengths.now }
+{
+    !lengths.is_empty()
+}
+
+/// Hashes the name of the format for these rules.
+fn hash_name_of(hasher: &mut Sha256, rules: &Rules)
+    ensures { Hashes hasher.old hasher.new (digest_name (has_rules rules.now) (has_further_rules rules.now) (has_newer_rules rules.now)) }
+{
+    hash_name(
+        hasher,
+        has_rules(rules),
+        has_further_rules(rules),
+        has_newer_rules(rules),
+    );
 }
 
 /// Returns true if the rules limit the cut edges or have regions, a group or frozen units.
@@ -248,6 +274,17 @@ fn hash_frozen(hasher: &mut Sha256, rules: &Rules)
     }
 }
 
+/// Hashes the limit on the length of the cut edges and the lengths, if edges have them.
+fn hash_lengths(hasher: &mut Sha256, max_length: u64, lengths: &[u32])
+    ensures { Hashes hasher.old hasher.new (length_bytes max_length lengths.now) }
+{
+    if has_lengths(lengths) {
+        hash_tag(hasher, "length");
+        hash_u64(hasher, max_length);
+        hash_numbers(hasher, lengths);
+    }
+}
+
 /// Hashes the bytes of a text.
 fn hash_tag(hasher: &mut Sha256, tag: &str)
     ensures { Hashes hasher.old hasher.new tag.now }
@@ -287,6 +324,7 @@ fn score_code(score: Score) -> u32
         Score::MeanMedian => 1,
         Score::Gap => 2,
         Score::CutEdges => 3,
+        Score::CutLength => 4,
     }
 }
 

@@ -5,3 +5,4 @@ pub mod Filling
 pub mod Shifted
 pub mod Walking
 pub mod Standing
+pub mod Measured

@@ -5,6 +5,7 @@ use Rattle.audit_model.specs.declared.outcome.SumsView.{SumsView}
 use Rattle.audit_model.specs.Below.{map_below}
 use Rattle.audit_model.specs.Graph.{Graph}
 use Rattle.audit_model.specs.District.{district_sum}
+use Rattle.audit_model.specs.Length.{cut_length}
 use Rattle.audit_model.specs.Plan.{cut_edges}
 use Rattle.audit_model.specs.Score.{sums_of}
 use Rattle.district_sums.specs.Following.{Following, AreAdded, StandsFor, districts_in, apart_of}
@@ -30,6 +31,9 @@ module _ (g : Graph) (counts : Counts) (plan : List ℕ) (sums : Following) (sta
   pub cut_is : sums.view.cut ≡ cut_edges g plan
   cut_is = ap (λ (v : SumsView). v.cut) stands.view
 
+  pub length_is : sums.view.length ≡ cut_length g counts.lengths plan
+  length_is = ap (λ (v : SumsView). v.length) stands.view
+
 -- sums of n districts have n entries
 pub as_many : (g : Graph) (counts : Counts) (n : ℕ) (plan : List ℕ) (view : SumsView) → view ≡ sums_of g counts n plan → length view.population ≡ n
 as_many g counts n plan view is = places n (district_sum counts.population plan) view.population (ap (λ (v : SumsView). v.population) is)
@@ -42,20 +46,21 @@ stand_anew g counts n plan view apart is apart_is = record {
   apart = apart_is;
 }
 
-abbrev view_of : List ℕ → List ℕ → List ℕ → ℕ → SumsView
-view_of population first second cut = record { population = population; first = first; second = second; cut = cut }
+abbrev view_of : List ℕ → List ℕ → List ℕ → ℕ → ℕ → SumsView
+view_of population first second cut long = record { population = population; first = first; second = second; cut = cut; length = long }
 
 -- updated parts stand for the plan
 pub all_stand : (g : Graph) (counts : Counts) (n : ℕ) (plan : List ℕ) (view : SumsView) (cut : ℕ) (apart : List ℕ) → AreAdded counts n plan view
-    → cut ≡ cut_edges g plan → apart ≡ map_below g.units (apart_of g plan)
+    → cut ≡ cut_edges g plan → view.length ≡ cut_length g counts.lengths plan → apart ≡ map_below g.units (apart_of g plan)
     → StandsFor g counts plan (record { view = record view { cut = cut }; apart = apart })
-all_stand g counts n plan view cut apart added cut_is apart_is =
+all_stand g counts n plan view cut apart added cut_is long_is apart_is =
     let population : List ℕ = map_below n (district_sum counts.population plan) in
     let first : List ℕ = map_below n (district_sum counts.first plan) in
     let second : List ℕ = map_below n (district_sum counts.second plan) in
     stand_anew g counts n plan (record view { cut = cut }) apart
-    (ap (λ (x : List ℕ). view_of x view.first view.second cut) added.population
-    ∙ ap (λ (x : List ℕ). view_of population x view.second cut) added.first
-    ∙ ap (λ (x : List ℕ). view_of population first x cut) added.second
-    ∙ ap (λ (x : ℕ). view_of population first second x) cut_is)
+    (ap (λ (x : List ℕ). view_of x view.first view.second cut view.length) added.population
+    ∙ ap (λ (x : List ℕ). view_of population x view.second cut view.length) added.first
+    ∙ ap (λ (x : List ℕ). view_of population first x cut view.length) added.second
+    ∙ ap (λ (x : ℕ). view_of population first second x view.length) cut_is
+    ∙ ap (λ (x : ℕ). view_of population first second (cut_edges g plan) x) long_is)
     apart_is

@@ -30,12 +30,12 @@ pub is_new : (xs : List ℕ) (k : ℕ) → IsRising xs → k < length xs → has
 is_new xs k r l = false_from_ne_true (has (take k xs) (get_or xs k 0)) (λ h. let under = front_below xs k (get_or xs k 0) r l h in omega (arith, under))
 
 -- an appended item is a member
-has_last : (xs : List ℕ) (v : ℕ) → has (xs ++ v ∷ []) v ≡ true
+pub has_last : (xs : List ℕ) (v : ℕ) → has (xs ++ v ∷ []) v ≡ true
 has_last [] v = or_left (v == v) false (eq-eqb v v refl)
 has_last (x ∷ xs) v = or_right (x == v) (has (xs ++ v ∷ []) v) (has_last xs v)
 
 -- appending an item adds no other member
-has_others : (xs : List ℕ) (v w : ℕ) → (v ≡ w → ⊥) → has (xs ++ v ∷ []) w ≡ has xs w
+pub has_others : (xs : List ℕ) (v w : ℕ) → (v ≡ w → ⊥) → has (xs ++ v ∷ []) w ≡ has xs w
 has_others [] v w off = ap (λ b. b || false) (ne_eqb v w off)
 has_others (x ∷ xs) v w off = ap (λ b. (x == w) || b) (has_others xs v w off)
 

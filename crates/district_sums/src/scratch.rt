@@ -9,6 +9,7 @@ ghost use Rattle.audit_model.specs.Score.{sums_of};
 ghost use Rattle.district_sums.specs.Following.{AreInputs, apart_of};
 ghost use Rattle.audit_model.specs.Limits.{IsColumn, most_units};
 
+use crate::lengths::measure_cut;
 use audit_model::lists::{NumList, UnitList};
 use audit_model::outcome::{Counts, SumsView};
 use dual_graph::graph::Graph;
@@ -41,6 +42,7 @@ pub(crate) fn refill_view(graph: &Graph, counts: &Counts, plan: &[u32], view: &m
     refill_column(&counts.first, plan, &mut view.first);
     refill_column(&counts.second, plan, &mut view.second);
     view.cut = count_cut(graph, plan);
+    view.length = measure_cut(graph, &counts.lengths, plan);
 }
 
 /// Writes each district's sum of a column.

@@ -18,6 +18,7 @@ pub(crate) fn shift_counts(counts: &Counts, member: Member, district: u32, view:
     requires added { AreAdded counts.now (length view.old.population) member.plan.now view.old }
     ensures added { AreAdded counts.now (length view.old.population) (slice_set member.entry.plan.now member.entry.unit district) view.new }
     ensures cut { view.new.cut ≡ view.old.cut }
+    ensures length { view.new.length ≡ view.old.length }
 {
     shift_list(&counts.population, member, district, &mut view.population);
     shift_list(&counts.first, member, district, &mut view.first);

@@ -5,6 +5,7 @@ ghost use Rattle.audit_model.specs.Below.{map_below};
 ghost use Rattle.audit_model.specs.Plan.{cut_edges};
 ghost use Rattle.district_sums.specs.Following.{AreInputs, StandsFor, StandsForSome, apart_of, districts_in};
 
+use crate::lengths::length_after;
 use crate::scratch::{refill_apart, refill_view};
 use crate::shifting::{others_than, shift_apart, shift_counts};
 use audit_model::lists::{NumList, UnitList};
@@ -49,6 +50,7 @@ impl Sums {
             first: NumList::zeros(alloc, districts as usize)?,
             second: NumList::zeros(alloc, districts as usize)?,
             cut: 0,
+            length: 0,
         };
         let mut apart = UnitList::zeros(alloc, graph.units() as usize)?;
         refill_view(graph, counts, plan, &mut view);
@@ -84,6 +86,7 @@ impl Sums {
         }
         let before = self.apart.as_slice()[unit as usize];
         let member = Member { graph, plan, unit };
+        self.view.length = length_after(member, &counts.lengths, self.view.length, district);
         shift_counts(counts, member, district, &mut self.view);
         shift_apart(member, district, &mut self.apart);
         let after = self.apart.as_slice()[unit as usize];

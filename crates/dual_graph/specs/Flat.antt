@@ -15,6 +15,7 @@ graph_of n begins near = record { units = n; neighbours = map_below n (row begin
 -- each unit's row lies within the list of neighbors
 pub record HasRows (n : ℕ) (begins near : List ℕ) : Type 0 where
   pub places : length begins ≡ n + 1
+  pub first : slice_index begins 0 ≡ 0
   pub few : n ≤ most_units
   pub rising : (u : ℕ) → u < n → slice_index begins u ≤ slice_index begins (u + 1)
   pub within : (u : ℕ) → u ≤ n → slice_index begins u ≤ length near

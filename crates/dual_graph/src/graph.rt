@@ -3,7 +3,9 @@
 ghost use Rattle.std.specs.Prelude.{◌≡◌, ◌<◌, ◌≤◌, ◌↔◌, ℕ, true, [], length, slice_index, All, IfOk, IsTrue};
 ghost use Rattle.dual_graph.specs.Pairs.{ArePairs, Joins};
 ghost use Rattle.std.specs.List.{slice_index_or};
+ghost use Rattle.audit_model.specs.Below.{sum_below};
 ghost use Rattle.audit_model.specs.Graph.{adjacent, count_edges};
+ghost use Rattle.audit_model.specs.Length.{degree};
 ghost use Rattle.audit_model.specs.Limits.{most_units, most_edges};
 
 use crate::pairs::{begins_of, both_ways, put_in_order, seconds_of};
@@ -94,6 +96,16 @@ impl Graph {
         let begin = self.begins[unit as usize] as usize;
         let end = self.begins[unit as usize + 1] as usize;
         &self.near[begin..end]
+    }
+
+    /// Returns the number of directed edges from the units below this one, which is the place of its
+    /// first directed edge among all.
+    #[inline]
+    pub fn arcs_before(&self, unit: u32) -> usize
+        requires { unit ≤ self.now.units }
+        ensures { result ≡ sum_below unit (degree self.now) }
+    {
+        self.begins[unit as usize] as usize
     }
 
     /// Returns true if two units are adjacent. It scans the neighbors of `unit`.

@@ -18,9 +18,10 @@ use Rattle.audit_model.specs.Below.{any_below, count_below, filter_below, map_be
 use Rattle.audit_model.specs.First.{first_below, first_some_below}
 use Rattle.audit_model.specs.Graph.{Graph, IsGraph, count_edges}
 use Rattle.audit_model.specs.Label.{same_label, label_before}
+use Rattle.audit_model.specs.Length.{AreLengths}
 use Rattle.audit_model.specs.Limits.{AreFrozen, IsColumn, AreWithin, IsGroup}
 use Rattle.audit_model.specs.Parsed.{Parsed}
-use Rattle.audit_statement.specs.Reading.{Document, graph, joined, id_of, same_id, refused_if, label_count, label_at, is_new_label, district_at, refusal, parsed, reading, of_root, of_json, bad_part}
+use Rattle.audit_statement.specs.Reading.{Document, graph, joined, id_of, same_id, refused_if, length_fault, label_count, label_at, is_new_label, district_at, refusal, parsed, reading, of_root, of_json, bad_part}
 use Rattle.audit_model.proofs.Below.{count_below_same, filter_below_same, length-map_below, get_or-map_below, map_below_same}
 use Rattle.audit_model.proofs.First.{first_below_same, first_some_below_same, any_below_same, first_passes, none_or_any}
 use Rattle.dual_json.specs.Columns.{count_from, count_in, flag_in, flags_in, frozen_in, names_frozen, names_group, missing, bad, numbers_in, AreOfGroup}
@@ -31,7 +32,7 @@ use Rattle.dual_json.specs.Stages.{repeated_in, entry_fault, is_stranger, edge_c
 use Rattle.dual_json.proofs.Counted.{label_count_is, district_is, labels_are, start_is}
 
 -- mapping functions that agree on the item there gives equal options
-option_map_same : {A B : Type 0} → (o : Option A) (f g : A → B) → ((a : A) → o ≡ Some a → f a ≡ g a) → option_map f o ≡ option_map g o
+pub option_map_same : {A B : Type 0} → (o : Option A) (f g : A → B) → ((a : A) → o ≡ Some a → f a ≡ g a) → option_map f o ≡ option_map g o
 option_map_same None f g same = refl
 option_map_same (Some a) f g same = ap Some (same a refl)
 
@@ -113,31 +114,34 @@ module _ (d : Document) (ids : List Label) (are : AreLabels (codes "id") d.nodes
 
 -- ---- all faults
 
--- a chain of twelve options splits into three groups
-regroup : {A : Type 0} (a b c e f g h i j k l m : Option A)
-    → option_or a (option_or b (option_or c (option_or e (option_or f (option_or g (option_or h (option_or i (option_or j (option_or k (option_or l (option_or m None)))))))))))
-    ≡ option_or (option_or (option_or a (option_or b (option_or c None))) (option_or (option_or e f) (option_or g (option_or h i)))) (option_or (option_or j (option_or k l)) m)
-regroup (Some x) b c e f g h i j k l m = refl
-regroup None (Some x) c e f g h i j k l m = refl
-regroup None None (Some x) e f g h i j k l m = refl
-regroup None None None (Some x) f g h i j k l m = refl
-regroup None None None None (Some x) g h i j k l m = refl
-regroup None None None None None (Some x) h i j k l m = refl
-regroup None None None None None None (Some x) i j k l m = refl
-regroup None None None None None None None (Some x) j k l m = refl
-regroup None None None None None None None None (Some x) k l m = refl
-regroup None None None None None None None None None (Some x) l m = refl
-regroup None None None None None None None None None None (Some x) m = refl
-regroup None None None None None None None None None None None (Some x) = refl
-regroup None None None None None None None None None None None None = refl
+-- a chain of thirteen options splits into three groups
+regroup : {A : Type 0} (a b c e f g h i j k l m n : Option A)
+    → option_or a (option_or b (option_or c (option_or e (option_or f (option_or g (option_or h (option_or i (option_or j (option_or k (option_or l (option_or m (option_or n None))))))))))))
+    ≡ option_or (option_or (option_or a (option_or b (option_or c None))) (option_or (option_or e f) (option_or g (option_or h i)))) (option_or (option_or j (option_or k l)) (option_or m n))
+regroup (Some x) b c e f g h i j k l m n = refl
+regroup None (Some x) c e f g h i j k l m n = refl
+regroup None None (Some x) e f g h i j k l m n = refl
+regroup None None None (Some x) f g h i j k l m n = refl
+regroup None None None None (Some x) g h i j k l m n = refl
+regroup None None None None None (Some x) h i j k l m n = refl
+regroup None None None None None None (Some x) i j k l m n = refl
+regroup None None None None None None None (Some x) j k l m n = refl
+regroup None None None None None None None None (Some x) k l m n = refl
+regroup None None None None None None None None None (Some x) l m n = refl
+regroup None None None None None None None None None None (Some x) m n = refl
+regroup None None None None None None None None None None None (Some x) n = refl
+regroup None None None None None None None None None None None None (Some x) = refl
+regroup None None None None None None None None None None None None None = refl
 
--- the first fault is the graph's, else the labels', else that of the number of districts
-pub refusal_is : (d : Document) (columns : Columns) → refusal d columns ≡ option_or (graph_fault d) (option_or (labels_fault columns d.nodes) (district_count_fault (label_count d columns)))
+-- the first fault is the graph's, else the labels', else that of the number of districts, else that of the lengths
+pub refusal_is : (d : Document) (columns : Columns)
+    → refusal d columns ≡ option_or (graph_fault d) (option_or (labels_fault columns d.nodes) (option_or (district_count_fault (label_count d columns)) (length_fault d columns)))
 refusal_is d columns = regroup
     (refused_if d.directed fault.Directed) (refused_if (not (length d.nodes == length d.adjacency)) (fault.LengthsDiffer (length d.nodes) (length d.adjacency)))
     (refused_if (nat_lt 100000 (length d.nodes)) (fault.TooManyUnits (length d.nodes))) (option_map fault.BadId (first_unnamed (codes "id") d.nodes)) (repeated_in d.nodes)
     (entry_fault d is_unnamed fault.BadNeighbour) (entry_fault d (is_stranger d.nodes) fault.UnknownNeighbour) (refused_if (nat_lt 400000 (edge_count d)) (fault.TooManyEdges (edge_count d)))
     (missing columns d.nodes) (bad columns d.nodes) (option_map fault.BadLabel (first_unnamed columns.district d.nodes)) (district_count_fault (label_count d columns))
+    (length_fault d columns)
 
 -- ---- the columns
 
@@ -188,24 +192,25 @@ module _ (d : Document) (columns : Columns) (labels found : List Label) (start :
 
 -- ---- the result
 
--- the graph and the columns are the parsed document
+-- the graph, the columns and the lengths are the parsed document
 pub parsed_is : (d : Document) (columns : Columns) (g : Graph) (counts : Counts) (group : Group) (frozen start : List ℕ) (found : List Label) → graph d ≡ g
-    → AreRows columns d.nodes counts group frozen start found
+    → AreRows columns d.nodes counts group frozen start found → counts.lengths ≡ (parsed d columns).counts.lengths
     → parsed d columns ≡ record { graph = g; counts = counts; group = group; frozen = frozen; start = start; labels = found }
-parsed_is d columns g counts group frozen start found is rows =
+parsed_is d columns g counts group frozen start found is rows lengths =
     let old = parsed d columns in
     ap (λ (x : Graph). made x old.counts old.group old.frozen old.start old.labels) is
-    ∙ ap (λ x. made g (counted x old.counts.first old.counts.second) old.group old.frozen old.start old.labels) (sym rows.population)
-    ∙ ap (λ x. made g (counted counts.population x old.counts.second) old.group old.frozen old.start old.labels) (sym rows.first)
-    ∙ ap (λ x. made g (counted counts.population counts.first x) old.group old.frozen old.start old.labels) (sym rows.second)
+    ∙ ap (λ x. made g (counted x old.counts.first old.counts.second old.counts.lengths) old.group old.frozen old.start old.labels) (sym rows.population)
+    ∙ ap (λ x. made g (counted counts.population x old.counts.second old.counts.lengths) old.group old.frozen old.start old.labels) (sym rows.first)
+    ∙ ap (λ x. made g (counted counts.population counts.first x old.counts.lengths) old.group old.frozen old.start old.labels) (sym rows.second)
+    ∙ ap (λ x. made g (counted counts.population counts.first counts.second x) old.group old.frozen old.start old.labels) (sym lengths)
     ∙ ap (λ x. made g counts (grouped x old.group.whole) old.frozen old.start old.labels) (sym rows.grouped.members)
     ∙ ap (λ x. made g counts (grouped group.members x) old.frozen old.start old.labels) (sym rows.grouped.whole)
     ∙ ap (λ x. made g counts group x old.start old.labels) (sym rows.freezing)
     ∙ ap (λ x. made g counts group frozen x old.labels) (start_same d columns rows.labels found start rows.labelled rows.districts)
     ∙ ap (λ x. made g counts group frozen start x) (labels_same d columns rows.labels found start rows.labelled rows.districts)
   where
-    counted : List ℕ → List ℕ → List ℕ → Counts
-    counted a b c = record { population = a; first = b; second = c }
+    counted : List ℕ → List ℕ → List ℕ → List ℕ → Counts
+    counted a b c l = record { population = a; first = b; second = c; lengths = l }
 
     grouped : List ℕ → List ℕ → Group
     grouped a b = record { members = a; whole = b }
@@ -240,8 +245,8 @@ column_is key nodes units numbers is long =
 
 -- the data of few enough nodes is within the limits
 pub within_is : (nodes : List Data) (columns : Columns) (g : Graph) (counts : Counts) (group : Group) (frozen start : List ℕ) (found : List Label) → IsGraph g → g.units ≡ length nodes → length nodes ≤ 100000
-    → count_edges g (λ u v. true) ≤ 400000 → AreRows columns nodes counts group frozen start found → AreWithin g counts start (length found)
-within_is nodes columns g counts group frozen start found simple units few edges rows = record {
+    → count_edges g (λ u v. true) ≤ 400000 → AreRows columns nodes counts group frozen start found → AreLengths g counts.lengths → AreWithin g counts start (length found)
+within_is nodes columns g counts group frozen start found simple units few edges rows lengths = record {
   simple = simple;
   units = omega (arith, units, few);
   edges = edges;
@@ -252,6 +257,23 @@ within_is nodes columns g counts group frozen start found simple units few edges
   second = column_is columns.second nodes g.units counts.second rows.second units;
   complete = rows.districts.count ∙ rows.labelled.count ∙ sym units;
   in_range = λ u l. rows.districts.inside u (omega (arith, l, units, rows.labelled.count));
+  lengths = lengths;
+}
+
+-- the data of the columns are the same with other lengths
+pub rows_with : (nodes : List Data) (columns : Columns) (counts : Counts) (group : Group) (frozen start : List ℕ) (found : List Label) (lengths : List ℕ)
+    → AreRows columns nodes counts group frozen start found → AreRows columns nodes (record counts { lengths = lengths }) group frozen start found
+rows_with nodes columns counts group frozen start found lengths rows = record {
+  population = rows.population;
+  first = rows.first;
+  second = rows.second;
+  grouped = rows.grouped;
+  freezing = rows.freezing;
+  labels = rows.labels;
+  labelled = rows.labelled;
+  districts = rows.districts;
+  two = rows.two;
+  few = rows.few;
 }
 
 -- the group that is read has two columns or none

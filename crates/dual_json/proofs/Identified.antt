@@ -14,7 +14,7 @@ use Rattle.audit_model.specs.declared.setting.Label.TheVariants.{Word}
 use Rattle.audit_model.specs.Below.{map_below}
 use Rattle.audit_model.proofs.Options.{option_map_none, option_or_none}
 use Rattle.audit_model.proofs.Below.{length-map_below, get_or-map_below}
-use Rattle.audit_statement.specs.Reading.{Document, document, id_of, label_count, node, node_count, refusal, refused_if}
+use Rattle.audit_statement.specs.Reading.{Document, document, id_of, label_count, length_fault, node, node_count, refusal, refused_if}
 use Rattle.audit_statement.specs.Regions.{id_reading}
 use Rattle.dual_json.specs.Districts.{district_count_fault}
 use Rattle.dual_json.specs.Edges.{is_unnamed}
@@ -34,7 +34,7 @@ pub all_named : (d : Document) (columns : Columns) → refusal d columns ≡ Non
 unfolding later
 all_named d columns none =
     let whole : graph_fault d ≡ None =
-    (option_or_none (graph_fault d) (option_or (labels_fault columns d.nodes) (district_count_fault (label_count d columns))) (sym (refusal_is d columns) ∙ none)).0 in
+    (option_or_none (graph_fault d) (option_or (labels_fault columns d.nodes) (option_or (district_count_fault (label_count d columns)) (length_fault d columns))) (sym (refusal_is d columns) ∙ none)).0 in
     let ids : ids_fault d.nodes ≡ None =
     (option_or_none (ids_fault d.nodes) (later d) (option_or_none (frame_fault d.directed (length d.nodes) (length d.adjacency)) (option_or (ids_fault d.nodes) (later d)) whole).1).0 in
     option_map_none fault.BadId (first_unnamed (codes "id") d.nodes) (option_or_none (option_map fault.BadId (first_unnamed (codes "id") d.nodes)) (repeated_in d.nodes) ids).0

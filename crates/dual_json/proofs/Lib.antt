@@ -5,6 +5,7 @@ pub mod Identified
 pub mod Indexed
 pub mod Joined
 pub mod Listed
+pub mod Measured
 pub mod Named
 pub mod Parsing
 pub mod Regioned

@@ -48,7 +48,7 @@ pub fn check_numbers(nodes: &[Value<'_>], columns: &Columns) -> Result<(), Graph
     Ok(())
 }
 
-/// Reads the columns of population and votes. The only error is `Memory`.
+/// Reads the columns of population and votes. There are no lengths yet. The only error is `Memory`.
 pub fn counts_of(
     alloc: Global,
     nodes: &[Value<'_>],
@@ -63,6 +63,7 @@ pub fn counts_of(
         population: numbers_of(alloc, nodes, &columns.population)?,
         first: numbers_of(alloc, nodes, &columns.first)?,
         second: numbers_of(alloc, nodes, &columns.second)?,
+        lengths: UnitList::new(alloc),
     })
 }
 

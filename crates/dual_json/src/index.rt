@@ -1,9 +1,10 @@
 //! A map from ids to nodes.
 
-ghost use Rattle.std.specs.Prelude.{◌≡◌, ◌≤◌, ◌⊎◌, None, Some, length, MatchResult};
+ghost use Rattle.std.specs.Prelude.{◌≡◌, ◌<◌, ◌≤◌, ◌⊎◌, None, Some, length, MatchResult};
 ghost use Rattle.dual_json.specs.Values.{value_data};
 ghost use Rattle.audit_model.specs.declared.fault.GraphFault.TheVariants.{Memory};
-ghost use Rattle.dual_json.specs.Places.{labels_from, repeated_label, place_of_entry, IsLabelIndex};
+ghost use Rattle.dual_json.specs.Names.{label_from};
+ghost use Rattle.dual_json.specs.Places.{labels_from, nth, repeated_label, place_of_entry, IsLabelIndex};
 ghost use Rattle.audit_model.specs.Limits.{most_units};
 
 use crate::names::{NodeName, name_at};
@@ -41,6 +42,14 @@ impl<'v> Index<'v> {
     {
         let places = places_of(alloc, &names)?;
         Ok(Index { names, places })
+    }
+
+    /// Returns the name of a node.
+    pub fn name(&self, node: u32) -> NodeName<'v>
+        requires { node < length self.now }
+        ensures { label_from result ≡ nth self.now node }
+    {
+        self.names[node as usize]
     }
 
     /// Returns the node that an adjacency entry names.

@@ -7,6 +7,7 @@ pub mod districts;
 mod edges;
 mod ids;
 mod index;
+mod lengths;
 pub mod names;
 mod number;
 mod parse;

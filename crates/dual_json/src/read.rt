@@ -11,13 +11,15 @@ ghost use Rattle.dual_graph.specs.Read.{parsed_of};
 ghost use Rattle.audit_statement.specs.Reading.{graph, parsed, reading, refusal};
 ghost use Rattle.dual_json.specs.Districts.{district_count_fault, different_count};
 ghost use Rattle.dual_json.specs.Places.{labels_from, repeated_label, AreLabels};
-ghost use Rattle.dual_json.specs.Shape.{views, document_of_parts};
+ghost use Rattle.dual_json.specs.Lengths.{fault_if_named, lengths_if_named};
+ghost use Rattle.dual_json.specs.Shape.{lists_in, views, document_of_parts};
 ghost use Rattle.dual_json.specs.Stages.{ids_fault, graph_fault, labels_fault, AreRows};
 
 use crate::columns::{check_columns, check_numbers, counts_of, frozen_of, group_of};
 use crate::districts::{check_count, different, labels_of, start_of};
 use crate::edges::{check_entries, graph_of};
 use crate::index::Index;
+use crate::lengths::{Listed, lengths_of};
 use crate::names::{NodeName, Unnamed, names_at};
 use crate::parse::parse;
 use crate::shape::{RootParts, check_frame, parts_of};
@@ -27,6 +29,7 @@ use audit_model::lists::{LabelList, UnitList};
 use audit_model::outcome::Counts;
 use audit_model::rules::Group;
 use audit_model::setting::Columns;
+use audit_model::text::Text;
 use dual_graph::graph::Graph;
 use dual_graph::parsed::Parsed;
 use json::{Error, Scratch};
@@ -62,8 +65,8 @@ struct Rows {
     labels: LabelList,
 }
 
-/// Reads the graph, its counts, the start plan and the district labels. The group and the frozen
-/// units are read if they are named.
+/// Reads the graph, its counts, the start plan and the district labels. The group, the frozen units
+/// and the lengths of edges are read if they are named.
 ///
 /// The text is in networkx's adjacency format.
 ///
@@ -115,16 +118,57 @@ fn ids_of<'v>(alloc: Global, nodes: &[Value<'v>]) -> Result<Index<'v>, GraphFaul
     }
 }
 
-/// Reads the graph from the parts of the root.
-fn graph_in(alloc: Global, parts: &RootParts<'_, '_>) -> Result<Graph, GraphFault>
+/// A graph, and the index of the ids of its nodes.
+#[derive(Drop)]
+struct IndexedGraph<'v> {
+    graph: Graph,
+    index: Index<'v>,
+}
+
+/// Reads the graph from the parts of the root, with the index of its ids.
+fn graph_in<'v>(alloc: Global, parts: &RootParts<'_, 'v>) -> Result<IndexedGraph<'v>, GraphFault>
     ensures { MatchResult result
-        (λ g. (graph_fault (document_of_parts parts.now) ≡ None) × (graph (document_of_parts parts.now) ≡ g) × (length parts.now.nodes.now ≤ most_units) × IsGraph g × (count_edges g (λ u v. true) ≤ most_edges))
+        (λ made. (graph_fault (document_of_parts parts.now) ≡ None) × (graph (document_of_parts parts.now) ≡ made.graph) × (length parts.now.nodes.now ≤ most_units) × IsGraph made.graph
+        × (count_edges made.graph (λ u v. true) ≤ most_edges) × AreLabels (codes "id") (views parts.now.nodes.now) made.index × (length made.index ≡ length parts.now.adjacency.now))
         (λ f. (f ≡ fault.Memory) ⊎ (graph_fault (document_of_parts parts.now) ≡ Some f)) }
 {
     check_frame(parts)?;
     let index = ids_of(alloc, parts.nodes)?;
     check_entries(parts.adjacency)?;
-    graph_of(alloc, parts.nodes.len() as u32, parts.adjacency, &index)
+    match graph_of(alloc, parts.nodes.len() as u32, parts.adjacency, &index) {
+        Ok(graph) => Ok(IndexedGraph { graph, index }),
+        Err(fault) => Err(fault),
+    }
+}
+
+/// Reads the lengths of the edges, or returns none if no column of lengths is named.
+fn lengths_in<'v>(
+    alloc: Global,
+    made: &IndexedGraph<'v>,
+    adjacency: &[Value<'v>],
+    key: &Text,
+) -> Result<UnitList, GraphFault>
+    requires as_many { length made.now.index ≡ length adjacency.now }
+    requires few { length adjacency.now ≤ most_units }
+    requires units { made.now.graph.units ≡ length made.now.index }
+    ensures { MatchResult result
+        (λ lengths. (fault_if_named key.now made.now.index (lists_in adjacency.now) ≡ None)
+        × (lengths ≡ lengths_if_named key.now made.now.index (lists_in adjacency.now) made.now.graph))
+        (λ f. (f ≡ fault.Memory) ⊎ (fault_if_named key.now made.now.index (lists_in adjacency.now) ≡ Some f)) }
+{
+    let listed = Listed {
+        adjacency,
+        index: &made.index,
+        key: key.as_str(),
+    };
+    lengths_of(alloc, &made.graph, listed)
+}
+
+/// Adds the lengths of edges to the counts.
+fn with_lengths(counts: Counts, lengths: UnitList) -> Counts
+    ensures { result ≡ record counts { lengths = lengths } }
+{
+    Counts { lengths, ..counts }
 }
 
 /// Returns each node's district label, after the columns and numbers were checked.
@@ -189,15 +233,18 @@ fn read_parts(
     ensures group { IfOk result (λ p. IsGroup p.graph.units p.group) }
     ensures frozen { IfOk result (λ p. AreFrozen p.graph.units p.frozen) }
 {
-    let graph = graph_in(alloc, parts)?;
+    let made = graph_in(alloc, parts)?;
     let names = names_in(alloc, parts.nodes, columns)?;
     let rows = rows_of(alloc, parts.nodes, columns, &names)?;
-    Ok(Parsed {
-        graph,
-        counts: rows.counts,
-        group: rows.group,
-        frozen: rows.frozen,
-        start: rows.start,
-        labels: rows.labels,
-    })
+    match lengths_in(alloc, &made, parts.adjacency, &columns.length) {
+        Ok(lengths) => Ok(Parsed {
+            graph: made.graph,
+            counts: with_lengths(rows.counts, lengths),
+            group: rows.group,
+            frozen: rows.frozen,
+            start: rows.start,
+            labels: rows.labels,
+        }),
+        Err(fault) => Err(fault),
+    }
 }

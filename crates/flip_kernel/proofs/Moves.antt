@@ -1,22 +1,24 @@
 -- A proposal is a move exactly if four conditions hold: the pair is open, both populations stay within bounds, the plan
 -- after it meets the rules, and the unit may leave its district.
 use Rattle.std.proofs.Common.{◌≡◌, ℕ, ◌+◌, ◌<◌, ◌≤◌, Bool, true, false, cond, not, ◌==◌, List, [], ◌∷◌, length, get_or, set, refl, sym, ap, ◌∙◌, subst, inl, inr, arith, length-set}
-use Rattle.std.specs.Prelude.{◌⊎◌, ◌↔◌, IsTrue}
-use Rattle.std.proofs.lemmas.Bool.{cases_eq, eq-eqb, eqb-true, ne_eqb, and_right, both_ways, false≢true, cond-true, cond-false, not_from_true, not_from_false}
+use Rattle.std.specs.Prelude.{◌⊎◌, ◌↔◌, IsTrue, nat_le}
+use Rattle.std.proofs.lemmas.Bool.{and_from, and_parts, cases_eq, le-leb, leb-true, eq-eqb, eqb-true, ne_eqb, and_right, both_ways, false≢true, cond-true, cond-false, not_from_true, not_from_false}
 use Rattle.std.proofs.lemmas.List.{get_or-set_same, get_or-set_other}
 use Rattle.audit_model.specs.Graph.{Graph, IsGraph, adjacent, IsIn}
 use Rattle.audit_model.specs.Job.{Job, rules}
 use Rattle.audit_model.specs.JobOf.{IsJob}
 use Rattle.audit_model.specs.Local.{stays_behind, MayLeave}
-use Rattle.audit_model.specs.Meets.{Meets}
+use Rattle.audit_model.specs.Length.{cut_length}
+use Rattle.audit_model.specs.Meets.{Meets, meets_rules}
 use Rattle.audit_model.specs.Path.{IsPath, HasPath, IsConnected}
 use Rattle.audit_model.specs.District.{in_district, district_sum}
 use Rattle.audit_model.specs.Plan.{cut_edges, IsBalanced, IsLegal, least_population, greatest_population}
 use Rattle.audit_model.proofs.Accepted.{balanced_between}
 use Rattle.audit_model.proofs.Bools.{and_true}
+use Rattle.audit_model.proofs.Meeting.{meets_passes, passes_meets}
 use Rattle.audit_model.proofs.Paths.{path_one, path_before, path_after, path_joined, path_within, first_in}
 use Rattle.district_sums.proofs.Shifted.{shifted_sum}
-use Rattle.flip_kernel.specs.Held.{IsMove, KeepsBounds}
+use Rattle.flip_kernel.specs.Held.{IsMove, KeepsBounds, allows}
 use Rattle.flip_kernel.specs.Openings.{is_open}
 use Rattle.flip_kernel.proofs.Beside.{open_from, open_neighbour, in_other}
 use Rattle.flip_kernel.proofs.Holding.{put_back}
@@ -67,6 +69,22 @@ second_of : (g : Graph) (inside : ℕ → Bool) (units : List ℕ) (u x : ℕ) �
 second_of g inside [] u x p off = absurd p
 second_of g inside (a ∷ []) u x p off = absurd (off (sym p.1 ∙ p.0))
 second_of g inside (a ∷ b ∷ rest) u x p off = (b, subst (λ (v : ℕ). adjacent g v b ≡ true) p.0 p.2, (first_in g inside b rest b x p.3).1)
+
+-- ---- the rules and the length
+
+-- a plan that is allowed meets the rules, and its cut edges are not too long
+allows_parts : (job : Job) (plan : List ℕ) → allows job plan ≡ true
+    → (cut_length job.graph job.counts.lengths plan ≤ job.setting.max_length) × Meets (rules job) (cut_edges job.graph plan) plan
+allows_parts job plan h =
+    let parts = and_parts (nat_le (cut_length job.graph job.counts.lengths plan) job.setting.max_length) (meets_rules (rules job) (cut_edges job.graph plan) plan) h in
+    (leb-true (cut_length job.graph job.counts.lengths plan) job.setting.max_length parts.0, passes_meets (rules job) (cut_edges job.graph plan) plan parts.1)
+
+-- a legal plan is allowed
+pub legal_allows : (job : Job) (plan : List ℕ) → IsLegal job plan → allows job plan ≡ true
+legal_allows job plan legal =
+    and_from (nat_le (cut_length job.graph job.counts.lengths plan) job.setting.max_length) (meets_rules (rules job) (cut_edges job.graph plan) plan)
+    (le-leb (cut_length job.graph job.counts.lengths plan) job.setting.max_length legal.short)
+    (meets_passes (rules job) (cut_edges job.graph plan) plan legal.meeting)
 
 -- ---- the plan after the flip
 
@@ -189,9 +207,8 @@ module _ (job : Job) (plan : List ℕ) (u d : ℕ) (sound : IsJob job) (legal : 
     ]
   ]
 
-  pub is_move : is_open job.graph plan u d ≡ true → Keeps → Meets (rules job) (cut_edges job.graph (set plan u d)) (set plan u d) → MayLeave job.graph plan u
-      → IsMove job plan u d
-  is_move beside keeps meets leaves = record {
+  pub is_move : is_open job.graph plan u d ≡ true → Keeps → allows job (set plan u d) ≡ true → MayLeave job.graph plan u → IsMove job plan u d
+  is_move beside keeps allowed leaves = let parts = allows_parts job (set plan u d) allowed in record {
     elsewhere = off;
     legal = record {
       complete = length-set plan u d ∙ legal.complete;
@@ -201,7 +218,8 @@ module _ (job : Job) (plan : List ℕ) (u d : ℕ) (sound : IsJob job) (legal : 
       ];
       connected = connected_after beside leaves;
       balanced = balanced_after keeps;
-      meeting = meets;
+      meeting = parts.1;
+      short = parts.0;
     };
   }
 

@@ -1,9 +1,11 @@
 -- The state of the chain: a job, and a plan that is legal for it.
-use Rattle.std.specs.Prelude.{◌≡◌, ◌≢◌, ℕ, ◌+◌, ◌<◌, ◌≤◌, Bool, IsTrue, Some, List, length, slice_index, slice_set}
+use Rattle.std.specs.Prelude.{◌≡◌, ◌≢◌, ℕ, ◌+◌, ◌<◌, ◌≤◌, ◌&&◌, nat_le, Bool, IsTrue, Some, List, length, slice_index, slice_set}
 use Rattle.audit_model.specs.declared.outcome.SumsView.{SumsView}
-use Rattle.audit_model.specs.Job.{Job}
+use Rattle.audit_model.specs.Job.{Job, rules}
+use Rattle.audit_model.specs.Length.{cut_length}
+use Rattle.audit_model.specs.Meets.{meets_rules}
 use Rattle.audit_model.specs.District.{district_sum}
-use Rattle.audit_model.specs.Plan.{IsLegal, least_population, greatest_population}
+use Rattle.audit_model.specs.Plan.{IsLegal, cut_edges, least_population, greatest_population}
 use Rattle.audit_model.specs.Proposal.{proposal}
 use Rattle.audit_model.specs.Score.{sums_of}
 use Rattle.district_sums.specs.Following.{Following, StandsFor, districts_in}
@@ -44,6 +46,10 @@ pub record ProposesOpen (job : Job) (plan : List ℕ) (draw unit district : ℕ)
   pub inside : unit < length plan
   pub district_below : district < job.districts
   pub beside : IsTrue (is_open job.graph plan unit district)
+
+-- a plan of the job meets the rules, and its cut edges are not too long in all
+abbrev pub allows : Job → List ℕ → Bool
+allows job plan = nat_le (cut_length job.graph job.counts.lengths plan) job.setting.max_length && meets_rules (rules job) (cut_edges job.graph plan) plan
 
 -- the unit is in another district, and the plan with it in this one is legal
 pub record IsMove (job : Job) (plan : List ℕ) (unit district : ℕ) : Type 0 where

@@ -1,15 +1,16 @@
 //! A legal plan of a job, with its sums and its open pairs.
 
-ghost use Rattle.std.specs.Prelude.{◌≡◌, ◌≢◌, ◌+◌, ◌<◌, ◌≤◌, ◌^◌, ◌-◌, ◌↔◌, ℕ, ⊤, length, slice_index, slice_set, IfOk, MatchOption, IsTrue};
+ghost use Rattle.std.specs.Prelude.{◌≡◌, ◌≢◌, ◌+◌, ◌<◌, ◌≤◌, ◌^◌, ◌-◌, ◌↔◌, ℕ, ⊤, nat_le, length, slice_index, slice_set, IfOk, MatchOption, IsTrue};
 ghost use Rattle.audit_model.specs.JobOf.{IsJob};
 ghost use Rattle.audit_model.specs.Local.{IsLocal, MayLeave};
 ghost use Rattle.audit_model.specs.Job.{rules};
+ghost use Rattle.audit_model.specs.Length.{cut_length};
 ghost use Rattle.audit_model.specs.Meets.{meets_rules};
 ghost use Rattle.audit_model.specs.District.{district_sum};
 ghost use Rattle.audit_model.specs.Plan.{IsLegal, cut_edges, least_population, greatest_population};
 ghost use Rattle.audit_model.specs.Step.{next};
 ghost use Rattle.district_sums.specs.Following.{StandsFor, districts_in};
-ghost use Rattle.flip_kernel.specs.Held.{IsMove, IsSummed, KeepsBounds, KeepsBoundsIn, ProposesOpen, sums_in};
+ghost use Rattle.flip_kernel.specs.Held.{IsMove, IsSummed, KeepsBounds, KeepsBoundsIn, ProposesOpen, allows, sums_in};
 ghost use Rattle.flip_kernel.specs.Judged.{IsSeated};
 ghost use Rattle.flip_kernel.specs.Openings.{is_open};
 
@@ -23,6 +24,7 @@ use audit_model::steps::Steps;
 use contig::counts::FaceCounts;
 use contig::leave::{counting_tells, local_holds, may_leave};
 use contig::table::FaceTable;
+use district_sums::lengths::length_after;
 use district_sums::sums::Sums;
 use dual_graph::marks::Marks;
 use dual_graph::member::Member;
@@ -194,6 +196,31 @@ impl Board {
         is_permitted(judge, flip, &mut self.sums, &mut self.plan)
     }
 
+    /// Returns true if the cut edges are not too long in all after the flip, from the total before it.
+    #[inline]
+    fn keeps_length(&self, flip: Flip) -> bool
+        requires made { self.now.job ≡ flip.job.now }
+        ensures { result ≡ nat_le (cut_length flip.entry.job.now.graph flip.entry.job.now.counts.lengths (slice_set self.now.plan flip.entry.unit flip.entry.district))
+            flip.entry.job.now.setting.max_length }
+    {
+        is_short(flip, &self.sums, &self.plan)
+    }
+
+    /// Returns true if the plan after the flip meets the rules and its cut edges are not too long.
+    #[inline]
+    fn allows<J: Judge>(&mut self, judge: &J, flip: Flip) -> bool
+        requires made { self.old.job ≡ flip.job.now }
+        requires judge { IsSeated flip.job.now self.old.plan (J.judging judge.now) }
+        requires elsewhere { slice_index self.old.plan flip.unit ≢ flip.district }
+        ensures allows { result ≡ allows flip.entry.job.now (slice_set self.old.plan flip.entry.unit flip.entry.district) }
+        ensures same { self.new ≡ self.old }
+    {
+        if !self.keeps_length(flip) {
+            return false;
+        }
+        self.permits(judge, flip)
+    }
+
     /// Decides by links and counts of faces if the unit may leave its district. `None` means that a
     /// search is needed.
     fn counting_tells(&self, job: &Job, unit: u32) -> Option<bool>
@@ -249,9 +276,9 @@ impl Board {
         let _plan = self.plan();
         match self.counting_tells(flip.job, flip.unit) {
             Some(false) => Some(false),
-            Some(true) => Some(self.permits(judge, flip)),
+            Some(true) => Some(self.allows(judge, flip)),
             None => {
-                if self.permits(judge, flip) {
+                if self.allows(judge, flip) {
                     None
                 } else {
                     Some(false)
@@ -377,6 +404,25 @@ fn put_unit(plan: &mut UnitList, unit: u32, district: u32)
     ensures { plan.new ≡ slice_set plan.old unit district }
 {
     plan.as_mut_slice()[unit as usize] = district;
+}
+
+/// Returns true if the cut edges are not too long in all after the flip, from the total before it.
+#[inline]
+fn is_short(flip: Flip, sums: &Sums, plan: &UnitList) -> bool
+    requires summed { IsSummed flip.job.now plan.now sums.now }
+    ensures { result ≡ nat_le (cut_length flip.entry.job.now.graph flip.entry.job.now.counts.lengths (slice_set plan.now flip.entry.unit flip.entry.district))
+        flip.entry.job.now.setting.max_length }
+{
+    // Called for its contract: the job is within its limits, and its start plan is legal.
+    let _units = flip.job.units();
+    let member = Member {
+        graph: flip.job.graph(),
+        plan: plan.as_slice(),
+        unit: flip.unit,
+    };
+    let before = sums.view().length;
+    let lengths = &flip.job.counts().lengths;
+    length_after(member, lengths, before, flip.district) <= flip.job.setting().max_length
 }
 
 /// Returns true if the constraint permits the plan after the flip.

@@ -23,6 +23,7 @@ use Rattle.dual_json.proofs.Bridge.{parsed_is, within_is}
 use Rattle.dual_json.proofs.Joined.{graph_is}
 use Rattle.audit_statement.specs.Reading.{Document, node_count, node, entries, entry, id_of, same_id, lists, joined, graph, reading}
 use Rattle.audit_model.proofs.Connected.{filter_below-has}
+use Rattle.audit_model.proofs.Lengths.{none_lengths}
 use Rattle.audit_model.proofs.Below.{length-map_below, get_or-map_below, any_below_from}
 use Rattle.audit_model.proofs.ListFacts.{has_at}
 use Rattle.grid_maker.specs.Columns.{grid_columns}
@@ -235,10 +236,12 @@ module _ (size : ℕ) (key : List ℕ) (some : 1 ≤ size) (small : size ≤ 30)
   -- ---- the whole grid
 
   pub made_is_read : (g : Graph) (counts : Counts) (group : Group) (frozen start : List ℕ) (found : List Label) → graph made ≡ g → AreRows grid_columns made.nodes counts group frozen start found
+      → counts.lengths ≡ []
       → reading (grid size key) grid_columns ≡ Ok (record { graph = g; counts = counts; group = group; frozen = frozen; start = start; labels = found })
-  made_is_read g counts group frozen start found same rows = grid_gives size key some small ∙ ap Ok (parsed_is made grid_columns g counts group frozen start found same rows)
+  made_is_read g counts group frozen start found same rows none = grid_gives size key some small ∙ ap Ok (parsed_is made grid_columns g counts group frozen start found same rows none)
 
   pub made_within : (g : Graph) (counts : Counts) (group : Group) (frozen start : List ℕ) (found : List Label) → IsGraph g → g.units ≡ units_of size → count_edges g (λ u v. true) ≤ 400000
-      → AreRows grid_columns made.nodes counts group frozen start found → AreWithin g counts start (length found)
-  made_within g counts group frozen start found is units few rows =
+      → AreRows grid_columns made.nodes counts group frozen start found → counts.lengths ≡ [] → AreWithin g counts start (length found)
+  made_within g counts group frozen start found is units few rows none =
       within_is made.nodes grid_columns g counts group frozen start found is (units ∙ sym (count_is size key)) (omega (arith, count_is size key, few_units size small)) few rows
+      (none_lengths g counts.lengths none)

@@ -77,6 +77,7 @@ fn counts_of(alloc: Global, square: Square, key: [u8; 32]) -> Result<Counts, Mem
     ensures population { IfOk result (λ counts. counts.population ≡ map_below (grid_side square.size * grid_side square.size) (λ u. 100)) }
     ensures first { IfOk result (λ counts. counts.first ≡ map_below (grid_side square.size * grid_side square.size) (first_votes_of key)) }
     ensures second { IfOk result (λ counts. counts.second ≡ map_below (grid_side square.size * grid_side square.size) (λ u. 100 - first_votes_of key u)) }
+    ensures lengths { IfOk result (λ counts. counts.lengths ≡ []) }
 {
     let mut draws = Draws::new(key, VOTES_STREAM);
     let mut population = NumList::new(alloc);
@@ -93,6 +94,7 @@ fn counts_of(alloc: Global, square: Square, key: [u8; 32]) -> Result<Counts, Mem
         population,
         first,
         second,
+        lengths: UnitList::new(alloc),
     })
 }
 

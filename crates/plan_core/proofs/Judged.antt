@@ -3,14 +3,15 @@ use Rattle.std.proofs.Common.{◌≡◌, ℕ, ◌<◌, [], ◌∷◌, Bool, true
 use Rattle.std.specs.Prelude.{◌↔◌, nat_lt, is_none, is_some, option_map, unwrap_or, ◌⊎◌, Result, Ok, Err, MatchResult}
 use Rattle.std.proofs.lemmas.Bool.{and_parts, and_from, cases_Bool, cond-true, cond-false, le-ltb, ltb-false, not-false, not_from_true, not_from_false, and_left, false_from_ne_true, true≢false, false≢true}
 use Rattle.audit_model.specs.declared.fault.PlanFault.{PlanFault}
-use Rattle.audit_model.specs.declared.fault.PlanFault.TheVariants.{Disconnected, TooManyCut, TooManySplits, TooManySplitRegions, TooFewMajorities, Memory}
+use Rattle.audit_model.specs.declared.fault.PlanFault.TheVariants.{Disconnected, TooManyCut, TooManySplits, TooManySplitRegions, TooFewMajorities, TooLong, Memory}
 use Rattle.audit_model.specs.declared.setting.Label.{Label}
 use Rattle.audit_model.specs.declared.setting.Setting.{Setting}
 use Rattle.audit_model.specs.Below.{above_all}
 use Rattle.audit_model.specs.First.{first_some, first_below}
 use Rattle.audit_model.specs.Graph.{Graph}
 use Rattle.audit_model.specs.Job.{Job, home_of}
-use Rattle.audit_model.specs.JobOf.{IsJob, job_from, job_of, job_or, job_with, restarted, is_unbalanced, is_parted, cuts_too_many, is_oversplit, out_of_bounds, disconnected, oversplit, bounds_fault, path_fault, cut_fault, split_fault, splits_fault, split_regions_fault, group_fault, plan_fault}
+use Rattle.audit_model.specs.JobOf.{IsJob, job_from, job_of, job_or, job_with, restarted, is_unbalanced, is_parted, cuts_too_many, is_oversplit, out_of_bounds, disconnected, oversplit, bounds_fault, path_fault, cut_fault, split_fault, splits_fault, split_regions_fault, group_fault, length_fault, plan_fault}
+use Rattle.audit_model.specs.Length.{cut_length}
 use Rattle.audit_model.specs.Limits.{IsWithinLimits}
 use Rattle.audit_model.specs.Meets.{KeepsFrozen, keeps_frozen, majorities, split_of, split_regions, splits_in_all}
 use Rattle.audit_model.specs.Parsed.{Parsed}
@@ -73,9 +74,13 @@ and_second : (a b : Bool) → a ≡ true → (a && b) ≡ b
 and_second true b h = refl
 and_second false b h = cc
 
+-- the faults from the group on
+after_split_regions : Job → List (Option PlanFault)
+after_split_regions job = group_fault job ∷ length_fault job ∷ []
+
 -- the faults from the region splits on
 after_splits : Job → List (Option PlanFault)
-after_splits job = split_regions_fault job ∷ group_fault job ∷ []
+after_splits job = split_regions_fault job ∷ after_split_regions job
 
 after_regions : Job → List (Option PlanFault)
 after_regions job = splits_fault job ∷ after_splits job
@@ -86,27 +91,29 @@ after_cut job = split_fault job ∷ after_regions job
 -- no fault of shape means no fault of each kind
 shape_parts : (job : Job) → shape_fault job ≡ None
     → (path_fault job ≡ None) × (cut_fault job ≡ None) × (split_fault job ≡ None)
-    × (splits_fault job ≡ None) × (split_regions_fault job ≡ None) × (group_fault job ≡ None)
-unfolding after_cut after_regions after_splits
+    × (splits_fault job ≡ None) × (split_regions_fault job ≡ None) × (group_fault job ≡ None) × (length_fault job ≡ None)
+unfolding after_cut after_regions after_splits after_split_regions
 shape_parts job h =
     let first = option_or_none (path_fault job) (first_some (cut_fault job ∷ after_cut job)) h in
     let second = option_or_none (cut_fault job) (first_some (after_cut job)) first.1 in
     let third = option_or_none (split_fault job) (first_some (after_regions job)) second.1 in
     let fourth = option_or_none (splits_fault job) (first_some (after_splits job)) third.1 in
-    let fifth = option_or_none (split_regions_fault job) (first_some (group_fault job ∷ [])) fourth.1 in
-    (first.0, second.0, third.0, fourth.0, fifth.0, (option_or_none (group_fault job) (first_some []) fifth.1).0)
+    let fifth = option_or_none (split_regions_fault job) (first_some (after_split_regions job)) fourth.1 in
+    let sixth = option_or_none (group_fault job) (first_some (length_fault job ∷ [])) fifth.1 in
+    (first.0, second.0, third.0, fourth.0, fifth.0, sixth.0, (option_or_none (length_fault job) (first_some []) sixth.1).0)
 
 -- no fault of each kind means no fault of shape
 parts_shape : (job : Job) → path_fault job ≡ None → cut_fault job ≡ None → split_fault job ≡ None
-    → splits_fault job ≡ None → split_regions_fault job ≡ None → group_fault job ≡ None → shape_fault job ≡ None
-unfolding after_cut after_regions after_splits
-parts_shape job paths cut split splits regions group =
+    → splits_fault job ≡ None → split_regions_fault job ≡ None → group_fault job ≡ None → length_fault job ≡ None → shape_fault job ≡ None
+unfolding after_cut after_regions after_splits after_split_regions
+parts_shape job paths cut split splits regions group long =
     none_or (path_fault job) (first_some (cut_fault job ∷ after_cut job)) paths
     ∙ none_or (cut_fault job) (first_some (after_cut job)) cut
     ∙ none_or (split_fault job) (first_some (after_regions job)) split
     ∙ none_or (splits_fault job) (first_some (after_splits job)) splits
-    ∙ none_or (split_regions_fault job) (first_some (group_fault job ∷ [])) regions
-    ∙ none_or (group_fault job) (first_some []) group
+    ∙ none_or (split_regions_fault job) (first_some (after_split_regions job)) regions
+    ∙ none_or (group_fault job) (first_some (length_fault job ∷ [])) group
+    ∙ none_or (length_fault job) (first_some []) long
 
 -- a plan that passes the test of frozen units keeps their districts
 pub keeps_of : (job : Job) (plan : List ℕ) → keeps_frozen job.frozen (home_of job.frozen job.start) plan ≡ true → KeepsFrozen job.frozen (home_of job.frozen job.start) plan
@@ -157,6 +164,9 @@ module _ (job : Job) (plan : List ℕ) (complete : length plan ≡ job.graph.uni
               (TooFewMajorities (majorities job.setting.group_share job.group plan) job.setting.group_districts job.setting.group_share) parts.5);
           keeps = keeps;
         };
+        short = ltb-false job.setting.max_length (cut_length job.graph job.counts.lengths plan)
+            (cond_some_none (nat_lt job.setting.max_length (cut_length job.graph job.counts.lengths plan))
+            (TooLong (cut_length job.graph job.counts.lengths plan) job.setting.max_length) parts.6);
       }
 
   unrefused : IsLegal job plan → (bounds_fault (with_start job plan) ≡ None) × (shape_fault (with_start job plan) ≡ None)
@@ -181,7 +191,10 @@ module _ (job : Job) (plan : List ℕ) (complete : length plan ≡ job.graph.uni
         (le-ltb job.setting.max_split_regions (split_regions job.regions plan) legal.meeting.few_regions))
         (cond-false (nat_lt (majorities job.setting.group_share job.group plan) job.setting.group_districts)
         (Some (TooFewMajorities (majorities job.setting.group_share job.group plan) job.setting.group_districts job.setting.group_share)) None
-        (le-ltb (majorities job.setting.group_share job.group plan) job.setting.group_districts legal.meeting.enough)),
+        (le-ltb (majorities job.setting.group_share job.group plan) job.setting.group_districts legal.meeting.enough))
+        (cond-false (nat_lt job.setting.max_length (cut_length job.graph job.counts.lengths plan))
+        (Some (TooLong (cut_length job.graph job.counts.lengths plan) job.setting.max_length)) None
+        (le-ltb job.setting.max_length (cut_length job.graph job.counts.lengths plan) legal.short)),
   )
 
   judged : (r : Bool) → r ≡ (is_none (bounds_fault (with_start job plan)) && is_none (shape_fault (with_start job plan))) → (r ≡ true) ↔ IsLegal job plan

@@ -29,6 +29,7 @@ moved_is_job job origin sound = record {
     connected = sound.legal.connected;
     balanced = sound.legal.balanced;
     meeting = sound.legal.meeting;
+    short = sound.legal.short;
   };
 }
 

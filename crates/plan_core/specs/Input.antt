@@ -5,7 +5,7 @@ use Rattle.audit_model.specs.declared.fault.PlanFault.TheVariants.{TooManySplits
 use Rattle.audit_model.specs.declared.rules.Rules.{Rules}
 use Rattle.audit_model.specs.First.{first_some}
 use Rattle.audit_model.specs.Job.{Job, total_population, total_votes, rules}
-use Rattle.audit_model.specs.JobOf.{path_fault, cut_fault, split_fault, splits_fault, split_regions_fault, group_fault}
+use Rattle.audit_model.specs.JobOf.{path_fault, cut_fault, split_fault, splits_fault, split_regions_fault, group_fault, length_fault}
 use Rattle.audit_model.specs.Limits.{IsWithinLimits}
 
 -- the plan gives each unit one of the districts
@@ -32,7 +32,7 @@ regions_fault job = first_some (split_fault job ∷ splits_fault job ∷ split_r
 abbrev pub shape_fault : Job → Option PlanFault
 shape_fault job = first_some (
     path_fault job ∷ cut_fault job ∷ split_fault job
-    ∷ splits_fault job ∷ split_regions_fault job ∷ group_fault job ∷ [])
+    ∷ splits_fault job ∷ split_regions_fault job ∷ group_fault job ∷ length_fault job ∷ [])
 
 -- all is within the limits, and the rules and both totals are the job's
 pub record IsInput (job : Job) (kept : Rules) (people votes : ℕ) : Type 0 where

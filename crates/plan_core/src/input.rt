@@ -3,7 +3,8 @@
 ghost use Rattle.std.specs.Prelude.{◌≡◌, ◌<◌, ◌≤◌, ℕ, length, slice_index, IfOk};
 ghost use Rattle.std.specs.List.{list_any};
 ghost use Rattle.audit_model.specs.Job.{home_of, total_population, total_votes, rules};
-ghost use Rattle.audit_model.specs.JobOf.{is_gap, has_no_votes, bounds_fault, path_fault, cut_fault, group_fault, plan_fault, job_from};
+ghost use Rattle.audit_model.specs.JobOf.{is_gap, has_no_votes, bounds_fault, path_fault, cut_fault, group_fault, length_fault, plan_fault, job_from};
+ghost use Rattle.audit_model.specs.Length.{cut_length};
 ghost use Rattle.audit_model.specs.Limits.{IsWithinLimits, most_districts};
 ghost use Rattle.audit_model.specs.Meets.{keeps_frozen, majorities};
 ghost use Rattle.audit_model.specs.Plan.{least_population, greatest_population};
@@ -21,6 +22,7 @@ use audit_model::origin::Origin;
 use audit_model::outcome::Counts;
 use audit_model::rules::Rules;
 use audit_model::setting::{Ask, Score, Setting};
+use district_sums::lengths::measure_cut;
 use district_sums::scratch::count_cut;
 use dual_graph::graph::Graph;
 use dual_graph::marks::Marks;
@@ -79,7 +81,7 @@ fn is_gap(score: Score) -> bool
 {
     match score {
         Score::Gap => true,
-        Score::Seats | Score::MeanMedian | Score::CutEdges => false,
+        Score::Seats | Score::MeanMedian | Score::CutEdges | Score::CutLength => false,
     }
 }
 
@@ -409,6 +411,29 @@ impl Input {
         None
     }
 
+    /// Returns the total length of the edges that a plan cuts.
+    pub fn cut_length(&self, plan: &[u32]) -> u64
+        requires { length plan.now ≡ self.now.graph.units }
+        ensures { result ≡ cut_length self.now.graph self.now.counts.lengths plan.now }
+    {
+        measure_cut(&self.graph, &self.counts.lengths, plan)
+    }
+
+    /// Returns the fault of a plan whose cut edges are too long in all.
+    fn length_fault(&self, plan: &[u32]) -> Option<PlanFault>
+        requires { length plan.now ≡ self.now.graph.units }
+        ensures { result ≡ length_fault (with_start self.now plan.now) }
+    {
+        let length = measure_cut(&self.graph, &self.counts.lengths, plan);
+        if self.setting.max_length < length {
+            return Some(PlanFault::TooLong {
+                length,
+                most: self.setting.max_length,
+            });
+        }
+        None
+    }
+
     /// Returns true if a plan gives each frozen unit its district in the start plan.
     pub fn keeps_frozen(&self, plan: &[u32]) -> bool
         requires { length plan.now ≡ self.now.graph.units }
@@ -433,7 +458,10 @@ impl Input {
         if let Some(fault) = self.regions_fault(plan) {
             return Some(fault);
         }
-        self.group_fault(plan)
+        if let Some(fault) = self.group_fault(plan) {
+            return Some(fault);
+        }
+        self.length_fault(plan)
     }
 
     /// Returns the first fault of the start plan. Fails if there is no memory for the search.

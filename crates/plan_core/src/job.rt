@@ -5,6 +5,7 @@ ghost use Rattle.std.specs.List.{slice_get, slice_index_or};
 ghost use Rattle.audit_model.specs.declared.fault.PlanFault.TheVariants as plan;
 ghost use Rattle.audit_model.specs.Job.{home_of, total_population, total_votes, rules};
 ghost use Rattle.audit_model.specs.JobOf.{IsJob, job_from, job_of, job_with, plan_fault};
+ghost use Rattle.audit_model.specs.Length.{cut_length};
 ghost use Rattle.audit_model.specs.Limits.{IsWithinLimits, most_districts};
 ghost use Rattle.audit_model.specs.Meets.{keeps_frozen, majorities};
 ghost use Rattle.audit_model.specs.Plan.{IsLegal, is_legal, least_population, greatest_population};
@@ -79,6 +80,8 @@ impl Job {
     /// - `TooManyCut`: the plan cuts more edges than the setting allows. It gives their number.
     /// - `TooFewMajorities`: the group has a majority in fewer districts than the setting requires.
     ///   It gives their number.
+    /// - `TooLong`: the cut edges are longer in all than the setting allows. It gives their total
+    ///   length.
     ///
     /// `Memory` comes if there was no memory for the search or for the sums of the plan.
     pub fn new(alloc: Global, parsed: Parsed, setting: Setting) -> Result<Job, PlanFault>
@@ -267,6 +270,13 @@ impl Job {
         ensures { result ≡ majorities self.now.setting.group_share self.now.group self.now.start }
     {
         self.input.majorities(self.input.start().as_slice())
+    }
+
+    /// Returns the total length of the edges that the start plan cuts.
+    pub fn cut_length(&self) -> u64
+        ensures { result ≡ cut_length self.now.graph self.now.counts.lengths self.now.start }
+    {
+        self.input.cut_length(self.input.start().as_slice())
     }
 
     /// Returns the number of units.

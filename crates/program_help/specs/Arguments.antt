@@ -2,8 +2,8 @@
 -- The wording is this project's own. Names, defaults and limits are those by which arguments are parsed.
 use Rattle.std.specs.Prelude.{ℕ, ◌-◌, List, [], ◌∷◌, ◌++◌, length, replicate, codes, decimal, Option, Some, None}
 use Rattle.audit_model.specs.declared.fault.Name.{Name}
-use Rattle.audit_model.specs.declared.fault.Name.TheVariants.{Pop, First, Second, District, Size, Slack, Key, Walks, Steps, Ends, HubSteps, Ask, Workers, Budget, Save, Resume, MaxCut, Shift, Stop, Serial, Region, MaxSplit, Parts, Part, MaxSplits, MaxSplitRegions, Group, GroupOf, GroupDistricts, Source, Ids, Thin, GroupShare, Freeze}
-use Rattle.audit_model.specs.Limits.{most_trajectories, most_districts, most_regions, most_splits, most_steps, most_workers, most_edges}
+use Rattle.audit_model.specs.declared.fault.Name.TheVariants.{Pop, First, Second, District, Size, Slack, Key, Walks, Steps, Ends, HubSteps, Ask, Workers, Budget, Save, Resume, MaxCut, Shift, Stop, Serial, Region, MaxSplit, Parts, Part, MaxSplits, MaxSplitRegions, Group, GroupOf, GroupDistricts, Source, Ids, Thin, GroupShare, Freeze, Length, MaxLength}
+use Rattle.audit_model.specs.Limits.{most_trajectories, most_districts, most_regions, most_splits, most_steps, most_workers, most_edges, most_length}
 use Rattle.audit_model.specs.Names.{name_text}
 use Rattle.audit_statement.specs.Words.{default_of}
 
@@ -52,6 +52,8 @@ kind_of Ids = ids
 kind_of Thin = between 1 most_steps
 kind_of GroupShare = between 0 10000
 kind_of Freeze = column
+kind_of Length = column
+kind_of MaxLength = between 0 most_length
 
 -- the purpose of each argument
 abbrev pub purpose_of : Name → List ℕ
@@ -87,8 +89,10 @@ purpose_of GroupDistricts = codes "least districts where it is a majority"
 purpose_of Source = codes "report the SHA-256 of what was read"
 purpose_of Ids = codes "the trajectories that are shown"
 purpose_of Thin = codes "steps between two plans that are shown"
-purpose_of GroupShare = codes "share above which it is, hundredths of a percent"
+purpose_of GroupShare = codes "share above which it is, in 1/100 percent"
 purpose_of Freeze = codes "the column of units that stay where they are"
+purpose_of Length = codes "the column of the edges' lengths"
+purpose_of MaxLength = codes "most total length of cut edges"
 
 -- the text for the values of a kind
 abbrev pub values_text : Kind → List ℕ
@@ -105,9 +109,9 @@ default_text None = codes "required"
 default_text (Some []) = codes "default none"
 default_text (Some (c ∷ text)) = codes "default " ++ c ∷ text
 
--- a text, padded with spaces to this width
+-- a text, padded with spaces to this width, with one at least
 abbrev pub padded : ℕ → List ℕ → List ℕ
-padded width text = text ++ replicate (width - length text) 32
+padded width text = text ++ 32 ∷ replicate (width - 1 - length text) 32
 
 -- the line of an argument, without its line feed
 abbrev pub argument_text : Name → List ℕ

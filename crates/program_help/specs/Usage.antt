@@ -57,7 +57,7 @@ usage_lines =
 
 -- the scores and tails of a test
 abbrev pub test_lines : List (List ℕ)
-test_lines = [] ∷ codes "SCORE is seats, mean-median, gap or cut-edges; TAIL is low or high." ∷ []
+test_lines = [] ∷ codes "SCORE is seats, mean-median, gap, cut-edges or, with --length, cut-length; TAIL is low or high." ∷ []
 
 -- the lines before the arguments of a command
 abbrev pub head_of : Command → List (List ℕ)

@@ -105,10 +105,16 @@ pub fn argument_text(name: Name) -> &'static str
             "  --thin              1 to 1000000000 default 1000   steps between two plans that are shown"
         }
         Name::GroupShare => {
-            "  --group-share       0 to 10000      default 5000   share above which it is, hundredths of a percent"
+            "  --group-share       0 to 10000      default 5000   share above which it is, in 1/100 percent"
         }
         Name::Freeze => {
             "  --freeze            COLUMN          default none   the column of units that stay where they are"
+        }
+        Name::Length => {
+            "  --length            COLUMN          default none   the column of the edges' lengths"
+        }
+        Name::MaxLength => {
+            "  --max-length        0 to 1717986918000000 default 1717986918000000 most total length of cut edges"
         }
     }
 }

@@ -64,7 +64,7 @@ const OF_TRACE: [&str; 3] = [
 
 const TESTS: [&str; 2] = [
     "",
-    "SCORE is seats, mean-median, gap or cut-edges; TAIL is low or high.",
+    "SCORE is seats, mean-median, gap, cut-edges or, with --length, cut-length; TAIL is low or high.",
 ];
 
 /// Returns the lines of the program's usage.

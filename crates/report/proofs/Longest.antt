@@ -21,12 +21,13 @@ use Rattle.audit_model.specs.declared.outcome.Outcome.{Outcome}
 use Rattle.audit_model.specs.declared.setting.Ask.{Ask}
 use Rattle.audit_model.specs.declared.setting.Columns.{Columns}
 use Rattle.audit_model.specs.declared.setting.Score.{Score}
-use Rattle.audit_model.specs.declared.setting.Score.TheVariants.{Seats, MeanMedian, Gap, CutEdges}
+use Rattle.audit_model.specs.declared.setting.Score.TheVariants.{Seats, MeanMedian, Gap, CutEdges, CutLength}
 use Rattle.audit_model.specs.declared.setting.Tail.{Tail}
 use Rattle.audit_model.specs.declared.setting.Tail.TheVariants.{Low, High}
 use Rattle.audit_model.specs.Graph.{count_edges}
 use Rattle.audit_model.specs.Job.{Job, total_population, total_votes}
 use Rattle.audit_model.specs.JobOf.{IsJob}
+use Rattle.audit_model.specs.Length.{cut_length}
 use Rattle.audit_model.specs.Meets.{frozen_count, majorities, region_count}
 use Rattle.audit_model.specs.Plan.{least_population, greatest_population}
 use Rattle.audit_model.specs.Run.{steps_of}
@@ -36,7 +37,7 @@ use Rattle.audit_model.specs.Trajectory.{in_tail, plan_value, rank, value_at}
 use Rattle.audit_model.proofs.Least.{bound_is_least, quotient_up_is_least}
 use Rattle.audit_statement.specs.Names.{score_name, tail_name}
 use Rattle.audit_model.specs.Stopping.{placed_asks}
-use Rattle.audit_statement.specs.Report.{line, fraction, billionths, graph_line, population_line, columns_line, cut_line, frozen_line, frozen_words, group_line, group_words, origin_lines, region_words, share_line, split_line, splits_line, rule_lines, setting_line, walk_line, walk_lines, ends_line, ends_lines, stop_line, title_line, shift_line, stopped_line, test_lines, serial_line, serial_lines, report}
+use Rattle.audit_statement.specs.Report.{line, fraction, billionths, graph_line, population_line, columns_line, cut_length_line, cut_line, frozen_line, frozen_words, group_line, group_words, length_line, length_lines, length_words, origin_lines, region_words, share_line, split_line, splits_line, rule_lines, setting_line, walk_line, walk_lines, ends_line, ends_lines, stop_line, title_line, shift_line, stopped_line, test_lines, serial_line, serial_lines, report}
 use Rattle.report.specs.Outcomes.{AreOutcomesOf, AreStops, AreStopsBy, AreStopsOf, HasCounts, IsCount, IsRank, IsSerialBy, IsSerialOf, IsStopOf}
 use Rattle.report.specs.Parts.{head, key_line, lines_of, names_length, source_line}
 use Rattle.report.proofs.Escapes.{length-quoted}
@@ -52,6 +53,7 @@ length-score Seats = omega arith
 length-score MeanMedian = omega arith
 length-score Gap = omega arith
 length-score CutEdges = omega arith
+length-score CutLength = omega arith
 
 -- no tail's name is longer than 4 bytes
 length-tail : (tail : Tail) → length (tail_name tail) ≤ 4
@@ -64,6 +66,7 @@ denominator-lt Seats districts all few less = omega arith
 denominator-lt MeanMedian districts all few less = omega arith
 denominator-lt Gap districts all few less = omega arith
 denominator-lt CutEdges districts all few less = omega arith
+denominator-lt CutLength districts all few less = omega arith
 
 -- the start plan's value over its denominator
 abbrev pub start_fraction : Job → Score → List ℕ
@@ -371,14 +374,35 @@ length-frozen_line (f ∷ rest) =
     let whole = length-line (codes "frozen") (decimal count ∷ []) in
     omega (arith, whole, length-decimal_any count)
 
--- the lines of the rules are at most 678 bytes long
-length-rule_lines : (job : Job) → length (rule_lines job) ≤ 678
+-- the line of the length of cut edges is at most 76 bytes long
+length-cut_length_line : (there : ℕ) (column : List ℕ) → length (cut_length_line there column) ≤ 76
+length-cut_length_line there [] = omega arith
+length-cut_length_line there (c ∷ column) =
+    let whole = length-line (codes "cut-length") (decimal there ∷ []) in
+    omega (arith, whole, length-decimal_any there)
+
+-- the line of its limit is at most 76 bytes long
+length-length_line : (most : ℕ) → length (length_line most) ≤ 76
+length-length_line most =
+    let whole = length-line (codes "max-length") (decimal most ∷ []) in
+    cond_both {A = List ℕ} (nat_lt most 1717986918000000) (line (codes "max-length" ∷ decimal most ∷ [])) [] (λ t. length t ≤ 76)
+    (λ _. omega (arith, whole, length-decimal_any most)) (λ _. omega arith)
+
+-- both are at most 152 bytes long
+length-length_lines : (job : Job) → length (length_lines job) ≤ 152
+length-length_lines job =
+    let there = cut_length job.graph job.counts.lengths job.start in
+    let both = length-append (cut_length_line there job.setting.columns.length) (length_line job.setting.max_length) in
+    omega (arith, both, length-cut_length_line there job.setting.columns.length, length-length_line job.setting.max_length)
+
+-- the lines of the rules are at most 830 bytes long
+length-rule_lines : (job : Job) → length (rule_lines job) ≤ 830
 length-rule_lines job =
     let there = majorities job.setting.group_share job.group job.start in
     let splits = splits_line job.setting.max_splits job.setting.max_split_regions job.regions in
     let group = group_line job.setting.group_districts there job.group.members in
-    six-le (cut_line job) (split_line job.setting.max_split job.regions) splits group
-    (share_line job.setting.group_share job.group.members) (frozen_line job.frozen) 678
+    seven-le (cut_line job) (split_line job.setting.max_split job.regions) splits group
+    (share_line job.setting.group_share job.group.members) (frozen_line job.frozen) (length_lines job) 830
     (omega (
       arith,
       length-cut_line job,
@@ -387,10 +411,11 @@ length-rule_lines job =
       length-group_line job.setting.group_districts there job.group.members,
       length-share_line job.setting.group_share job.group.members,
       length-frozen_line job.frozen,
+      length-length_lines job,
     ))
   where
-    six-le : (a b c d e f : List ℕ) (n : ℕ) → length a + length b + length c + length d + length e + length f ≤ n → length (a ++ b ++ c ++ d ++ e ++ f) ≤ n
-    six-le a b c d e f n h = simp length-append h
+    seven-le : (a b c d e f g : List ℕ) (n : ℕ) → length a + length b + length c + length d + length e + length f + length g ≤ n → length (a ++ b ++ c ++ d ++ e ++ f ++ g) ≤ n
+    seven-le a b c d e f g n h = simp length-append h
 
 -- the line of early stopping is at most 70 bytes long
 length-stop_line : (n : ℕ) → length (stop_line n) ≤ 70
@@ -445,21 +470,29 @@ frozen_words-le : (frozen : List ℕ) → width (frozen_words frozen) ≤ 10 + l
 frozen_words-le [] = omega arith
 frozen_words-le (c ∷ column) = let name = length-quoted (c ∷ column) in omega (arith, name)
 
--- the line of the columns has at most 55 bytes, and 6 for each byte of their names
-pub length-columns_line : (columns : Columns) (region : List ℕ) → length (columns_line columns region) ≤ 55 + names_length columns region * 6
+-- the words of the column of lengths have at most 10 bytes, and 6 for each byte of its name
+length_words-le : (column : List ℕ) → width (length_words column) ≤ 10 + length column * 6
+length_words-le [] = omega arith
+length_words-le (c ∷ column) = let name = length-quoted (c ∷ column) in omega (arith, name)
+
+-- the line of the columns has at most 65 bytes, and 6 for each byte of their names
+pub length-columns_line : (columns : Columns) (region : List ℕ) → length (columns_line columns region) ≤ 65 + names_length columns region * 6
 length-columns_line columns region =
-    let more = region_words region ++ group_words columns.group columns.whole ++ frozen_words columns.frozen in
+    let more = region_words region ++ group_words columns.group columns.whole ++ frozen_words columns.frozen ++ length_words columns.length in
     let whole = length-line (codes "columns") (quoted columns.population ∷ quoted columns.first ∷ quoted columns.second ∷ quoted columns.district ∷ more) in
     let both = width-append (region_words region) (group_words columns.group columns.whole) in
     let rest = width-append (region_words region ++ group_words columns.group columns.whole) (frozen_words columns.frozen) in
+    let all = width-append (region_words region ++ group_words columns.group columns.whole ++ frozen_words columns.frozen) (length_words columns.length) in
     omega (
       arith,
       whole,
       both,
       rest,
+      all,
       region_words-le region,
       group_words-le columns.group columns.whole,
       frozen_words-le columns.frozen,
+      length_words-le columns.length,
       length-quoted columns.population,
       length-quoted columns.first,
       length-quoted columns.second,
@@ -470,11 +503,11 @@ length-columns_line columns region =
 joined-le : (a b c d e f g h : List ℕ) (n : ℕ) → length a + length b + length c + length d + length e + length f + length g + length h ≤ n → length (a ++ b ++ c ++ d ++ e ++ f ++ g ++ h) ≤ n
 joined-le a b c d e f g h n few = simp length-append few
 
--- the head is at most 1657 bytes long, without the lines of the origin
-length-head : (job : Job) → IsJob job → length (head job) ≤ 1657 + length (origin_lines job job.origin)
+-- the head is at most 1809 bytes long, without the lines of the origin
+length-head : (job : Job) → IsJob job → length (head job) ≤ 1809 + length (origin_lines job job.origin)
 length-head job h =
     joined-le (title_line job.setting.shift) (origin_lines job job.origin) (key_line job) (graph_line job) (population_line job) (rule_lines job) (setting_line job) (stop_line job.setting.stop)
-    (1657 + length (origin_lines job job.origin))
+    (1809 + length (origin_lines job job.origin))
     (omega (arith, length-title_line job.setting.shift, length-key_line job h, length-graph_line job, length-population_line job, length-rule_lines job, length-setting_line job, length-stop_line job.setting.stop))
 
 -- ---- all of it
@@ -490,7 +523,7 @@ pub both_observed : (first second : List ℕ) (one two : ℕ) (fits : Type 0) (a
 both_observed first second one two fits answer short brief is = observed (first ++ second) (two + one) fits answer (omega (arith, short, brief, length-append first second)) is
 
 -- the six parts of a report, each within its bound, are joined within the sum
-parts-le : (a b c d e f : List ℕ) (h l m n k : ℕ) → length a ≤ 1657 + h → length b ≤ l → length c ≤ 591 → length d ≤ m → length e ≤ n → length f ≤ 4 → 2252 + h + l + m + n ≤ k
+parts-le : (a b c d e f : List ℕ) (h l m n k : ℕ) → length a ≤ 1809 + h → length b ≤ l → length c ≤ 591 → length d ≤ m → length e ≤ n → length f ≤ 4 → 2404 + h + l + m + n ≤ k
     → length (a ++ b ++ c ++ d ++ e ++ f) ≤ k
 parts-le a b c d e f h l m n k la lb lc ld le lf most = simp length-append (omega arith)
 
@@ -507,7 +540,7 @@ report-le job os stops serial h all_of stopped found =
     (length-head job h) (walk_lines-le job os h all_of) (length-shift_line job.setting.shift os) (test_lines-le job.setting.stop job os stops h refl all_of stopped)
     (serial_lines-le job.setting.serial job serial h found) (omega arith) (products walks asks origin)
   where
-    products : (w a h : ℕ) → 2252 + h + w * (a * 200) + a * 200 + a * 200 ≤ 2560 + (w + 2) * a * 200 + h
+    products : (w a h : ℕ) → 2404 + h + w * (a * 200) + a * 200 + a * 200 ≤ 2560 + (w + 2) * a * 200 + h
     products w a h = grind arith
 
 -- the bound without the origin is below 90 million bytes

@@ -86,6 +86,14 @@ line-four word words more last end =
     (append_assoc word (spaced words) (spaced more) ∙ ap (λ t. word ++ t) (sym (flat_map-append (λ (w : List ℕ). 32 ∷ w) words more)))
     ∙ line-parts word (words ++ more) last end
 
+-- the last two lists of words are appended to the line at once
+pub line-five : (word : List ℕ) (words more last end rest : List (List ℕ))
+    → ((((word ++ spaced words) ++ spaced more) ++ spaced last) ++ (spaced end ++ spaced rest)) ++ 10 ∷ [] ≡ line (word ∷ ((((words ++ more) ++ last) ++ end) ++ rest))
+line-five word words more last end rest =
+    ap (λ t. ((((word ++ spaced words) ++ spaced more) ++ spaced last) ++ t) ++ 10 ∷ []) (sym (flat_map-append (λ (w : List ℕ). 32 ∷ w) end rest))
+    ∙ line-four word words more last (end ++ rest)
+    ∙ ap (λ t. line (word ∷ t)) (sym (append_assoc ((words ++ more) ++ last) end rest))
+
 -- two texts are appended one after the other
 pub appends-two : (old mid new : RoomyBytes) (a b : List ℕ) (r : Result (Unit {0}) Memory) → AppendsText old mid a (Ok tt) → AppendsText mid new b r → AppendsText old new (a ++ b) r
 appends-two old mid new a b r first second = written-last old mid new (a ++ b) b r (written-more old old mid (a ++ b) a b (written-none old (a ++ b) (a ++ b) refl) first) second

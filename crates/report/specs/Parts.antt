@@ -1,6 +1,7 @@
 -- Parts of the report.
 use Rattle.std.specs.Prelude.{ℕ, List, [], ◌∷◌, ◌++◌, ◌+◌, length, codes, decimal, flat_map, Option}
 use Rattle.hex.specs.Hex.{encode_lower}
+use Rattle.json.specs.Print.{quoted}
 use Rattle.audit_model.specs.declared.origin.Origin.{Origin}
 use Rattle.audit_model.specs.declared.outcome.Outcome.{Outcome}
 use Rattle.audit_model.specs.declared.setting.Ask.{Ask}
@@ -8,7 +9,8 @@ use Rattle.audit_model.specs.declared.setting.Columns.{Columns}
 use Rattle.audit_model.specs.Job.{Job}
 use Rattle.audit_model.specs.Test.{p_value}
 use Rattle.audit_model.specs.Stopping.{placed_asks}
-use Rattle.audit_statement.specs.Report.{line, ask_words, billionths, graph_line, origin_lines, population_line, rule_lines, serial_lines, setting_line, shift_line, stop_line, test_lines, title_line, walk_line, walk_lines}
+use Rattle.report.specs.Lines.{spaced}
+use Rattle.audit_statement.specs.Report.{line, ask_words, billionths, frozen_words, graph_line, group_words, length_words, origin_lines, population_line, region_words, rule_lines, serial_lines, setting_line, shift_line, stop_line, test_lines, title_line, walk_line, walk_lines}
 
 -- the line with the digest and the number of the bytes that were read
 abbrev pub source_line : Origin → List ℕ
@@ -18,7 +20,17 @@ source_line origin = line (codes "source" ∷ codes "sha256" ∷ encode_lower or
 abbrev pub names_length : Columns → List ℕ → ℕ
 names_length columns region =
     length columns.population + length columns.first + length columns.second + length columns.district + length columns.group + length columns.whole
-    + length columns.frozen + length region
+    + length columns.frozen + length columns.length + length region
+
+-- the words of the line of the columns, each behind a space, up to those of a group
+abbrev pub first_columns : Columns → List ℕ → List ℕ
+first_columns columns region =
+    codes "columns" ++ spaced (quoted columns.population ∷ quoted columns.first ∷ quoted columns.second ∷ quoted columns.district ∷ [])
+    ++ spaced (region_words region) ++ spaced (group_words columns.group columns.whole)
+
+-- those behind them
+abbrev pub last_columns : Columns → List ℕ
+last_columns columns = spaced (frozen_words columns.frozen) ++ spaced (length_words columns.length)
 
 -- the line with the key
 abbrev pub key_line : Job → List ℕ

@@ -14,6 +14,7 @@ pub fn score_text(score: Score) -> &'static str
         Score::MeanMedian => "mean-median",
         Score::Gap => "gap",
         Score::CutEdges => "cut-edges",
+        Score::CutLength => "cut-length",
     }
 }
 

@@ -257,6 +257,31 @@ fn graph_line<'a>(fault: &GraphFault, columns: &'a Columns) -> Line<'a>
             Text(" has no usable label"),
         ]),
         GraphFault::DistrictCount(n) => line_of(&[Number(*n), Text(" districts, not 2 to 200")]),
+        GraphFault::MissingLength { node, place } => line_of(&[
+            Text("neighbour "),
+            Number(*place),
+            Text(" of node "),
+            Number(u64::from(*node)),
+            Text(" has no attribute "),
+            Text(columns.length.as_str()),
+        ]),
+        GraphFault::BadLength { node, place } => line_of(&[
+            Text("neighbour "),
+            Number(*place),
+            Text(" of node "),
+            Number(u64::from(*node)),
+            Text(" has no whole number from 0 to 4294967295 in attribute "),
+            Text(columns.length.as_str()),
+        ]),
+        GraphFault::UnequalLengths { node, place } => line_of(&[
+            Text("neighbour "),
+            Number(*place),
+            Text(" of node "),
+            Number(u64::from(*node)),
+            Text(" has another number in attribute "),
+            Text(columns.length.as_str()),
+            Text(" than the same edge before"),
+        ]),
         GraphFault::Memory => text_line("memory"),
     }
 }
@@ -346,6 +371,12 @@ fn plan_line(fault: &PlanFault) -> Line<'static>
             least,
             share,
         } => majorities_line(*districts, *least, *share),
+        PlanFault::TooLong { length, most } => line_of(&[
+            Text("cut edges of total length "),
+            Number(*length),
+            Text(", more than "),
+            Number(*most),
+        ]),
         PlanFault::Memory => text_line("memory"),
     }
 }

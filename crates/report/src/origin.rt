@@ -2,7 +2,7 @@
 
 ghost use Rattle.std.specs.Prelude.{◌≡◌, ◌++◌};
 ghost use Rattle.report.specs.Lines.{AppendsText, spaced};
-ghost use Rattle.report.specs.Parts.{source_line};
+ghost use Rattle.report.specs.Parts.{first_columns, last_columns, source_line};
 ghost use Rattle.audit_statement.specs.Report as definition;
 
 use crate::lines::{Word, push_line, push_word, push_words};
@@ -49,6 +49,22 @@ fn push_source_line(origin: &Origin, out: &mut Bytes) -> Result<(), Memory>
 fn push_columns_line(columns: &Columns, region: &Text, out: &mut Bytes) -> Result<(), Memory>
     ensures { AppendsText out.old out.new (definition.columns_line columns.now region.now) result }
 {
+    push_columns(columns, region, out)?;
+    out.push(b'\n')
+}
+
+/// Appends the words of the line of the columns.
+fn push_columns(columns: &Columns, region: &Text, out: &mut Bytes) -> Result<(), Memory>
+    ensures { AppendsText out.old out.new (first_columns columns.now region.now ++ last_columns columns.now) result }
+{
+    push_first_columns(columns, region, out)?;
+    push_last_columns(columns, out)
+}
+
+/// Appends the words up to those of a group.
+fn push_first_columns(columns: &Columns, region: &Text, out: &mut Bytes) -> Result<(), Memory>
+    ensures { AppendsText out.old out.new (first_columns columns.now region.now) result }
+{
     push_word(out, &Word::Text("columns"))?;
     push_words(
         out,
@@ -60,9 +76,15 @@ fn push_columns_line(columns: &Columns, region: &Text, out: &mut Bytes) -> Resul
         ],
     )?;
     push_region_words(region, out)?;
-    push_group_words(columns, out)?;
+    push_group_words(columns, out)
+}
+
+/// Appends the words of the columns of frozen units and of lengths.
+fn push_last_columns(columns: &Columns, out: &mut Bytes) -> Result<(), Memory>
+    ensures { AppendsText out.old out.new (last_columns columns.now) result }
+{
     push_frozen_words(&columns.frozen, out)?;
-    out.push(b'\n')
+    push_length_words(&columns.length, out)
 }
 
 /// Appends the column of the regions, if one is named.
@@ -85,6 +107,17 @@ fn push_frozen_words(frozen: &Text, out: &mut Bytes) -> Result<(), Memory>
         return Ok(());
     }
     push_words(out, &[Word::Text("freeze"), Word::Quoted(name)])
+}
+
+/// Appends the column of the edges' lengths, if one is named.
+fn push_length_words(length: &Text, out: &mut Bytes) -> Result<(), Memory>
+    ensures { AppendsText out.old out.new (spaced (definition.length_words length.now)) result }
+{
+    let name = length.as_str();
+    if name.is_empty() {
+        return Ok(());
+    }
+    push_words(out, &[Word::Text("length"), Word::Quoted(name)])
 }
 
 /// Appends the columns of a group, if one is named.

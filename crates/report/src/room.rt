@@ -24,7 +24,7 @@ const LINE_ROOM: usize = 200;
 const SOURCE_ROOM: usize = 100;
 
 /// A bound on the bytes of the columns line without the names.
-const COLUMNS_ROOM: usize = 60;
+const COLUMNS_ROOM: usize = 70;
 
 /// The largest number of bytes that one byte of a name is escaped to.
 const ESCAPE_ROOM: usize = 6;
@@ -132,5 +132,6 @@ fn names_len(setting: &Setting) -> Option<usize>
         .checked_add(columns.group.len())?
         .checked_add(columns.whole.len())?
         .checked_add(columns.frozen.len())?
+        .checked_add(columns.length.len())?
         .checked_add(setting.region.len())
 }

@@ -4,6 +4,7 @@ ghost use Rattle.std.specs.Prelude.{◌≡◌, ◌<◌, ◌^◌, ℕ, ◌||◌, 
 ghost use Rattle.std.specs.List.{slice_index_or};
 ghost use Rattle.audit_model.specs.Below.{count_below};
 ghost use Rattle.audit_model.specs.Graph.{has};
+ghost use Rattle.audit_model.specs.Length.{cut_length};
 ghost use Rattle.audit_model.specs.Meets.{frozen_count, majorities, region_count};
 ghost use Rattle.report.specs.Lines.{AppendsText};
 ghost use Rattle.audit_statement.specs.Report as definition;
@@ -27,7 +28,8 @@ pub fn push_rule_lines(job: &Job, out: &mut Bytes) -> Result<(), Memory>
     push_splits_line(job, out)?;
     push_group_line(job, out)?;
     push_share_line(job, out)?;
-    push_frozen_line(job, out)
+    push_frozen_line(job, out)?;
+    push_length_lines(job, out)
 }
 
 /// Appends the line with the most cut edges, if they are limited.
@@ -136,6 +138,45 @@ fn push_frozen_line(job: &Job, out: &mut Bytes) -> Result<(), Memory>
             Word::Number(u64::from(count_frozen(frozen))),
         ],
     )
+}
+
+/// Appends the lines with the length of the start plan's cut edges and its limit.
+fn push_length_lines(job: &Job, out: &mut Bytes) -> Result<(), Memory>
+    ensures { AppendsText out.old out.new (definition.length_lines job.now) result }
+{
+    push_cut_length_line(job, out)?;
+    push_length_line(job, out)
+}
+
+/// Appends the line with the total length of the start plan's cut edges, if a column of lengths is named.
+fn push_cut_length_line(job: &Job, out: &mut Bytes) -> Result<(), Memory>
+    ensures { AppendsText out.old out.new (definition.cut_length_line (cut_length job.now.graph job.now.counts.lengths job.now.start) job.now.setting.columns.length) result }
+{
+    if length_column(job).is_empty() {
+        return Ok(());
+    }
+    push_line(
+        out,
+        &[Word::Text("cut-length"), Word::Number(job.cut_length())],
+    )
+}
+
+/// Returns the column of the edges' lengths, or the empty text.
+fn length_column(job: &Job) -> &str
+    ensures { result.now ≡ job.now.setting.columns.length }
+{
+    job.setting().columns.length.as_str()
+}
+
+/// Appends the line with the greatest total length of cut edges, if it is limited.
+fn push_length_line(job: &Job, out: &mut Bytes) -> Result<(), Memory>
+    ensures { AppendsText out.old out.new (definition.length_line job.now.setting.max_length) result }
+{
+    let most = job.setting().max_length;
+    if most >= 1_717_986_918_000_000 {
+        return Ok(());
+    }
+    push_line(out, &[Word::Text("max-length"), Word::Number(most)])
 }
 
 fn frozen_of(job: &Job) -> &[u32]

@@ -1,4 +1,4 @@
-//! The four scores of a plan, computed from the sums of its districts.
+//! The five scores of a plan, computed from the sums of its districts.
 #![tactic(auto)]
 
 ghost use Rattle.std.specs.Prelude.{◌≡◌, ◌*◌, ◌+◌, ◌^◌, ◌-◌, ◌/◌, ◌<◌, ◌≤◌, pos, length, sum, All};
@@ -16,12 +16,14 @@ pub use room::Room;
 
 const BILLION: u64 = 1_000_000_000;
 
-/// Returns the numerator of a score, from the districts' votes and the number of cut edges.
+/// Returns the numerator of a score, from the districts' votes and the number and length of cut
+/// edges.
 ///
 /// `room` is scratch memory with at least one entry per district. Its contents afterwards are
 /// unspecified.
 pub fn value(score: Score, sums: &SumsView, room: &mut [u64]) -> i64
     requires votes { AreVotes sums.now.first sums.now.second }
+    requires short { sums.now.length < 2 ^ 63 }
     requires room { length sums.now.first ≤ length room.old }
     ensures { result ≡ definition.value score sums.now }
 {
@@ -30,6 +32,7 @@ pub fn value(score: Score, sums: &SumsView, room: &mut [u64]) -> i64
         Score::MeanMedian => median_less_mean(sums, room),
         Score::Gap => efficiency_gap(sums),
         Score::CutEdges => i64::from(sums.cut),
+        Score::CutLength => sums.length as i64,
     }
 }
 
@@ -44,6 +47,7 @@ pub fn denominator(score: Score, districts: u32, votes: u64) -> u64
         Score::MeanMedian => 2 * u64::from(districts) * BILLION,
         Score::Gap => 2 * votes,
         Score::CutEdges => 1,
+        Score::CutLength => 1,
     }
 }
 

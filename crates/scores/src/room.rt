@@ -39,7 +39,8 @@ impl Room {
 
     /// Returns the numerator of a score, equal to that of [`crate::value`].
     pub fn value(&mut self, score: Score, sums: &SumsView) -> i64
-        requires { AreVotes sums.now.first sums.now.second }
+        requires votes { AreVotes sums.now.first sums.now.second }
+        requires short { sums.now.length < 2 ^ 63 }
         ensures { result ≡ definition.value score sums.now }
     {
         match score {
@@ -52,6 +53,7 @@ impl Room {
             ),
             Score::Gap => efficiency_gap(sums),
             Score::CutEdges => i64::from(sums.cut),
+            Score::CutLength => sums.length as i64,
         }
     }
 }

@@ -1,5 +1,5 @@
 -- Values and counts of a job's asks.
-use Rattle.std.proofs.Common.{◌≡◌, ℕ, ◌≤◌, List, [], ◌∷◌, map, Option, Some, None, pos, ℤ, refl, sym, ap, ◌∙◌, arith}
+use Rattle.std.proofs.Common.{◌≡◌, ℕ, ◌^◌, ◌<◌, ◌≤◌, List, [], ◌∷◌, map, Option, Some, None, pos, ℤ, refl, sym, ap, ◌∙◌, arith}
 use Rattle.std.specs.List.{slice_get}
 use Rattle.audit_model.specs.declared.setting.Ask.{Ask}
 use Rattle.audit_model.specs.Below.{count_below}
@@ -10,6 +10,7 @@ use Rattle.audit_model.specs.Plan.{IsLegal}
 use Rattle.audit_model.specs.Trajectory.{visit, four_values}
 use Rattle.audit_model.proofs.Below.{count_below_le, length-map_below}
 use Rattle.audit_model.proofs.ColumnFacts.{column_small}
+use Rattle.audit_model.proofs.Lengths.{cut_length_few}
 use Rattle.flip_kernel.specs.Held.{sums_in}
 use Rattle.scores.specs.Votes.{AreVotes}
 use Rattle.walker.specs.Asked.{each, is_inside, visits_inside}
@@ -54,3 +55,9 @@ legal_votes job plan sound legal =
       small_first = column_small job.districts job.graph.units job.counts.first plan legal.complete input.first input.units;
       small_second = column_small job.districts job.graph.units job.counts.second plan legal.complete input.second input.units;
     }
+
+-- the length of a plan's cut edges is within the bound for scores
+pub legal_short : (job : Job) (plan : List ℕ) → IsJob job → (sums_in job plan).length < 2 ^ 63
+legal_short job plan sound =
+    let few = cut_length_few job.graph job.counts.lengths plan sound.within.input.lengths.small sound.within.input.edges in
+    omega (arith, few)

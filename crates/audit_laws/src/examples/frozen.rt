@@ -79,7 +79,7 @@ pub fn read_frozen()
     ensures numbers { reading path_text (record columns { frozen = codes "id" }) ≡
         Ok (record (parsed_four path_of_four (Whole (pos 1) ∷ Whole (pos 2) ∷ [])) { frozen = 0 ∷ 1 ∷ 1 ∷ 1 ∷ [] }) }
     ensures missing { reading path_text (record columns { frozen = codes "v" }) ≡ Err (Missing 0 column.Frozen) }
-    ensures no_flag { reading region_text (record { population = codes "id"; first = codes "id"; second = codes "id"; district = codes "r"; group = []; whole = []; frozen = codes "s" }) ≡
+    ensures no_flag { reading region_text (record { population = codes "id"; first = codes "id"; second = codes "id"; district = codes "r"; group = []; whole = []; frozen = codes "s"; length = [] }) ≡
         Err (BadNumber 0 column.Frozen) }
 {}
 

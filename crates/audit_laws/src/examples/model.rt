@@ -52,10 +52,10 @@ pub fn small_outcomes()
 
 /// Shows the scores of three districts.
 pub fn small_scores()
-    ensures seats { value Seats (record { population = []; first = 0 ∷ 3 ∷ 5 ∷ []; second = 0 ∷ 3 ∷ 2 ∷ []; cut = 0 }) ≡ pos 1 }
-    ensures gap { value Gap (record { population = []; first = 0 ∷ 3 ∷ 5 ∷ []; second = 0 ∷ 3 ∷ 2 ∷ []; cut = 0 }) ≡ negsuc 4 }
-    ensures mean_median { value MeanMedian (record { population = []; first = 0 ∷ 3 ∷ 5 ∷ []; second = 0 ∷ 3 ∷ 2 ∷ []; cut = 0 }) ≡ negsuc 428571427 }
-    ensures odd { value MeanMedian (record { population = []; first = 6 ∷ 5 ∷ 1 ∷ []; second = 4 ∷ 5 ∷ 3 ∷ []; cut = 0 }) ≡ pos 300000000 }
+    ensures seats { value Seats (record { population = []; first = 0 ∷ 3 ∷ 5 ∷ []; second = 0 ∷ 3 ∷ 2 ∷ []; cut = 0; length = 0 }) ≡ pos 1 }
+    ensures gap { value Gap (record { population = []; first = 0 ∷ 3 ∷ 5 ∷ []; second = 0 ∷ 3 ∷ 2 ∷ []; cut = 0; length = 0 }) ≡ negsuc 4 }
+    ensures mean_median { value MeanMedian (record { population = []; first = 0 ∷ 3 ∷ 5 ∷ []; second = 0 ∷ 3 ∷ 2 ∷ []; cut = 0; length = 0 }) ≡ negsuc 428571427 }
+    ensures odd { value MeanMedian (record { population = []; first = 6 ∷ 5 ∷ 1 ∷ []; second = 4 ∷ 5 ∷ 3 ∷ []; cut = 0; length = 0 }) ≡ pos 300000000 }
 {}
 
 /// Shows the gap of the plans of a cycle of four units.
@@ -89,7 +89,7 @@ pub fn answers_of_a_small_run()
 pub fn refused_plans()
     ensures bounds { plan_fault (record {
       graph = path_of_three;
-      counts = record { population = 3 ∷ 3 ∷ 4 ∷ []; first = 1 ∷ 1 ∷ 1 ∷ []; second = 0 ∷ 0 ∷ 0 ∷ [] };
+      counts = record { population = 3 ∷ 3 ∷ 4 ∷ []; first = 1 ∷ 1 ∷ 1 ∷ []; second = 0 ∷ 0 ∷ 0 ∷ []; lengths = [] };
       start = 0 ∷ 1 ∷ 2 ∷ [];
       districts = 3;
       setting = run_of 1000 1 8 0 1000 [];
@@ -100,7 +100,7 @@ pub fn refused_plans()
     }) ≡ Some (OutOfBounds 2 4 3 3) }
     ensures parted { plan_fault (record {
       graph = path_of_three;
-      counts = record { population = 1 ∷ 1 ∷ 1 ∷ []; first = 1 ∷ 1 ∷ 1 ∷ []; second = 0 ∷ 0 ∷ 0 ∷ [] };
+      counts = record { population = 1 ∷ 1 ∷ 1 ∷ []; first = 1 ∷ 1 ∷ 1 ∷ []; second = 0 ∷ 0 ∷ 0 ∷ []; lengths = [] };
       start = 0 ∷ 1 ∷ 0 ∷ [];
       districts = 2;
       setting = run_of 5000 1 8 0 1000 [];
@@ -151,8 +151,8 @@ pub fn small_mirrors()
 
 /// Shows the sums after the last unit of the cycle moves.
 pub fn small_sums()
-    ensures { sums_of cycle_of_four (record { population = 1 ∷ 1 ∷ 1 ∷ 1 ∷ []; first = 3 ∷ 1 ∷ 1 ∷ 2 ∷ []; second = 1 ∷ 2 ∷ 2 ∷ 1 ∷ [] }) 2 (0 ∷ 0 ∷ 1 ∷ 0 ∷ [])
-        ≡ record { population = 3 ∷ 1 ∷ []; first = 6 ∷ 1 ∷ []; second = 4 ∷ 2 ∷ []; cut = 2 } }
+    ensures { sums_of cycle_of_four (record { population = 1 ∷ 1 ∷ 1 ∷ 1 ∷ []; first = 3 ∷ 1 ∷ 1 ∷ 2 ∷ []; second = 1 ∷ 2 ∷ 2 ∷ 1 ∷ []; lengths = [] }) 2 (0 ∷ 0 ∷ 1 ∷ 0 ∷ [])
+        ≡ record { population = 3 ∷ 1 ∷ []; first = 6 ∷ 1 ∷ []; second = 4 ∷ 2 ∷ []; cut = 2; length = 0 } }
 {}
 
 /// Shows the rank of a start plan among three outcomes.

@@ -52,7 +52,7 @@ pub fn read_groups()
     ensures group { reading path_text (record columns { group = codes "a"; whole = codes "pop" }) ≡
         Ok (record (parsed_four path_of_four (Whole (pos 1) ∷ Whole (pos 2) ∷ [])) { group = record { members = 3 ∷ 1 ∷ 1 ∷ 2 ∷ []; whole = 1 ∷ 1 ∷ 1 ∷ 1 ∷ [] } }) }
     ensures missing { reading path_text (record columns { group = codes "a"; whole = codes "v" }) ≡ Err (Missing 0 column.Whole) }
-    ensures no_number { reading region_text (record { population = codes "id"; first = codes "id"; second = codes "id"; district = codes "r"; group = codes "s"; whole = codes "id"; frozen = [] }) ≡
+    ensures no_number { reading region_text (record { population = codes "id"; first = codes "id"; second = codes "id"; district = codes "r"; group = codes "s"; whole = codes "id"; frozen = []; length = [] }) ≡
         Err (BadNumber 0 column.Group) }
 {}
 

@@ -27,5 +27,6 @@ returns c =
       c.limits_of-limits.ensures.max_split_regions,
       c.limits_of-limits.ensures.group_districts,
       c.limits_of-limits.ensures.group_share,
+      c.limits_of-limits.ensures.max_length,
       source,
     ) refl

@@ -15,5 +15,8 @@ returns-clause-max_split_regions c = c.number_at-3.ensures (omega (arith, (AreBo
 pub returns-clause-group_districts : goal.returns-clause-group_districts
 returns-clause-group_districts c = c.number_at-4.ensures (omega (arith, (AreBounded-good (pairs_in c.args.words.now) c.requires).group_districts))
 
+pub returns-clause-max_length : goal.returns-clause-max_length
+returns-clause-max_length c = c.length_at.ensures (omega (arith, (AreBounded-good (pairs_in c.args.words.now) c.requires).max_length))
+
 pub returns-clause-group_share : goal.returns-clause-group_share
 returns-clause-group_share c = c.number_at-5.ensures (omega (arith, (AreBounded-good (pairs_in c.args.words.now) c.requires).group_share))

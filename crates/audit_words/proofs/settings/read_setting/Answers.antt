@@ -19,5 +19,6 @@ returns c =
       c.limits_of.ensures.max_split_regions,
       c.limits_of.ensures.group_districts,
       c.limits_of.ensures.group_share,
+      c.limits_of.ensures.max_length,
       source,
     ) at c.run_setting.ensures

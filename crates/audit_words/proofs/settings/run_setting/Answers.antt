@@ -25,7 +25,7 @@ returns c =
     c.number_at-4.ensures (omega (arith, (number-bounds 0 100000 (text name.Ends) (and_parts (definition.is_number 0 100000 (text name.Ends)) (definition.has_walks command.Check (pairs_in c.args.words.now)) c.requires.ends).0).1)) in
     let hub_steps : c.number_at-5.result ≡ number name.HubSteps = c.number_at-5.ensures (omega (arith, (number-bounds 1 1000000000 (text name.HubSteps) c.requires.hub_steps).1)) in
     let asks : c.in_ok-asks_of.field-0 ≡ unwrap_or (definition.asks_of (definition.parts_between 44 (text name.Ask))) [] =
-    c.in_ok-asks_of.ensures ∙ ap (λ t. filter_map definition.ask_of (definition.parts_between 44 t)) c.text_of-2.ensures ∙ asks_of-good (text name.Ask) c.requires.ask in
+    c.in_ok-asks_of.ensures ∙ ap (λ t. filter_map definition.ask_of (definition.parts_between 44 t)) c.text_of-2.ensures ∙ asks_of-good (text name.Ask) (and_parts (definition.are_asks (text name.Ask)) (definition.has_asked_length command.Check (pairs_in c.args.words.now)) c.requires.ask).0 in
     let workers : c.number_at-6.result ≡ number name.Workers = c.number_at-6.ensures (omega (arith, (number-bounds 1 32 (text name.Workers) c.requires.workers).1)) in
     let budget : c.number_at-7.result ≡ number name.Budget =
     c.number_at-7.ensures (omega (arith, (number-bounds 0 100000 (text name.Budget) (and_parts (definition.is_number 0 100000 (text name.Budget)) (definition.covers_walks command.Check (pairs_in c.args.words.now)) c.requires.budget).0).1)) in

@@ -8,7 +8,7 @@ use Rattle.audit_words.proofs.values.number_within.Goals.{else-eq-via-then-eq+th
 
 pub returns-in_err-number : goal.returns-in_err-number
 returns-in_err-number c = c.from_residual.ensures
-    ∙ sym (number-unread c.args.low c.args.high c.args.text.now c.parse.result (omega arith) c.parse.ensures.value.0 c.in_err-number.ensures.value)
+    ∙ sym (number-unread 32 c.args.low c.args.high c.args.text.now c.parse.result (omega arith) (omega arith) c.parse.ensures.value.0 c.in_err-number.ensures.value)
 
 pub returns-then-number-high : goal.returns-then-number-high
 returns-then-number-high c =
@@ -17,7 +17,7 @@ returns-then-number-high c =
 
 pub returns-else-eq : goal.returns-else-eq
 returns-else-eq c =
-    sym (number-other c.args.low c.args.high c.in_ok-number.number c.args.text.now c.parse.result (omega arith) c.parse.ensures.value.0 c.in_ok-number.ensures.value (λ same low high.
+    sym (number-other 32 c.args.low c.args.high c.in_ok-number.number c.args.text.now c.parse.result (omega arith) (omega arith) c.parse.ensures.value.0 c.in_ok-number.ensures.value (λ same low high.
     elim c.else-eq.branch [
       | else-eq-via-then-eq+then-low-number+else-number-high w ↦ omega arith
       | else-eq-via-then-eq+else-low-number w ↦ omega arith

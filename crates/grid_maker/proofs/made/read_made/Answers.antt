@@ -32,7 +32,7 @@ returns-clause-read c =
     c.in_ok-counts.ensures.population c.in_ok-counts.ensures.first c.in_ok-counts.ensures.second c.no_group.ensures c.none_frozen.ensures c.in_ok-start.ensures c.in_ok-labels.ensures in
     let joins = subst (λ (ps : List (ℕ × ℕ)). (u v : ℕ) → (adjacent g u v ≡ true) ↔ Joins ps u v) (c.deref.ensures.value ∙ c.in_ok-pairs.ensures {u = tt}) c.in_ok-graph.ensures.edges in
     made_is_read size key c.requires.0 c.requires.1 g counts c.no_group.result c.none_frozen.result c.in_ok-start.start c.in_ok-labels.labels
-    (made_graph size key c.requires.0 c.requires.1 g c.in_ok-graph.ensures.sound c.in_ok-graph.ensures.units joins) rows
+    (made_graph size key c.requires.0 c.requires.1 g c.in_ok-graph.ensures.sound c.in_ok-graph.ensures.units joins) rows c.in_ok-counts.ensures.lengths
 
 pub returns-clause-within : goal.returns-clause-within
 returns-clause-within c =
@@ -45,4 +45,4 @@ returns-clause-within c =
     let rows = made_rows size key c.requires.0 c.requires.1 counts c.no_group.result c.none_frozen.result c.in_ok-start.start c.in_ok-labels.labels
     c.in_ok-counts.ensures.population c.in_ok-counts.ensures.first c.in_ok-counts.ensures.second c.no_group.ensures c.none_frozen.ensures c.in_ok-start.ensures c.in_ok-labels.ensures in
     made_within size key c.requires.0 c.requires.1 g counts c.no_group.result c.none_frozen.result c.in_ok-start.start c.in_ok-labels.labels c.in_ok-graph.ensures.sound c.in_ok-graph.ensures.units
-    (omega (arith, c.in_ok-graph.ensures.amount, few, long, ap (λ (ps : List (ℕ × ℕ)). length ps) (c.deref.ensures.value ∙ c.in_ok-pairs.ensures {u = tt}))) rows
+    (omega (arith, c.in_ok-graph.ensures.amount, few, long, ap (λ (ps : List (ℕ × ℕ)). length ps) (c.deref.ensures.value ∙ c.in_ok-pairs.ensures {u = tt}))) rows c.in_ok-counts.ensures.lengths

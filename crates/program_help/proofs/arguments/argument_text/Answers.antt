@@ -81,3 +81,22 @@ returns-in-Thin c = rw c.in-Thin.is refl
 pub returns-in-GroupShare : goal.returns-in-GroupShare
 unfolding digits
 returns-in-GroupShare c = rw c.in-GroupShare.is refl
+
+pub returns-in-MaxLength : goal.returns-in-MaxLength
+unfolding digits
+returns-in-MaxLength c = rw c.in-MaxLength.is refl
+
+pub returns-in-Resume : goal.returns-in-Resume
+returns-in-Resume c = rw c.in-Resume.is refl
+
+pub returns-in-Shift : goal.returns-in-Shift
+returns-in-Shift c = rw c.in-Shift.is refl
+
+pub returns-in-Serial : goal.returns-in-Serial
+returns-in-Serial c = rw c.in-Serial.is refl
+
+pub returns-in-GroupOf : goal.returns-in-GroupOf
+returns-in-GroupOf c = rw c.in-GroupOf.is refl
+
+pub returns-in-Source : goal.returns-in-Source
+returns-in-Source c = rw c.in-Source.is refl

@@ -43,5 +43,14 @@ returns-in-BadLabel c = c.line_of-in-BadLabel.ensures ∙ rw (c.in-BadLabel.is, 
 pub returns-in-DistrictCount : goal.returns-in-DistrictCount
 returns-in-DistrictCount c = c.line_of-in-DistrictCount.ensures ∙ rw c.in-DistrictCount.is
 
+pub returns-in-MissingLength : goal.returns-in-MissingLength
+returns-in-MissingLength c = c.line_of-in-MissingLength.ensures ∙ rw (c.in-MissingLength.is, c.from-in-MissingLength.ensures, c.as_str.ensures)
+
+pub returns-in-BadLength : goal.returns-in-BadLength
+returns-in-BadLength c = c.line_of-in-BadLength.ensures ∙ rw (c.in-BadLength.is, c.from-in-BadLength.ensures, c.as_str-in-BadLength.ensures)
+
+pub returns-in-UnequalLengths : goal.returns-in-UnequalLengths
+returns-in-UnequalLengths c = c.line_of-in-UnequalLengths.ensures ∙ rw (c.in-UnequalLengths.is, c.from-in-UnequalLengths.ensures, c.as_str-in-UnequalLengths.ensures)
+
 pub returns-in-Memory : goal.returns-in-Memory
 returns-in-Memory c = c.text_line-in-Memory.ensures ∙ rw c.in-Memory.is

@@ -25,5 +25,8 @@ returns-in-TooManySplitRegions c = c.line_of-in-TooManySplitRegions.ensures ∙ 
 pub returns-in-TooFewMajorities : goal.returns-in-TooFewMajorities
 returns-in-TooFewMajorities c = c.majorities_line.ensures ∙ rw c.in-TooFewMajorities.is
 
+pub returns-in-TooLong : goal.returns-in-TooLong
+returns-in-TooLong c = c.line_of-in-TooLong.ensures ∙ rw c.in-TooLong.is
+
 pub returns-in-Memory : goal.returns-in-Memory
 returns-in-Memory c = c.text_line-in-Memory.ensures ∙ rw c.in-Memory.is

@@ -8,5 +8,5 @@ returns-clause-enough c =
     let setting = c.args.setting.now in
     let line = length-columns_line setting.columns setting.region in
     let names = c.in_ok-names_len.ensures.value in
-    observed (columns_line setting.columns setting.region) (c.in_ok-checked_mul.field-0 + 60) _ c.checked_add.result
+    observed (columns_line setting.columns setting.region) (c.in_ok-checked_mul.field-0 + 70) _ c.checked_add.result
     (omega (arith, line, names, c.in_ok-checked_mul.ensures.1)) c.checked_add.ensures

@@ -7,7 +7,7 @@ use Rattle.audit_model.proofs.Below.{get_or-map_below}
 use Rattle.district_sums.specs.Following.{Following, apart_of}
 use Rattle.district_sums.proofs.Shifted.{places, shifted_cut}
 use Rattle.district_sums.proofs.Walking.{apart_few}
-use Rattle.district_sums.proofs.Standing.{apart_width, cut_is, all_stand}
+use Rattle.district_sums.proofs.Standing.{apart_width, cut_is, length_is, all_stand}
 use Rattle.district_sums.proofs.sums.Sums.shift.Goals as goal
 
 pub bounds-as_slice-unit : goal.bounds-as_slice-unit
@@ -70,4 +70,8 @@ returns-clause-stands c =
     let edges = shifted_cut plan c.args.unit c.args.district inside g c.units-units.ensures.sound c.requires.unit in
     all_stand g c.args.counts.now (length c.self.inside.view.population) after c.shift_counts.new.view
     (c.shift_counts.new.view.cut + get_or c.as_slice-2.result.now c.args.unit 0 - get_or c.as_slice.result.now c.args.unit 0) c.shift_apart.new.apart
-    c.shift_counts.ensures.added (omega (arith, cut, was, now, edges)) c.shift_apart.ensures
+    c.shift_counts.ensures.added (omega (arith, cut, was, now, edges)) (c.shift_counts.ensures.length ∙ c.length_after-self-inside.ensures) c.shift_apart.ensures
+
+pub length_after-self-inside-requires-clause-before : goal.length_after-self-inside-requires-clause-before
+length_after-self-inside-requires-clause-before c =
+    ap (λ (s : Following). s.view.length) c.self.view_is ∙ length_is c.args.graph.now c.args.counts.now c.args.plan.now c.args.self.now c.requires.stands

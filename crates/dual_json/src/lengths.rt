@@ -1,0 +1,278 @@
+//! Lengths of edges.
+
+ghost use Rattle.std.specs.Prelude.{◌≡◌, ◌<◌, ◌≤◌, ◌⊎◌, ◌++◌, None, Some, length, option_map, IfErr, OnOk, MatchResult};
+ghost use Rattle.audit_model.specs.declared.fault.GraphFault.TheVariants.{Memory, MissingLength, BadLength};
+ghost use Rattle.audit_model.specs.Limits.{most_units};
+ghost use Rattle.dual_json.specs.Edges.{entries_at, first_in, first_entry_in};
+ghost use Rattle.dual_json.specs.Lengths.{all_lengths, fault_if_named, is_labelled, is_unequal, lacks_length, lacks_value, length_between, length_in, length_of_pair, length_or_zero, lengths_fault, lengths_if_named, listed_length, row_lengths, unequal_fault};
+ghost use Rattle.dual_json.specs.Names.{label_from};
+ghost use Rattle.dual_json.specs.Shape.{lists_in, views};
+ghost use Rattle.dual_json.specs.Values.{value_data};
+
+use crate::index::Index;
+use crate::names::{NodeName, name_at};
+use crate::shape::entries_of;
+use crate::value::Value;
+use audit_model::fault::GraphFault;
+use audit_model::lists::UnitList;
+use dual_graph::graph::Graph;
+use std::alloc::Global;
+
+/// The adjacency lists of the nodes, the index of their ids, and the key of the lengths.
+#[derive(Clone, Copy)]
+pub struct Listed<'a, 'v> {
+    pub adjacency: &'a [Value<'v>],
+    pub index: &'a Index<'v>,
+    pub key: &'a str,
+    pub ghost as_many: { length index.now ≡ length adjacency.now },
+    pub ghost few: { length adjacency.now ≤ most_units },
+}
+
+/// Returns the integer at a key if it is from 0 to 2^32 - 1.
+fn length_at(entry: &Value<'_>, key: &str) -> Option<u32>
+    ensures { result ≡ length_in key.now (value_data entry.now) }
+{
+    let Some(value) = entry.get(key) else {
+        return None;
+    };
+    match value.as_u64() {
+        Some(length) => {
+            if length <= 4294967295 {
+                Some(length as u32)
+            } else {
+                None
+            }
+        }
+        None => None,
+    }
+}
+
+/// Returns true if an entry has no value at the key.
+fn lacks_value(entry: &Value<'_>, key: &str) -> bool
+    ensures { result ≡ lacks_value key.now (value_data entry.now) }
+{
+    entry.get(key).is_none()
+}
+
+/// Returns true if an entry has no length at the key.
+fn lacks_length(entry: &Value<'_>, key: &str) -> bool
+    ensures { result ≡ lacks_length key.now (value_data entry.now) }
+{
+    length_at(entry, key).is_none()
+}
+
+/// Returns the length at the key, or 0 without one.
+fn length_or_zero(entry: &Value<'_>, key: &str) -> u32
+    ensures { result ≡ length_or_zero key.now (value_data entry.now) }
+{
+    length_at(entry, key).unwrap_or(0)
+}
+
+/// Returns the place of the first entry without a value at the key.
+fn first_without(entries: &[Value<'_>], key: &str) -> Option<usize>
+    ensures { result ≡ first_in (lacks_value key.now) (views entries.now) }
+{
+    for place in 0..entries.len() {
+        if lacks_value(&entries[place], key) {
+            return Some(place);
+        }
+    }
+    None
+}
+
+/// Returns the place of the first entry without a length at the key.
+fn first_unread(entries: &[Value<'_>], key: &str) -> Option<usize>
+    ensures { result ≡ first_in (lacks_length key.now) (views entries.now) }
+{
+    for place in 0..entries.len() {
+        if lacks_length(&entries[place], key) {
+            return Some(place);
+        }
+    }
+    None
+}
+
+/// Checks that each entry has a value at the key, or returns the first fault.
+fn check_values(adjacency: &[Value<'_>], key: &str) -> Result<(), GraphFault>
+    requires { length adjacency.now ≤ most_units }
+    ensures { MatchResult result (λ _. first_entry_in (lacks_value key.now) MissingLength (lists_in adjacency.now) ≡ None)
+        (λ f. first_entry_in (lacks_value key.now) MissingLength (lists_in adjacency.now) ≡ Some f) }
+{
+    for node in 0..adjacency.len() {
+        if let Some(place) = first_without(entries_of(adjacency, node), key) {
+            return Err(GraphFault::MissingLength {
+                node: node as u32,
+                place: place as u64,
+            });
+        }
+    }
+    Ok(())
+}
+
+/// Checks that each entry has a length at the key, or returns the first fault.
+fn check_lengths(adjacency: &[Value<'_>], key: &str) -> Result<(), GraphFault>
+    requires { length adjacency.now ≤ most_units }
+    ensures { MatchResult result (λ _. first_entry_in (lacks_length key.now) BadLength (lists_in adjacency.now) ≡ None)
+        (λ f. first_entry_in (lacks_length key.now) BadLength (lists_in adjacency.now) ≡ Some f) }
+{
+    for node in 0..adjacency.len() {
+        if let Some(place) = first_unread(entries_of(adjacency, node), key) {
+            return Err(GraphFault::BadLength {
+                node: node as u32,
+                place: place as u64,
+            });
+        }
+    }
+    Ok(())
+}
+
+/// Returns true if the entry has this name as its id.
+fn is_named(entry: &Value<'_>, name: NodeName<'_>) -> bool
+    ensures { result ≡ is_labelled (label_from name.entry) (value_data entry.now) }
+{
+    match name_at(entry, "id") {
+        Some(id) => id == name,
+        None => false,
+    }
+}
+
+/// Returns the length in the first entry with this name.
+fn listed_length(entries: &[Value<'_>], name: NodeName<'_>, key: &str) -> Option<u32>
+    ensures { result ≡ listed_length key.now (label_from name.entry) (views entries.now) }
+{
+    for place in 0..entries.len() {
+        if is_named(&entries[place], name) {
+            return Some(length_or_zero(&entries[place], key));
+        }
+    }
+    None
+}
+
+/// Returns the length in the first of all entries by which one of two nodes names the other.
+fn length_between(listed: Listed<'_, '_>, node: u32, other: u32) -> u32
+    requires node { node < length listed.index.now }
+    requires other { other < length listed.index.now }
+    ensures { result ≡ length_between listed.entry.key.now listed.entry.index.now (lists_in listed.entry.adjacency.now) node other }
+{
+    if node < other {
+        length_of_pair(listed, node, other)
+    } else {
+        length_of_pair(listed, other, node)
+    }
+}
+
+/// Returns the length in the first entry of `low` that names `high`, or else in the first entry of
+/// `high` that names `low`.
+fn length_of_pair(listed: Listed<'_, '_>, low: u32, high: u32) -> u32
+    requires low { low < length listed.index.now }
+    requires high { high < length listed.index.now }
+    ensures { result ≡ length_of_pair listed.entry.key.now listed.entry.index.now (lists_in listed.entry.adjacency.now) low high }
+{
+    let entries = entries_of(listed.adjacency, low as usize);
+    match listed_length(entries, listed.index.name(high), listed.key) {
+        Some(length) => length,
+        None => {
+            let others = entries_of(listed.adjacency, high as usize);
+            listed_length(others, listed.index.name(low), listed.key).unwrap_or(0)
+        }
+    }
+}
+
+/// Returns true if an entry of a node has another length than the first entry for the two nodes.
+fn is_unequal<'v>(listed: Listed<'_, 'v>, node: u32, entry: &Value<'v>) -> bool
+    requires { node < length listed.index.now }
+    ensures { result ≡ is_unequal listed.entry.key.now listed.entry.index.now (lists_in listed.entry.adjacency.now) node (value_data entry.now) }
+{
+    match listed.index.node_of(entry) {
+        Some(other) => { length_or_zero(entry, listed.key) != length_between(listed, node, other) }
+        None => false,
+    }
+}
+
+/// Returns the place of the first of a node's entries with another length than the first entry for
+/// the two nodes.
+fn first_unequal<'v>(listed: Listed<'_, 'v>, node: u32, entries: &[Value<'v>]) -> Option<usize>
+    requires { node < length listed.index.now }
+    ensures { result ≡ first_in (is_unequal listed.entry.key.now listed.entry.index.now (lists_in listed.entry.adjacency.now) node) (views entries.now) }
+{
+    for place in 0..entries.len() {
+        if is_unequal(listed, node, &entries[place]) {
+            return Some(place);
+        }
+    }
+    None
+}
+
+/// Checks that all entries for two nodes have one length, or returns the first fault.
+fn check_equal(listed: Listed<'_, '_>) -> Result<(), GraphFault>
+    ensures { MatchResult result (λ _. unequal_fault listed.entry.key.now listed.entry.index.now (lists_in listed.entry.adjacency.now) ≡ None)
+        (λ f. unequal_fault listed.entry.key.now listed.entry.index.now (lists_in listed.entry.adjacency.now) ≡ Some f) }
+{
+    for node in 0..listed.adjacency.len() {
+        let entries = entries_of(listed.adjacency, node);
+        if let Some(place) = first_unequal(listed, node as u32, entries) {
+            return Err(GraphFault::UnequalLengths {
+                node: node as u32,
+                place: place as u64,
+            });
+        }
+    }
+    Ok(())
+}
+
+/// Appends the lengths from a node to its neighbors. The only error is `Memory`.
+fn push_row(
+    lengths: &mut UnitList,
+    graph: &Graph,
+    listed: Listed<'_, '_>,
+    node: u32,
+) -> Result<(), GraphFault>
+    requires node { node < graph.now.units }
+    requires units { graph.now.units ≡ length listed.index.now }
+    ensures row { OnOk result (lengths.new ≡ lengths.old ++ row_lengths listed.entry.key.now listed.entry.index.now (lists_in listed.entry.adjacency.now) graph.now node) }
+    ensures memory { IfErr result (λ f. f ≡ Memory) }
+{
+    for other in graph.neighbours(node) {
+        lengths.push(length_between(listed, node, *other))?;
+    }
+    Ok(())
+}
+
+/// Reads the lengths of all directed edges, in the order of the graph's rows. The only error is
+/// `Memory`.
+fn lengths_from(
+    alloc: Global,
+    graph: &Graph,
+    listed: Listed<'_, '_>,
+) -> Result<UnitList, GraphFault>
+    requires { graph.now.units ≡ length listed.index.now }
+    ensures { MatchResult result (λ lengths. lengths ≡ all_lengths listed.entry.key.now listed.entry.index.now (lists_in listed.entry.adjacency.now) graph.now) (λ f. f ≡ Memory) }
+{
+    let mut lengths = UnitList::new(alloc);
+    for node in 0..graph.units() {
+        push_row(&mut lengths, graph, listed, node)?;
+    }
+    Ok(lengths)
+}
+
+/// Reads the lengths of all directed edges of a graph, or returns none if no column is named. The
+/// lengths are checked first.
+pub fn lengths_of(
+    alloc: Global,
+    graph: &Graph,
+    listed: Listed<'_, '_>,
+) -> Result<UnitList, GraphFault>
+    requires { graph.now.units ≡ length listed.index.now }
+    ensures { MatchResult result
+        (λ lengths. (fault_if_named listed.entry.key.now listed.entry.index.now (lists_in listed.entry.adjacency.now) ≡ None)
+        × (lengths ≡ lengths_if_named listed.entry.key.now listed.entry.index.now (lists_in listed.entry.adjacency.now) graph.now))
+        (λ f. (f ≡ Memory) ⊎ (fault_if_named listed.entry.key.now listed.entry.index.now (lists_in listed.entry.adjacency.now) ≡ Some f)) }
+{
+    if listed.key.is_empty() {
+        return Ok(UnitList::new(alloc));
+    }
+    check_values(listed.adjacency, listed.key)?;
+    check_lengths(listed.adjacency, listed.key)?;
+    check_equal(listed)?;
+    lengths_from(alloc, graph, listed)
+}
