@@ -8,14 +8,15 @@
 //! With `--look yes` before the folders, it reports the progress of each folder and of the job, takes no lock and saves
 //! nothing.
 
-ghost use Rattle.std.specs.Prelude.{◌≡◌, ◌≤◌, IfOk, IfSome, length, true};
+ghost use Rattle.std.specs.Prelude.{◌≡◌, ◌≤◌, Bool, IfOk, IfSome, List, false, length, map, not, string_bytes, true, ℕ};
 ghost use Rattle.audit_model.specs.Limits.{most_trajectories};
 ghost use Rattle.audit_model.specs.Run.{total};
 
 use crate::exit_code::{end_with, exit_code_of};
-use crate::folder_keeper::FolderKeeper;
 use crate::job::{Task, run_words};
+use audit_io::file_calls::SystemCalls;
 use audit_io::file_keeper::FileKeeper;
+use audit_io::folder_keeper::FolderKeeper;
 use audit_io::std_adapters::WriteSink;
 use audit_words::names::command_of;
 use folder_report::gathering::gather_and_tell;
@@ -24,29 +25,43 @@ use report::ended::Ended;
 use std::alloc::AllocError;
 use std::process::ExitCode;
 
+// The slots of a folder of the system.
+type FolderSlots<'a> = FolderKeeper<'a, SystemCalls<'a, HostRuntime>>;
+
+// Makes the slots of a folder.
+fn slots_of<'a>(rt: &'a HostRuntime, folder: &'a str, locks: bool) -> FolderSlots<'a>
+    ensures folder { result.place.folder.now ≡ folder.now }
+    ensures locks { result.place.locks ≡ locks }
+{
+    FolderKeeper::new(SystemCalls::new(rt), rt.alloc(), folder, locks)
+}
+
+// Makes the slots of each folder, whose locks are asked for or not.
 fn keepers_of<'a>(
     rt: &'a HostRuntime,
     folders: &'a [String],
     locks: bool,
-) -> Result<Vec<FolderKeeper<'a>>, AllocError>
-    ensures { IfOk result (λ keepers. length keepers.items ≡ length folders.now) }
+) -> Result<Vec<FolderSlots<'a>>, AllocError>
+    ensures count { IfOk result (λ keepers. length keepers.items ≡ length folders.now) }
+    ensures named { IfOk result (λ keepers. map {B = List ℕ × Bool} (λ k. (k.place.folder.now, k.place.locks)) keepers.items ≡ map {B = List ℕ × Bool} (λ f. (string_bytes f, locks)) folders.now) }
 {
     let mut keepers = Vec::new(rt.alloc());
     for folder in folders {
-        keepers.push(FolderKeeper::new(rt, rt.alloc(), folder.as_str(), locks))?;
+        keepers.push(slots_of(rt, folder.as_str(), locks))?;
     }
     Ok(keepers)
 }
 
 // Looks at the folders and saves nothing.
-fn look(rt: &HostRuntime, job: &Job, folders: &[String], keepers: &mut [FolderKeeper<'_>]) -> u8
+fn look(rt: &HostRuntime, job: &Job, folders: &[String], keepers: &mut [FolderSlots<'_>]) -> u8
     requires few { total job.now ≤ most_trajectories }
     requires names { length folders.now ≡ length keepers.old }
+    requires named { map {B = List ℕ × Bool} (λ k. (k.place.folder.now, k.place.locks)) keepers.old ≡ map {B = List ℕ × Bool} (λ f. (string_bytes f, false)) folders.now }
 {
     gather_and_tell(
         rt.alloc(),
         job,
-        &mut FolderKeeper::new(rt, rt.alloc(), ".", false),
+        &mut slots_of(rt, ".", false),
         keepers,
         folders,
         false,
@@ -60,15 +75,16 @@ fn gather_here(
     rt: &HostRuntime,
     job: &Job,
     folders: &[String],
-    keepers: &mut [FolderKeeper<'_>],
+    keepers: &mut [FolderSlots<'_>],
 ) -> u8
     requires few { total job.now ≤ most_trajectories }
     requires names { length folders.now ≡ length keepers.old }
+    requires named { map {B = List ℕ × Bool} (λ k. (k.place.folder.now, k.place.locks)) keepers.old ≡ map {B = List ℕ × Bool} (λ f. (string_bytes f, true)) folders.now }
 {
     gather_and_tell(
         rt.alloc(),
         job,
-        &mut FileKeeper::new(rt),
+        &mut FileKeeper::new(SystemCalls::new(rt)),
         keepers,
         folders,
         true,
@@ -81,11 +97,12 @@ fn look_or_gather(
     rt: &HostRuntime,
     job: &Job,
     folders: &[String],
-    keepers: &mut [FolderKeeper<'_>],
+    keepers: &mut [FolderSlots<'_>],
     looks: bool,
 ) -> u8
     requires few { total job.now ≤ most_trajectories }
     requires names { length folders.now ≡ length keepers.old }
+    requires named { map {B = List ℕ × Bool} (λ k. (k.place.folder.now, k.place.locks)) keepers.old ≡ map {B = List ℕ × Bool} (λ f. (string_bytes f, not looks)) folders.now }
 {
     if looks {
         return look(rt, job, folders, keepers);

@@ -6,7 +6,6 @@
 #![tactic(auto)]
 
 mod exit_code;
-mod folder_keeper;
 mod gather;
 mod job;
 mod slots;

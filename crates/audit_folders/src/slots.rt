@@ -5,8 +5,9 @@
 //! arguments of the run follow, if any, and its graph is then on standard input. No file is changed, and the outcomes
 //! themselves are not shown.
 
-use crate::folder_keeper::FolderKeeper;
 use crate::job::{Task, run_words};
+use audit_io::file_calls::SystemCalls;
+use audit_io::folder_keeper::FolderKeeper;
 use audit_io::std_adapters::WriteSink;
 use audit_words::names::command_of;
 use folder_report::slots::tell_slots;
@@ -17,7 +18,7 @@ use std::process::ExitCode;
 pub fn show_folder(rt: &HostRuntime, folder: &str, job: Option<&Job>) -> ExitCode {
     let status = tell_slots(
         rt.alloc(),
-        &mut FolderKeeper::new(rt, rt.alloc(), folder, false),
+        &mut FolderKeeper::new(SystemCalls::new(rt), rt.alloc(), folder, false),
         job,
         &mut WriteSink::new(rt.stdout()),
         &mut WriteSink::new(rt.stderr()),

@@ -5,6 +5,7 @@ use Rattle.std_io.specs.declared.io.kind.ErrorKind.{ErrorKind}
 use Rattle.std_io.specs.declared.io.kind.ErrorKind.TheVariants.{InvalidInput, Unsupported}
 use Rattle.audit_io.specs.Files.{file_name}
 use Rattle.audit_io.specs.FileCalls.{Call, Follows, HasDone, HasFolderAfter, HasSavedFile, HasSavedSlot, HasStoredOther, Step, What, called, called_all, error_of, file_steps, folder_steps, found_steps, here, making_steps, names_steps, no_error, no_folder_error, opened, other_steps, step, stored, storing, writing_steps}
+use Rattle.audit_io.specs.Looks.{KnowsStored, knows_more}
 
 -- calls added twice are added at once
 pub called_twice : (observed : Option (List Call)) (xs ys : List Call) → called_all (called_all observed xs) ys ≡ called_all observed (xs ++ ys)
@@ -151,3 +152,8 @@ saved_stop a b found names slot bytes beside there one = record {
   done = done_stop a b (other_steps found one.0 (file_name (1 - slot))) (file_steps names true (file_name slot) bytes)
       (subst (λ (n : List ℕ). HasDone a b (other_steps found one.0 n) false) there one.1);
 }
+
+-- the other slot's file was stored, and then other calls were made
+pub knows_stored : (a b d : Option (List Call)) (found was now names ok : Bool) (slot : ℕ) (beside name bytes : List ℕ) → beside ≡ file_name (1 - slot) → HasStoredOther found beside a b true
+    → HasSavedFile names name bytes b d ok → KnowsStored a d found slot was now
+knows_stored a b d found was now names ok slot beside name bytes there one two = knows_more b two.1.added (subst (λ (n : List ℕ). HasStoredOther found n a b true) there one) two.1.calls

@@ -5,12 +5,17 @@ use Rattle.std.specs.IoError.{error_kind}
 use Rattle.std_io.specs.declared.io.error.Error.{Error}
 use Rattle.std_io.specs.declared.io.kind.ErrorKind.{ErrorKind}
 use Rattle.std_io.specs.declared.io.kind.ErrorKind.TheVariants.{AlreadyExists, InvalidInput, NotFound, Unsupported}
+use Rattle.audit_io.specs.declared.file_calls.Found.{Found}
 use Rattle.audit_io.specs.Files.{file_name}
 
--- a call on files: to open a file of this name to read it; to wait until that file is stored; to make a file of this
+-- a call on files: to look at what stands in the place of a name, and what was found there; to look there, also if it
+-- is a link to nothing; to lock a folder, and whether another run holds it; to open a file of this name to read it; to wait until that file is stored; to make a file of this
 -- name where there is none; to open the one that is there, and empty it; to write all these bytes to the file that was
 -- made or emptied last; and to wait until that file is stored
 pub data What : Type 0 where
+  looked : List ℕ → Option Found → What
+  looked_at_link : List ℕ → What
+  locked : List ℕ → Bool → What
   opened : List ℕ → What
   stored : List ℕ → What
   made : List ℕ → What
@@ -27,6 +32,11 @@ pub record Call : Type 0 where
 abbrev pub error_of : {A : Type 0} → Result A Error → Option ErrorKind
 error_of (Ok a) = None
 error_of (Err e) = Some (error_kind e)
+
+-- the answer, where there is one
+abbrev pub answered : {A : Type 0} → Result A Error → Option A
+answered (Ok a) = Some a
+answered (Err e) = None
 
 -- the calls with more at the end, where they are known
 abbrev pub called_all : Option (List Call) → List Call → Option (List Call)

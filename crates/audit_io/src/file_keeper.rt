@@ -1,22 +1,25 @@
 //! The checkpoint store of a run: two files.
 
-ghost use Rattle.std.specs.Prelude.{◌≡◌, ◌⊎◌, ◌↔◌, ◌<◌, false, true, [], None, Ok, Err, IsOk, IfOk, OnOk, IsErrAnd};
+ghost use Rattle.std.specs.Prelude.{◌≡◌, ◌⊎◌, ◌↔◌, ◌<◌, false, true, [], None, Ok, Err, IsOk, IsErrAnd, OnOk, is_ok};
 ghost use Rattle.std.specs.IoError.{error_kind};
 ghost use Rattle.std.specs.Io.KnownBytes.{Appends};
-ghost use Rattle.audit_io.specs.Files.{ReadsWithin, LoadsFile, file_name};
-ghost use Rattle.audit_io.specs.Loads.{LoadsWithin};
+ghost use Rattle.audit_model.specs.Faults.{HasCause};
+ghost use Rattle.audit_model.specs.Pair.{HoldsBytes};
+ghost use Rattle.audit_io.specs.Files.{ReadsWithin};
+ghost use Rattle.audit_io.specs.Keepers.{HasKept, HasLoadedSlot, HasTakenFolder, LoadsOpened};
+ghost use Rattle.audit_io.specs.Loads.{HasLoadCause, LoadsWithin};
 
-use crate::folder_lock::{Taken, lock_folder};
+use crate::folder_calls::FolderCalls;
+use crate::folder_lock::Taken;
 use crate::keeper::{Keeper, LoadError};
 use crate::load_count::LoadCount;
+use crate::looks::open_slot;
 use crate::retry_on_eintr::read_again;
-use crate::slot_files::{Known, open_slot, save_slot};
+use crate::slot_files::{Known, save_slot};
 use crate::source::Failed;
 use audit_model::buffers::Bytes;
-use std::fs::File;
 use std::io;
 use std::io::{ErrorKind, Read};
-use std::rt::Files;
 
 // The largest number of bytes of one read.
 const PIECE: usize = 4096;
@@ -33,10 +36,12 @@ const PIECE: usize = 4096;
 /// A slot has to be a plain file or a link to one, and the two slots have to be different files. A folder, a pipe, a
 /// device, a dangling link or a link to the other slot is not opened, and the call fails. The first save waits until
 /// the system has stored the other slot's file and the folder. An earlier process may have ended before they were.
+///
+/// The clauses `done` of its methods say each call that is made on files, in turn, by `FolderCalls`.
 #[derive(Drop)]
-pub struct FileKeeper<R: Files<File = File> + Drop> {
-    files: R,
-    folder: Folder,
+pub struct FileKeeper<D: FolderCalls + Drop> {
+    disk: D,
+    folder: Folder<D::Lock>,
     known: Known,
     load_faults: LoadCount,
     save_faults: u64,
@@ -44,24 +49,27 @@ pub struct FileKeeper<R: Files<File = File> + Drop> {
 
 /// The lock state of the working folder.
 #[derive(Drop)]
-enum Folder {
-    /// No call has taken the lock yet.
-    Untaken,
-    /// The opened folder holds the lock, if the system has such locks.
-    Own(Option<File>),
+struct Folder<L: Drop> {
+    // A call has taken the lock.
+    is_own: bool,
+    // The opened folder, which holds the lock, if the system has such locks.
+    lock: Option<L>,
 }
 
-impl<R: Files<File = File> + Drop> FileKeeper<R> {
-    /// Makes a keeper over the files that `files` opens. No call has failed yet, and its slots are not observable.
-    pub fn new(files: R) -> FileKeeper<R>
-        ensures slots { (⟦<FileKeeper<R> as Keeper>⟧.state result).slots ≡ None }
-        ensures attempted { (⟦<FileKeeper<R> as Keeper>⟧.state result).attempted ≡ None }
-        ensures load_faults { (⟦<FileKeeper<R> as Keeper>⟧.state result).load_faults ≡ record { all = 0; taken = 0 } }
-        ensures save_faults { (⟦<FileKeeper<R> as Keeper>⟧.state result).save_faults ≡ 0 }
+impl<D: FolderCalls + Drop> FileKeeper<D> {
+    /// Makes a keeper over these calls on files. No call has failed yet, and its slots are not observable.
+    pub fn new(disk: D) -> FileKeeper<D>
+        ensures slots { (⟦<FileKeeper<D> as Keeper>⟧.state result).slots ≡ None }
+        ensures attempted { (⟦<FileKeeper<D> as Keeper>⟧.state result).attempted ≡ None }
+        ensures load_faults { (⟦<FileKeeper<D> as Keeper>⟧.state result).load_faults ≡ record { all = 0; taken = 0 } }
+        ensures save_faults { (⟦<FileKeeper<D> as Keeper>⟧.state result).save_faults ≡ 0 }
     {
         FileKeeper {
-            files,
-            folder: Folder::Untaken,
+            disk,
+            folder: Folder {
+                is_own: false,
+                lock: None,
+            },
             known: Known::new(),
             load_faults: LoadCount::new(),
             save_faults: 0,
@@ -69,26 +77,41 @@ impl<R: Files<File = File> + Drop> FileKeeper<R> {
     }
 }
 
-impl<R: Files<File = File> + Drop> Keeper for FileKeeper<R> {
+impl<D: FolderCalls + Drop> Keeper for FileKeeper<D> {
     ghost state = { λ k. record { slots = None; attempted = None; load_faults = k.load_faults; save_faults = k.save_faults } };
 
     /// Returns `Taken` if another keeper holds the folder. Otherwise a slot is empty exactly if opening its file
     /// reports that there is none. A file that was read is a slot, whatever its length. Out of memory, also the
     /// system's, is `Memory`.
-    fn load(&mut self, slot: u8, limit: u64, room: &mut Bytes) -> Result<bool, LoadError> {
-        let loaded = match take_folder(&self.files, &mut self.folder) {
-            Ok(()) => load_opened(open_slot(&self.files, slot), limit, room),
-            Err(Taken) => refuse(room),
-        };
+    fn load(&mut self, slot: u8, limit: u64, room: &mut Bytes) -> Result<bool, LoadError>
+        requires { slot < 2 }
+        ensures done { HasLoadedSlot (D.calls self.old.disk) (D.calls self.new.disk) self.old.folder.is_own slot D.Opened.remaining limit room.new.items result }
+        ensures within { LoadsWithin limit room.new.items result }
+        ensures cause { HasLoadCause self.old.load_faults self.new.load_faults result }
+        ensures saves { self.new.save_faults ≡ self.old.save_faults }
+        ensures folder { self.old.folder.is_own ≡ true → self.new.folder.is_own ≡ true }
+        ensures known { self.new.known ≡ self.old.known }
+    {
+        let loaded = load_by(&mut self.disk, &mut self.folder, slot, limit, room);
         self.load_faults.count(loaded)
     }
 
     /// Creates the file if there is none, and touches no other. Out of memory is `Failed`.
-    fn save(&mut self, slot: u8, bytes: &[u8]) -> Result<(), Failed> {
-        let saved = match take_folder(&self.files, &mut self.folder) {
-            Ok(()) => save_slot(&self.files, slot, bytes, &mut self.known).is_ok(),
-            Err(Taken) => false,
-        };
+    fn save(&mut self, slot: u8, bytes: &[u8]) -> Result<(), Failed>
+        requires slot { slot < 2 }
+        ensures saved { OnOk result (HoldsBytes None slot bytes.now) }
+        ensures done { HasKept (D.calls self.old.disk) (D.calls self.new.disk) self.old.folder.is_own self.old.known.newest self.new.known.newest self.old.known.names slot bytes.now (is_ok result) }
+        ensures cause { HasCause self.old.save_faults self.new.save_faults result }
+        ensures loads { self.new.load_faults ≡ self.old.load_faults }
+        ensures folder { self.old.folder.is_own ≡ true → self.new.folder.is_own ≡ true }
+    {
+        let saved = keep(
+            &mut self.disk,
+            &mut self.folder,
+            slot,
+            bytes,
+            &mut self.known,
+        );
         if saved {
             return Ok(());
         }
@@ -98,13 +121,58 @@ impl<R: Files<File = File> + Drop> Keeper for FileKeeper<R> {
 }
 
 // Locks the working folder, unless the keeper holds the lock already.
-fn take_folder<R: Files<File = File>>(files: &R, folder: &mut Folder) -> Result<(), Taken> {
-    match folder {
-        Folder::Own(_) => Ok(()),
-        Folder::Untaken => {
-            *folder = Folder::Own(lock_folder(files, ".")?);
+fn take_folder<D: FolderCalls>(disk: &mut D, folder: &mut Folder<D::Lock>) -> Result<(), Taken>
+    ensures done { HasTakenFolder (D.calls disk.old) (D.calls disk.new) folder.old.is_own (is_ok result) }
+    ensures own { is_ok result ≡ true → folder.new.is_own ≡ true }
+    ensures taken { folder.old.is_own ≡ true → folder.new.is_own ≡ true }
+{
+    if folder.is_own {
+        return Ok(());
+    }
+    match disk.lock(".") {
+        Ok(lock) => {
+            folder.is_own = true;
+            folder.lock = lock;
             Ok(())
         }
+        Err(taken) => Err(taken),
+    }
+}
+
+// Loads a slot of the working folder once its lock is taken.
+fn load_by<D: FolderCalls>(
+    disk: &mut D,
+    folder: &mut Folder<D::Lock>,
+    slot: u8,
+    limit: u64,
+    room: &mut Bytes,
+) -> Result<bool, LoadError>
+    requires { slot < 2 }
+    ensures done { HasLoadedSlot (D.calls disk.old) (D.calls disk.new) folder.old.is_own slot D.Opened.remaining limit room.new.items result }
+    ensures within { LoadsWithin limit room.new.items result }
+    ensures folder { folder.old.is_own ≡ true → folder.new.is_own ≡ true }
+{
+    match take_folder(disk, folder) {
+        Ok(()) => load_opened(open_slot(disk, slot), limit, room),
+        Err(Taken) => refuse(room),
+    }
+}
+
+// Saves in a slot of the working folder once its lock is taken. Returns whether the save succeeded.
+fn keep<D: FolderCalls>(
+    disk: &mut D,
+    folder: &mut Folder<D::Lock>,
+    slot: u8,
+    bytes: &[u8],
+    known: &mut Known,
+) -> bool
+    requires { slot < 2 }
+    ensures done { HasKept (D.calls disk.old) (D.calls disk.new) folder.old.is_own known.old.newest known.new.newest known.old.names slot bytes.now result }
+    ensures folder { folder.old.is_own ≡ true → folder.new.is_own ≡ true }
+{
+    match take_folder(disk, folder) {
+        Ok(()) => save_slot(disk, slot, bytes, known).is_ok(),
+        Err(Taken) => false,
     }
 }
 
@@ -163,7 +231,7 @@ pub fn load_opened<F: Read + Drop>(
     ensures within { LoadsWithin limit room.new.items result }
     ensures absent { (result ≡ Ok false) ↔ IsErrAnd opened (λ e. error_kind e ≡ ErrorKind.NotFound) }
     ensures present { result ≡ Ok true → IsOk opened }
-    ensures file { IfOk opened (λ file. LoadsFile (F.remaining file) limit room.new.items result) }
+    ensures done { LoadsOpened F.remaining limit room.new.items result opened }
 {
     room.clear();
     match opened {

@@ -2,14 +2,12 @@
 
 ghost use Rattle.std.specs.Prelude.{◌≡◌, ◌<◌, ◌++◌, ◌&&◌, not, true, OnOk, is_ok};
 ghost use Rattle.audit_io.specs.FileCalls.{HasDone, HasFolderAfter, HasMade, HasSavedFile, HasSavedSlot, HasStoredOther, error_of, folder_steps, names_steps, no_folder_error, writing_steps};
-ghost use Rattle.audit_io.specs.Files.{file_name};
+ghost use Rattle.audit_io.specs.Looks.{HasSaved, KnowsStored};
 
-use crate::file_calls::{FileCalls, SystemCalls};
-use std::fs::Metadata;
+use crate::file_calls::FileCalls;
+use crate::looks::{check_place, is_unstored, name_of};
+use std::io;
 use std::io::ErrorKind;
-use std::os::unix::fs::MetadataExt;
-use std::rt::Files;
-use std::{fs, io};
 
 /// The parts of what was there before this process that are known to be stored.
 #[derive(Drop)]
@@ -28,78 +26,6 @@ impl Known {
             names: false,
         }
     }
-}
-
-// Returns the name of a slot's file.
-pub(crate) fn name_of(slot: u8) -> &'static str
-    requires { slot < 2 }
-    ensures { result.now ≡ file_name slot }
-{
-    match slot {
-        0 => "audit-0.ckpt",
-        _ => "audit-1.ckpt",
-    }
-}
-
-// Returns what stands in the place of a name, if it is a plain file or a link to one. A link to nothing is there, and
-// is no plain file.
-fn plain_file<R: Files>(files: &R, name: &str) -> io::Result<Metadata> {
-    match fs::metadata(files, name) {
-        Ok(found) => {
-            if found.is_file() {
-                return Ok(found);
-            }
-        }
-        Err(error) => {
-            if error.kind() != ErrorKind::NotFound || fs::symlink_metadata(files, name).is_err() {
-                return Err(error);
-            }
-        }
-    }
-    Err(io::Error::from(ErrorKind::InvalidInput))
-}
-
-/// Opens the plain file of this name to read it. Anything else is not opened: to open a pipe may take forever, and a
-/// folder, a device or a link to nothing is no slot.
-pub fn open_plain<R: Files>(files: &R, name: &str) -> io::Result<R::File> {
-    plain_file(files, name)?;
-    fs::open(files, name)
-}
-
-// Returns whether both slots are one file.
-fn are_one<R: Files>(files: &R) -> bool {
-    match (plain_file(files, name_of(0)), plain_file(files, name_of(1))) {
-        (Ok(first), Ok(second)) => first.dev() == second.dev() && first.ino() == second.ino(),
-        _ => false,
-    }
-}
-
-/// Opens the file of a slot to read it.
-pub(crate) fn open_slot<R: Files>(files: &R, slot: u8) -> io::Result<R::File>
-    requires { slot < 2 }
-{
-    if are_one(files) {
-        return Err(io::Error::from(ErrorKind::InvalidInput));
-    }
-    open_plain(files, name_of(slot))
-}
-
-// Checks that a slot's file may be written: nothing is in its place, or a plain file that is not the other slot's.
-fn check_place<R: Files>(files: &R, slot: u8) -> io::Result<()>
-    requires { slot < 2 }
-{
-    match plain_file(files, name_of(slot)) {
-        Ok(_) => {}
-        Err(error) => {
-            if error.kind() != ErrorKind::NotFound {
-                return Err(error);
-            }
-        }
-    }
-    if are_one(files) {
-        return Err(io::Error::from(ErrorKind::InvalidInput));
-    }
-    Ok(())
 }
 
 // Takes the answer of a wait for a folder. A system that stores no folders says so, and then there is nothing to wait
@@ -264,6 +190,7 @@ pub fn save_by<D: FileCalls>(
 ) -> io::Result<()>
     requires { slot < 2 }
     ensures done { HasSavedSlot found known.old.names slot bytes.now (D.calls disk.old) (D.calls disk.new) (is_ok result) }
+    ensures stored { KnowsStored (D.calls disk.old) (D.calls disk.new) found slot known.old.newest known.new.newest }
     ensures known { OnOk result ((known.new.newest ≡ true) × (known.new.names ≡ true)) }
 {
     match store_other(disk, name_of(1 - slot), found) {
@@ -275,37 +202,24 @@ pub fn save_by<D: FileCalls>(
     }
 }
 
-// Returns whether the file of a slot is there.
-fn is_there<R: Files>(files: &R, slot: u8) -> io::Result<bool>
-    requires { slot < 2 }
-{
-    match plain_file(files, name_of(slot)) {
-        Ok(_) => Ok(true),
-        Err(error) => match error.kind() {
-            ErrorKind::NotFound => Ok(false),
-            _ => Err(error),
-        },
-    }
-}
-
-// Returns whether the file of a slot is there and is not known to be stored.
-fn is_unstored<R: Files>(files: &R, slot: u8, newest: bool) -> io::Result<bool>
-    requires { slot < 2 }
-{
-    if newest {
-        return Ok(false);
-    }
-    is_there(files, slot)
-}
-
 /// Makes a slot's file hold exactly these bytes, and waits until the system has stored them, as `save_by` says. Until a
 /// process has stored the other slot's file, each of its saves begins with that: this file may be the newest, and may
-/// have been read though it was not stored.
-pub fn save_slot<R: Files>(files: &R, slot: u8, bytes: &[u8], known: &mut Known) -> io::Result<()>
+/// have been read though it was not stored. The clause `done` says each call that is made on files, in turn.
+pub fn save_slot<D: FileCalls>(
+    disk: &mut D,
+    slot: u8,
+    bytes: &[u8],
+    known: &mut Known,
+) -> io::Result<()>
     requires { slot < 2 }
-    ensures { OnOk result ((known.new.newest ≡ true) × (known.new.names ≡ true)) }
+    ensures done { HasSaved (D.calls disk.old) (D.calls disk.new) known.old.newest known.new.newest known.old.names slot bytes.now (is_ok result) }
+    ensures known { OnOk result ((known.new.newest ≡ true) × (known.new.names ≡ true)) }
 {
-    check_place(files, slot)?;
-    let found = is_unstored(files, 1 - slot, known.newest)?;
-    save_by(&mut SystemCalls::new(files), slot, bytes, known, found)
+    match check_place(disk, slot) {
+        Ok(()) => match is_unstored(disk, 1 - slot, known.newest) {
+            Ok(found) => save_by(disk, slot, bytes, known, found),
+            Err(error) => Err(error),
+        },
+        Err(error) => Err(error),
+    }
 }
