@@ -14,7 +14,6 @@ use crate::slots::Slot;
 use audit_model::fault::CkptFault;
 use audit_model::memory::Memory;
 use ckpt_format::decode::{Checkpoint, decode};
-use ckpt_format::laws::checkpoints_are_read;
 use plan_core::job::Job;
 use std::alloc::Global;
 
@@ -35,11 +34,7 @@ pub fn judge_bytes(
     ensures by_bytes { IfOk result IsByBytes }
 {
     match decode(alloc, bytes) {
-        Ok(checkpoint) => {
-            // Called for its contract: the parts of a checkpoint stand at their places.
-            checkpoints_are_read();
-            Ok(judge(job, digest, checkpoint))
-        }
+        Ok(checkpoint) => Ok(judge(job, digest, checkpoint)),
         Err(fault) => broken(fault),
     }
 }

@@ -2,6 +2,7 @@
 #![tactic(auto)]
 
 pub mod laws;
+mod limits;
 pub mod pool;
 pub mod settle;
 pub mod settling;

@@ -4,6 +4,7 @@ ghost use Rattle.std.specs.Prelude.{◌≡◌, ◌≤◌, length, IfNone, IfSome
 ghost use Rattle.std.specs.List.{AllPairs};
 ghost use Rattle.sequential_test.specs.Rounds.{AreParts, AreSettled, AreSettledBelow};
 
+use crate::limits::setting_of;
 use crate::settle::settle;
 use audit_model::outcome::Outcome;
 use plan_core::job::Job;
@@ -18,9 +19,7 @@ pub fn settle_all(job: &Job, outcomes: &[Outcome]) -> Option<[[u32; 3]; 4]>
     ensures four { IfSome result (λ stops. length stops ≡ 4) }
     ensures none { IfNone result (AreSettled job.now outcomes.now → ⊥) }
 {
-    // Called for its contract: the job is within its limits, and its start plan is legal.
-    let _units = job.units();
-    let enough = job.setting().stop;
+    let enough = setting_of(job).stop;
     let mut stops = [[0; 3]; 4];
     for place in 0..job.setting().asks.len() {
         match settle(job, place as u32, enough, outcomes) {

@@ -11,7 +11,7 @@ ghost use Rattle.audit_statement.specs.Draw.{draw};
 ghost use Rattle.sequential_test.specs.Pools.{AreRounds, HasWalkedTo, IsStoppingPool};
 ghost use Rattle.sequential_test.specs.Rounds.{ends_after, found_below, AreIds, AreParts, AreSettledBelow, StopsInTime};
 
-use crate::laws::{all_ends_settle, settled_stops_are_final};
+use crate::limits::setting_of;
 use crate::pool::{StoppingPool, after_round};
 use crate::settling::settle_all;
 use audit_io::gate::Gate;
@@ -20,7 +20,6 @@ use claim_counter::parts::{PartCounter, PartWorkers, find_hub, walk_part};
 use claim_counter::runtime::Runtime;
 use flip_guard::judge::Judge;
 use outcome_book::book::Book;
-use outcome_book::laws::outcomes_by_id_are_mapped;
 use plan_core::job::Job;
 use std::thread::Threads;
 
@@ -65,8 +64,6 @@ fn walk_to<R: Threads + Sync, J: Judge + Send, G: Gate + Sync>(
     ensures sorted { sorted.new.items ≡ found_below job.now stretch.entry.to }
     ensures rising { AllPairs (λ a b. a.id ≡ b.id → ⊥) sorted.new.items }
 {
-    // Called for its contract: outcomes by rising id are those of consecutive ids.
-    outcomes_by_id_are_mapped();
     walk_part(rt, job, stretch.ids, stretch.part, part_workers, book);
     // Called for its contract: the book holds no more than its capacity.
     let _all = book.len();
@@ -93,11 +90,8 @@ fn walk_rounds<R: Threads + Sync, J: Judge + Send, G: Gate + Sync>(
     ensures parts { AreParts job.now.setting.ends (length job.now.setting.asks) result }
     ensures four { length result ≡ 4 }
 {
-    // Called for their contracts: every test stops once no endpoint is missing, and the job is within its limits.
-    all_ends_settle();
-    let _units = job.units();
-    let walks = job.setting().walks;
-    let ends = job.setting().ends;
+    let walks = setting_of(job).walks;
+    let ends = setting_of(job).ends;
     let Rounds { todo, mut parts } = rounds;
     let mut walked = 0;
     while let Some(part) = parts.pop() {
@@ -145,9 +139,6 @@ pub fn walk_to_stops<R: Threads + Sync, J: Judge + Send, G: Gate + Sync>(
     ensures parts { AreParts job.now.setting.ends (length job.now.setting.asks) result }
     ensures four { length result ≡ 4 }
 {
-    // Called for their contracts: later endpoints do not change a settled stop, and the job is within its limits.
-    settled_stops_are_final();
-    let _units = job.units();
     let StoppingPool {
         mut part_workers,
         seats: _,
@@ -155,7 +146,7 @@ pub fn walk_to_stops<R: Threads + Sync, J: Judge + Send, G: Gate + Sync>(
         rounds,
     } = pool;
     find_hub(job, &mut part_workers);
-    let to = job.setting().walks;
+    let to = setting_of(job).walks;
     let stretch = Stretch {
         ids: ids_from(todo, 0, to),
         from: 0,

@@ -8,7 +8,6 @@ ghost use Rattle.serial_test.specs.Ranks.{HasRanks, RunsStayLegal};
 
 use crate::ranks::ranks;
 use crate::start_place::place;
-use audit_model::laws::visits_stay_legal;
 use audit_model::outcome::Serial;
 use chacha_draws::Draws;
 use flip_guard::judge::Judge;
@@ -39,8 +38,6 @@ pub fn serial<J: Judge>(walker: &mut Walker<J>, job: &Job) -> Serial
     ensures legal { RunsStayLegal job.now }
     ensures made { walker.new.job ≡ job.now }
 {
-    // Called for its contract: each plan visited from a legal plan is legal.
-    visits_stay_legal();
     // Called for its contract: the job is within its limits, and its start plan is legal.
     let _units = job.units();
     let setting = job.setting();

@@ -1,10 +1,11 @@
 use Rattle.std.proofs.Common.{◌∙◌}
 use Rattle.ckpt_store.proofs.Judged.{slot_of_read, slot_of_broken, broken_is_fit}
+use Rattle.ckpt_format.proofs.Stated.{checkpoints_are_read}
 use Rattle.ckpt_store.proofs.judge.judge_bytes.Goals as goal
 
 pub returns-in-Ok-clause-slot : goal.returns-in-Ok-clause-slot
 returns-in-Ok-clause-slot c =
-    c.judge.ensures.slot ∙ slot_of_read c.args.job.now c.args.digest.now c.args.bytes.now c.in-Ok.checkpoint c.requires c.in-Ok.ensures.faultless (c.checkpoints_are_read.ensures _ _ _ _ _ c.in-Ok.ensures.ok)
+    c.judge.ensures.slot ∙ slot_of_read c.args.job.now c.args.digest.now c.args.bytes.now c.in-Ok.checkpoint c.requires c.in-Ok.ensures.faultless (checkpoints_are_read _ _ _ _ _ c.in-Ok.ensures.ok)
 
 pub returns-in-Err-clause-slot : goal.returns-in-Err-clause-slot
 returns-in-Err-clause-slot c =

@@ -3,6 +3,7 @@ use Rattle.claim_counter.specs.Parts.{IsFreshPart}
 use Rattle.outcome_book.specs.Booked.{AreApart}
 use Rattle.audit_model.specs.Run.{by_id}
 use Rattle.sequential_test.proofs.Slicing.{found_apart, found_more, found_sorted, may_walk}
+use Rattle.outcome_book.proofs.ById.{by_id-mapped}
 use Rattle.sequential_test.proofs.walking.walk_to.Goals as goal
 
 pub walk_part-requires-clause-part : goal.walk_part-requires-clause-part
@@ -31,7 +32,7 @@ pub returns-clause-sorted : goal.returns-clause-sorted
 returns-clause-sorted g c =
     c.sorted_into.ensures.outcomes
     ∙ ap (λ n. by_id n c.walk_part.new.book.outcomes) (c.walk_part.ensures.total ∙ c.requires.walked.whole)
-    ∙ found_sorted c.args.job.now c.outcomes_by_id_are_mapped.ensures c.args.stretch.to c.walk_part.new.book.outcomes c.requires.few
+    ∙ found_sorted c.args.job.now by_id-mapped c.args.stretch.to c.walk_part.new.book.outcomes c.requires.few
     (found_more c.args.job.now c.args.stretch.from c.args.stretch.to c.args.stretch.ids.now c.args.book.now.outcomes c.walk_part.new.book.outcomes c.requires.ids c.requires.walked.walked c.walk_part.ensures.outcomes)
 
 pub returns-clause-rising : goal.returns-clause-rising
@@ -39,6 +40,6 @@ returns-clause-rising g c =
     subst AreApart
     (sym (c.sorted_into.ensures.outcomes
     ∙ ap (λ n. by_id n c.walk_part.new.book.outcomes) (c.walk_part.ensures.total ∙ c.requires.walked.whole)
-    ∙ found_sorted c.args.job.now c.outcomes_by_id_are_mapped.ensures c.args.stretch.to c.walk_part.new.book.outcomes c.requires.few
+    ∙ found_sorted c.args.job.now by_id-mapped c.args.stretch.to c.walk_part.new.book.outcomes c.requires.few
     (found_more c.args.job.now c.args.stretch.from c.args.stretch.to c.args.stretch.ids.now c.args.book.now.outcomes c.walk_part.new.book.outcomes c.requires.ids c.requires.walked.walked c.walk_part.ensures.outcomes)))
     (found_apart c.args.job.now c.args.stretch.to)

@@ -9,11 +9,12 @@ use Rattle.sequential_test.specs.Rounds.{ends_after}
 use Rattle.sequential_test.proofs.Rounding.{few_after, few_job}
 use Rattle.sequential_test.proofs.Reaching.{own_seats, same_walked}
 use Rattle.sequential_test.proofs.Slicing.{final_stops, found_right, none_walked, whole_ids}
+use Rattle.sequential_test.proofs.Finals.{settled_is_final}
 use Rattle.sequential_test.proofs.walking.walk_to_stops.Goals as goal
 
 pub ids_from-requires : goal.ids_from-requires
 ids_from-requires g c =
-    let walks = ap (λ (s : Setting). s.walks) c.setting.ensures in
+    let walks = ap (λ (s : Setting). s.walks) c.setting_of.ensures.value in
     record { order = (omega arith, omega (arith, walks, ap length c.requires.ids, length-map_below (total c.args.job.now) (λ id. id))) }
 
 pub walk_to-requires-clause-ids : goal.walk_to-requires-clause-ids
@@ -36,7 +37,7 @@ walk_rounds-requires-clause-rounds g c κs within =
 pub walk_rounds-requires-clause-walked : goal.walk_rounds-requires-clause-walked
 walk_rounds-requires-clause-walked g c κs within =
     same_walked c.args.job.now _ _ _ _ _ c.walk_to.ensures.walked _ _ c.walk_to.ensures.walked.part_workers.count
-    (sym (ap (λ (s : Setting). s.walks) c.setting.ensures))
+    (sym (ap (λ (s : Setting). s.walks) c.setting_of.ensures.value))
 
 pub returns-clause-stops : goal.returns-clause-stops
 returns-clause-stops g c =
@@ -44,5 +45,5 @@ returns-clause-stops g c =
     let time = c.walk_rounds.ensures.in_time in
     let right = subst (λ (os : List Outcome). IsRight job (draw job.setting.key) os) (sym time.found_are)
     (found_right job (job.setting.walks + ends_after job.setting.ends time.rounds) (omega (arith, few_after job.setting.ends time.rounds))) in
-    final_stops c.settled_stops_are_final.ensures job (draw job.setting.key) c.walk_rounds.new.sorted.items c.walk_rounds.result right c.requires.some
-    (omega (arith, (few_job job c.units-units.ensures.sound).1, c.walk_rounds.ensures.four)) c.walk_rounds.ensures.stops
+    final_stops (λ job draws place ask enough outcomes s right h. settled_is_final job draws place outcomes right ask enough s h) job (draw job.setting.key) c.walk_rounds.new.sorted.items c.walk_rounds.result right c.requires.some
+    (omega (arith, (few_job job c.setting_of.ensures.sound).1, c.walk_rounds.ensures.four)) c.walk_rounds.ensures.stops

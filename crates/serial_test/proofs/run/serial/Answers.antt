@@ -7,6 +7,7 @@ use Rattle.serial_test.specs.Ranks.{HasRanks}
 use Rattle.serial_test.proofs.Powers.{run_has_places}
 use Rattle.serial_test.proofs.Ranking.{moves_few, ranks_found, ranks_within, serial_found}
 use Rattle.serial_test.proofs.Settings.{run_setting}
+use Rattle.audit_model.proofs.Mirror.{visit_stays_legal}
 use Rattle.serial_test.proofs.run.serial.Goals as goal
 
 pub place-start-requires : goal.place-start-requires
@@ -58,6 +59,6 @@ returns-clause-legal g c =
     let job = c.args.job.now in
     let start = c.units-units.ensures.sound.legal in
     record {
-      forward = λ step. c.visits_stay_legal.ensures job (draw job.setting.key 8589934593) job.start step start;
-      backward = λ step. c.visits_stay_legal.ensures job (draw job.setting.key 8589934594) job.start step start;
+      forward = λ step. visit_stays_legal job (draw job.setting.key 8589934593) job.start step start;
+      backward = λ step. visit_stays_legal job (draw job.setting.key 8589934594) job.start step start;
     }
