@@ -5,6 +5,7 @@
 mod this_build;
 
 use crate::this_build::THIS_BUILD;
+use audit_io::file_calls::SystemCalls;
 use audit_io::file_keeper::FileKeeper;
 use audit_io::gate::FreeGate;
 use audit_io::retry_on_would_block::RetryOnWouldBlock;
@@ -59,7 +60,7 @@ fn main(rt: HostRuntime) -> ExitCode {
         &mut graph,
         &mut out,
         &mut note,
-        FileKeeper::new(&rt),
+        FileKeeper::new(SystemCalls::new(&rt)),
     );
     ExitCode::from(status)
 }

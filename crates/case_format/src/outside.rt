@@ -4,6 +4,7 @@ ghost use Rattle.std.specs.Prelude.{ℕ, List, ◌<◌, length};
 ghost use Rattle.audit_model.specs.State.{Kept};
 
 use crate::names::begin_case;
+use audit_io::file_calls::SystemCalls;
 use audit_io::file_keeper::FileKeeper;
 use audit_io::keeper::Keeper;
 use audit_io::sink::Sink;
@@ -72,7 +73,7 @@ pub fn show_outside(rt: &HostRuntime) -> io::Result<()> {
     begin_case(rt, "sure_streams")?;
     show_sure(rt)?;
     begin_case(rt, "slots_in_files")?;
-    let mut keeper = FileKeeper::new(rt);
+    let mut keeper = FileKeeper::new(SystemCalls::new(rt));
     let mut room = Bytes::new(rt.alloc());
     show_keeper(rt, &mut keeper, &mut room)
 }

@@ -25,8 +25,8 @@ pub fn show_run(
     }
 }
 
-// Prints the status and both outputs of a run. With `is_observed` it also prints the announced ids and both slots. The ids
-// are printed too if the gate is shown.
+// Prints the status and both outputs of a run. With `is_observed` it also prints the announced ids and both slots. The
+// ids are printed too if the gate is shown.
 fn show_noted(
     rt: &HostRuntime,
     status: u8,
