@@ -10,6 +10,7 @@ from __future__ import annotations
 import dataclasses
 import difflib
 import inspect
+import math
 import re
 import typing
 
@@ -22,8 +23,33 @@ Call = typing.TypeVar("Call", bound=typing.Callable[..., object])
 MAPS, WALKS = ("check", "run", "plans", "trace"), ("run", "make", "plans", "trace")
 ALL, RUNS, SAVES = (*WALKS, "check"), ("run", "make", "plans"), ("run", "make")
 MOST_ASKS, MOST_TRAJECTORIES = 4, 100_000
-SCORES, TAILS = ("seats", "mean-median", "gap", "cut-edges"), ("low", "high")
+SCORES = ("seats", "mean-median", "gap", "cut-edges", "cut-length")
+TAILS = ("low", "high")
+# As much as 400,000 edges of the greatest length have.
+MOST_CUT_LENGTH = 400_000 * (2**32 - 1)
 DIGITS = re.compile("0|[1-9][0-9]*")
+
+
+class AsPrepared:
+    """The default of an argument that `prepare` has, too; None says that there is none."""
+
+    def __repr__(self) -> str:
+        return "AS_PREPARED"
+
+
+AS_PREPARED: typing.Any = AsPrepared()
+# Columns of a prepared graph that a call goes without where it says None.
+LEFT_BY_NONE = ("region", "group", "group_of", "freeze", "length")
+# Rules that `prepare` only looks at, each with the column that it needs.
+RULES = {
+    "slack": "", "max_split": "region", "max_splits": "region", "max_split_regions": "region",
+    "group_districts": "group", "group_share": "group", "max_length": "length",
+}
+ONE_ELECTION = "call it once for each election, with that election's first and second"
+OF_COLUMN = "Left out it is the column that `prepare` was given; None means none."
+OF_RULE = "A call has to repeat what `prepare` was given, or to say None for the default."
+# The arguments in hundredths of a percent.
+OF_PERCENT = ("slack", "group_share")
 
 
 @dataclasses.dataclass(frozen=True)
@@ -48,7 +74,7 @@ class Argument:
     def allowed(self) -> str:
         """The allowed values, in words."""
         if self.kind == "count":
-            unit = ", in hundredths of a percent" if self.name == "slack" else ""
+            unit = ", in hundredths of a percent" if self.name in OF_PERCENT else ""
             return f"{self.name} is a whole number from {self.least} to {self.most}{unit}"
         return (
             f"{self.name} is "
@@ -323,6 +349,25 @@ TABLE = {
             " above 0.",
             default="",
         ),
+        Argument(
+            "length",
+            "column",
+            MAPS,
+            "The column of the edges' lengths, as GerryChain's `shared_perim`: whole numbers from"
+            " 0 to 4294967295. `prepare` makes others whole. The score `cut-length` needs it.",
+            default="",
+        ),
+        count(
+            "max_length",
+            MAPS,
+            0,
+            MOST_CUT_LENGTH,
+            MOST_CUT_LENGTH,
+            (
+                "The greatest total length of the edges between districts: 0 to 1717986918000000,"
+                " which limits nothing. Needs `length`."
+            ),
+        ),
     )
 }
 
@@ -499,6 +544,10 @@ def documented(function: Call) -> Call:
                 kind, text = OTHERS[name]
             else:
                 continue
+            if function.__name__ in (*MAPS, "read_trace") and name in LEFT_BY_NONE:
+                text = f"{text} {OF_COLUMN}"
+            elif function.__name__ in MAPS and name in RULES:
+                text = f"{text} {OF_RULE}"
             found += [f"{name} : {kind}", f"    {text}"]
         function.__doc__ = inspect.cleandoc(function.__doc__).replace(
             "PARAMETERS", "\n".join(found)
@@ -548,9 +597,12 @@ def test_names(
         if name in TABLE:
             where = ", ".join(TABLE[name].commands)
             allowed = f"{command} has no argument {name} (only {where})"
+        elif name == "elections" and command in MAPS:
+            allowed = f"{command} takes one election"
         else:
             allowed = f"{command} has no argument {name}"
         hint = f"did you mean {near}?" if near and name not in TABLE else ""
+        hint = ONE_ELECTION if name == "elections" and command in MAPS else hint
         refuse(
             TypeRefused, command, name, value, allowed, hint, f"words: unknown name {word(name)}"
         )
@@ -717,11 +769,18 @@ def test_count(command: str, row: Argument, value: object) -> None:
 
 def hint_of_count(row: Argument, value: object) -> str:
     """Returns the likely mistake where a value is no whole number."""
-    if isinstance(value, float) and row.name == "slack" and 0 < value < 1:
-        whole = f"slack={round(10_000 * value)} or " if round(10_000 * value) >= 1 else ""
-        return f"for {100 * value:g} percent write {whole}tolerance={value:g}"
+    if isinstance(value, float) and row.name in OF_PERCENT and 0 < value <= 100:
+        percent = 100 * value if value < 1 else value
+        whole = round(100 * percent)
+        writes = [f"{row.name}={whole}"] if whole else []
+        writes += [f"tolerance={percent / 100:g}"] if row.name == "slack" else []
+        return f"for {percent:g} percent write {' or '.join(writes)}" if writes else ""
     if isinstance(value, float) and value.is_integer():
         return f"write {row.name}={int(value)}"
+    if isinstance(value, float) and row.least <= value <= row.most:
+        # A least number is rounded up, so that no limit becomes looser.
+        near = math.ceil(value) if row.name == "group_districts" else math.floor(value)
+        return f"write {row.name}={near}"
     return ""
 
 
@@ -765,7 +824,7 @@ def test_ask(command: str, row: Argument, value: object) -> None:
             refuse(ValueRefused, command, row.name, value, row.allowed, hint_of_ask(ask))
     twice = sorted({ask for ask in asks if list(asks).count(ask) > 1})
     if twice:
-        refuse(ValueRefused, command, row.name, value, row.allowed, f"{twice[0]!r} is there twice")
+        refuse(ValueRefused, command, row.name, value, row.allowed, f"{twice[0]!r} is repeated")
     if len(asks) > MOST_ASKS:
         refuse(
             ValueRefused,
@@ -957,6 +1016,26 @@ def group_share_beside(named: Words) -> Why:
     return "group_share is the share of a group, and group is not given", ""
 
 
+def ask_beside(named: Words) -> Why:
+    asks = named.get("ask", ())
+    asks = asks.split(",") if isinstance(asks, str) else asks
+    if named.get("length") or not any(str(ask).startswith("cut-length:") for ask in asks):
+        return None
+    return (
+        "the score cut-length needs the edges' lengths, and length is not given",
+        'length="shared_perim" names their column in a graph of GerryChain',
+    )
+
+
+def max_length_beside(named: Words) -> Why:
+    if named.get("length") or number(named, "max_length") in (None, MOST_CUT_LENGTH):
+        return None
+    return (
+        "max_length limits the lengths of edges, and length is not given",
+        'length="shared_perim" names their column in a graph of GerryChain',
+    )
+
+
 BESIDE: dict[str, typing.Callable[[Words], Why]] = {
     "ends": ends_beside,
     "budget": budget_beside,
@@ -971,4 +1050,6 @@ BESIDE: dict[str, typing.Callable[[Words], Why]] = {
     "group_districts": group_districts_beside,
     "ids": ids_beside,
     "group_share": group_share_beside,
+    "ask": ask_beside,
+    "max_length": max_length_beside,
 }

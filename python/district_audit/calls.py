@@ -11,10 +11,20 @@ import warnings
 from . import checkpoints
 from . import labels as naming
 from . import progress as bars
-from .arguments import TABLE, documented, plain_words, refuse, shown_by, tested
-from .arguments import tested_elections
+from .arguments import (
+    AS_PREPARED,
+    LEFT_BY_NONE,
+    RULES,
+    TABLE,
+    documented,
+    plain_words,
+    refuse,
+    shown_by,
+    tested,
+    tested_elections,
+)
 from .districts import Plan, plan_of
-from .elections import ElectionReports, folder_of
+from .elections import ElectionReports, folder_of, left_in
 from .errors import (
     CheckpointRefused,
     FrozenWalk,
@@ -25,11 +35,12 @@ from .errors import (
     SaveFault,
     TypeRefused,
     ValueRefused,
+    WorkLeft,
     error_of,
 )
 from .preparing import Prepared, prepare
 from .program import Ended, PathLike, call, found
-from .report import Audited, PlanCheck, Report, Rules
+from .report import Audited, PlanCheck, Report, Rules, in_batch
 from .results import PlanReports
 from .tables import Known, table_of
 from .values import test_labels_of
@@ -46,7 +57,7 @@ NO_WORDS = (
     "unknown", "text", "last",
 )
 
-COLUMNS = ("pop", "first", "second", "district", "region", "group", "group_of", "freeze")
+COLUMNS = ("pop", "first", "second", "district", "region", "group", "group_of", "freeze", "length")
 
 Elections = typing.Mapping[str, typing.Tuple[str, str]]
 
@@ -74,7 +85,11 @@ class Given:
 
 def words_in(arguments: typing.Mapping[str, typing.Any]) -> dict[str, typing.Any]:
     """Returns the words among the arguments of a call, and what is unknown behind them."""
-    words = {name: value for name, value in arguments.items() if name not in NO_WORDS}
+    words = {
+        name: value
+        for name, value in arguments.items()
+        if name not in NO_WORDS and value is not AS_PREPARED
+    }
     return {**words, **arguments["unknown"]}
 
 
@@ -91,7 +106,8 @@ def given(command: str, graph: object, words: typing.Mapping[str, object]) -> Gi
             "district and assignment are both given: each says in which districts the units are"
         )
     if isinstance(graph, Prepared):
-        named = {**graph.columns, **named}
+        test_rules(command, graph, words, named)
+        named = {**columns_left(graph, words), **named}
         if "assignment" in rules:
             named.pop("district", None)
         graph = graph.data
@@ -110,6 +126,39 @@ def given(command: str, graph: object, words: typing.Mapping[str, object]) -> Gi
         data = ready.data
         named.update(ready.columns)
     return Given(data, words_of(command, named), named, rules)
+
+
+def columns_left(graph: Prepared, words: typing.Mapping[str, object]) -> dict[str, str]:
+    """Returns the columns of a prepared graph without those that are None in a call."""
+    none = {name for name in LEFT_BY_NONE if name in words and words[name] is None}
+    if "group" in none:
+        none.add("group_of")
+    return {name: column for name, column in graph.columns.items() if name not in none}
+
+
+def test_rules(
+    command: str,
+    graph: Prepared,
+    words: typing.Mapping[str, object],
+    named: typing.Mapping[str, object],
+) -> None:
+    """Refuses a call that would drop a rule which `prepare` was given.
+
+    What is read from a text is compared with it, so `read_trace` may leave out each.
+    """
+    if command == "read_trace":
+        return
+    dropped = []
+    for name, value in graph.rules.items():
+        column = RULES[name]
+        is_without = column in words and not words[column]
+        if name not in words and name not in named and not is_without:
+            dropped.append(f"{name}={value}, or {name}=None for {TABLE[name].default}")
+    if dropped:
+        refuse(
+            ValueRefused, command, "graph", graph,
+            f"prepare was given rules that this call leaves out: pass {'; '.join(dropped)}",
+        )
 
 
 def is_default(name: str, value: object) -> bool:
@@ -138,7 +187,8 @@ def ready_of(
         columns = {"population": named["pop"], "first": named["first"], "second": named["second"]}
     except KeyError as name:
         raise TypeError(f"the column {name} is missing") from None
-    group = {name: named[name] for name in ("group", "group_of", "freeze") if named.get(name)}
+    others = ("group", "group_of", "freeze", "length")
+    group = {name: named[name] for name in others if named.get(name)}
     ready = prepare(
         graph, **columns, district=named.get("district"), region=named.get("region") or None,
         **group, **rules,
@@ -156,6 +206,9 @@ def raised(ended: Ended, asked: Given) -> Exception:
     if ended.line == "graph: not JSON":
         said = naming.where_no_json(graph)
     error = error_of(ended.status, ended.line, said)
+    if isinstance(error, GraphRefused) and " has no whole number from 0 to " in ended.line:
+        argument = "length=.." if " in attribute " in ended.line else 'numbers="nearest"'
+        error.hint = f"prepare(.., {argument}) makes fractions whole and names missing values"
     if isinstance(error, SaveFault) and ended.text:
         error.report = Report.parse(ended.text)
     return error
@@ -214,18 +267,20 @@ def check(
     second: str | None = None,
     district: str | None = None,
     assignment: object = None,
-    slack: int | None = None,
+    slack: int | None = AS_PREPARED,
     tolerance: float | None = None,
     max_cut: int = 400_000,
-    region: str | None = None,
-    max_split: int = 200,
-    max_splits: int = 995_000,
-    max_split_regions: int = 5000,
-    group: str | None = None,
-    group_of: str | None = None,
-    group_districts: int = 0,
-    group_share: int = 5000,
-    freeze: str | None = None,
+    region: str | None = AS_PREPARED,
+    max_split: int | None = AS_PREPARED,
+    max_splits: int | None = AS_PREPARED,
+    max_split_regions: int | None = AS_PREPARED,
+    group: str | None = AS_PREPARED,
+    group_of: str | None = AS_PREPARED,
+    group_districts: int | None = AS_PREPARED,
+    group_share: int | None = AS_PREPARED,
+    freeze: str | None = AS_PREPARED,
+    length: str | None = AS_PREPARED,
+    max_length: int | None = AS_PREPARED,
     source: bool = False,
     numbers: str | None = None,
     missing: str | None = None,
@@ -317,18 +372,20 @@ def run(
     stop: int = 0,
     serial: bool = False,
     shift: bool = False,
-    slack: int | None = None,
+    slack: int | None = AS_PREPARED,
     tolerance: float | None = None,
     max_cut: int = 400_000,
-    region: str | None = None,
-    max_split: int = 200,
-    max_splits: int = 995_000,
-    max_split_regions: int = 5000,
-    group: str | None = None,
-    group_of: str | None = None,
-    group_districts: int = 0,
-    group_share: int = 5000,
-    freeze: str | None = None,
+    region: str | None = AS_PREPARED,
+    max_split: int | None = AS_PREPARED,
+    max_splits: int | None = AS_PREPARED,
+    max_split_regions: int | None = AS_PREPARED,
+    group: str | None = AS_PREPARED,
+    group_of: str | None = AS_PREPARED,
+    group_districts: int | None = AS_PREPARED,
+    group_share: int | None = AS_PREPARED,
+    freeze: str | None = AS_PREPARED,
+    length: str | None = AS_PREPARED,
+    max_length: int | None = AS_PREPARED,
     source: bool = False,
     workers: int = 1,
     save: int = 0,
@@ -391,11 +448,15 @@ def run(
         )
     reports = []
     saves = str(save) != "0" or resume not in (False, None, "no")
-    for name, columns in tested_elections(elections, saves).items():
+    pairs = tested_elections(elections, saves)
+    for name, columns in pairs.items():
         asked = given("run", graph, {**words, "first": columns[0], "second": columns[1]})
         place = folder_of(folder, name) if saves else folder
-        reports.append((name, walked(asked, place, progress, program, slots)))
-    return ElectionReports(reports)
+        try:
+            reports.append((name, walked(asked, place, progress, program, slots)))
+        except WorkLeft as error:
+            raise left_in(error, name, len(reports), len(pairs)) from None
+    return ElectionReports(in_batch("election", reports))
 
 
 @documented
@@ -622,18 +683,20 @@ def plans(
     stop: int = 0,
     serial: bool = False,
     shift: bool = False,
-    slack: int | None = None,
+    slack: int | None = AS_PREPARED,
     tolerance: float | None = None,
     max_cut: int = 400_000,
-    region: str | None = None,
-    max_split: int = 200,
-    max_splits: int = 995_000,
-    max_split_regions: int = 5000,
-    group: str | None = None,
-    group_of: str | None = None,
-    group_districts: int = 0,
-    group_share: int = 5000,
-    freeze: str | None = None,
+    region: str | None = AS_PREPARED,
+    max_split: int | None = AS_PREPARED,
+    max_splits: int | None = AS_PREPARED,
+    max_split_regions: int | None = AS_PREPARED,
+    group: str | None = AS_PREPARED,
+    group_of: str | None = AS_PREPARED,
+    group_districts: int | None = AS_PREPARED,
+    group_share: int | None = AS_PREPARED,
+    freeze: str | None = AS_PREPARED,
+    length: str | None = AS_PREPARED,
+    max_length: int | None = AS_PREPARED,
     source: bool = False,
     workers: int = 1,
     numbers: str | None = None,

@@ -42,6 +42,7 @@ NO_JOB = frozenset(
         "group",
         "group_of",
         "freeze",
+        "length",
     )
 )
 
@@ -126,6 +127,13 @@ def aspects_of(data: bytes, named: typing.Mapping[str, typing.Any]) -> dict[str,
         ):
             if named.get(name):
                 found[what] = digest_of([node[named[name]] for node in nodes])
+        if named.get("length"):
+            lengths = {
+                (*sorted((number, place[entry["id"]])), entry[named["length"]])
+                for number, entries in enumerate(root["adjacency"])
+                for entry in entries
+            }
+            found["the lengths of edges"] = digest_of(sorted(lengths))
         for name, what in (("district", "the districts"), ("region", "the regions")):
             if named.get(name):
                 labels = [plain(node[named[name]]) for node in nodes]

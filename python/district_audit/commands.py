@@ -11,6 +11,7 @@ import typing
 from . import checkpoints
 from . import labels as naming
 from . import progress as bars
+from .arguments import MOST_CUT_LENGTH
 from .errors import MissingExtra, PrepareRefused, ProgramMissing, ReportRefused
 from .preparing import Prepared
 from .preparing import prepare as prepared_of
@@ -53,8 +54,14 @@ split one lies, how many are split, and how often in all. --max-split, --max-spl
 --max-split-regions are those of the audit, and limit nothing by default. --fill-region makes one
 region of all units that have none. --own-region makes each of them a region of its own.
 --group keeps the column of a group. The notes say in which districts it has a majority of
---group-of, a column that is kept too, or by default of the people. --group-districts is that of
-the audit, 0 by default.
+--group-of, a column that is kept too, or by default of the people, with its shares there, rounded
+down. --group-districts and --group-share are those of the audit, 0 and 5000 by default.
+--freeze keeps the column of frozen units: each has true, false or a whole number in it.
+--length keeps a column of the edges, as GerryChain's shared_perim. A length that is not whole
+becomes the nearest whole number, halves the even one. One that is missing, below 0 or another one
+in the other direction is refused, and units that are joined have a length of 0. The notes say how
+long the edges between districts are in all. --max-length is that of the audit, and limits nothing
+by default.
 --join makes two units neighbors, as an island and what it belongs to. It may be given again.
 --keep keeps a further column, as it is; all others are left out. --all prints every id where
 else the first ten are printed.
@@ -109,6 +116,10 @@ def prepare_words() -> argparse.ArgumentParser:
     parser.add_argument("--group")
     parser.add_argument("--group-of")
     parser.add_argument("--group-districts", type=int, default=0)
+    parser.add_argument("--group-share", type=int, default=5000)
+    parser.add_argument("--freeze")
+    parser.add_argument("--length")
+    parser.add_argument("--max-length", type=int, default=MOST_CUT_LENGTH)
     ways = parser.add_mutually_exclusive_group()
     ways.add_argument("--fill-region", metavar="LABEL")
     ways.add_argument("--own-region", action="store_true")
@@ -142,7 +153,9 @@ def prepare(words: typing.Sequence[str] | None = None) -> int:
             join=args.join, keep=args.keep, fill_region=args.fill_region,
             own_region=args.own_region, slack=args.slack, max_split=args.max_split,
             max_splits=args.max_splits, max_split_regions=args.max_split_regions, group=args.group,
-            group_of=args.group_of, group_districts=args.group_districts, show_all=args.all,
+            group_of=args.group_of, group_districts=args.group_districts,
+            group_share=args.group_share, freeze=args.freeze, length=args.length,
+            max_length=args.max_length, show_all=args.all,
         )
         told(ready, args.all)
         if args.out:

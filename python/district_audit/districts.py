@@ -10,9 +10,12 @@ import json
 import typing
 from fractions import Fraction
 
+from .decimals import round_down
+from .errors import PrepareRefused
 from .graphs import Label
 from .judging import Judged, parts_of
-from .preparing import Choices
+from .lengths import Lengths, lengths_of
+from .preparing import MOST_CUT_LENGTH, Choices
 
 
 @dataclasses.dataclass(frozen=True)
@@ -56,6 +59,8 @@ class Plan(typing.NamedTuple):
     cut_edges: int
     faults: tuple[str, ...]
     """Every fault, in the user's labels; empty where the plan is legal."""
+    cut_length: int | None = None
+    """The total length of the cut edges; None where no column of lengths was named."""
 
 
 class Table(typing.NamedTuple):
@@ -63,9 +68,11 @@ class Table(typing.NamedTuple):
 
     rows: dict[Label, dict[str, typing.Any]]
     neighbors: dict[Label, list[Label]]
+    lengths: Lengths | None = None
+    """The lengths of the edges; None where no column of them is named."""
 
 
-def table_of(data: bytes) -> Table | None:
+def table_of(data: bytes, length: str | None = None) -> Table | None:
     """Reads the program's graph; None where its shape is one that the program refuses."""
     try:
         root = json.loads(data.decode("utf-8"))
@@ -77,11 +84,18 @@ def table_of(data: bytes) -> Table | None:
                 if entry["id"] != node["id"]:
                     found[node["id"]].add(entry["id"])
                     found[entry["id"]].add(node["id"])
-    except (ValueError, KeyError, TypeError):
+        edges = (
+            ((node["id"], entry["id"]), entry)
+            for node, entries in zip(nodes, adjacency)
+            for entry in entries
+        )
+        lengths = lengths_of(length, edges, rows) if length else None
+    except (ValueError, KeyError, TypeError, PrepareRefused):
         return None
     place = {unit: number for number, unit in enumerate(rows)}
     return Table(
-        rows, {unit: sorted(others, key=place.__getitem__) for unit, others in found.items()}
+        rows, {unit: sorted(others, key=place.__getitem__) for unit, others in found.items()},
+        lengths,
     )
 
 
@@ -90,7 +104,7 @@ def plan_of(data: bytes, named: typing.Mapping[str, typing.Any]) -> Plan | None:
 
     `named` has the columns and the limits by the program's words.
     """
-    table = table_of(data)
+    table = table_of(data, named.get("length") or None)
     if table is None or not table.rows:
         return None
     choices = Choices(
@@ -108,9 +122,11 @@ def plan_of(data: bytes, named: typing.Mapping[str, typing.Any]) -> Plan | None:
         group_districts=int(named.get("group_districts", 0)),
         group_share=int(named.get("group_share", 5000)),
         show_all=True,
+        length=named.get("length") or None,
+        max_length=int(named.get("max_length", MOST_CUT_LENGTH)),
     )
     try:
-        judged = Judged(table.rows, table.neighbors, choices)
+        judged = Judged(table.rows, table.neighbors, choices, table.lengths)
         cut = cut_edges_of(table, choices.district)
         faults = list(judged.refusals)
         if not any(row[choices.first] + row[choices.second] for row in table.rows.values()):
@@ -118,7 +134,9 @@ def plan_of(data: bytes, named: typing.Mapping[str, typing.Any]) -> Plan | None:
         if cut > int(named.get("max_cut", 400_000)):
             faults.append(f"{cut} cut edges, more than {named['max_cut']}")
         edges = sum(map(len, table.neighbors.values())) // 2
-        return Plan(districts_of(judged, table), edges, cut, tuple(faults))
+        return Plan(
+            districts_of(judged, table), edges, cut, tuple(faults), judged.cut_length
+        )
     except (KeyError, TypeError, ValueError):
         return None
 
@@ -232,23 +250,26 @@ def rows_of(districts: typing.Sequence[District], exact: bool = False) -> list[l
 
 
 def shown_rows(districts: typing.Sequence[District]) -> tuple[list[str], list[list[str]]]:
-    """Returns the titles and the cells of a table for people, without its empty columns."""
+    """Returns the titles and the cells of a table for people, without its empty columns.
+
+    Decimals are rounded down, as in all tables of districts.
+    """
 
     def cell(name: str, value: object) -> str:
         if value is None:
             return ""
         if name.endswith("share"):
             sign = "+" if name == "deviation_share" else ""
-            return f"{100 * float(typing.cast(float, value)):{sign}.2f} %"
+            return f"{round_down(100 * typing.cast(Fraction, value), 2, sign)} %"
         if name == "deviation":
-            return f"{float(typing.cast(float, value)):+,.1f}"
+            return round_down(typing.cast(Fraction, value), 1, "+", ",")
         return (
             f"{value:,}"
             if isinstance(value, int) and name not in ("district", "number")
             else (str(value))
         )
 
-    rows = rows_of(districts)
+    rows = rows_of(districts, exact=True)
     kept = [at for at, name in enumerate(COLUMNS) if any(row[at] is not None for row in rows)]
     return (
         [COLUMNS[at].replace("_", " ") for at in kept],

@@ -88,7 +88,9 @@ def exact(value: object, name: str) -> Fraction:
     try:
         found = Fraction(value)
     except (ValueError, ZeroDivisionError, OverflowError):
-        raise ValueError(f"{name} is {value!r}, which is no number as '0.01' or '1/100'") from None
+        raise ValueError(
+            f"{name} is {value!r}, which is not a number such as '0.01' or '1/100'"
+        ) from None
     if not 0 < found <= 1:
         raise ValueError(f"{name} is {found}, and has to be above 0 and at most 1")
     return found

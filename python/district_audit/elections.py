@@ -3,6 +3,7 @@ from __future__ import annotations
 
 import pathlib
 
+from .errors import WorkLeft
 from .program import PathLike
 from .results import NamedReports
 
@@ -18,7 +19,8 @@ class ElectionReports(NamedReports):
     at level alpha needs m times that value to be below alpha (Bonferroni's rule). The rule asks for
     no independence, so it holds although the elections share their walks. Count every test that was
     computed, not those that are reported, and choose elections and scores before any report is
-    seen. Lines on cut edges do not depend on votes: they are equal in all reports, and count once.
+    seen. Lines on cut edges and their length do not depend on votes: they are equal in all reports,
+    and count once. `Report.exhibit` of each report names the elections, and counts so.
     """
 
     what = "election"
@@ -26,7 +28,20 @@ class ElectionReports(NamedReports):
 
 def folder_of(folder: PathLike | None, name: str) -> pathlib.Path:
     """Returns the folder of an election's checkpoints, which is made where it is not there."""
-    place = pathlib.Path(folder if folder is not None else ".") / name
-    if place.parent.is_dir():
-        place.mkdir(exist_ok=True)
-    return place
+    place = pathlib.Path(folder if folder is not None else ".")
+    if not place.is_dir():
+        raise FileNotFoundError(f"folder={str(place)!r}: there is no such folder")
+    (place / name).mkdir(exist_ok=True)
+    return place / name
+
+
+def left_in(error: WorkLeft, name: str, ended: int, count: int) -> WorkLeft:
+    """Names the election in which work is left; `ended` of `count` elections have no work left."""
+    left = WorkLeft(
+        error.line,
+        f"election {name}, number {ended + 1} of {count};"
+        f" {ended * error.total + error.done} of {count * error.total} in all elections; the same"
+        " call with resume=True goes on",
+    )
+    left.election = name
+    return left

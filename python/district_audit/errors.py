@@ -73,15 +73,16 @@ class GraphRefused(AuditError):
     order of docs/user/FORMATS.md.
 
     From `check`, `faults` has every fault of the plan in the user's labels, and `check` the table
-    of its districts; else they are empty and None.
+    of its districts; else they are empty and None. `hint` says what mends the graph, or is empty.
     """
 
     status = 2
+    hint = ""
     faults: typing.Sequence[str] = ()
     check: PlanCheck | None = None
 
     def __str__(self) -> str:
-        said = super().__str__()
+        said = super().__str__() + (f"; {self.hint}" if self.hint else "")
         return "\n  ".join([said + "; all faults:", *self.faults]) if len(self.faults) > 1 else said
 
 
@@ -115,10 +116,12 @@ class CheckpointUnreadable(AuditError):
 class WorkLeft(AuditError):
     """Status 7: the budget is used up, and `done` of `total` trajectories are done.
 
-    The same call with resume=True goes on.
+    The same call with resume=True goes on. `election` is the name of the election that these are
+    of, or is empty without `elections`.
     """
 
     status = 7
+    election = ""
 
     def __init__(self, line: str, labels: str = "") -> None:
         super().__init__(line, labels)

@@ -14,8 +14,17 @@ from fractions import Fraction
 
 from . import exhibit_figures as figures
 from . import exhibit_text as texts
+from .decimals import ROUNDED_DOWN, percent_down, round_down
 from .effect import Effect, Number
-from .exhibit_districts import Columns, District, Graph, columns_of, districts_of, graph_of
+from .exhibit_districts import (
+    Columns,
+    District,
+    Graph,
+    columns_of,
+    districts_of,
+    graph_of,
+    refuse_missing_columns,
+)
 from .exhibit_figures import escaped
 from .report import MOST_REGIONS, MOST_SPLITS, Report
 
@@ -71,7 +80,7 @@ def exhibit_plans(path: PathLike, plans: Named, **options: typing.Any) -> None:
     """Writes one page on several plans: what `district_audit.plans` returns, names and reports.
 
     The options are those of `Report.exhibit`. The district table is of the graph's own plan, the
-    first. ValueError if the reports are not of one call.
+    first. ValueError if the reports are not of one call, or are those of several elections.
     """
     write(path, plans, Options(**options))
 
@@ -85,7 +94,9 @@ def page(plans: Named, options: Options) -> str:
     refuse_other_jobs(reports)
     refuse_half_an_effect(options)
     columns = columns_of(first, options.graph, options.columns)
-    graph = graph_of(first, options.graph, columns, len(plans) > 1)
+    if columns and not options.command:
+        refuse_missing_columns(first, columns)
+    graph = graph_of(first, options.graph, columns, is_of_plans(plans))
     parties = parties_of(options, columns)
     scores = list(dict.fromkeys(ask.split(":")[0] for ask in first.asks))
     parts = [
@@ -114,11 +125,23 @@ def page(plans: Named, options: Options) -> str:
     )
 
 
+def is_of_plans(plans: Named) -> bool:
+    """Returns whether the reports, or the one report, were made by `plans`."""
+    batch = plans[0][1].batch
+    return len(plans) > 1 or batch is not None and batch.kind == "plan"
+
+
 def refuse_other_jobs(reports: typing.Sequence[Report]) -> None:
     """ValueError unless the reports are of one call: the same key, map, rules and setting."""
+    if len(reports) > 1 and any(one.batch and one.batch.kind == "election" for one in reports):
+        raise ValueError(
+            "the reports are those of several elections, and not of several plans: make an exhibit"
+            " of each, which names the others"
+        )
 
     def job(report: Report) -> tuple[object, ...]:
-        rules = dataclasses.replace(report.rules, majorities=None)
+        # Each plan has its own number of majorities and its own length of boundaries.
+        rules = dataclasses.replace(report.rules, majorities=None, cut_length=None)
         return (
             report.key, report.units, report.edges, report.population, rules, report.setting,
             report.asks, report.source, report.shift is None, bool(report.serial),
@@ -211,7 +234,7 @@ def results(
         if graph is not None and place == 0:
             parts += district_table(report, districts_of(report, graph), parties, graph.is_exact)
         parts += paragraphs(texts.findings(report, enacted, parties))
-        parts += [result_table(report), *paragraphs([texts.together(report)])]
+        parts += [result_table(report), *paragraphs([texts.together(report, len(plans))])]
         if options.epsilon is not None and options.alpha is not None and report.walks:
             parts += effect_table(report.effect(options.epsilon, options.alpha))
         drawn = drawings(report, enacted, parties, number, name if len(plans) > 1 else "")
@@ -352,21 +375,21 @@ def district_table(
             one.label,
             one.units,
             one.population,
-            texts.decimal(off, 1, True),
-            texts.decimal(100 * off / ideal, 3, True) if ideal else "",
+            round_down(off, 1, "+"),
+            round_down(100 * off / ideal, 3, "+") if ideal else "",
             one.first,
             one.second,
-            texts.ratio(one.first, one.first + one.second),
+            percent_down(one.first, one.first + one.second),
             winner,
         ]
-        rows.append(row + ([texts.ratio(one.group or 0, one.whole or 0)] if has_group else []))
+        rows.append(row + ([percent_down(one.group or 0, one.whole or 0)] if has_group else []))
     people = [one.population for one in districts]
     said = (
-        f"Ideal population {texts.decimal(ideal, 1)}. Total deviation"
+        f"Ideal population {round_down(ideal, 1)}. Total deviation"
         f" {max(people) - min(people)} people"
     )
     said += (
-        f", {texts.decimal( 100 * (max(people) - min(people)) / ideal, 3)} percent of the ideal."
+        f", {round_down(100 * (max(people) - min(people)) / ideal, 3)} percent of the ideal."
         if ideal
         else "."
     )
@@ -377,7 +400,7 @@ def district_table(
             f"{texts.COMPARED_BYTES if is_exact else texts.COMPARED_COUNTS}</p>"
         ),
         table(titles, rows),
-        *paragraphs([said]),
+        *paragraphs([f"{said} {ROUNDED_DOWN}"]),
     ]
 
 
@@ -395,24 +418,36 @@ def provenance(
         ("SHA-256 of the report", hashlib.sha256(encoded(text)).hexdigest()),
     ]
     if report.source is not None:
-        what = "graph and table" if len(plans) > 1 else "graph"
+        what = "graph and table" if is_of_plans(plans) else "graph"
         hashes.append((f"SHA-256 of the {what}, {report.source.bytes} bytes", report.source.sha256))
     if graph is not None:
         size, digest = len(graph.data), hashlib.sha256(graph.data).hexdigest()
         hashes.append((f"SHA-256 of the graph of Table 1, {size} bytes", digest))
-    command = options.command or command_of(report, columns, len(plans) > 1)
+    command = options.command or command_of(report, columns, is_of_plans(plans))
     rows = [
         f"<tr><td>{escaped(what)}</td><td><code>{escaped(value)}</code></td></tr>"
         for what, value in hashes
     ]
     return [
-        (
-            "<p>Whoever runs this command over the same bytes gets the same report, byte for byte, "
-            "on any machine and with any number of workers.</p>"
-        ),
+        *paragraphs([texts.REPEATED]),
+        *paragraphs(about_command(plans, options, columns)),
         f"<pre>{lines(command)}</pre>",
         f"<table><tbody>{''.join(rows)}</tbody></table>",
         *reports_in_full(text),
+    ]
+
+
+def about_command(
+    plans: Named, options: Options, columns: typing.Mapping[str, str]
+) -> list[str]:
+    """Returns what has to be said of the printed command; nothing if the user gave it."""
+    if options.command:
+        return []
+    batch = plans[0][1].batch
+    names = [name for name, _ in plans] if batch is None else batch.names
+    return [
+        *([texts.all_plans(names)] if is_of_plans(plans) else []),
+        *([] if columns else [texts.PLACEHOLDERS]),
     ]
 
 
@@ -436,7 +471,7 @@ def lines(words: str) -> str:
     return "\n".join(escaped(line) for line in words.split("\n"))
 
 
-def command_of(report: Report, columns: typing.Mapping[str, str], is_several: bool) -> str:
+def command_of(report: Report, columns: typing.Mapping[str, str], is_of_plans: bool) -> str:
     """Returns the command that makes this report; names in capitals stand for unknown columns."""
     rules, setting = report.rules, report.setting
     words: dict[str, object] = {
@@ -465,6 +500,9 @@ def command_of(report: Report, columns: typing.Mapping[str, str], is_several: bo
         words.update({} if rules.group_share is None else {"group_share": rules.group_share})
     if rules.frozen is not None:
         words["freeze"] = columns.get("freeze", "COLUMN_OF_FROZEN_UNITS")
+    if rules.cut_length is not None:
+        words["length"] = columns.get("length", "COLUMN_OF_LENGTHS")
+        words.update({} if rules.max_length is None else {"max_length": rules.max_length})
     words.update({"stop": setting.stop} if setting.stop else {})
     words.update({"shift": "yes"} if report.shift is not None else {})
     words.update({"serial": "yes"} if report.serial else {})
@@ -475,8 +513,8 @@ def command_of(report: Report, columns: typing.Mapping[str, str], is_several: bo
     ]
     return " \\\n  ".join(
         [
-            "district-audit plans" if is_several else "district-audit run",
+            "district-audit plans" if is_of_plans else "district-audit run",
             *said,
-            "< graph_and_table" if is_several else "< graph.json",
+            "< graph_and_table" if is_of_plans else "< graph.json",
         ]
     )

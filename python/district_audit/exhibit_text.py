@@ -43,14 +43,9 @@ def decimal(value: Fraction | int, places: int, has_sign: bool = False) -> str:
     return sign + (f"{whole}.{rest:0{places}}" if places else str(whole))
 
 
-def ratio(part: int, whole: int) -> str:
-    """Returns a part in percent with two places; empty if there is no whole."""
-    return decimal(Fraction(100 * part, whole), 2) if whole else ""
-
-
 def shown(score: str, value: Fraction) -> str:
     """Returns the value of a score as people read it: a number, or percent."""
-    if score in ("seats", "cut-edges"):
+    if score in ("seats", "cut-edges", "cut-length"):
         return str(value)
     return decimal(100 * value, 3, True) + " %"
 
@@ -83,6 +78,12 @@ def definition(score: str, parties: Parties) -> str:
             f" beyond half. Above zero, {other} wastes more, which hurts {other}. Below zero hurts"
             f" {one}."
         )
+    if score == "cut-length":
+        return (
+            "The total length of the boundaries between districts: the lengths of the shared"
+            " borders of neighboring units in different districts, added up. A smaller total"
+            " means more compact districts. The score favors no party by itself."
+        )
     return (
         "The number of pairs of neighboring units that lie in different districts. Fewer cut "
         "edges mean more compact districts. The score favors no party by itself."
@@ -97,6 +98,9 @@ def question(ask: str, parties: Parties) -> str:
         return f"Does {parties[0]} win unusually {many} districts?"
     if score == "cut-edges":
         return f"Does the plan cut unusually {many} edges?"
+    if score == "cut-length":
+        short = "short" if tail == "low" else "long"
+        return f"Are the boundaries between the districts unusually {short}?"
     name = "efficiency gap" if score == "gap" else "mean-median score"
     return (
         f"Is the {name} unusually {tail}, so that {parties[0] if tail == 'low' else parties[1]} is"
@@ -109,16 +113,41 @@ def question(ask: str, parties: Parties) -> str:
 
 def subject(report: Report, parties: Parties, names: typing.Sequence[str]) -> str:
     """Returns the map in one paragraph."""
-    plans = (
-        ""
-        if len(names) < 2
-        else (f" It audits {len(names)} plans on one map; the first is the enacted one.")
-    )
+    plans = one_of_several(report)
+    if len(names) > 1:
+        has_own = report.batch is None or report.batch.place == 0
+        own = "; the first is the enacted one" if has_own else ""
+        plans = (
+            f" It audits {len(names)} plans on one map{own}. In the results of each plan,"
+            f" {ENACTED} is that plan."
+        )
     return (
         "This page presents a report of the district plan auditor about a map of"
         f" {counted(report.units, 'voting unit')} with {counted(report.edges, 'pair')} of"
         f" neighbors, {report.population:,} people and {counted(report.districts, 'district')}. The"
         f" parties compared are {parties[0]} and {parties[1]}.{plans}"
+    )
+
+
+ENACTED = "what the text calls the enacted plan"
+
+
+def one_of_several(report: Report) -> str:
+    """Returns which plan or election of its call a report is on; empty if it is by itself."""
+    batch = report.batch
+    if batch is None:
+        return ""
+    many = counted(len(batch.names), batch.kind)
+    others = f"; the others: {', '.join(batch.others)}" if batch.others else ""
+    if batch.kind == "election":
+        return f" The report is on election {batch.name}, one of {many} of one call{others}."
+    where = (
+        "the graph's own"
+        if batch.place == 0
+        else f"which on this page is {ENACTED}"
+    )
+    return (
+        f" The report is on plan {batch.name}, {where}. It is one of {many} of one call{others}."
     )
 
 
@@ -157,6 +186,8 @@ def legality(report: Report) -> str:
     if rules.frozen is not None:
         keep = "1 unit keeps" if rules.frozen == 1 else f"{counted(rules.frozen, 'unit')} keep"
         said.append(f"{keep} the districts of the enacted plan")
+    if rules.max_length is not None:
+        said.append(f"the boundaries between districts have a length of at most {rules.max_length}")
     more = "" if len(said) == 1 else f"; further, {'; '.join(said[1:])}"
     return said[0] + more + "."
 
@@ -204,7 +235,17 @@ def methods(report: Report) -> list[str]:
 COMPARED_BYTES = "The graph has the bytes that the program read for the report, by their SHA-256."
 COMPARED_COUNTS = (
     "The report does not name the bytes that were read. Compared with it were the numbers of units,"
-    " edges, districts and people, and the scores that were asked for."
+    " edges, districts and people, and the scores that were asked for; of its rules, where it has"
+    " them, the numbers of regions, of districts with a majority of the group and of frozen units,"
+    " and the length of the cut edges. A wrong column with the same counts goes unnoticed."
+)
+PLACEHOLDERS = (
+    "The report does not name the columns of the graph. In this command put the names of the"
+    " columns in the place of the words that begin with COLUMN_OF."
+)
+REPEATED = (
+    "Whoever runs this command over the same bytes gets the same report, byte for byte, on any"
+    " machine and with any number of workers."
 )
 
 
@@ -248,7 +289,9 @@ def theorems(report: Report, alpha: object) -> list[str]:
             "the enacted plan is not among the fraction alpha of all legal plans that are most "
             "fragile, then that many walks show it as so extreme with probability at most p. "
             "Fragile means likely to be among the most extreme fraction epsilon of the plans on a "
-            "walk from it. Epsilon and alpha have to be fixed before the run."
+            "walk from it. Epsilon and alpha have to be fixed before the run. If it is computed "
+            "for several questions, elections or pairs of epsilon and alpha, multiply the least p "
+            "by their number."
         )
     return found
 
@@ -275,15 +318,59 @@ def numbers_of(report: Report) -> list[tuple[str, Decimal]]:
     ]
 
 
-def together(report: Report) -> str:
-    """Returns the warning about several numbers, with Bonferroni's product."""
+def together(report: Report, plans: int = 1) -> str:
+    """Returns the warning about several numbers, with Bonferroni's product.
+
+    `plans` is the number of plans on the page.
+    """
     numbers = [number for _, number in numbers_of(report)]
-    if len(numbers) == 1:
+    whole = number_of_all(report, plans)
+    if whole == 1:
         return "The report has one number, and it stands by itself."
-    product = min(Decimal(1), min(numbers) * len(numbers))
+    product = min(Decimal(1), min(numbers) * whole)
+    said, their = f"The table has {count_of_numbers(len(numbers))}.", "their number"
+    if whole > len(numbers):
+        what = "plan" if report.batch is None else report.batch.kind
+        many = counted(plans if report.batch is None else len(report.batch.names), what)
+        once = (
+            " (those on cut edges are the same in each, and count once)"
+            if what == "election" and any(ask.startswith("cut-") for ask in report.asks)
+            else ""
+        )
+        said = (
+            f"The table has {count_of_numbers(len(numbers))}; for all {many} together {whole} were"
+            f" computed{once}."
+        )
+        their = "the number of all"
     return (
-        f"The table has {len(numbers)} bounds and p-values. Unless one of them was named before the"
-        " run as the one that counts, multiply the least by their number (Bonferroni):"
-        f" {min(numbers)} times {len(numbers)} is"
+        f"{said} Unless one of them was named before the run as the one that counts, multiply the"
+        f" least by {their} (Bonferroni): {min(numbers)} times {whole} is"
         f" {product}{', which is no evidence' if product == 1 else ''}."
+    )
+
+
+def count_of_numbers(count: int) -> str:
+    return "1 bound or p-value" if count == 1 else f"{count} bounds and p-values"
+
+
+def number_of_all(report: Report, plans: int) -> int:
+    """Returns the number of bounds and p-values of all plans or elections of a call.
+
+    Cut edges and their length do not depend on votes, so that their tests are the same in each
+    election.
+    """
+    asks = [ask for ask, _ in numbers_of(report)]
+    if report.batch is None:
+        return plans * len(asks)
+    many = max(plans, len(report.batch.names))
+    once = sum(ask.startswith("cut-") for ask in asks) if report.batch.kind == "election" else 0
+    return many * (len(asks) - once) + once
+
+
+def all_plans(names: typing.Sequence[str]) -> str:
+    """Returns what the command of several plans reads and writes."""
+    return (
+        "The file graph_and_table is the graph on one line, and the table of the plans behind it."
+        f" The command writes a report for each of {len(names)} plans, in this order:"
+        f" {', '.join(names)}."
     )

@@ -26,6 +26,8 @@ class Raw(typing.NamedTuple):
     pairs: list[Pair]
     """The ids that are neighbours, as they stand in the graph."""
     is_directed: bool
+    attributes: list[typing.Mapping[str, object]]
+    """The attributes of each pair, as its length."""
 
 
 def shown(ids: typing.Iterable[object], everything: bool = False) -> str:
@@ -77,9 +79,30 @@ def raw_of(graph: object) -> Raw:
 def of_object(graph: typing.Any) -> Raw:
     """An object of networkx or of GerryChain."""
     nodes = [{**attributes, "id": node} for node, attributes in graph.nodes(data=True)]
-    pairs = [(node, other) for node, others in graph.adjacency() for other in others]
+    edges = [
+        ((node, other), one)
+        for node, others in graph.adjacency()
+        for other in others
+        for one in attributes_of(graph, others, other)
+    ]
     is_directed = getattr(graph, "is_directed", None)
-    return Raw(nodes, pairs, bool(is_directed()) if callable(is_directed) else False)
+    return Raw(
+        nodes, [pair for pair, _ in edges], bool(is_directed()) if callable(is_directed) else False,
+        [one for _, one in edges],
+    )
+
+
+def attributes_of(
+    graph: typing.Any, others: typing.Any, other: object
+) -> list[typing.Mapping[str, object]]:
+    """The attributes of each edge to a neighbor: of several in a multigraph, of none in a graph
+    whose adjacency lists ids alone.
+    """
+    found = others[other] if isinstance(others, typing.Mapping) else {}
+    is_multigraph = getattr(graph, "is_multigraph", None)
+    if callable(is_multigraph) and is_multigraph():
+        return list(found.values())
+    return [found if isinstance(found, typing.Mapping) else {}]
 
 
 def of_file(name: str) -> Raw:
@@ -117,11 +140,19 @@ def of_root(root: object, name: str) -> Raw:
         or not isinstance(nodes, list)
         or not all(isinstance(node, dict) for node in nodes)
     ):
-        raise PrepareRefused(f"{name} is no graph of networkx: it has no list `nodes` of objects")
-    return Raw(nodes, list(pairs_of(root, nodes)), bool(root.get("directed")))
+        raise PrepareRefused(
+            f"{name} is not a graph of networkx: it has no list `nodes` of objects"
+        )
+    edges = list(edges_of(root, nodes))
+    return Raw(
+        nodes, [pair for pair, _ in edges], bool(root.get("directed")), [one for _, one in edges]
+    )
 
 
-def pairs_of(root: dict[str, typing.Any], nodes: list[dict[str, object]]) -> typing.Iterator[Pair]:
+def edges_of(
+    root: dict[str, typing.Any], nodes: list[dict[str, object]]
+) -> typing.Iterator[tuple[Pair, typing.Mapping[str, object]]]:
+    """The ids of each edge, and its attributes."""
     if isinstance(root.get("adjacency"), list):
         if len(root["adjacency"]) != len(nodes):
             raise PrepareRefused(
@@ -129,12 +160,12 @@ def pairs_of(root: dict[str, typing.Any], nodes: list[dict[str, object]]) -> typ
             )
         for node, entries in zip(nodes, root["adjacency"]):
             for entry in entries:
-                yield hashable(node.get("id")), hashable(entry.get("id"))
+                yield (hashable(node.get("id")), hashable(entry.get("id"))), entry
         return
     for key in ("links", "edges"):
         if isinstance(root.get(key), list):
             for entry in root[key]:
-                yield hashable(entry.get("source")), hashable(entry.get("target"))
+                yield (hashable(entry.get("source")), hashable(entry.get("target"))), entry
             return
     raise PrepareRefused("there is neither a list `adjacency` nor one of `links` or `edges`")
 

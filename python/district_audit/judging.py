@@ -7,10 +7,12 @@ from __future__ import annotations
 import functools
 import typing
 
+from .decimals import percent_down
 from .graphs import SHOWN, Label, as_json, in_order, shown
 from .report import HALF_SHARE
 
 if typing.TYPE_CHECKING:
+    from .lengths import Lengths
     from .preparing import Choices
 
 MOST_UNITS, MOST_EDGES, MOST_REGIONS = 100_000, 400_000, 5000
@@ -42,10 +44,13 @@ class Judged:
         rows: dict[Label, dict[str, typing.Any]],
         neighbours: dict[Label, list[Label]],
         choices: Choices,
+        lengths: Lengths | None = None,
     ) -> None:
         self.rows, self.neighbours, self.choices = rows, neighbours, choices
         self.notes: list[str] = []
         self.refusals: list[str] = []
+        self.warnings: list[str] = []
+        self.cut_length: int | None = None
         self.place = {unit: i for i, unit in enumerate(rows)}
         self.members: dict[Label, list[Label]] = {}
         for unit, row in rows.items():
@@ -63,6 +68,10 @@ class Judged:
             self.judge_regions(choices.region)
         if choices.group:
             self.judge_group(choices.group, choices.whole)
+        if choices.length and lengths is not None:
+            self.judge_length(choices.length, lengths)
+        if choices.freeze:
+            self.judge_frozen(choices.freeze)
 
     def named(self, district: Label) -> str:
         return f"district {as_json(district)}"
@@ -76,18 +85,18 @@ class Judged:
         return sorted(units, key=self.place.__getitem__)
 
     def tell_parts(self) -> None:
-        """Units without a neighbour, other small parts of the graph, and districts that no walk can
+        """Units without a neighbor, other small parts of the graph, and districts that no walk can
         change.
         """
         alone = [unit for unit in self.rows if not self.neighbours[unit]]
         if alone:
-            self.notes.append(f"units without a neighbour: {len(alone)}: {self.shown(alone)}")
+            self.notes.append(f"units without a neighbor: {len(alone)}: {self.shown(alone)}")
         parts = parts_of(self.rows, self.neighbours)
         if len(parts) < 2:
             return
         self.notes.append(
             f"the graph is in {len(parts)} parts, and a district lies in one of them (join=[(A, B)]"
-            " makes neighbours of two units)"
+            " makes neighbors of two units)"
         )
         small = [part for part in parts[1:] if len(part) > 1]
         for part in small[:SHOWN]:
@@ -213,10 +222,49 @@ class Judged:
                 f" {self.choices.group_districts}"
             )
 
+    def judge_length(self, column: str, lengths: Lengths) -> None:
+        """The total length of the edges between districts."""
+        district = self.choices.district
+        cut = [
+            lengths.of(unit, other)
+            for unit, those in self.neighbours.items()
+            for other in those
+            if self.place[unit] < self.place[other]
+            and self.rows[unit][district] != self.rows[other][district]
+        ]
+        self.cut_length = total = sum(cut)
+        self.notes.append(f"{len(cut)} edges between districts, with {total} of {column} in all")
+        if total > self.choices.max_length:
+            self.refusals.append(
+                f"edges between districts have {total} of {column}, more than"
+                f" {self.choices.max_length}"
+            )
+
+    def judge_frozen(self, column: str) -> None:
+        """Counts frozen units, and warns of districts that no unit leaves or no walk changes."""
+        frozen = {unit for unit, row in self.rows.items() if row[column] > 0}
+        self.notes.append(f"{len(frozen)} of {len(self.rows)} units are frozen by {column}")
+        if frozen and len(frozen) == len(self.rows):
+            self.warnings.append(f"all units are frozen by {column}: no walk can change the plan")
+            return
+        whole = [label for label in self.districts if frozen.issuperset(self.members[label])]
+        closed = [
+            label
+            for label in whole
+            if all(frozen.issuperset(self.neighbours[unit]) for unit in self.members[label])
+        ]
+        if whole:
+            self.warnings.append(
+                f"all units of these districts are frozen by {column}, so that no unit leaves them:"
+                f" {self.shown(whole)}"
+            )
+        if closed:
+            self.warnings.append(
+                "no walk can change these districts, since the units around them are frozen, too:"
+                f" {self.shown(closed)}"
+            )
+
 
 def percent(part: int, whole: int) -> str:
     """A part in percent, rounded down at two places."""
-    if not whole:
-        return "of nobody"
-    ones, hundredths = divmod(10_000 * part // whole, 100)
-    return f"{ones}.{hundredths:02} %"
+    return f"{percent_down(part, whole)} %" if whole else "of nobody"

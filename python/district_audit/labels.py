@@ -51,7 +51,7 @@ def where_no_json(data: bytes) -> str:
     try:
         text = data.decode("utf-8")
     except UnicodeDecodeError as error:
-        return f"{place_in(data[:error.start].decode('utf-8'))}: this is no UTF-8"
+        return f"{place_in(data[:error.start].decode('utf-8'))}: this is not UTF-8"
     if text.startswith("\ufeff"):
         return "line 1, column 1: a byte order mark stands before the text"
     try:
@@ -62,7 +62,7 @@ def where_no_json(data: bytes) -> str:
         # A constant stands outside of all texts: each text is passed over as a whole.
         for found in re.finditer(r'"(?:[^"\\]|\\.)*"|-?(?:NaN|Infinity)', text):
             if found[0] == str(error):
-                return f"{place_in(text[:found.start()])}: {found[0]} is no JSON (write null)"
+                return f"{place_in(text[:found.start()])}: {found[0]} is not JSON (write null)"
     return ""
 
 

@@ -17,8 +17,9 @@ import re
 import sys
 import typing
 
+from .arguments import ONE_ELECTION, refuse
 from .calls import given, walked
-from .errors import ProgramMissing, ReportRefused
+from .errors import ProgramMissing, ReportRefused, TypeRefused
 from .program import PathLike, found
 from .report import Report
 
@@ -54,14 +55,14 @@ class File:
     def read(cls, value: object, what: str) -> File:
         """Returns a file of a manifest. Raises ManifestRefused."""
         if not isinstance(value, dict) or set(value) != {"name", "sha256", "bytes"}:
-            raise ManifestRefused(f"{what} has not just name, sha256 and bytes")
+            raise ManifestRefused(f"{what} needs exactly name, sha256 and bytes")
         name, digest, size = value["name"], value["sha256"], value["bytes"]
         if not isinstance(name, str) or name in ("", ".", "..") or "/" in name or "\0" in name:
             raise ManifestRefused(f"the name of {what} is not that of a file")
         if not isinstance(digest, str) or not HASH.fullmatch(digest):
             raise ManifestRefused(f"the sha256 of {what} is not 64 hexadecimal digits")
         if type(size) is not int or size < 0:
-            raise ManifestRefused(f"the bytes of {what} are no whole number")
+            raise ManifestRefused(f"the bytes of {what} are not a whole number")
         return cls(name, digest, size)
 
 
@@ -95,7 +96,7 @@ class Manifest:
             raise ManifestRefused(f"a manifest is JSON: {error}") from None
         names = {"format", *(field.name for field in dataclasses.fields(cls))}
         if not isinstance(value, dict) or set(value) != names:
-            raise ManifestRefused(f"a manifest has just these names: {', '.join(sorted(names))}")
+            raise ManifestRefused(f"a manifest has exactly these names: {', '.join(sorted(names))}")
         if value.pop("format") != FORMAT:
             raise ManifestRefused(f"the format is not {FORMAT!r}")
         return cls.of_values(value)
@@ -106,14 +107,14 @@ class Manifest:
         command = value["command"]
         is_text = isinstance(command, list) and all(isinstance(word, str) for word in command)
         if not is_text or not command:
-            raise ManifestRefused("the command is no list of texts")
+            raise ManifestRefused("the command is not a list of texts")
         if not isinstance(value["package"], str):
-            raise ManifestRefused("the version of the package is no text")
+            raise ManifestRefused("the version of the package is not a text")
         for name in ("started", "ended"):
             if not isinstance(value[name], str) or not TIME.fullmatch(value[name]):
-                raise ManifestRefused(f"{name} is no time such as 2026-05-04T12:34:56+00:00")
+                raise ManifestRefused(f"{name} is not a time such as 2026-05-04T12:34:56+00:00")
         if type(value["processors"]) is not int or value["processors"] < 1:
-            raise ManifestRefused("the number of processors is no whole number above 0")
+            raise ManifestRefused("the number of processors is not a whole number above 0")
         files = {
             name: File.read(value[name], f"the {name}") for name in ("graph", "report", "program")
         }
@@ -163,10 +164,15 @@ def audit_to_file(
         The path of the report. The manifest is `REPORT.manifest.json` and, unless `graph` is the
         path of a file that goes to the program as it is, the graph is `REPORT.graph.json`.
     graph, folder, progress, program, slots, **words
-        As for `run`.
+        As for `run`; `elections` is refused, since each election has a report of its own.
 
     Raises what `run` raises, and OSError where a file cannot be written.
     """
+    if "elections" in words:
+        refuse(
+            TypeRefused, "audit_to_file", "elections", words["elections"],
+            "audit_to_file writes the report of one election", ONE_ELECTION,
+        )
     path, call = pathlib.Path(report), given("run", graph, words)
     tool = File.of(found("audit", program))
     started = now()

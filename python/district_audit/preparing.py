@@ -12,9 +12,10 @@ import numbers
 import typing
 from fractions import Fraction
 
-from . import judging
+from . import judging, lengths
 from .arguments import (
     OTHERS,
+    RULES,
     TABLE,
     documented,
     plain_words,
@@ -39,7 +40,7 @@ from .graphs import (
 )
 from .values import alike_in, faults_in, kind_of, repeated, why_no_label
 
-MOST_BYTES, MOST_VALUE = 67_108_864, 1_000_000_000
+MOST_BYTES, MOST_VALUE, MOST_CUT_LENGTH = 67_108_864, 1_000_000_000, TABLE["max_length"].most
 
 
 @dataclasses.dataclass
@@ -69,6 +70,8 @@ class Choices:
     elections: typing.Mapping[str, tuple[str, str]] = dataclasses.field(default_factory=dict)
     group_share: int = 5000
     freeze: str | None = None
+    length: str | None = None
+    max_length: int = MOST_CUT_LENGTH
 
     @property
     def whole(self) -> str:
@@ -157,11 +160,13 @@ class Prepared:
     """Each region's label; empty where no column of regions was named."""
     columns: dict[str, str]
     """The columns that were written, by the program's words: pop, first, second, district, and
-    region, group, group_of and freeze where they were named. With elections, first and second are
-    not among them.
+    region, group, group_of, freeze and length where they were named. With elections, first and
+    second are not among them.
     """
     elections: dict[str, tuple[str, str]] = dataclasses.field(default_factory=dict)
     """The columns of votes by the name of their election; empty where `elections` was left out."""
+    rules: dict[str, int] = dataclasses.field(default_factory=dict)
+    """The slack and the limits that are not the default. A call that leaves one out is refused."""
 
     def __iter__(self) -> typing.Iterator[typing.Any]:
         return iter((self.data, self.changes))
@@ -213,6 +218,8 @@ def prepare(
     group_districts: int = 0,
     group_share: int = 5000,
     freeze: str | None = None,
+    length: str | None = None,
+    max_length: int = MOST_CUT_LENGTH,
     show_all: bool = False,
     **unknown: object,
 ) -> Prepared:
@@ -220,7 +227,9 @@ def prepare(
 
     A file is JSON in networkx's adjacency or node-link layout; GraphML and GML are read where
     networkx is installed. Columns of people, votes and a group are counts of heads. `slack` and the
-    limits are those of the audit, for telling what would be refused.
+    limits are those of the audit, for telling what would be refused. A length of an edge that is
+    not whole becomes the nearest whole number, halves the even one; one that is missing, below 0
+    or another one in the other direction is refused, and units that are joined have a length of 0.
 
     PARAMETERS
 
@@ -248,12 +257,14 @@ def prepare(
         raise PrepareRefused("either a column of districts or an assignment has to be given")
     if group_of and not group:
         raise PrepareRefused("group_of is given, and no group is")
+    if max_length != MOST_CUT_LENGTH and not length:
+        raise PrepareRefused("max_length is given, and no length is")
     said = plain_words("prepare", {"slack": slack, "tolerance": tolerance})
     slack = said.get("slack", 500)
     for name, count in (
         ("slack", slack), ("max_split", max_split), ("max_splits", max_splits),
         ("max_split_regions", max_split_regions), ("group_districts", group_districts),
-        ("group_share", group_share),
+        ("group_share", group_share), ("max_length", max_length),
     ):
         test_count("prepare", TABLE[name], count)
     votes = votes_of(first, second, elections)
@@ -287,6 +298,8 @@ def prepare(
         {} if elections is None else votes,
         group_share,
         freeze,
+        length,
+        max_length,
     )
     return prepared(raw_of(graph), choices)
 
@@ -391,7 +404,7 @@ def with_assignment(
     found = [{**node, choices.district: left.pop(hashable(node.get("id")), None)} for node in nodes]
     if left:
         raise PrepareRefused(
-            f"the assignment names what is no unit: {shown(left)}{hint_of_kind(left, nodes)}"
+            f"the assignment names an unknown unit: {shown(left)}{hint_of_kind(left, nodes)}"
         )
     return found
 
@@ -403,7 +416,7 @@ def test_units(pairs: typing.Sequence[tuple[object, object]]) -> None:
         f"the id in place {place} is missing" for place, unit in enumerate(ids) if is_missing(unit)
     ]
     faults += [
-        f"{as_json(unit)} is no id of a unit"
+        f"{as_json(unit)} is not an id of a unit"
         for unit in ids
         if not is_missing(unit) and kind_of(unit) is None
     ]
@@ -438,7 +451,7 @@ def number_of(value: object, rule: str) -> tuple[int, str, Fraction]:
         try:
             value = float(value) if any(letter in value for letter in ".eE") else int(value)
         except ValueError:
-            raise PrepareRefused("is no number") from None
+            raise PrepareRefused("is not a number") from None
         done = "texts read as numbers"
     if (
         isinstance(value, bool)
@@ -446,7 +459,7 @@ def number_of(value: object, rule: str) -> tuple[int, str, Fraction]:
         or not is_whole(value)
         and not math.isfinite(value)
     ):
-        raise PrepareRefused("is no number")
+        raise PrepareRefused("is not a number")
     exact = (
         Fraction(int(value))
         if is_whole(value)
@@ -670,7 +683,7 @@ def neighbours_of(
     for one, other in pairs:
         for end in (one, other):
             if end not in known:
-                raise PrepareRefused(f"an edge names {as_json(end)}, which is no unit")
+                raise PrepareRefused(f"an edge names {as_json(end)}, which is not a unit")
         if one == other:
             changes.add("edges from a unit to itself, left out", one)
         elif one in found and other in found:
@@ -689,7 +702,7 @@ def unit_named(
     for name in tried:
         if name in units:
             return name
-    raise PrepareRefused(f"{as_json(said)}, which is to be joined, is no unit")
+    raise PrepareRefused(f"{as_json(said)}, which is to be joined, is not a unit")
 
 
 def join(
@@ -703,7 +716,7 @@ def join(
         one, other = (unit_named(end, name_of, neighbours) for end in pair)
         if one == other:
             raise PrepareRefused(f"{as_json(one)} cannot be joined to itself")
-        done = "were neighbours already" if other in neighbours[one] else "made neighbours"
+        done = "were neighbors already" if other in neighbours[one] else "made neighbors"
         changes.add(
             f"units {as_json(one)} and {as_json(other)} {done}",
             is_of_values=other not in neighbours[one],
@@ -727,7 +740,7 @@ def names_of(raw: Raw, changes: Changes) -> tuple[list[Label], typing.Callable[[
         changes.add("ids: some are neither texts nor whole numbers, so all are written as texts")
     names = [name_of(one) for one in ids]
     faults = [
-        f"node {place} has {as_json(one)}, which is no id of a unit"
+        f"node {place} has {as_json(one)}, which is not an id of a unit"
         for place, one in enumerate(ids)
         if kind_of(one) is None
     ]
@@ -802,6 +815,8 @@ def prepared(raw: Raw, choices: Choices) -> Prepared:
         changes.add("the graph is directed: each edge is read as one in both directions")
     nodes = with_assignment(raw.nodes, choices)
     asked_for(nodes, choices)
+    if choices.length:
+        lengths.test_column(choices.length, raw.attributes)
     names, name_of = names_of(raw, changes)
     taken = Rows(choices, labels_in(nodes, choices, changes), changes)
     taken.faults += faults_of_labels(names, nodes, choices)
@@ -814,9 +829,9 @@ def prepared(raw: Raw, choices: Choices) -> Prepared:
     if taken.faults:
         raise PrepareRefused(f"{len(taken.faults)} values are refused", taken.faults)
     rows = taken.rows
-    found = neighbours_of(
-        [(name_of(one), name_of(other)) for one, other in raw.pairs], rows, names, changes
-    )
+    pairs = [(name_of(one), name_of(other)) for one, other in raw.pairs]
+    found = neighbours_of(pairs, rows, names, changes)
+    long = lengths_in(choices, zip(pairs, raw.attributes), rows, changes)
     join(choices, found, name_of, changes)
     place = {unit: i for i, unit in enumerate(rows)}
     neighbours = {unit: sorted(those, key=place.__getitem__) for unit, those in found.items()}
@@ -824,8 +839,8 @@ def prepared(raw: Raw, choices: Choices) -> Prepared:
     others = sorted({str(key) for node in nodes for key in node} - {"id", *written})
     if others:
         changes.add("columns left out: " + ", ".join(others))
-    data = data_of(rows, neighbours)
-    judged = judging.Judged(rows, neighbours, choices)
+    data = data_of(rows, neighbours, choices.length, long)
+    judged = judging.Judged(rows, neighbours, choices, long)
     refusals = judged.refusals + (
         [f"more than {MOST_BYTES} bytes"] if len(data) > MOST_BYTES else []
     )
@@ -842,21 +857,68 @@ def prepared(raw: Raw, choices: Choices) -> Prepared:
             name: column
             for name, column in (
                 ("group", choices.group), ("group_of", choices.group_of),
-                ("freeze", choices.freeze),
+                ("freeze", choices.freeze), ("length", choices.length),
             )
             if column
         }
     )
     return Prepared(
-        data, list(changes.by_kind.values()), judged.notes, suspicions(choices, rows, taken.before),
+        data, list(changes.by_kind.values()), judged.notes,
+        suspicions(choices, rows, taken.before) + suspicions_of_lengths(choices.length, long)
+        + judged.warnings,
         refusals, list(rows), judged.districts, judged.regions, columns, dict(choices.elections),
+        {
+            name: int(getattr(choices, name))
+            for name in RULES
+            if int(getattr(choices, name)) != TABLE[name].default
+        },
     )
 
 
+def lengths_in(
+    choices: Choices,
+    edges: typing.Iterable[tuple[tuple[Label, Label], lengths.Attributes]],
+    units: typing.Collection[Label],
+    changes: Changes,
+) -> lengths.Lengths | None:
+    """The lengths of the edges, if their column is named; says how many were made whole."""
+    if not choices.length:
+        return None
+    found = lengths.lengths_of(choices.length, edges, units)
+    if found.rounded:
+        changes.add(
+            f"lengths of edges in {choices.length}: {found.rounded} of {len(found.whole)} made"
+            " whole by `nearest`, halves the even one, which changes their sum by"
+            f" {float(found.moved):.6g}",
+            is_of_values=True,
+        )
+    return found
+
+
+def suspicions_of_lengths(column: str | None, found: lengths.Lengths | None) -> list[str]:
+    """A warning of what was lost where lengths were made whole."""
+    whole = Fraction(0) if found is None else sum(found.exact.values(), Fraction(0))
+    if found is None or found.lost * 100 <= whole:
+        return []
+    return [
+        f"lengths of edges in {column}: making them whole changes them by"
+        f" {float(100 * found.lost / whole):.3g} percent in all; multiply them first, as to"
+        " centimeters"
+    ]
+
+
 def data_of(
-    rows: dict[Label, dict[str, typing.Any]], neighbours: dict[Label, list[Label]]
+    rows: dict[Label, dict[str, typing.Any]],
+    neighbours: dict[Label, list[Label]],
+    length: str | None = None,
+    found: lengths.Lengths | None = None,
 ) -> bytes:
     """The graph in networkx's adjacency layout, as one line."""
+
+    def entry(unit: Label, other: Label) -> dict[str, object]:
+        there = {} if length is None or found is None else {length: found.of(unit, other)}
+        return {**there, "id": other}
+
     try:
         text = json.dumps(
             {
@@ -864,11 +926,15 @@ def data_of(
                 "multigraph": False,
                 "graph": [],
                 "nodes": [dict(row, id=unit) for unit, row in rows.items()],
-                "adjacency": [[{"id": other} for other in those] for those in neighbours.values()],
+                "adjacency": [
+                    [entry(unit, other) for other in those] for unit, those in neighbours.items()
+                ],
             },
             separators=(",", ":"),
             allow_nan=False,
         )
     except (TypeError, ValueError) as error:
-        raise PrepareRefused(f"a column that is kept has what JSON cannot say: {error}") from error
+        raise PrepareRefused(
+            f"a column that is kept has a value that JSON cannot express: {error}"
+        ) from error
     return text.encode("utf-8")

@@ -38,7 +38,9 @@ MOST_UNITS, MOST_EDGES, MOST_DISTRICTS, MOST_REGIONS, MOST_TRAJECTORIES, MOST_CU
 )
 MOST_SPLITS, MOST_BYTES = 995_000, 67_108_864
 MOST_SHARE, HALF_SHARE = 10_000, 5000
-SCORES = ("seats", "mean-median", "gap", "cut-edges")
+SCORES = ("seats", "mean-median", "gap", "cut-edges", "cut-length")
+MOST_LENGTH = 2**32 - 1
+MOST_CUT_LENGTH = MOST_EDGES * MOST_LENGTH
 TAILS = ("low", "high")
 # The meaning of the nine numbers of a line `shift`.
 SEATS = ("-4 or fewer", "-3", "-2", "-1", "0", "+1", "+2", "+3", "+4 or more")
@@ -84,6 +86,12 @@ class Rules:
     frozen: int | None = None
     """The number of units that keep the start plan's districts; None: no column of them was named.
     """
+    cut_length: int | None = None
+    """The total length of the edges between the start plan's districts; None: no column of lengths
+    was named.
+    """
+    max_length: int | None = None
+    """The greatest total length of the edges between districts; None: any length."""
 
     def told(self) -> list[str]:
         """The limits on cut edges and on the districts of a region, in words."""
@@ -95,7 +103,9 @@ class Rules:
         )
 
     def told_further(self) -> list[str]:
-        """Those on splits in all, on split regions, on a group's majorities and on frozen units."""
+        """Those on splits in all, on split regions, on a group's majorities, on frozen units and on
+        the length of cut edges.
+        """
         is_few = self.max_splits is not None and self.max_splits < MOST_SPLITS
         said = [f"at most {self.max_splits} splits of regions in all"] if is_few else []
         is_few = self.max_split_regions is not None and self.max_split_regions < MOST_REGIONS
@@ -115,7 +125,12 @@ class Rules:
                 f"the group has {share} in {self.majorities or 0} districts, and has to have {one}"
                 f" in {self.group_districts}"
             )
-        return said + ([] if self.frozen is None else [f"{self.frozen} units keep their districts"])
+        said += [] if self.frozen is None else [f"{self.frozen} units keep their districts"]
+        return said + (
+            []
+            if self.max_length is None
+            else [f"cut edges have a length of at most {self.max_length} in all"]
+        )
 
 
 @dataclasses.dataclass(frozen=True)
@@ -142,6 +157,8 @@ class Source:
     """
     freeze: str | None = None
     """The column of frozen units; None: none was named."""
+    length: str | None = None
+    """The column of the edges' lengths; None: none was named."""
 
     def lines(self) -> list[str]:
         words = ["columns", *map(quoted, (self.population, self.first, self.second, self.district))]
@@ -152,6 +169,7 @@ class Source:
             else ["group", quoted(self.group), "of", quoted(self.group_of or "")]
         )
         words += [] if self.freeze is None else ["freeze", quoted(self.freeze)]
+        words += [] if self.length is None else ["length", quoted(self.length)]
         return [f"source sha256 {self.sha256} bytes {self.bytes}", " ".join(words)]
 
     def is_of(self, data: builtins.bytes) -> bool:
@@ -176,6 +194,44 @@ class Audited:
     def is_of(self, data: bytes) -> bool:
         """Returns whether these are the bytes that the program read."""
         return hashlib.sha256(data).hexdigest() == self.sha256
+
+
+@dataclasses.dataclass(frozen=True)
+class Batch:
+    """The reports that one call made together, and which of them this one is.
+
+    It is no part of the report's text: a report that was read by itself has none.
+    """
+
+    kind: str
+    """plan or election."""
+    names: tuple[str, ...]
+    """The names of the plans or elections, in order; of plans, the graph's own plan is the first.
+    """
+    place: int
+    """The place of this report among them, from 0."""
+
+    @property
+    def name(self) -> str:
+        """The name of the plan or election of this report."""
+        return self.names[self.place]
+
+    @property
+    def others(self) -> list[str]:
+        """The names of the others."""
+        return [name for place, name in enumerate(self.names) if place != self.place]
+
+
+def in_batch(
+    kind: str, pairs: typing.Iterable[tuple[str, Report]]
+) -> list[tuple[str, Report]]:
+    """Returns the reports of one call, each of which knows that there are others."""
+    found = list(pairs)
+    names = tuple(name for name, _ in found)
+    return [
+        (name, dataclasses.replace(report, batch=Batch(kind, names, place)))
+        for place, (name, report) in enumerate(found)
+    ]
 
 
 def quoted(text: str) -> str:
@@ -224,7 +280,7 @@ class Line:
     """A line of a test: its question, and the start plan's score."""
 
     score: str
-    """seats, mean-median, gap or cut-edges."""
+    """seats, mean-median, gap, cut-edges or cut-length."""
     tail: str
     """low or high."""
     start: Start
@@ -358,7 +414,7 @@ class Reader:
             refuse(self.number, f"the text ends where a line `{example}` has to stand")
         found = re.fullmatch(form, line)
         if found is None:
-            refuse(self.number, f"it is not as a line `{example}` is")
+            refuse(self.number, f"it does not have the form of a line `{example}`")
         self.place += 1
         return list(found.groups())
 
@@ -409,7 +465,9 @@ class Head(typing.NamedTuple):
             else [f"group-districts {rules.group_districts} of {rules.majorities or 0}"]
         )
         lines += [] if rules.group_share is None else [f"group-share {rules.group_share}"]
-        return lines + ([] if rules.frozen is None else [f"frozen {rules.frozen}"])
+        lines += [] if rules.frozen is None else [f"frozen {rules.frozen}"]
+        lines += [] if rules.cut_length is None else [f"cut-length {rules.cut_length}"]
+        return lines + ([] if rules.max_length is None else [f"max-length {rules.max_length}"])
 
 
 def source_of(lines: Reader) -> Source | None:
@@ -419,24 +477,25 @@ def source_of(lines: Reader) -> Source | None:
     sha256, count = lines.take(
         "source sha256 ([0-9a-f]{64}) bytes N".replace("N", NUMBER), "source sha256 H bytes n"
     )
-    lines.ask_that(1 <= int(count) <= MOST_BYTES, "there are no so many bytes")
+    lines.ask_that(1 <= int(count) <= MOST_BYTES, "the byte count is out of range")
     (said,) = lines.take("columns (.*)", 'columns "P" "A" "B" "D"')
     names, words = columns_in(lines, said)
-    known = words[:-1] if words[-1:] == ["freeze"] else words
+    known = words[:-1] if words[-1:] == ["length"] else words
+    known = known[:-1] if known[-1:] == ["freeze"] else known
     lines.ask_that(
         known in ([], ["region"], ["group", "of"], ["region", "group", "of"]),
-        "such columns are not told",
+        "the further columns are `region`, `group` with `of`, and `freeze`, in this order",
     )
     found = dict(zip(words, names[4:]))
     lines.ask_that(
-        "" not in (found.get("region"), found.get("group"), found.get("freeze"))
+        "" not in [found.get(word) for word in ("region", "group", "freeze", "length")]
         and (found.get("of") != "" or names[0] == ""),
-        "a column without a name is not told",
+        "the name of a further column is empty",
     )
     population, first, second, district = names[:4]
     return Source(
         sha256, int(count), population, first, second, district, found.get("region"),
-        found.get("group"), found.get("of"), found.get("freeze"),
+        found.get("group"), found.get("of"), found.get("freeze"), found.get("length"),
     )
 
 
@@ -457,13 +516,13 @@ def columns_in(lines: Reader, said: str) -> tuple[list[str], list[str]]:
             isinstance(name, str)
             and quoted(name) == said[at:end]
             and said[end:end + 1] in ("", " "),
-            "it has no names as JSON texts",
+            "its names are not JSON texts",
         )
         names.append(name)
         at = end + 1
     lines.ask_that(
         len(names) == 4 + len(words),
-        "it has not the names of four columns, and of others with what they are",
+        "it needs the names of four columns, and then each further column behind its kind",
     )
     return names, words
 
@@ -478,7 +537,7 @@ def has_rule(lines: Reader, word: str, is_named: bool | None) -> bool:
         refuse(
             lines.number,
             (
-                "no column is named for this rule"
+                "the line `columns` names no column for this rule"
                 if is_there
                 else f"a line that begins with `{word}` has to stand here"
             ),
@@ -486,12 +545,14 @@ def has_rule(lines: Reader, word: str, is_named: bool | None) -> bool:
     return is_there
 
 
-def rules_of(lines: Reader, units: int, districts: int, source: Source | None) -> dict[str, int]:
+def rules_of(
+    lines: Reader, units: int, edges: int, districts: int, source: Source | None
+) -> dict[str, int]:
     """The rules that are set, by the names of their fields."""
     found: dict[str, int] = {}
     if lines.begins("max-cut"):
         (found["max_cut"],) = lines.numbers("max-cut N", "max-cut c")
-        lines.ask_that(found["max_cut"] < MOST_CUT, "such a limit is not written")
+        lines.ask_that(found["max_cut"] < MOST_CUT, "a limit at its default has no line")
     if has_rule(lines, "max-split", None if source is None else source.region is not None):
         most, regions = lines.numbers("max-split N regions N", "max-split s regions q")
         lines.ask_that(
@@ -507,25 +568,36 @@ def rules_of(lines: Reader, units: int, districts: int, source: Source | None) -
                 splits <= MOST_SPLITS
                 and split_regions <= MOST_REGIONS
                 and (splits, split_regions) != (MOST_SPLITS, MOST_REGIONS),
-                "such limits are not written",
+                "the limits are out of range, or both at their defaults",
             )
             found.update(max_splits=splits, max_split_regions=split_regions)
     if has_rule(lines, "group-districts", None if source is None else source.group is not None):
         least, majorities = lines.numbers("group-districts N of N", "group-districts m of t")
         lines.ask_that(
             least <= majorities <= districts,
-            "the start plan does not give the group so many districts, or there are no so many",
+            "the count of majorities is below the limit, or above the number of districts",
         )
         found.update(group_districts=least, majorities=majorities)
         if lines.begins("group-share"):
             (found["group_share"],) = lines.numbers("group-share N", "group-share p")
             lines.ask_that(
                 found["group_share"] <= MOST_SHARE and found["group_share"] != HALF_SHARE,
-                "such a share is not written",
+                "the share is out of range, or at its default",
             )
     if has_rule(lines, "frozen", None if source is None else source.freeze is not None):
         (found["frozen"],) = lines.numbers("frozen N", "frozen n")
-        lines.ask_that(found["frozen"] <= units, "there are no so many units")
+        lines.ask_that(found["frozen"] <= units, "the count is above the number of units")
+    if has_rule(lines, "cut-length", None if source is None else source.length is not None):
+        (found["cut_length"],) = lines.numbers("cut-length N", "cut-length n")
+        lines.ask_that(
+            found["cut_length"] <= edges * MOST_LENGTH, "so few edges are not so long in all"
+        )
+        if lines.begins("max-length"):
+            (found["max_length"],) = lines.numbers("max-length N", "max-length l")
+            lines.ask_that(
+                found["cut_length"] <= found["max_length"] < MOST_CUT_LENGTH,
+                "the start plan's cut edges are longer, or such a limit is not written",
+            )
     return found
 
 
@@ -535,17 +607,17 @@ def head_of(lines: Reader, source: Source | None) -> Head:
     )
     lines.ask_that(
         2 <= districts <= MOST_DISTRICTS and districts <= units <= MOST_UNITS,
-        "there are no so many units or districts",
+        "the number of units or districts is out of range",
     )
     lines.ask_that(
         units - districts <= edges <= min(MOST_EDGES, units * (units - 1) // 2),
-        "contiguous districts have another number of edges",
+        "contiguous districts cannot have this number of edges",
     )
     population, slack, low, high = lines.numbers(
         "population N slack N low N high N", "population t slack b low l high h"
     )
     lines.ask_that(
-        population <= BILLION * units and slack <= MOST_SLACK, "population or slack is too great"
+        population <= BILLION * units and slack <= MOST_SLACK, "population or slack is out of range"
     )
     shares = 10_000 * districts
     lines.ask_that(
@@ -556,7 +628,7 @@ def head_of(lines: Reader, source: Source | None) -> Head:
     )
     return Head(
         units, edges, districts, population,
-        Rules(slack, low, high, **rules_of(lines, units, districts, source)),
+        Rules(slack, low, high, **rules_of(lines, units, edges, districts, source)),
     )
 
 
@@ -573,7 +645,10 @@ def setting_of(lines: Reader) -> Setting:
     stop = 0
     if lines.begins("stop") and len((lines.next() or "").split(" ")) == 2:
         (stop,) = lines.numbers("stop N", "stop h")
-        lines.ask_that(1 <= stop <= MOST_TRAJECTORIES and ends >= 1, "no test stops so")
+        lines.ask_that(
+            1 <= stop <= MOST_TRAJECTORIES and ends >= 1,
+            "the number of ends in the tail is out of range",
+        )
     return Setting(walks, steps, ends, hub_steps, stop)
 
 
@@ -631,7 +706,7 @@ class Tests:
             form.replace("N", NUMBER).replace("Z", NINE).replace("A", ASK), example
         )
         score, tail, top, below = words[at:at + 4]
-        self.lines.ask_that((score, tail) == ask, f"it is {ask[0]}:{ask[1]}'s turn here")
+        self.lines.ask_that((score, tail) == ask, f"{ask[0]}:{ask[1]} is expected here")
         return self.start(score, int(top), int(below)), words[:at] + words[at + 4:]
 
     def start(self, score: str, top: int, below: int) -> Start:
@@ -648,15 +723,18 @@ class Tests:
                 )
             )
             is_good = below == 1 and 0 <= top <= most
+        elif score == "cut-length":
+            is_good = below == 1 and top == head.rules.cut_length
         elif score == "mean-median":
             is_good = below == 2 * head.districts * BILLION and abs(top) <= below
         else:
             is_good = (
                 0 < below <= 4 * BILLION * head.units and below % 2 == 0 and 2 * abs(top) <= below
             )
-        self.lines.ask_that(is_good, "no plan has such a score")
+        self.lines.ask_that(is_good, "no plan has this score")
         self.lines.ask_that(
-            self.starts.setdefault(score, start) == start, "the start has another score than above"
+            self.starts.setdefault(score, start) == start,
+            "the start plan's score differs from that on an earlier line",
         )
         return start
 
@@ -690,18 +768,18 @@ class Tests:
             of_walk, moved, count, of = map(int, words[:4])
             walk = Walk(*ask, start, of_walk, moved, count, of, Decimal(words[4]))
             found.append(walk)
-            self.lines.ask_that(walk.number == number, f"it is walk {number}'s turn here")
+            self.lines.ask_that(walk.number == number, f"walk {number} is expected here")
             self.lines.ask_that(
                 walk.moved == found[0].moved and walk.moved <= self.setting.steps,
-                "no such number of steps moved",
+                "the moves differ from an earlier line, or are above the steps",
             )
             self.lines.ask_that(
                 walk.of == self.setting.steps + 1 and 1 <= walk.count <= walk.of,
-                "no so many plans are visited",
+                "the count of visited plans is out of range",
             )
             self.lines.ask_that(
                 walk.moved > 0 or walk.count == walk.of,
-                "nothing moved, and so all plans are the start",
+                "with no moves, every visited plan is the start plan",
             )
             self.lines.ask_that(
                 walk.bound == bound_of(walk.count, walk.of), "the bound is not that of the count"
@@ -720,7 +798,7 @@ class Tests:
             told = [walk.count for walk in walks if walk.ask == "seats:" + tail]
             self.lines.ask_that(
                 not told or sum(told) == sum(part),
-                f"the numbers are not those of the lines on seats:{tail}",
+                f"the numbers disagree with the lines on seats:{tail}",
             )
         return Shift(tuple(counts))
 
@@ -735,7 +813,7 @@ class Tests:
             stop = Stop(*ask, start, place, top, of, Decimal(words[3]))
             early = stop.top == enough and stop.of == stop.place and enough <= stop.place <= ends
             late = 1 <= stop.top <= enough and stop.of == ends + 1 and stop.place == ends
-            self.lines.ask_that(early or late, "no test stops so")
+            self.lines.ask_that(early or late, "no test stops at this place")
             self.lines.ask_that(
                 stop.p == rounded_up(stop.top, stop.of), "p is not that of the value"
             )
@@ -765,16 +843,19 @@ class Tests:
                 *ask, start, int(words[0]), int(words[1]), int(words[2]), Decimal(words[3])
             )
             found.append(one)
-            self.lines.ask_that(of & of - 1 == 0, "a serial run has a power of two of plans")
             self.lines.ask_that(
-                one.place == found[0].place and one.place < of, "the start has no such place"
+                of & of - 1 == 0, "the number of plans of a serial run is a power of two"
+            )
+            self.lines.ask_that(
+                one.place == found[0].place and one.place < of,
+                "the start plan's place is out of range, or differs from an earlier line",
             )
             self.rank_that_is(one.rank, one.of, of, one.p)
         self.both_tails(found, [one.rank for one in found], of + 1)
         return tuple(found)
 
     def rank_that_is(self, rank: int, told: int, of: int, p: Decimal) -> None:
-        self.lines.ask_that(told == of and 1 <= rank <= of, "there is no such rank")
+        self.lines.ask_that(told == of and 1 <= rank <= of, "the rank is out of range")
         self.lines.ask_that(p == rounded_up(rank, of), "p is not that of the rank")
 
 
@@ -837,6 +918,10 @@ class PlanCheck:
     """The number of edges between districts; None of a text alone."""
     faults: tuple[str, ...] = ()
     """Every fault of the plan, in the user's labels; empty where the program found it legal."""
+    cut_length: int | None = dataclasses.field(default=None, compare=False)
+    """The total length of the edges between districts; None of a text alone, and where no column
+    of lengths was named.
+    """
 
     @property
     def is_legal(self) -> bool:
@@ -845,7 +930,9 @@ class PlanCheck:
 
     def with_plan(self, plan: Plan) -> PlanCheck:
         """Adds the districts to what the program wrote."""
-        return dataclasses.replace(self, table=plan.districts, cut_edges=plan.cut_edges)
+        return dataclasses.replace(
+            self, table=plan.districts, cut_edges=plan.cut_edges, cut_length=plan.cut_length
+        )
 
     @classmethod
     def of_plan(cls, plan: Plan, edges: int, rules: Rules) -> PlanCheck:
@@ -855,7 +942,7 @@ class PlanCheck:
         )
         return cls(
             units, edges, len(plan.districts), population, rules, None, plan.districts,
-            plan.cut_edges, plan.faults,
+            plan.cut_edges, plan.faults, plan.cut_length,
         )
 
     def to_frame(self, exact: bool = False) -> pandas.DataFrame:
@@ -890,7 +977,7 @@ class PlanCheck:
         )
 
     def _repr_html_(self) -> str:
-        from . import districts
+        from . import decimals, districts
 
         rules = self.rules
         about = (
@@ -898,11 +985,12 @@ class PlanCheck:
             f" {self.population} people; {rules.low} to {rules.high} people a district"
         )
         about += "" if self.cut_edges is None else f"; {self.cut_edges} cut edges"
+        about += "" if self.cut_length is None else f"; cut length {self.cut_length}"
         faults = "".join(f"<li>{html.escape(fault)}</li>" for fault in self.faults)
         titles, rows = districts.shown_rows(self.table)
         state = f"The plan is refused:<ul>{faults}</ul>" if faults else "The plan is legal."
         return f"<p>{html.escape(about)}</p><div>{state}</div>" + (
-            table(rows, titles) if rows else ""
+            f"{table(rows, titles)}<p>{decimals.ROUNDED_DOWN}</p>" if rows else ""
         )
 
     @classmethod
@@ -931,7 +1019,7 @@ def finish(lines: Reader) -> None:
     """The last line, and nothing behind it."""
     lines.take("end", "end")
     if lines.next() is not None:
-        refuse(lines.number, "something stands behind the line `end`")
+        refuse(lines.number, "text follows the line `end`")
 
 
 COLUMNS = ("test", "walk", "ask", "start", "moved", "place", "count", "of", "bound", "p")
@@ -973,6 +1061,8 @@ class Report:
     """The bytes and columns that were read; None if the text does not name them."""
     audited: Audited | None = dataclasses.field(default=None, compare=False)
     """The graph of the call that made this report; None for a text that was read."""
+    batch: Batch | None = dataclasses.field(default=None, compare=False)
+    """The plans or elections among which this report is one; None if it is by itself."""
 
     @classmethod
     def parse(cls, text: str) -> Report:
@@ -982,7 +1072,7 @@ class Report:
         lines = Reader(lines_of(text))
         report = cls.read(lines)
         if lines.next() is not None:
-            refuse(lines.number, "something stands behind the line `end`")
+            refuse(lines.number, "text follows the line `end`")
         return report
 
     @classmethod
@@ -997,7 +1087,7 @@ class Report:
             found.append((name, cls.read(lines)))
         if not found:
             refuse(1, "there is no plan")
-        return found
+        return in_batch("plan", found)
 
     @classmethod
     def read(cls, lines: Reader) -> Report:
@@ -1174,7 +1264,8 @@ class Report:
 
         The page has the questions and definitions, the methods, the numbers, figures, the theorems
         with their assumption, what the report does not say, hashes, the command, and the report in
-        full. It loads nothing and prints in black and white.
+        full. It loads nothing and prints in black and white. For a report out of several plans or
+        elections, it names all of these and counts the bounds and p-values of all.
 
         Parameters
         ----------
@@ -1185,12 +1276,15 @@ class Report:
         parties : tuple of two str
             The names of the parties, in the order of the columns `first` and `second`.
         graph : Prepared, bytes, path, or a graph of networkx or GerryChain
-            The graph of the report, for a table of the enacted plan's districts. It is compared
+            The graph of the report, for a table of the enacted plan's districts. For a report of
+            `plans` on another plan than the graph's own, leave it out. It is compared
             with the report byte by byte, an object after it is prepared as for the run, if the
             report is that of a call of this package or has the line `source`.
         columns : dict
-            The columns by the words pop, first, second, district, region, group and group_of; if
-            left out, those of the report's own line or of the call that made it.
+            The columns by the words pop, first, second, district, region, group, group_of, freeze
+            and length; if left out, those of the report's own line or of the call that made it. If
+            given, each column of a rule of the report has to be there: the printed command needs
+            it, and its counts are compared with those of the report.
         command : str
             The command to print; if left out, it is written from the report.
         notes : sequence of str
@@ -1198,7 +1292,8 @@ class Report:
         epsilon, alpha : Fraction, Decimal, str or int
             With both, the page has the test of `effect` too.
 
-        ValueError if the graph is not that of the report.
+        ValueError if the graph or a column is not that of the report, if a column is missing, or if
+        a graph is given for another plan than the graph's own.
         """
         from . import exhibit
 

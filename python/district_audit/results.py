@@ -35,7 +35,7 @@ class NamedReports(typing.List[Pair]):
             return type(self)(found) if isinstance(name, slice) else found
         reports = [report for other, report in self if other == name]
         if len(reports) != 1:
-            many = "several have the name" if reports else "there is none of the name"
+            many = "several have this name" if reports else "none has this name"
             raise KeyError(f"{many} {name!r}; the names are {', '.join(map(repr, self.names))}")
         return reports[0]
 

@@ -219,6 +219,12 @@ def cut_edges(sample: Sample) -> int:
     return sample.plan.cut_edges()
 
 
+def cut_length(sample: Sample, length: str) -> int:
+    """Returns the total length of the edges between units in different districts, by a column of
+    lengths, as the program's `cut-length`. KeyError where the program read no such column."""
+    return sample.plan.cut_length(length)
+
+
 # Scores that `Trace.to_frame` knows by name: those of votes, for each election, and the others.
 OF_VOTES: dict[str, typing.Callable[..., object]] = {
     function.__name__: function for function in (

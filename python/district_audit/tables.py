@@ -173,7 +173,7 @@ def units_in(labels: list[tuple[object, object]], known: Known | None) -> list[s
         f"the id in place {place} is missing" for place, unit in enumerate(ids) if is_missing(unit)
     ]
     bad += [
-        f"unit {as_json(unit)}: this is no id of a unit"
+        f"unit {as_json(unit)}: not an id of a unit"
         for unit in ids
         if not is_missing(unit) and kind_of(unit) is None
     ]

@@ -20,11 +20,12 @@ OF_VOTES: dict[str, typing.Callable[[Sample], int | Fraction]] = {
 }
 # The limits of a call, by their names in the rules of a head.
 LIMITS = ("slack", "max_cut", "max_split", "max_splits", "max_split_regions", "group_districts",
-          "group_share")
+          "group_share", "max_length")
 # The columns of a call, by their names in the line of the source.
 COLUMNS = {
     "pop": "population", "first": "first", "second": "second", "region": "region",
     "group": "group", "group_of": "group_of", "freeze": "freeze",
+    "length": "length",
 }
 
 
@@ -126,11 +127,19 @@ class Head:
             frozen = sum(map(bool, self.table.values(self.named["freeze"])))
             self.ask_that("the number of frozen units", rules.frozen, frozen)
 
+        if rules.cut_length is not None and self.has("the length of cut edges", "length"):
+            own = scores.cut_length(self.enacted, self.named["length"])
+            self.ask_that("the length of cut edges", rules.cut_length, own)
+
     def compare_start(self, ask: Line) -> None:
         """Refuses another value of the enacted plan than the graph gives."""
         if ask.score == "cut-edges":
             self.ask_that("the enacted plan's cut-edges", ask.start.fraction,
                           Fraction(scores.cut_edges(self.enacted)))
+        elif ask.score == "cut-length":
+            if self.has("cut-length", "length"):
+                self.ask_that("the enacted plan's cut-length", ask.start.fraction,
+                              Fraction(scores.cut_length(self.enacted, self.named["length"])))
         elif all(self.trace.election) or self.has(ask.score, "first", "second"):
             own = OF_VOTES[ask.score](self.enacted)
             self.ask_that(f"the enacted plan's {ask.score}", ask.start.fraction, own)

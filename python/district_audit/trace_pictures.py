@@ -129,7 +129,7 @@ def box_plot(rows: typing.Iterable[typing.Sequence[typing.Any]], *,
     """
     found = [numbers_of(row) for row in rows]
     if not found or len({len(row) for row in found}) != 1:
-        raise ValueError("there are no rows, or they have not the same number of districts")
+        raise ValueError("there are no rows, or their numbers of districts differ")
     marks = found[0] if enacted is None else numbers_of(enacted)
     if len(marks) != len(found[0]):
         raise ValueError("the enacted plan has another number of districts")

@@ -20,12 +20,12 @@ def whole_number(value: object, rule: str) -> int:
     `rule` is that of `prepare` for a number that is not whole: error, nearest or floor.
     """
     if isinstance(value, bool) or not isinstance(value, (numbers.Real, decimal.Decimal)):
-        raise ValueError("is no number")
+        raise ValueError("is not a number")
     if is_whole(value):
         whole = int(typing.cast(int, value))
     else:
         if not math.isfinite(value):
-            raise ValueError("is no number")
+            raise ValueError("is not a number")
         exact = Fraction(value if isinstance(value, (decimal.Decimal, Fraction)) else float(value))
         if exact.denominator != 1 and rule == "error":
             raise ValueError("is not whole (choose numbers='nearest' or 'floor')")
@@ -81,6 +81,7 @@ class UnitTable:
         self.columns: dict[str, list[int]] = {}
         self.by_region: dict[str, list[int]] = {}
         self.around: list[list[int]] | None = None
+        self.by_length: dict[str, list[dict[int, int]]] = {}
 
     def enacted_labels(self, district: str, assignment: typing.Any) -> list[object]:
         """Returns each unit's own district label, from its column or from an assignment."""
@@ -151,6 +152,30 @@ class UnitTable:
             self.around = [sorted(those) for those in found]
         return self.around
 
+    def lengths(self, name: str) -> list[dict[int, int]]:
+        """Returns the length of the edge to each neighbor of each unit.
+
+        KeyError where no edge that the program read has the column, ValueError where one has no
+        whole number in it.
+        """
+        if name not in self.by_length:
+            place = {row["id"]: number for number, row in enumerate(self.rows)}
+            if not any(name in entry for entries in self.adjacency for entry in entries):
+                raise KeyError(f"no edge that the program read has a column {name}")
+            found: list[dict[int, int]] = [{} for _ in self.rows]
+            for unit, entries in enumerate(self.adjacency):
+                for entry in entries:
+                    other, value = place[entry["id"]], entry.get(name)
+                    if not is_whole(value):
+                        raise ValueError(
+                            f"edge {as_json(self.ids[unit])} - {as_json(self.ids[other])}: no whole"
+                            f" number in the column {name}"
+                        )
+                    if other != unit:
+                        found[unit][other] = found[other][unit] = int(typing.cast(int, value))
+            self.by_length[name] = found
+        return self.by_length[name]
+
 
 class Tally(typing.Protocol):
     """A number of the current plan that is kept up to date unit by unit."""
@@ -186,6 +211,23 @@ class Cut:
         """Counts the edges that are cut now, and those that are no longer."""
         around = [self.plan[other] for other in self.neighbors[unit]]
         self.edges += around.count(old) - around.count(new)
+
+
+class CutLength:
+    """The total length of the cut edges."""
+
+    def __init__(self, lengths: list[dict[int, int]], plan: list[int]) -> None:
+        self.lengths, self.plan = lengths, plan
+        self.total = sum(
+            length for unit, those in enumerate(lengths) for other, length in those.items()
+            if unit < other and plan[unit] != plan[other]
+        )
+
+    def move(self, unit: int, old: int, new: int) -> None:
+        """Adds the lengths of the edges that are cut now, and takes off those no longer cut."""
+        for other, length in self.lengths[unit].items():
+            district = self.plan[other]
+            self.total += length * ((district == old) - (district == new))
 
 
 class Splits:
@@ -259,6 +301,11 @@ class Plan:
     def cut_edges(self) -> int:
         """Returns the number of edges between districts."""
         return self.tally("cut", lambda: Cut(self.table.neighbors, self.districts)).edges
+
+    def cut_length(self, column: str) -> int:
+        """Returns the total length of the edges between districts, by a column of lengths."""
+        return self.tally(("length", column),
+                          lambda: CutLength(self.table.lengths(column), self.districts)).total
 
     def splits(self, column: str) -> Splits:
         """Returns how the regions of a column are split."""

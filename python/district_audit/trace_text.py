@@ -179,7 +179,7 @@ class Text:
         behind = self.lines.read()
         self.lines.finish()
         self.number += 1
-        self.ask_that(not behind, "something stands behind the line `end`")
+        self.ask_that(not behind, "text follows the line `end`")
 
     def head(self) -> tuple[TraceHead, str]:
         """Returns the head, and the line behind it, which begins with `trace`."""
@@ -190,7 +190,7 @@ class Text:
                 break
             said.append(line)
             self.ask_that(len(said) < MOST_HEAD_LINES, "no line `trace` ends the head")
-            self.ask_that(said[0] == "district-trace 1", "it is not as `district-trace 1` is")
+            self.ask_that(said[0] == "district-trace 1", "it is not `district-trace 1`")
         try:
             return self.parsed_head(Reader(said)), line
         except TraceRefused:
@@ -204,14 +204,14 @@ class Text:
         source = source_of(lines)
         key, = lines.take("key ([0-9a-f]{64})", "key K")
         head, setting = head_of(lines, source), setting_of(lines)
-        lines.ask_that(setting.stop == 0, "a trace has no line `stop`")
+        lines.ask_that(setting.stop == 0, "a trace cannot have a line `stop`")
         asks: list[Line] = []
         while lines.next() is not None or not asks:
             score, tail, top, below = lines.take("ask " + ASK, "ask SCORE TAIL start a/b")
             ask = Line(score, tail, Start(int(top), int(below)))
-            lines.ask_that(all(ask.ask != other.ask for other in asks), "it was asked before")
+            lines.ask_that(all(ask.ask != other.ask for other in asks), "this question is repeated")
             lines.ask_that(below == str(denominator(score, head.districts, ask.start)),
-                           "no score has such a denominator")
+                           "the denominator is not that of this score")
             asks.append(ask)
         return TraceHead(key, *head, setting, tuple(asks), source)
 
@@ -219,16 +219,16 @@ class Text:
         """Returns the trajectory of a line `trace`, which comes behind another or first."""
         found_words = re.fullmatch("trace id ([0-9]+) steps ([0-9]+) thin ([0-9]+)", line)
         if found_words is None:
-            self.refuse("it is not as a line `trace id i steps S thin N` is")
+            self.refuse("it does not have the form `trace id i steps S thin N`")
         one = Trajectory(*map(int, found_words.groups()))
         setting = head.setting
         steps = setting.steps if one.id < setting.walks else setting.hub_steps
-        self.ask_that(one.id < setting.walks + setting.ends, "there is no such trajectory")
+        self.ask_that(one.id < setting.walks + setting.ends, "the id is out of range")
         self.ask_that(one.steps == steps, "the trajectory has another number of steps")
-        self.ask_that(1 <= one.thin <= BILLION, "no trace is thinned so")
+        self.ask_that(1 <= one.thin <= BILLION, "the thinning is out of range")
         if before is not None:
             self.ask_that(one.id == before.id + 1 and one.thin == before.thin,
-                          "it is another trajectory's turn")
+                          "the sections must be in order of rising id")
         return one
 
     def shown(self, form: re.Pattern[str], step: int) -> Shown:
@@ -236,8 +236,8 @@ class Text:
         line = self.line(f"the plan after {step} steps")
         parts = form.fullmatch(line)
         if parts is None:
-            self.refuse("it is not as the line of a plan with these asks is")
-        self.ask_that(parts[1] == str(step), f"it is the turn of the plan after {step} steps")
+            self.refuse("it does not have the form of a plan's line with these asks")
+        self.ask_that(parts[1] == str(step), f"the plan after {step} steps is expected here")
         pairs = list(map(int, parts[4].replace(":", " ").split()))
         numerators = tuple(map(int, parts[3].split()))
         return Shown(step, int(parts[2]), numerators, pairs[::2], pairs[1::2])

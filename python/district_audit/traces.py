@@ -15,7 +15,7 @@ from fractions import Fraction
 
 from . import progress as bars
 from . import scores as score_functions
-from .arguments import documented, tested_elections
+from .arguments import AS_PREPARED, documented, tested_elections
 from .calls import Given, few_moves, given, warn_of_few_moves, words_in
 from .errors import extra
 from .program import PathLike, found
@@ -181,6 +181,7 @@ class Trace(typing.Iterator[Sample]):
             self.trajectory = self.text.trajectory(line, self.head, None)
             self.table = UnitTable(sent.data, graph, sent.named["district"], words)
             self.election = self.read_columns(sent.named)
+            self.length = str(sent.named.get("length", ""))
             self.check(sent.data, ids)
             self.plan = Plan(self.table, self.table.start)
             for columns in self.elections.values():
@@ -214,10 +215,10 @@ class Trace(typing.Iterator[Sample]):
         """Refuses a head that is not one of this graph, or not of the ids that were asked for."""
         head, table = self.head, self.table
         if (head.units, head.districts) != (len(table.ids), len(table.labels)):
-            self.text.refuse(f"it is of {head.units} units and {head.districts} districts, and the "
+            self.text.refuse(f"it has {head.units} units and {head.districts} districts, and the "
                              f"graph has {len(table.ids)} and {len(table.labels)}")
         if head.source is not None and not head.source.is_of(data):
-            self.text.refuse("it is the trace of another file, by its SHA-256")
+            self.text.refuse("its SHA-256 is that of another file")
         if ids is not None and self.trajectory.id != ids[0]:
             self.text.refuse("it begins with another trajectory than was asked for")
 
@@ -288,7 +289,7 @@ class Trace(typing.Iterator[Sample]):
             line = self.text.line("the line `end`")
             if line == "end":
                 self.text.ask_that(self.final_id in (None, self.trajectory.id),
-                                   f"not all trajectories up to {self.final_id} are there")
+                                   f"trajectories up to {self.final_id} are missing")
                 self.text.end()
                 few = few_moves("trajectory", self.moved, self.head.units)
                 warn_of_few_moves([few] if few else [], 3)
@@ -309,13 +310,14 @@ class Trace(typing.Iterator[Sample]):
     def judge(self, one: Trajectory, before: Shown, shown: Shown) -> None:
         """Refuses a line that cannot come behind the line before, or be the first."""
         ask_that, units, plan = self.text.ask_that, shown.units, self.plan.districts
-        ask_that(units == sorted(set(units)), "its units do not rise")
-        ask_that(not units or units[-1] < self.head.units, "there is no such unit")
-        ask_that(max(shown.districts, default=0) < self.head.districts, "there is no such district")
+        ask_that(units == sorted(set(units)), "its units are not in rising order")
+        ask_that(not units or units[-1] < self.head.units, "a unit's number is out of range")
+        ask_that(max(shown.districts, default=0) < self.head.districts,
+                 "a district's number is out of range")
         ask_that(not any(map(operator.eq, map(plan.__getitem__, units), shown.districts)),
-                 "a unit is in that district already")
+                 "a unit already is in that district")
         made = shown.moves - before.moves
-        ask_that(0 <= made <= shown.step - before.step, "no such number of steps changed the plan")
+        ask_that(0 <= made <= shown.step - before.step, "the number of moves is out of range")
         most = made
         if self.place == 0 and one.id >= self.head.setting.walks:
             self.hub = self.hub or shown
@@ -323,7 +325,7 @@ class Trace(typing.Iterator[Sample]):
             most = one.steps
         ask_that(len(units) <= most, "more units changed than steps changed the plan")
         ask_that(bool(units) or bool(made) or shown.numerators == before.numerators,
-                 "nothing changed, and the scores are others")
+                 "the scores changed although no step changed the plan")
 
     # ---- what may be made of it
 
@@ -354,11 +356,12 @@ class Trace(typing.Iterator[Sample]):
         `scores` is a mapping from names to functions of a sample, or a sequence of such functions
         and of names of functions in `district_audit.scores`. A named score of votes is computed for
         each of the trace's elections, as `seats GOV18`; without elections for the columns that the
-        program read. A score that is a list or a mapping gives a column for each of its values, as
-        `ordered_shares 1`. With exact=False a Fraction becomes the nearest float, which
-        can make equal what was not and never turns an order around.
+        program read. `cut_length` is that of the trace's `length`. A score that is a list or a
+        mapping gives a column for each of its values, as `ordered_shares 1`. With exact=False a
+        Fraction becomes the nearest float, which can make equal what was not and never turns an
+        order around.
         """
-        functions = functions_of(scores, self.elections)
+        functions = functions_of(scores, self.elections, self.length)
         for sample in self:
             row: dict[str, object] = {"id": sample.id, "step": sample.step, "moves": sample.moves}
             for name, function in functions.items():
@@ -375,8 +378,8 @@ class Trace(typing.Iterator[Sample]):
         return pandas.DataFrame(list(self.rows(scores, exact)))
 
 
-def functions_of(scores: Scores, elections: Elections) -> dict[str, Score]:
-    """Returns a function for each column of scores."""
+def functions_of(scores: Scores, elections: Elections, length: str = "") -> dict[str, Score]:
+    """Returns a function for each column of scores; `length` is the column of edges' lengths."""
     if isinstance(scores, str) or callable(scores):
         scores = [scores]
     if isinstance(scores, collections.abc.Mapping):
@@ -387,14 +390,23 @@ def functions_of(scores: Scores, elections: Elections) -> dict[str, Score]:
             chosen[getattr(score, "__name__", repr(score))] = score
         elif score in score_functions.OF_PLANS:
             chosen[score] = score_functions.OF_PLANS[score]
+        elif score == "cut_length":
+            chosen[score] = of_length(length)
         elif score not in score_functions.OF_VOTES:
-            known = (*score_functions.OF_PLANS, *score_functions.OF_VOTES)
+            known = (*score_functions.OF_PLANS, "cut_length", *score_functions.OF_VOTES)
             raise ValueError(f"there is no score {score}; by name there are {', '.join(known)}")
         elif not elections:
             chosen[score] = score_functions.OF_VOTES[score]
         else:
             chosen.update((f"{score} {name}", of_election(score, name)) for name in elections)
     return chosen
+
+
+def of_length(column: str) -> Score:
+    """Returns the score of the lengths of cut edges in a column. ValueError where none is named."""
+    if not column:
+        raise ValueError('the score cut_length needs lengths: trace(.., length="shared_perim")')
+    return lambda sample: score_functions.cut_length(sample, column)
 
 
 def of_election(score: str, election: str) -> Score:
@@ -471,18 +483,20 @@ def trace(
     steps: int = 1000,
     ends: int = 0,
     hub_steps: int = 1000,
-    slack: int | None = None,
+    slack: int | None = AS_PREPARED,
     tolerance: float | None = None,
     max_cut: int = 400_000,
-    region: str | None = None,
-    max_split: int = 200,
-    max_splits: int = 995_000,
-    max_split_regions: int = 5000,
-    group: str | None = None,
-    group_of: str | None = None,
-    group_districts: int = 0,
-    group_share: int = 5000,
-    freeze: str | None = None,
+    region: str | None = AS_PREPARED,
+    max_split: int | None = AS_PREPARED,
+    max_splits: int | None = AS_PREPARED,
+    max_split_regions: int | None = AS_PREPARED,
+    group: str | None = AS_PREPARED,
+    group_of: str | None = AS_PREPARED,
+    group_districts: int | None = AS_PREPARED,
+    group_share: int | None = AS_PREPARED,
+    freeze: str | None = AS_PREPARED,
+    length: str | None = AS_PREPARED,
+    max_length: int | None = AS_PREPARED,
     source: bool = False,
     last: bool = False,
     progress: bool = False,
@@ -572,15 +586,17 @@ def read_trace(
     slack: int | None = None,
     tolerance: float | None = None,
     max_cut: int | None = None,
-    region: str | None = None,
+    region: str | None = AS_PREPARED,
     max_split: int | None = None,
     max_splits: int | None = None,
     max_split_regions: int | None = None,
-    group: str | None = None,
-    group_of: str | None = None,
+    group: str | None = AS_PREPARED,
+    group_of: str | None = AS_PREPARED,
     group_districts: int | None = None,
     group_share: int | None = None,
-    freeze: str | None = None,
+    freeze: str | None = AS_PREPARED,
+    length: str | None = AS_PREPARED,
+    max_length: int | None = None,
     last: bool = False,
     numbers: str | None = None,
     missing: str | None = None,

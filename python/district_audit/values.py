@@ -65,7 +65,7 @@ def why_no_label(value: object) -> str:
     if type(value).__name__ in ("bool", "bool_"):
         return "is a bool, and not a text or a whole number"
     if isinstance(value, (numbers.Real, decimal.Decimal)):
-        return "is a float that is no whole number"
+        return "is a float that is not a whole number"
     return f"is a {type(value).__name__}, and not a text or a whole number"
 
 

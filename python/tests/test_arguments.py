@@ -42,7 +42,8 @@ class Refusals(common.ProgramCase):
         """For each: what was given, the kind of error, what is said, and what would be right."""
         slack = "slack is a whole number from 0 to 10000, in hundredths of a percent"
         ask = (
-            "ask is 1 to 4 different questions, each a score (seats, mean-median, gap, cut-edges),"
+            "ask is 1 to 4 different questions, each a score (seats, mean-median, gap, cut-edges,"
+            " cut-length),"
             " a colon and a tail (low, high)"
         )
         five = ["gap:low", "gap:high", "seats:low", "seats:high", "cut-edges:low"]
@@ -52,6 +53,27 @@ class Refusals(common.ProgramCase):
                 {"slack": 0.05},
                 TypeError,
                 f"run(slack=0.05): {slack}; for 5 percent write slack=500 or tolerance=0.05",
+            ),
+            (
+                {"slack": 10.5},
+                TypeError,
+                f"run(slack=10.5): {slack}; for 10.5 percent write slack=1050 or tolerance=0.105",
+            ),
+            (
+                {"group": "G", "group_share": 0.35},
+                TypeError,
+                (
+                    "run(group_share=0.35): group_share is a whole number from 0 to 10000, in"
+                    " hundredths of a percent; for 35 percent write group_share=3500"
+                ),
+            ),
+            (
+                {"group": "G", "group_share": 34.77},
+                TypeError,
+                (
+                    "run(group_share=34.77): group_share is a whole number from 0 to 10000, in"
+                    " hundredths of a percent; for 34.77 percent write group_share=3477"
+                ),
             ),
             ({"slack": -1}, ValueError, f"run(slack=-1): {slack}"),
             ({"slack": True}, TypeError, f"run(slack=True): {slack}"),
@@ -96,7 +118,7 @@ class Refusals(common.ProgramCase):
             ({"ask": 7}, TypeError, f"run(ask=7): {ask}"),
             (
                 {"ask": "gap:low,gap:low"}, ValueError,
-                f"run(ask='gap:low,gap:low'): {ask}; 'gap:low' is there twice",
+                f"run(ask='gap:low,gap:low'): {ask}; 'gap:low' is repeated",
             ),
             (
                 {"parts": 2},
@@ -318,6 +340,8 @@ DRAWN: typing.Dict[str, typing.List[typing.Any]] = {
     "group_districts": [0, 1, 200, 201],
     "group_share": [5000, 0, 10000, 10001],
     "freeze": ["", "f"],
+    "length": ["", "l"],
+    "max_length": [1717986918000000, 0, 1717986917999999, 1717986918000001],
     "source": [True, False],
     "size": [1, 30, 0, 31],
     "key": [common.KEY, common.KEY[1:], "F" * 64, "g" * 64],
@@ -405,8 +429,8 @@ class Signatures(unittest.TestCase):
         "make": district_audit.make,
         "trace": district_audit.trace,
     }
-    # Arguments whose default is None, in place of a text or a number.
-    NONE = ("slack", "region", "group", "group_of", "freeze")
+    # Arguments of calls on a map that `prepare` has, too.
+    PREPARED = (*arguments.LEFT_BY_NONE, *arguments.RULES)
     # Defaults of a call that are not the program's.
     OWN = {("trace", "ask"): None, ("trace", "thin"): None}
 
@@ -416,10 +440,13 @@ class Signatures(unittest.TestCase):
             for name, row in arguments.TABLE.items():
                 with self.subTest(command=command, name=name):
                     self.assertEqual(name in there, command in row.commands)
-                    if name in there and name not in self.NONE:
-                        default = None if row.is_needed else row.default
-                        default = self.OWN.get((command, name), default)
-                        self.assertEqual(there[name].default, default)
+                    if name not in there:
+                        continue
+                    default = None if row.is_needed else row.default
+                    default = self.OWN.get((command, name), default)
+                    if name in self.PREPARED:
+                        default = None if command == "make" else arguments.AS_PREPARED
+                    self.assertEqual(there[name].default, default)
 
     def test_the_table_is_that_of_the_formats(self) -> None:
         """The ranges and defaults are those of docs/user/FORMATS.md."""

@@ -878,9 +878,9 @@ class Kept(common.ProgramCase):
         for data, said in (
             (b"[", "line 1, column 2: Expecting value"),
             (b'{"a":\n 1,\n b}', "line 3, column 2: Expecting property name"),
-            (b'{"nodes": "NaN",\n "b": NaN}', "line 2, column 7: NaN is no JSON (write null)"),
-            (b'{"a": [1, -Infinity]}', "line 1, column 11: -Infinity is no JSON (write null)"),
-            (b'{"a":\n"\xff"}', "line 2, column 2: this is no UTF-8"),
+            (b'{"nodes": "NaN",\n "b": NaN}', "line 2, column 7: NaN is not JSON (write null)"),
+            (b'{"a": [1, -Infinity]}', "line 1, column 11: -Infinity is not JSON (write null)"),
+            (b'{"a":\n"\xff"}', "line 2, column 2: this is not UTF-8"),
             (b"\xef\xbb\xbf{}", "line 1, column 1: a byte order mark"),
         ):
             with self.subTest(data=data), self.assertRaises(district_audit.GraphRefused) as caught:

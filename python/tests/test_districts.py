@@ -79,7 +79,9 @@ class Tables(common.ProgramCase):
         page = plan._repr_html_()
         xml.dom.minidom.parseString(f"<page>{page}</page>")
         self.assertEqual(page.count("<tr>"), 1 + 4)
-        self.assertIn("<td>30,184</td><td>+26.8</td><td>+0.09 %</td>", page)
+        # The ideal is 30157.25, so 26.75 people, 0.0887 percent of it: both are rounded down.
+        self.assertIn("<td>30,184</td><td>+26.7</td><td>+0.08 %</td>", page)
+        self.assertIn("rounded down, toward zero", page)
         self.assertEqual(repr(plan), "<PlanCheck: legal, 120 units, 4 districts, 120629 people>")
         ready = district_audit.prepare(
             common.EXAMPLES / "data" / "rough.json", population="TOTPOP", first="DEM", second="REP",

@@ -1,4 +1,5 @@
 """Tests of the exhibit: it is whole, loads nothing, escapes each label, and says what is so."""
+import dataclasses
 import html.parser
 import json
 import os
@@ -272,13 +273,50 @@ class ExhibitTests(FolderCase):
             people, first, second = (
                 sum(node[column] for node in nodes) for column in ("TOTPOP", "DEM", "REP")
             )
-            share = f"{100 * first / (first + second):.2f}"
+            share = f"{10_000 * first // (first + second) / 100:.2f}"
             off = f"{people - 5000:+.1f}" if people != 5000 else "0.0"
             percent = f"{(people - 5000) / 50:+.3f}" if people != 5000 else "0.000"
             more = "X" if first > second else "Y"
             row = f"{label} {len(nodes)} {people} {off} {percent} {first} {second} {share} {more}"
             self.assertIn(row, page.text)
         self.assertIn("SHA-256 of the graph of Table 1, 61049 bytes", page.text)
+
+    def test_shares_are_rounded_down_everywhere(self) -> None:
+        """By hand: 19999 of 40000 is 49.9975 percent, and 46896 of 100000 is 46.896 percent."""
+        from fractions import Fraction
+
+        from district_audit import districts, judging
+        from district_audit.decimals import round_down
+
+        for value, places, wanted in (
+            (Fraction(499_975, 10_000), 2, "49.99"), (Fraction(-499_975, 10_000), 2, "-49.99"),
+            (Fraction(-1, 1000), 2, "0.00"), (Fraction(7, 4), 1, "1.7"), (Fraction(5), 0, "5"),
+        ):
+            self.assertEqual(round_down(value, places), wanted)
+        self.assertEqual(round_down(Fraction(12_345, 4), 1, "+", ","), "+3,086.2")
+        for group, whole, wanted in ((19_999, 40_000, "49.99"), (46_896, 100_000, "46.89")):
+            self.assertEqual(judging.percent(group, whole), wanted + " %")
+            share = Fraction(group, whole)
+            one = districts.District(
+                "03", 0, 1, whole, Fraction(1, 4), Fraction(1, 80_000), group, whole - group, share,
+                group, whole, share, None, None, 1,
+            )
+            titles, rows = districts.shown_rows([one])
+            cells = dict(zip(titles, rows[0]))
+            self.assertEqual(cells["group share"], wanted + " %")
+            self.assertEqual(cells["first share"], wanted + " %")
+            self.assertEqual((cells["deviation"], cells["deviation share"]), ("+0.2", "0.00 %"))
+            self.assertEqual(self.table_shares(group, whole), [wanted, wanted])
+
+    def table_shares(self, group: int, whole: int) -> typing.List[str]:
+        """Returns both shares in the exhibit's row of one district."""
+        from district_audit import exhibit_districts
+
+        one = exhibit_districts.District("03", 1, whole, group, whole - group, group, whole)
+        report = Report.parse(readme_report())
+        page = Page("".join(exhibit.district_table(report, [one], ("A", "B"), False)))
+        self.assertIn("a share below one half never reads 50.00", page.text)
+        return re.findall(r"\b4\d\.\d\d\b", page.text)
 
     def test_another_graph_is_refused(self) -> None:
         report, options = Report.parse(readme_report()), dict(columns=COLUMNS)
@@ -563,6 +601,190 @@ class ProgramTests(ProgramCase):
             self.assertEqual(page.text.count(name), 1, name)
         self.assertTrue(self.printed_command(page).startswith("district-audit plans "))
         self.assertEqual(page.text.count("Table 1."), 1)
+
+    def test_plans_with_boundaries_of_other_lengths(self) -> None:
+        """The cycle w, x, y, z has sides of 1, 2, 4 and 8: the own plan cuts xy and zw, 10 in all,
+        and the other plan wx and yz, 5 in all.
+        """
+        root = json.loads((EXAMPLES / "data" / "cycle.json").read_bytes())
+        sides = {"wx": 1, "xy": 2, "yz": 4, "wz": 8}
+        for node, entries in zip(root["nodes"], root["adjacency"]):
+            for entry in entries:
+                entry["side"] = sides["".join(sorted(node["id"] + entry["id"]))]
+        plans = district_audit.plans(
+            json.dumps(root).encode(), {"turned": {"w": 1, "x": 2, "y": 2, "z": 1}}, key=KEY,
+            steps=8, ask="cut-length:low", length="side", program=self.program, **WORDS,
+        )
+        self.assertEqual([report.rules.cut_length for _, report in plans], [10, 5])
+        path = self.folder / "exhibit.html"
+        district_audit.exhibit_plans(path, plans, graph=json.dumps(root).encode())
+        text = Page(path.read_text(encoding="utf-8")).text
+        self.assertIn("The enacted plan has 10.", text)
+        self.assertIn("--length side", text)
+
+    def ruled(self) -> typing.Tuple[bytes, typing.Any, typing.Dict[str, str]]:
+        """Returns a graph, a report of it with each rule but without its source, and the columns.
+
+        `keep` freezes units 0 and 1 and `few` unit 0; each side is 2 long, and each `other` 3. The
+        report has 6 regions, 2 majorities of 4 and 32 cut edges, as its guide says.
+        """
+        root = json.loads((EXAMPLES / "data" / "groups.json").read_bytes())
+        for place, node in enumerate(root["nodes"]):
+            node.update(keep=place < 2, few=int(place < 1))
+        for entries in root["adjacency"]:
+            for entry in entries:
+                entry.update(side=2, other=3)
+        columns = dict(
+            pop="pop", first="a", second="b", district="d", region="county", group="bvap",
+            group_of="vap", freeze="keep", length="side",
+        )
+        data = json.dumps(root).encode()
+        report = district_audit.run(
+            data, key=KEY, slack=1000, steps=9, ask="cut-edges:low", group_districts=2,
+            program=self.program, **anything(columns),
+        )
+        return data, Report.parse(str(report)), columns
+
+    def test_columns_of_rules_are_compared(self) -> None:
+        data, report, columns = self.ruled()
+        path = self.folder / "x.html"
+        for word, wrong, why in (
+            ("freeze", "few", "'few' is not .* 1 frozen units, and the report 2"),
+            ("group", "vap", "'vap' is not .* with it of 'vap' the graph has 4 .* report 2"),
+            ("region", "d", "'d' is not .* 4 regions, and the report 6"),
+            ("length", "other", "'other' is not .* 96 as the length .*, and the report 64"),
+            ("freeze", "county", "neither true, false nor a whole number in column 'county'"),
+        ):
+            with self.subTest(word), self.assertRaisesRegex(ValueError, why):
+                report.exhibit(path, graph=data, columns={**columns, word: wrong})
+        self.assertFalse(path.exists())
+        report.exhibit(path, graph=data, columns=columns)
+        text = Page(path.read_text(encoding="utf-8")).text
+        self.assertIn("districts with a majority of the group and of frozen units", text)
+
+    def test_another_column_with_as_many_regions(self) -> None:
+        """The column `mixed` has the report's 6 regions. Each lies in all 4 districts, which makes
+        6 times 3 splits.
+        """
+        data, report, columns = self.ruled()
+        root = json.loads(data)
+        for place, node in enumerate(root["nodes"]):
+            node["mixed"] = place % 6
+        report = dataclasses.replace(
+            report, rules=dataclasses.replace(report.rules, max_splits=3, max_split_regions=3)
+        )
+        path = self.folder / "x.html"
+        with self.assertRaisesRegex(ValueError, "18 splits of regions, and the report allows 3"):
+            report.exhibit(
+                path, graph=json.dumps(root).encode(), columns={**columns, "region": "mixed"}
+            )
+        report = dataclasses.replace(report, rules=dataclasses.replace(report.rules, regions=4))
+        with self.assertRaisesRegex(ValueError, "the column of the districts, too"):
+            report.exhibit(path, graph=data, columns={**columns, "region": "d"})
+        self.assertFalse(path.exists())
+
+    def test_missing_columns_of_rules_are_asked_for(self) -> None:
+        data, report, columns = self.ruled()
+        path = self.folder / "x.html"
+        few = {word: name for word, name in columns.items() if word not in ("freeze", "length")}
+        why = "freeze .the report has frozen 2., length .the report has cut-length 64.: give"
+        for graph in (None, data):
+            with self.assertRaisesRegex(ValueError, why):
+                report.exhibit(path, graph=graph, columns=few)
+        with self.assertRaisesRegex(ValueError, why):
+            report.exhibit(path, graph=data, columns=few, command="make report")
+        report.exhibit(path, columns=few, command="make report")
+        report.exhibit(path)
+        text = Page(path.read_text(encoding="utf-8")).text
+        self.assertIn("put the names of the columns in the place of the words", text)
+        self.assertIn("--freeze COLUMN_OF_FROZEN_UNITS", text)
+        report.exhibit(path, columns=columns)
+        self.assertNotIn("COLUMN_OF", path.read_text(encoding="utf-8"))
+
+    def turned(self) -> typing.Tuple[pathlib.Path, bytes, district_audit.PlanReports]:
+        """Returns a graph, a table of a plan with as many cut edges, and the reports of both."""
+        path = EXAMPLES / "data" / "cycle.json"
+        table = b"id,turned\nw,1\nx,2\ny,2\nz,1\n"
+        words: typing.Dict[str, typing.Any] = dict(WORDS, key=KEY, steps=8, ask="cut-edges:low")
+        return path, table, district_audit.plans(path, table, program=self.program, **words)
+
+    def test_another_plan_than_the_graphs_own_gets_no_table(self) -> None:
+        """Both plans cut two edges, so that no asked score tells them apart."""
+        graph, _, plans = self.turned()
+        path = self.folder / "x.html"
+        read = Report.parse_plans("".join(f"plan {name}\n{report}" for name, report in plans))
+        for pairs in (list(plans), read):
+            with self.assertRaisesRegex(ValueError, "on plan turned, .* of plan d, .*leave graph"):
+                pairs[1][1].exhibit(path, graph=graph, columns=WORDS)
+            with self.assertRaisesRegex(ValueError, "on plan turned"):
+                district_audit.exhibit_plans(path, pairs[1:], graph=graph, columns=WORDS)
+            self.assertFalse(path.exists())
+        plans["d"].exhibit(path, graph=graph)
+        text = Page(path.read_text(encoding="utf-8")).text
+        self.assertIn("01 2 2 0.0 0.000 4 3 57.14", text)
+        self.assertIn("The report is on plan d, the graph's own.", text)
+        # The advice of the refusal leads to the same report.
+        ready = district_audit.prepare(
+            str(graph), population="pop", first="a", second="b",
+            assignment={"w": 1, "x": 2, "y": 2, "z": 1},
+        )
+        alone = district_audit.run(
+            ready, slack=5000, key=KEY, steps=8, ask="cut-edges:low", program=self.program
+        )
+        self.assertEqual(alone, plans["turned"])
+        alone.exhibit(path, graph=ready)
+        text = Page(path.read_text(encoding="utf-8")).text
+        self.assertIn("1 2 2 0.0 0.000 5 2 71.42", text)
+
+    def test_the_command_of_one_of_several_plans(self) -> None:
+        graph, table, plans = self.turned()
+        path = self.folder / "x.html"
+        plans["turned"].exhibit(path)
+        page = Page(path.read_text(encoding="utf-8"))
+        for words in (
+            "The report is on plan turned, which on this page is what the text calls the enacted",
+            "It is one of 2 plans of one call; the others: d.",
+            "a report for each of 2 plans, in this order: d, turned.",
+            "The table has 1 bound or p-value; for all 2 plans together 2 were computed.",
+        ):
+            self.assertIn(words, page.text)
+        command = self.printed_command(page)
+        self.assertTrue(command.startswith("district-audit plans "))
+        (self.folder / "district-audit").symlink_to(self.program)
+        (self.folder / "graph_and_table").write_bytes(
+            b"".join(graph.read_bytes().split(b"\n")) + b"\n" + table
+        )
+        again = subprocess.run(
+            ["sh", "-c", command], cwd=self.folder, stdout=subprocess.PIPE, check=True,
+            env=dict(os.environ, PATH=f"{self.folder}:{os.environ['PATH']}"),
+        )
+        self.assertEqual(Report.parse_plans(again.stdout.decode()), list(plans))
+
+    def test_one_of_several_elections(self) -> None:
+        """Two walks and one test of ends of two asks are 6 numbers; those 3 of the gap are others
+        in each of 3 elections, and those 3 of cut edges are the same: 3 times 3 and 3 are 12.
+        """
+        reports = district_audit.run(
+            EXAMPLES / "data" / "groups.json", population="pop", district="d", slack=1000, key=KEY,
+            elections={"GOV<18>": ("a", "b"), "SEN20": ("b", "a"), "PRES": ("bvap", "vap")},
+            walks=2, steps=99, ends=9, hub_steps=9, ask="gap:low,cut-edges:low",
+            program=self.program,
+        )
+        path = self.folder / "x.html"
+        reports["GOV<18>"].exhibit(path, graph=EXAMPLES / "data" / "groups.json")
+        page = Page(path.read_text(encoding="utf-8"))
+        self.assertEqual(page.faults, [])
+        for words in (
+            "The report is on election GOV<18>, one of 3 elections of one call; the others: SEN20,"
+            " PRES.",
+            "The table has 6 bounds and p-values; for all 3 elections together 12 were computed"
+            " (those on cut edges are the same in each, and count once).",
+            "times 12 is",
+        ):
+            self.assertIn(words, page.text)
+        self.assertTrue(self.printed_command(page).startswith("district-audit run "))
+        with self.assertRaisesRegex(ValueError, "several elections, and not of several plans"):
+            district_audit.exhibit_plans(path, reports)
 
 
 if __name__ == "__main__":

@@ -174,11 +174,11 @@ class Changes(unittest.TestCase):
             "adjacency": [[{"id": 1}], [], [{"id": 3}], [], [{"id": 5}], [], []],
         }
         ready = prepared(root, slack=10000)
-        self.assertIn("units without a neighbour: 1: 6", ready.notes)
+        self.assertIn("units without a neighbor: 1: 6", ready.notes)
         self.assertIn(
             (
                 "the graph is in 4 parts, and a district lies in one of them (join=[(A, B)] makes"
-                " neighbours of two units)"
+                " neighbors of two units)"
             ),
             ready.notes,
         )
@@ -194,18 +194,18 @@ class Changes(unittest.TestCase):
         self.assertIn(
             (
                 "the graph is in 2 parts, and a district lies in one of them (join=[(A, B)] makes"
-                " neighbours of two units)"
+                " neighbors of two units)"
             ),
             joined.notes,
         )
         self.assertEqual(
             [str(change) for change in joined.changes],
             [
-                "units 5 and 6 made neighbours", "units 1 and 2 made neighbours",
-                "units 2 and 3 were neighbours already",
+                "units 5 and 6 made neighbors", "units 1 and 2 made neighbors",
+                "units 2 and 3 were neighbors already",
             ],
         )
-        self.refused('"9", which is to be joined, is no unit', root, join=[("9", "1")])
+        self.refused('"9", which is to be joined, is not a unit', root, join=[("9", "1")])
         self.refused("1 cannot be joined to itself", root, join=[(1, 1)])
 
     def test_real_maps(self) -> None:
@@ -451,7 +451,7 @@ class Changes(unittest.TestCase):
             ['edges from a unit to itself, left out: 1 unit: "s"'],
         )
         root["adjacency"][0].append({"id": "w"})
-        self.refused('an edge names "w", which is no unit', root)
+        self.refused('an edge names "w", which is not a unit', root)
         self.refused("4 nodes and 3 adjacency entries", {**square(), "adjacency": [[], [], []]})
         self.refused(
             "there is neither a list `adjacency` nor one of `links` or `edges`",
@@ -484,7 +484,7 @@ class Changes(unittest.TestCase):
 
     def test_what_is_no_graph(self) -> None:
         for graph, why in (
-            (b"[]", "is no graph of networkx"), (b"{", "cannot be read"),
+            (b"[]", "is not a graph of networkx"), (b"{", "cannot be read"),
             ("/there/is/none.json", "cannot be read"), (7, "and this is int"),
         ):
             with self.subTest(graph=graph), self.assertRaises(PrepareRefused) as caught:
@@ -573,7 +573,7 @@ class Objects(unittest.TestCase):
             )
         with self.assertRaises(PrepareRefused) as caught:
             prepare(common.StandInGraph(root), **columns, assignment={**districts, "none": 1})
-        self.assertEqual(str(caught.exception), 'the assignment names what is no unit: "none"')
+        self.assertEqual(str(caught.exception), 'the assignment names an unknown unit: "none"')
         with self.assertRaises(PrepareRefused) as caught:
             prepare(common.StandInGraph(root), **columns, assignment={0: 1})
         self.assertEqual(caught.exception.why, "299 values are refused")

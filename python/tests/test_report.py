@@ -371,7 +371,7 @@ class Pictures(common.FolderCase):
 
     def test_sequential_and_serial_tests_have_rows(self) -> None:
         for form, title in (
-            ("\nstop (seats|mean-median|gap|cut-edges) ", "sequential test"),
+            ("\nstop (seats|mean-median|gap|cut-edges|cut-length) ", "sequential test"),
             ("\nserial ", "serial test"),
         ):
             text = next(text for _, _, text in texts() if re.search(form, text))

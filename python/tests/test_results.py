@@ -1,5 +1,6 @@
 """Several elections, several plans, frames, and pictures of them."""
 import json
+import pickle
 import re
 import typing
 import unittest
@@ -82,6 +83,50 @@ class Elections(common.ProgramCase):
         for name in ("GOV18", "SEN20"):
             self.assertEqual(checkpoints.look_in(self.folder / name, 5).done, 5)
 
+    def test_the_folder_that_is_not_there_is_named(self) -> None:
+        data, place = json.dumps(root()).encode(), self.folder / "ck"
+        with self.assertRaises(FileNotFoundError) as caught:
+            self.run_with(data, elections=ELECTIONS, save=1, folder=place)
+        self.assertEqual(str(caught.exception), f"folder={str(place)!r}: there is no such folder")
+
+    def test_work_that_is_left_names_its_election(self) -> None:
+        data = json.dumps(root()).encode()
+        words = dict(elections=ELECTIONS, save=1, folder=self.folder)
+        with self.assertRaises(district_audit.WorkLeft) as caught:
+            self.run_with(data, budget=2, **words)
+        self.assertEqual(
+            str(caught.exception),
+            "stopped: 2 of 5 done (election GOV18, number 1 of 2; 2 of 10 in all elections; the"
+            " same call with resume=True goes on)",
+        )
+        with self.assertRaises(district_audit.WorkLeft) as caught:
+            self.run_with(data, budget=3, resume=True, **words)
+        left = caught.exception
+        self.assertEqual((left.election, left.done, left.total), ("SEN20", 3, 5))
+        self.assertIn("number 2 of 2; 8 of 10 in all elections", str(left))
+        self.assertEqual(pickle.loads(pickle.dumps(left)).election, "SEN20")
+
+    def test_calls_of_one_election_say_so(self) -> None:
+        data = json.dumps(root()).encode()
+        words: typing.Dict[str, typing.Any] = dict(WORDS, ask="gap:high", elections=ELECTIONS)
+        calls: typing.Dict[str, typing.Callable[[], object]] = {
+            "plans takes": lambda: district_audit.plans(data, {}, **words),
+            "check takes": lambda: district_audit.check(
+                data, population="TOTPOP", district="CD", **anything({"elections": ELECTIONS})
+            ),
+            "audit_to_file writes the report of": lambda: district_audit.audit_to_file(
+                self.folder / "report", data, program=self.program, **words
+            ),
+        }
+        for name, call in calls.items():
+            with self.subTest(name), self.assertRaises(district_audit.TypeRefused) as caught:
+                call()
+            self.assertIn(
+                f"{name} one election; call it once for each election, with that election's first"
+                " and second", str(caught.exception),
+            )
+        self.assertEqual(list(self.folder.iterdir()), [])
+
     def test_what_is_no_election(self) -> None:
         data = json.dumps(root()).encode()
         for elections in (
@@ -129,7 +174,7 @@ class Named(unittest.TestCase):
         with self.assertRaises(KeyError) as caught:
             found["old"]
         self.assertIn(
-            "there is none of the name 'old'; the names are 'CD', 'new'", str(caught.exception)
+            "none has this name 'old'; the names are 'CD', 'new'", str(caught.exception)
         )
         with self.assertRaises(KeyError):
             PlanReports([("CD", self.report), ("CD", self.other)])["CD"]

@@ -351,8 +351,8 @@ class Reading(TextCase):
     def test_missing_and_odd_values_are_told_by_the_units_id(self) -> None:
         for value, why in (
             (None, "has no more"), (float("nan"), "has no more"), ("", "has no more"),
-            (0.5, "is not whole"), (-1, "is negative"), ("7", "is no number"),
-            (True, "is no number"),
+            (0.5, "is not whole"), (-1, "is negative"), ("7", "is not a number"),
+            (True, "is not a number"),
         ):
             root = json.loads(json.dumps(PATH))
             for node in root["nodes"]:

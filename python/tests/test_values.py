@@ -387,7 +387,7 @@ class Units(UnitsCase):
         )
         self.no('unit "v" has no assignment', lambda: self.prepared(few))
         self.no(
-            'the assignment names what is no unit: "none"',
+            'the assignment names an unknown unit: "none"',
             lambda: self.prepared({**PLAN, "none": 1}),
         )
 
@@ -403,7 +403,7 @@ class Units(UnitsCase):
     def test_ids_of_another_kind(self) -> None:
         numbered = root_of(list(PLAN.values()), units=list(range(8)))
         texts = {str(place): label for place, label in enumerate(PLAN.values())}
-        self.no('the assignment names what is no unit: "0"', lambda: self.prepared(texts, numbered))
+        self.no('the assignment names an unknown unit: "0"', lambda: self.prepared(texts, numbered))
         self.no(
             '("0" is a text, and the graph\'s 0 a whole number)',
             lambda: self.prepared(texts, numbered),
@@ -426,8 +426,8 @@ class Units(UnitsCase):
                 lambda: self.prepared(self.pairs([*PLAN.items(), (one, 1)])),
             )
         for one in (True, 0.5, b"s"):
-            self.no("no id of a unit", lambda: self.plans({"one": {**PLAN, one: 1}}))
-            self.no("no id of a unit", lambda: self.prepared({**PLAN, one: 1}))
+            self.no("not an id of a unit", lambda: self.plans({"one": {**PLAN, one: 1}}))
+            self.no("not an id of a unit", lambda: self.prepared({**PLAN, one: 1}))
 
     def test_ids_of_the_graph(self) -> None:
         for one in (True, 0.5, {}):

@@ -89,8 +89,9 @@ def drawn_graph(dice: typing.Any) -> typing.Dict[typing.Any, typing.Any]:
         )
     entries: typing.Any = {place: [] for place in places}
     for one, other in pairs:
-        entries[one].append({"id": ids[other]})
-        entries[other].append({"id": ids[one]})
+        length = 1 + (5 * sum(one) + 3 * sum(other)) % 11
+        entries[one].append({"length": length, "id": ids[other]})
+        entries[other].append({"length": length, "id": ids[one]})
     return {
         "directed": False,
         "multigraph": False,
@@ -102,9 +103,11 @@ def drawn_graph(dice: typing.Any) -> typing.Dict[typing.Any, typing.Any]:
 
 def drawn_words(dice: typing.Any, steps: int = 120) -> typing.Any:
     """The words of a run, as keyword arguments of the package."""
+    has_lengths = dice.random() < 0.4
+    scores = [*SCORES, "cut-length"] if has_lengths else SCORES
     asks = [
         f"{score}:{dice.choice(['low', 'high'])}"
-        for score in dice.sample(SCORES, dice.randint(1, 4))
+        for score in dice.sample(scores, dice.randint(1, 4))
     ]
     words: typing.Dict[str, typing.Any] = dict(
         COLUMNS, slack=dice.choice([3000, 5000, 9000]), key=dice.randbytes(32).hex(),
@@ -117,6 +120,8 @@ def drawn_words(dice: typing.Any, steps: int = 120) -> typing.Any:
         )
     if dice.random() < 0.5:
         words.update(group="bvap", group_of="vap")
+    if has_lengths:
+        words.update(length="length", max_length=dice.choice([1717986918000000, 150]))
     return words
 
 

@@ -1,0 +1,172 @@
+"""Calls on what `prepare` answered: its columns are taken over, and its rules are never dropped."""
+from __future__ import annotations
+
+import json
+import typing
+import unittest
+
+import common
+import district_audit
+from common import anything
+
+RING = ((0, 1), (1, 2), (2, 3), (3, 0))
+LENGTHS = (9, 7, 5, 3)
+
+
+def ring() -> typing.Dict[str, typing.Any]:
+    """Returns a ring of four units in two districts and two counties, with unit 0 frozen."""
+    at = {}
+    for (u, v), length in zip(RING, LENGTHS):
+        at[u, v] = at[v, u] = length
+    return {
+        "directed": False,
+        "nodes": [
+            {"id": u, "pop": 1, "a": 1 + u % 2, "b": 2, "d": u // 2, "c": u // 2, "g": u % 2,
+             "f": u == 0} for u in range(4)
+        ],
+        "adjacency": [
+            [{"length": at[u, v], "id": v} for v in range(4) if (u, v) in at] for u in range(4)
+        ],
+    }
+
+
+class Prepared(common.ProgramCase):
+    COLUMNS: typing.Dict[str, typing.Any] = dict(
+        common.COLUMNS, region="c", group="g", freeze="f", length="length"
+    )
+    WALK: typing.Dict[str, typing.Any] = dict(key=common.KEY, steps=8, ask="gap:low")
+
+    def calls(self) -> typing.Iterator[typing.Callable[..., object]]:
+        """Each call on a prepared graph."""
+        program = {"program": self.program}
+        yield lambda ready, **words: district_audit.check(ready, **program, **words)
+        yield lambda ready, **words: district_audit.run(ready, **program, **self.WALK, **words)
+        yield lambda ready, **words: district_audit.plans(
+            ready, {"own": {0: 0, 1: 0, 2: 1, 3: 1}}, **program, **self.WALK, **words
+        )
+        yield lambda ready, **words: district_audit.trace(ready, **program, **self.WALK, **words)
+
+    def closed(self, made: object) -> None:
+        if isinstance(made, district_audit.Trace):
+            made.close()
+
+    def test_no_call_drops_a_rule_that_prepare_was_given(self) -> None:
+        rules = dict(slack=5000, max_split=2, max_splits=9, max_split_regions=4,
+                     group_districts=1, group_share=100, max_length=30)
+        ready = district_audit.prepare(ring(), **self.COLUMNS, **anything(rules))
+        self.assertEqual(ready.rules, rules)
+        for call in self.calls():
+            with self.assertRaises(district_audit.ValueRefused) as caught:
+                call(ready)
+            for name, value in rules.items():
+                self.assertIn(f"{name}={value}, or {name}=None for ", str(caught.exception))
+            with self.assertRaises(district_audit.ValueRefused) as caught:
+                call(ready, **{name: rules[name] for name in rules if name != "max_splits"})
+            self.assertIn(
+                "prepare was given rules that this call leaves out: pass max_splits=9, or"
+                " max_splits=None for 995000", str(caught.exception)
+            )
+            for good in (rules, {**rules, "max_length": 40}, dict.fromkeys(rules)):
+                self.closed(call(ready, **anything(good)))
+
+    def test_a_tolerance_stands_for_the_slack(self) -> None:
+        ready = district_audit.prepare(ring(), **self.COLUMNS, tolerance=0.5)
+        check = district_audit.check(ready, tolerance=0.25, program=self.program)
+        self.assertEqual(check.rules.slack, 2500)
+        with self.assertRaises(district_audit.ValueRefused):
+            district_audit.check(ready, program=self.program)
+
+    def test_rules_that_prepare_was_not_given_are_not_asked_for(self) -> None:
+        ready = district_audit.prepare(ring(), **self.COLUMNS)
+        self.assertEqual(ready.rules, {})
+        self.assertEqual(district_audit.check(ready, program=self.program).rules.slack, 500)
+
+    def test_a_limit_that_is_a_fraction_is_hinted_at_whole(self) -> None:
+        columns: typing.Dict[str, typing.Any] = self.COLUMNS
+        for name, value, whole in (
+            ("max_length", 370275 * 1.1, 407302), ("max_splits", 9.9, 9),
+            ("group_districts", 1.5, 2), ("max_length", 12.0, 12),
+        ):
+            with self.assertRaises(district_audit.TypeRefused) as caught:
+                district_audit.prepare(ring(), **columns, **anything({name: value}))
+            self.assertEqual(caught.exception.hint, f"write {name}={whole}")
+
+    def test_fractions_in_a_file_name_the_rule_that_mends_them(self) -> None:
+        for column, edge, hint in (
+            ("pop", "length", 'prepare(.., numbers="nearest") makes'),
+            ("a", "length", 'prepare(.., numbers="nearest") makes'),
+            ("", "length", "prepare(.., length=..) makes"),
+        ):
+            root = ring()
+            if column:
+                root["nodes"][2][column] = 1.5
+            else:
+                root["adjacency"][0][0][edge] = 1.5
+            path = self.folder / "graph.json"
+            path.write_text(json.dumps(root))
+            with self.assertRaises(district_audit.GraphRefused) as caught:
+                district_audit.check(
+                    path, program=self.program, **common.WORDS, length="length"
+                )
+            self.assertIn(f"{hint} fractions whole and names missing values", str(caught.exception))
+
+    def test_cut_length_by_name(self) -> None:
+        ready = district_audit.prepare(ring(), **anything({**self.COLUMNS, "freeze": None}))
+        words: typing.Dict[str, typing.Any] = dict(
+            self.WALK, thin=1, slack=5000, program=self.program
+        )
+        with district_audit.trace(ready, **words) as trace:
+            rows = list(trace.rows(["cut_length"]))
+        self.assertEqual(rows[0]["cut_length"], 10)  # the edges of 7 and 3
+        with district_audit.trace(ready, **anything({**words, "ask": "cut-length:low"})) as trace:
+            self.assertEqual([row["cut_length"] for row in rows],
+                             [sample.numerators[0] for sample in trace])
+        with district_audit.trace(ready, **words, length=None) as trace:
+            with self.assertRaises(ValueError) as caught:
+                list(trace.rows(["cut_length"]))
+        self.assertIn('trace(.., length="shared_perim")', str(caught.exception))
+
+    def test_a_column_that_is_none_is_left_out(self) -> None:
+        ready = district_audit.prepare(ring(), **self.COLUMNS, group_of="pop", max_splits=9)
+        lines = {"freeze": "frozen 1", "region": "max-split 200 regions 2",
+                 "group": "group-districts 0 of 0", "length": "cut-length 10"}
+        for name in ("", *lines):
+            words: typing.Dict[str, typing.Any] = {} if not name else {name: None}
+            if name != "region":
+                words["max_splits"] = None
+            text = str(district_audit.check(ready, program=self.program, **words)).split("\n")
+            for other, line in lines.items():
+                self.assertEqual(line in text, other != name, (name, line, text))
+
+
+class Frozen(unittest.TestCase):
+    def prepared(self, *frozen: int) -> district_audit.Prepared:
+        """Prepares a path of six units in three districts, with these units frozen."""
+        nodes = [{"id": f"u{u}", "pop": 1, "a": 1, "b": 2, "d": u // 2, "f": int(u in frozen)}
+                 for u in range(6)]
+        adjacency = [[{"id": f"u{v}"} for v in (u - 1, u + 1) if 0 <= v < 6] for u in range(6)]
+        return district_audit.prepare(
+            {"nodes": nodes, "adjacency": adjacency}, **common.COLUMNS, freeze="f"
+        )
+
+    def test_what_no_walk_can_change_is_warned_of(self) -> None:
+        left = "all units of these districts are frozen by f, so that no unit leaves them: "
+        closed = (
+            "no walk can change these districts, since the units around them are frozen, too: "
+        )
+        for frozen, warnings in (
+            ((), []),
+            ((1, 2, 4), []),
+            ((0, 1), [f"{left}0"]),
+            ((0, 1, 2), [f"{left}0", f"{closed}0"]),
+            ((0, 1, 2, 3), [f"{left}0, 1", f"{closed}0"]),
+            ((1, 2, 3, 4), [f"{left}1", f"{closed}1"]),
+            (tuple(range(6)), ["all units are frozen by f: no walk can change the plan"]),
+        ):
+            ready = self.prepared(*frozen)
+            self.assertEqual(ready.warnings, warnings)
+            self.assertIn(f"{len(frozen)} of 6 units are frozen by f", ready.notes)
+
+
+if __name__ == "__main__":
+    unittest.main()
