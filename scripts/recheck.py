@@ -1,15 +1,11 @@
 #!/usr/bin/env python3
 """Re-checks a report of the district plan auditor by recomputing it.
-
 Written from docs/claims/KERNEL.md and docs/user/FORMATS.md; needs Python 3.8 and no other file.
-
   recheck.py GRAPH REPORT [--id 0,3,serial | --sample K --seed TEXT] [words of the run]
              [--trace FILE [--segments K --seed TEXT] [--skip-hub yes]] [--checkpoints FOLDER]
-GRAPH is the file that the auditor read, for `plans` with the table, or the word `make`. Any word
-of the run is compared. Those for columns are needed if the report has no line `columns`, --size for
-`make`. With none of --id, --sample, --trace and --checkpoints all is recomputed. The status is 0 if
-all that was asked agrees, 1 if not, and 2 if a file is unreadable.
-"""
+GRAPH is what the auditor read, or the word `make`. Words of the run are compared; those of columns
+are needed if the report has no line `columns`, --size for `make`. Without --id, --sample, --trace
+and --checkpoints all is recomputed. The status is 0 if all agrees, else 1, or 2 if unchecked."""
 import csv
 import hashlib
 import io
@@ -24,12 +20,12 @@ from pathlib import Path
 from typing import Any, Dict, Iterable, Iterator, List, Optional, Sequence, Sized, Tuple
 
 BILLION, MASK, BATCH = 10 ** 9, 2 ** 32 - 1, 512
-SCORES, TAILS = ("seats", "mean-median", "gap", "cut-edges"), ("low", "high")
+SCORES, TAILS = ("seats", "mean-median", "gap", "cut-edges", "cut-length"), ("low", "high")
 LIMITS = {"max-cut": 400000, "max-split": 200, "max-splits": 995000, "max-split-regions": 5000,
-          "group-districts": 0, "group-share": 5000}
+          "group-districts": 0, "group-share": 5000, "max-length": 1717986918000000}
 NUMBERS = ("slack", "walks", "steps", "ends", "hub-steps", "stop", *LIMITS)
-COLUMNS = tuple("--pop --first --second --district --region --group --group-of --freeze".split())
-OTHERS = ("--district", "--region", "--freeze")
+COLUMNS = "--pop --first --second --district --region --group --group-of --freeze --length".split()
+OTHERS = ("--district", "--region", "--freeze", "--length")
 WORDS = {"--id", "--sample", "--seed", "--trace", "--segments", "--skip-hub", "--checkpoints",
          "--size", "--key", "--ask", "--shift", "--serial", "--source", "--workers", "--budget",
          "--save", "--resume", "--parts", "--part", *COLUMNS, *(f"--{name}" for name in NUMBERS)}
@@ -52,7 +48,7 @@ def same(where: str, expected: Sequence[object], found: Sequence[object]) -> Non
 
 
 def sampled(what: str, some: Sized, every: Sized) -> None:
-    print(f"{what} {len(some)} of {len(every)} walked again; a single wrong one among these "
+    print(f"{what}: {len(some)} of {len(every)} walked again; a single wrong one among these "
           f"escaped with chance {1 - len(some) / max(1, len(every)):.6f}.")
 
 
@@ -91,9 +87,8 @@ class Job:
     def __init__(self, data: bytes, lines: List[str], words: Dict[str, str], plan: Any) -> None:
         self.lines, self.words, self.labels = lines, words, plan
         text = "\n".join(line for line in lines if not line.startswith(("source ", "columns ")))
-        found = {name: re.search(rf"(?:^| ){name} (\d+)", text, re.M) for name in NUMBERS}
-        self.n = n = {name: int(number[1]) if number else LIMITS.get(name, 0)
-                      for name, number in found.items()}
+        self.n = n = {k: int([*re.findall(rf"(?:^| ){k} (\d+)", text, re.M), LIMITS.get(k, 0)][0])
+                      for k in NUMBERS}
         self.key = bytes.fromhex(re.findall("^key (.*)$", text, re.M)[0])
         rows = re.findall(r"^(?:walk \d+ moved \d+|ends|stop) (\S+) (\S+) start", text, re.M)
         self.asks: List[Tuple[str, str]] = rows[:len(rows) // (n["walks"] + (n["ends"] > 0))]
@@ -102,14 +97,18 @@ class Job:
         names = {name: words[name] for name in COLUMNS if words.get(name)}
         if self.source:
             row = re.findall(r'"(?:[^"\\]|\\.)*"|[^ ]+', self.source[1])
-            which = [*COLUMNS[:4 + ("region" in row)], *COLUMNS[5:7 * ("group" in row)], "--freeze"]
-            names = dict(zip(which, (json.loads(text) for text in row if text[0] == '"')))
-        elif "--group" in names:
+            which = [*COLUMNS[:4], *(f"--{'group-' * (word == 'of')}{word}" for word in row[5::2])]
+            names = dict(zip(which, map(json.loads, [*row[1:5], *row[6::2]])))
+        for name, line in zip(COLUMNS, "units units units units max-split group-districts - frozen "
+                              "cut-length".split() * (not self.source and data != b"make")):
+            if name not in names and f"\n{line} " in text:
+                raise ValueError(f"the report has a line `{line}`: give {name} COLUMN")
+        if "--group" in names:
             names.setdefault("--group-of", names["--pop"])
         self.names, told = names, {
-            "--key": self.key.hex(), "--ask": ",".join(map(":".join, self.asks)), **names,
-            "--shift": ("no", "yes")[self.is_shift], "--serial": ("no", "yes")[self.is_serial],
-            **{f"--{name}": str(number) for name, number in self.n.items()}}
+            **{f"--{k}": str(number) for k, number in n.items()}, "--key": self.key.hex(), **names,
+            "--ask": ",".join(map(":".join, self.asks)), "--shift": ("no", "yes")[self.is_shift],
+            "--serial": ("no", "yes")[self.is_serial]}
         for k in sorted(told.keys() & words.keys()):
             same(f"word {k}", words[k].lower() if k == "--key" else words[k], told[k])
         self.origin = f"source sha256 {hashlib.sha256(data).hexdigest()} bytes {len(data)}"
@@ -119,9 +118,10 @@ class Job:
         self.counts = {k: row for k, row in self.columns.items() if row and k not in OTHERS}
         self.frozen = {u for u, is_frozen in enumerate(self.columns["--freeze"]) if is_frozen}
         self.shares = "--group" in self.counts and n["group-share"] != 5000
-        self.near: List[List[int]] = [[] for _ in self.start]
-        for u, v in chain(self.edges, ((v, u) for u, v in self.edges)):
-            self.near[u].append(v)
+        self.far: List[Dict[int, int]] = [{} for _ in self.start]
+        for (u, v), length in zip(self.edges, self.columns["--length"]):
+            self.far[u][v] = self.far[v][u] = length
+        self.near, self.has_lengths = [[*row] for row in self.far], "--length" in names
         self.districts, self.total = max(self.start) + 1, sum(self.columns["--pop"])
         self.low = -(-(10000 - n["slack"]) * self.total // (10000 * self.districts))
         self.high = (10000 + n["slack"]) * self.total // (10000 * self.districts)
@@ -143,32 +143,31 @@ class Job:
                           if text != "-0" and -2 ** 63 <= int(text) < 2 ** 64 else float(text))
         unit = {node["id"]: u for u, node in enumerate(root["nodes"])}
         columns: Dict[str, List[Any]] = {
-            name: [node[names[name]] for node in root["nodes"]] if name in names else []
-            for name in COLUMNS}
+            k: [node[names[k]] for node in root["nodes"] if k in names] for k in COLUMNS[:8]}
         if self.labels:
             columns["--district"] = [self.labels[str(node["id"])] for node in root["nodes"]]
-        if {type(n) for name in COLUMNS if name not in OTHERS for n in columns[name]} - {int} or (
+        long = {(u, v): one.get(names.get("--length"), 0) for w, row in enumerate(root["adjacency"])
+                for one in row for u, v in [sorted((w, unit[one["id"]]))] if u != v}
+        columns["--length"] = [long[edge] for edge in sorted(long)]
+        if {type(n) for k in COLUMNS if k not in OTHERS[:3] for n in columns[k]} - {int} or (
                 {type(n) for n in columns["--freeze"]} - {int, bool}):
-            raise ValueError("a column of counts has something else")
+            raise ValueError("a column of counts or lengths has a value that is no whole number")
         columns["--freeze"] = [int(n > 0) for n in columns["--freeze"]]
         for name in COLUMNS[3:5]:  # whole numbers by value, then texts
             rising = sorted(set(columns[name]), key=lambda label: (type(label) is str, label))
-            place = {label: n for n, label in enumerate(rising)}
-            columns[name] = [place[label] for label in columns[name]]
-        pairs = [(u, unit[entry["id"]]) for u, row in enumerate(root["adjacency"]) for entry in row]
-        return sorted({(min(u, v), max(u, v)) for u, v in pairs if u != v}), columns
+            columns[name] = [*map({label: n for n, label in enumerate(rising)}.get, columns[name])]
+        return sorted(long), columns
 
     def make_map(self, size: int) -> Map:
         side, units = 10 * size, 100 * size * size
         edges = [(u, u + 1) for u in range(units) if (u + 1) % side]
         edges += [(u, u + side) for u in range(units - side)]
         votes = [draw % 101 for draw in draws_of(self.key, 2 ** 32, 0, units)]
-        plan = [u // side // size for u in range(units)]
-        cells = [[100] * units, votes, [100 - v for v in votes], plan, *[votes[:0]] * 4]
+        cells = [[100] * units, votes, [100 - v for v in votes],
+                 [u // side // size for u in range(units)], *[votes[:0]] * 4, [0] * len(edges)]
         return sorted(edges), dict(zip(COLUMNS, cells))
 
-    def pick(self, count: str, kind: str, numbers: Iterable[int]) -> List[int]:
-        """As many of the numbers as a word says, chosen by a public text; without it all."""
+    def pick(self, count: str, kind: str, numbers: Iterable[int]) -> List[int]:  # by a public text
         if kind == "trajectory" and "--id" in self.words:
             return [*map(int, self.words["--id"].replace("serial", "-1").split(","))]
         ranked = sorted(numbers, key=lambda number: hashlib.sha256(
@@ -189,8 +188,7 @@ class Job:
 
     @lru_cache(maxsize=None)
     def find(self, trajectory: int) -> Tally:  # the number -1 stands for the serial test
-        is_end = trajectory >= self.n["walks"]
-        walk = Walk(self, self.hub() if is_end else self.start)
+        walk = Walk(self, self.hub() if (is_end := trajectory >= self.n["walks"]) else self.start)
         stream, steps = (2 ** 33 + 1, self.place) if trajectory == -1 else self.way(trajectory)
         moved, counts, bins = walk.go(stream, 0, steps, 1)
         if trajectory == -1:
@@ -209,6 +207,8 @@ class Job:
                 *[told["group-districts"] + f" of {self.there}"] * ("--group" in self.counts),
                 *[told["group-share"]] * self.shares,
                 *[f"frozen {len(self.frozen)}"] * bool(self.columns["--freeze"]),
+                *[f"cut-length {Walk(self, self.start).length}"] * self.has_lengths,
+                *[told["max-length"]] * (self.n["max-length"] < LIMITS["max-length"]),
                 " ".join(told[name] for name in ("walks", "steps", "ends", "hub-steps"))]
 
     def check(self) -> None:
@@ -216,7 +216,7 @@ class Job:
             every = [*[-1] * self.is_serial, *range(self.needed)]
             for number in self.pick("--sample", "trajectory", every):
                 self.known[number] = self.find(every[every.index(number)])  # or there is none
-            sampled("report: of the trajectories", self.known, every)
+            sampled("report: trajectories", self.known, every)
         if "--trace" in self.words:
             self.trace(Path(self.words["--trace"]).read_bytes().decode("utf-8").split("\n"))
         if "--checkpoints" in self.words:
@@ -225,8 +225,7 @@ class Job:
                 self.checkpoint(path)
         self.report()
 
-    def report(self) -> None:
-        """Compares each line. A possible number that is not known is taken from the report."""
+    def report(self) -> None:  # a possible number that is not known is taken from the report
         n, known, out = self.n, self.known, [f"district-audit {1 + self.is_shift}"]
         out += self.head_lines() + [f"stop {n['stop']}"] * (n["stop"] > 0)
         visits, walks, ends, asks = n["steps"] + 1, n["walks"], n["ends"], self.texts
@@ -304,32 +303,29 @@ class Job:
                 total = [a + b for a, b in zip(total, counts + bins)]
         self.known.setdefault(number, (moved, Walk(self, plan).values(), []) if not is_walk else (
             moved, total[:asks], total[asks:]) if len(some) == len(middle) else (moved, [], []))
-        sampled(f"trace of id {number}: {len(rows)} plans, the first and the last segment, and "
-                "of those between", some, middle)
+        sampled(f"trace of id {number}: {len(rows)} plans, inner segments", some, middle)
 
     def checkpoint(self, path: Path) -> None:
         data = path.read_bytes()
         magic, version, job, turn, count = struct.unpack(">8sI32sII", data[:52].ljust(52))
         form = {1: ">IQ4q", 2: ">IQ4q9I"}.get(version, "")
-        if (magic != b"DISTCKPT" or form == "" or turn > 2
-                or len(data) != 84 + struct.calcsize(form) * count
-                or hashlib.sha256(data[:-32]).digest() != data[-32:]):
+        if (magic != b"DISTCKPT" or not form or len(data) != 84 + struct.calcsize(form) * count
+                or turn > 2 or hashlib.sha256(data[:-32]).digest() != data[-32:]):
             WRONG.append(f"{path}: no intact checkpoint")
             return
         same(f"{path}: digest of the job", self.digest(), job.hex())
-        outcomes = {k: [*row, *[0] * 9][:14] for k, *row in struct.iter_unpack(form, data[52:-32])}
-        ids = [number for number in sorted(outcomes) if number < self.n["walks"] + self.n["ends"]]
-        same(f"{path}: ids", [*ids, count], [*outcomes, len(ids)])
-        numbers = [n for n in self.pick("--sample", "trajectory", ids) if n in outcomes]
-        for number in numbers:
-            moved, values, bins = self.find(number)
-            bins = bins if any(outcomes[number][5:]) else [0] * 9
-            row = [moved, *values, *[0] * (4 - len(values)), *bins]
-            same(f"{path}: outcome {number}", row, outcomes[number])
-        sampled(f"{path}: of the outcomes", numbers, outcomes)
+        found = {k: [*row, *[0] * 9][:14] for k, *row in struct.iter_unpack(form, data[52:-32])}
+        ids = [number for number in sorted(found) if number < self.n["walks"] + self.n["ends"]]
+        same(f"{path}: ids", [*ids, count], [*found, len(ids)])
+        numbers = [n for n in self.pick("--sample", "trajectory", ids) if n in found]
+        for k in numbers:
+            moved, values, bins = self.find(k)
+            row = [moved, *values, *[0] * (4 - len(values)), *[n * any(found[k][5:]) for n in bins]]
+            same(f"{path}: outcome {k}", row, found[k])
+        sampled(f"{path}: outcomes", numbers, found)
 
     def digest(self) -> str:
-        n, columns, asks = self.n, self.columns, self.asks
+        n, columns, asks, long = self.n, self.columns, self.asks, self.has_lengths * len(self.edges)
         form = (4 if self.shares or columns["--freeze"] else 3 if self.splits or columns["--group"]
                 else 2 if self.regions or n["max-cut"] < LIMITS["max-cut"] else 1)
         votes = (columns["--pop"], columns["--first"], columns["--second"], self.start)
@@ -343,9 +339,11 @@ class Job:
                        *[n["group-districts"]] * ("--group" in self.counts)]),
                 ("Q", [*chain(*zip(columns["--group"], columns["--group-of"]))]),
                 ("B", [*b"group-share"] * self.shares), ("I", [n["group-share"]] * self.shares),
-                ("B", [*b"freeze"] * bool(columns["--freeze"])), ("I", columns["--freeze"])]
+                ("B", [*b"freeze"] * bool(columns["--freeze"])), ("I", columns["--freeze"]),
+                ("B", [*b"length"] * (long > 0)), ("Q", [n["max-length"]] * (long > 0)),
+                ("I", [m for row in self.far for _, m in sorted(row.items())] * (long > 0))]
         data = [struct.pack(">" + kind * (len(row) // len(kind)), *row) for kind, row in rows]
-        return hashlib.sha256(b"district-job %d" % form + b"".join(data)).hexdigest()
+        return hashlib.sha256(b"district-job %d" % (form, 5)[long > 0] + b"".join(data)).hexdigest()
 
 
 class Walk:
@@ -355,7 +353,8 @@ class Walk:
         self.sums = {name: [0] * d for name in COLUMNS}
         self.touch, self.open = [0] * (len(plan) * d), bytearray(len(plan) * d)
         self.spread, self.parts = [0] * (job.regions * d), [0] * job.regions
-        self.cut = sum(plan[u] != plan[v] for u, v in job.edges)
+        apart = [n for (u, v), n in zip(job.edges, job.columns["--length"]) if plan[u] != plan[v]]
+        self.cut, self.length = len(apart), sum(apart)
         for u, district in enumerate(plan):
             self.add(u, district, 1)
 
@@ -371,16 +370,17 @@ class Walk:
             self.parts[region] += sign * (self.spread[region * d + district] == (sign > 0))
 
     def move(self, unit: int, into: int) -> None:
-        at, out = unit * self.job.districts, self.plan[unit]
+        at, out, far = unit * self.job.districts, self.plan[unit], self.job.far[unit]
         self.cut += self.touch[at + out] - self.touch[at + into]
+        self.length += sum(far[v] * ((self.plan[v] == out) - (self.plan[v] == into)) for v in far)
         self.add(unit, out, -1)
         self.plan[unit] = into
         self.add(unit, into, 1)
         self.open[at + into], self.open[at + out] = 0, self.touch[at + out] > 0
 
     def score(self, name: str) -> int:
-        if name == "cut-edges":
-            return self.cut
+        if name in ("cut-edges", "cut-length"):
+            return self.cut if name == "cut-edges" else self.length
         votes, d = [*zip(self.sums["--first"], self.sums["--second"])], self.job.districts
         if name == "seats":
             return sum(f > s for f, s in votes)
@@ -402,11 +402,11 @@ class Walk:
         return sum(10000 * part > share * whole for part, whole in both)
 
     def keeps_rules(self) -> bool:
-        limits, parts = self.job.n, self.parts
-        return (self.cut <= limits["max-cut"] and max(parts, default=0) <= limits["max-split"]
-                and sum(parts) - len(parts) <= limits["max-splits"]
-                and sum(n > 1 for n in parts) <= limits["max-split-regions"]
-                and self.majorities() >= limits["group-districts"])
+        n, parts = self.job.n, self.parts
+        return (self.cut <= n["max-cut"] and max(parts, default=0) <= n["max-split"]
+                and self.length <= n["max-length"] and sum(parts) - len(parts) <= n["max-splits"]
+                and sum(k > 1 for k in parts) <= n["max-split-regions"]
+                and self.majorities() >= n["group-districts"])
 
     def joins(self, units: List[int], hidden: List[int], sizes: List[int]) -> bool:
         """Returns if paths through their district join these units. Small searches come first."""
@@ -489,7 +489,7 @@ def main(args: List[str]) -> int:
         for job in jobs_of(data, Path(args[1]).read_bytes().decode("utf-8"), words):
             job.check()
     except (OSError, ValueError, LookupError, ArithmeticError, csv.Error) as error:
-        print(*WRONG, f"cannot be read: {error!r}", sep="\n")
+        print(*WRONG, f"cannot be checked: {type(error).__name__}: {error}", sep="\n")
         return 2
     print(*WRONG, f"{DONE['comparisons']} comparisons and {DONE['steps']} steps",
           f"{len(WRONG)} disagreements" if WRONG else "all that was asked agrees", sep="\n")
