@@ -7,13 +7,14 @@ districts and regions that grow in it, and a group that lives in some districts 
 and rules, each of which half of the runs have: the most cut edges, among how many districts a
 region may be split, how often regions may be split in all and how many of them, in how many
 districts the group has a majority, of the population or of a column of its own, above which share
-it has one, and which units are frozen. Most limits are those that the start plan just keeps; an
-eighth of the runs have one that it breaks. A sixth of the graphs have a value in a column of the
-group or of frozen units that may be refused, and a few lack one. A third of the audits are made by
-two runs over files, the second of which may have another rule. Status, text, note and files must be
-the model's. Prints each run that differs; how many ended how; and for each rule in how many audits
-it was set, and in how many of those a walk without it finds something else. Ends with 1 where a run
-differed. Nothing is needed but Python.
+it has one, which units are frozen, and how long the cut edges are in all. Most limits are those
+that the start plan just keeps; an eighth of the runs have one that it breaks. A sixth of the graphs
+have a value in a column of the group or of frozen units that may be refused, an eighth one in that
+of lengths, and a few lack one. A third of the audits are made by two runs over files, the second of
+which may have another rule. Status, text, note and files must be the model's. Prints each run that
+differs; how many ended how; and for each rule in how many audits it was set, and in how many of
+those a walk without it finds something else. Ends with 1 where a run differed. Nothing is needed
+but Python.
 """
 # RUN: {auditor} 60 1
 import argparse
@@ -32,7 +33,10 @@ from tests.oracle import model
 
 BASE = "--pop pop --first a --second b --district d".split()
 ASKS = ("seats", "mean-median", "gap", "cut-edges")
-RULES = ("--max-cut", "--max-split", "--max-splits", "--max-split-regions", "--group-districts")
+RULES = (
+    "--max-cut", "--max-split", "--max-splits", "--max-split-regions", "--group-districts",
+    "--max-length",
+)
 # Those that the start plan cannot break.
 OTHERS = ("--group-share", "--freeze")
 FILES = ("audit-0.ckpt", "audit-1.ckpt")
@@ -107,10 +111,32 @@ def drawn_graph(chance: typing.Any) -> typing.Any:
         )
     if chance.random() < 1 / 20:
         del chance.choice(nodes)[chance.choice("gwrf")]
-    return {
-        "nodes": nodes,
-        "adjacency": [[{"id": one} for one in sorted(those)] for those in near],
-    }, other
+    return {"nodes": nodes, "adjacency": drawn_edges(chance, near)}, other
+
+
+def drawn_edges(chance: typing.Any, near: typing.Any) -> typing.List[typing.Any]:
+    """The entries of each unit's neighbors with their lengths; in an eighth of the graphs one has a
+    value that may be refused, or none.
+    """
+    most, lengths = chance.choice((1, 9, 9, 1000, 2**32 - 1)), {}
+    entries: typing.List[typing.Any] = []
+    for unit, those in enumerate(near):
+        entries.append([])
+        for other in sorted(those):
+            edge = min(unit, other), max(unit, other)
+            if edge not in lengths:
+                lengths[edge] = chance.randint(0, most)
+            entries[-1].append({"id": other, "l": lengths[edge]})
+    every = [entry for those in entries for entry in those]
+    if chance.random() < 1 / 8:
+        chance.choice(every)["l"] = chance.choice(
+            (-1, 0, 2**32 - 1, 2**32, 2**64, 1.0, "1", True, None)
+        )
+    if chance.random() < 1 / 20:
+        del chance.choice(every)["l"]
+    if chance.random() < 1 / 20:
+        del entries[chance.randrange(len(entries))][-1]
+    return entries
 
 
 # ---- words
@@ -127,7 +153,7 @@ def there(graph: typing.Any, words: typing.Any) -> typing.Any:
     most = max(job.districts_of_regions(job.plan), default=1)
     numbers = (
         job.cut(job.plan), most, job.splits(job.plan), job.split_regions(job.plan),
-        job.majorities(job.plan),
+        job.majorities(job.plan), job.cut_length(job.plan),
     )
     return dict(zip(RULES, numbers))
 
@@ -144,6 +170,7 @@ def drawn_rules(chance: typing.Any, graph: typing.Any) -> typing.Any:
         shares = (0, 2500, 3333, 4500, 4999, 5000, 5001, 6000, 10000)
         columns += ["--group-share", str(chance.choice(shares))]
     columns += ["--freeze", "f"] if chance.random() < 0.4 else []
+    columns += ["--length", "l"] if chance.random() < 0.5 else []
     names = [
         name
         for name in RULES
@@ -155,7 +182,11 @@ def drawn_rules(chance: typing.Any, graph: typing.Any) -> typing.Any:
         more = (
             -1
             if name == broken
-            else chance.choice((0, 0, 1)) if name != "--max-cut" else chance.randint(0, 8)
+            else (
+                number * chance.randint(0, 20) // 100
+                if name == "--max-length"
+                else chance.choice((0, 0, 1)) if name != "--max-cut" else chance.randint(0, 8)
+            )
         )
         if name == broken or name in names and chance.random() < 0.5:
             words += [
@@ -172,7 +203,7 @@ def drawn_rules(chance: typing.Any, graph: typing.Any) -> typing.Any:
     )
 
 
-def audit_words(chance: typing.Any) -> typing.Any:
+def audit_words(chance: typing.Any, has_lengths: bool) -> typing.Any:
     serial = chance.random() < 0.2
     walks, ends = chance.randint(0, 2), chance.choice((0, 0, 2, 4))
     words = [
@@ -193,7 +224,10 @@ def audit_words(chance: typing.Any) -> typing.Any:
         "--ask",
         ",".join(
             f"{score}:{chance.choice(('low', 'high'))}"
-            for score in chance.sample(ASKS, chance.randint(1, 4))
+            for score in chance.sample(
+                (*ASKS, "cut-length") if has_lengths or chance.random() < 0.02 else ASKS,
+                chance.randint(1, 4),
+            )
         ),
     ]
     return (
@@ -238,7 +272,7 @@ def calls_of(chance: typing.Any, graph: typing.Any, other: typing.Any) -> typing
     base = [*BASE, "--slack", chance.choice(("10000", "10000", "10000", "6000")), *rules]
     if kind < 0.15:
         return [(["check", *base], data)]
-    words = [*base, *audit_words(chance)]
+    words = [*base, *audit_words(chance, "--length" in rules)]
     if kind < 0.3:
         return [
             (

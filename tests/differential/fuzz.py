@@ -45,7 +45,7 @@ TOKENS = [
 ]
 NAMES = (
     "pop", "a", "b", "d", "r", "s", "g", "w", "id", "nodes", "adjacency", "directed", "multigraph",
-    "graph",
+    "graph", "l",
 )
 MOST_WORK = 3000
 
@@ -74,8 +74,8 @@ def node(
 def graph(nodes: typing.Any, edges: typing.Any, spaced: typing.Any) -> bytes:
     places: typing.Any = {one["id"]: [] for one in nodes}
     for u, v in edges:
-        places[nodes[u]["id"]].append({"id": nodes[v]["id"]})
-        places[nodes[v]["id"]].append({"id": nodes[u]["id"]})
+        places[nodes[u]["id"]].append({"l": 3 * (u + v) % 7, "id": nodes[v]["id"]})
+        places[nodes[v]["id"]].append({"l": 3 * (u + v) % 7, "id": nodes[u]["id"]})
     whole = {
         "directed": False,
         "multigraph": False,
@@ -125,7 +125,7 @@ def good_words(chance: typing.Any) -> typing.Any:
         return [
             "check", *BASE, "--slack", chance.choice(["5000", "1000", "10000", "0"]),
             *chance.choice([[], ["--max-cut", "2"]]), *regions(chance), *group(chance),
-            *source(chance),
+            *source(chance), *lengths(chance, []),
         ]
     asks = chance.sample(sorted(model.ALL_ASKS), chance.randint(1, 4))
     words = [
@@ -139,7 +139,7 @@ def good_words(chance: typing.Any) -> typing.Any:
             words += ["--stop", chance.choice(["0", "1", "2", "3", "4"])]
     if chance.random() < 0.15:
         words += ["--max-cut", chance.choice(["2", "3", "8"])]
-    words += [*regions(chance), *group(chance), *source(chance)]
+    words += [*regions(chance), *group(chance), *source(chance), *lengths(chance, asks)]
     if chance.random() < 0.1:
         words += ["--workers", chance.choice(["1", "2", "3"])]
     if chance.random() < 0.25:
@@ -176,6 +176,18 @@ def group(chance: typing.Any) -> typing.Any:
     return words + (
         ["--group-districts", chance.choice(("0", "1", "1", "2", "200"))]
         if chance.random() < 0.8
+        else []
+    )
+
+
+def lengths(chance: typing.Any, asks: typing.Any) -> typing.List[typing.Any]:
+    """Words of lengths: most often where an ask needs them."""
+    is_asked = any(ask.startswith("cut-length") for ask in asks)
+    if chance.random() < (0.1 if is_asked else 0.8):
+        return []
+    return ["--length", chance.choice(("l", "l", "l", "l", "id", ""))] + (
+        ["--max-length", chance.choice(("0", "3", "6", "9", "20", "1717986918000000"))]
+        if chance.random() < 0.6
         else []
     )
 

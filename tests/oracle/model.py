@@ -24,7 +24,8 @@ MOST_SLOT = 84 + 80 * 100000
 MOST_CUT = 400000
 MOST_REGIONS = 5000
 MOST_SPLITS = 995000
-SCORES = ("seats", "mean-median", "gap", "cut-edges")
+MOST_LENGTH = 400000 * (2**32 - 1)
+SCORES = ("seats", "mean-median", "gap", "cut-edges", "cut-length")
 TAILS = ("low", "high")
 BASE = ("--pop", "--first", "--second", "--district")
 TABLE = (
@@ -32,13 +33,13 @@ TABLE = (
     "--workers", "--budget", "--save", "--resume", "--max-cut", "--shift", "--stop", "--serial",
     "--region", "--max-split", "--parts", "--part", "--max-splits", "--max-split-regions",
     "--group", "--group-of", "--group-districts", "--source", "--ids", "--thin", "--group-share",
-    "--freeze",
+    "--freeze", "--length", "--max-length",
 )
 OF_TRACES = ("--ids", "--thin")
 OPTIONAL_COLUMNS = ("--region", "--group", "--group-of", "--freeze")
 OF_A_FILE = (
     "--region", "--max-split", "--max-splits", "--max-split-regions", "--group", "--group-of",
-    "--group-districts", "--source", "--group-share", "--freeze",
+    "--group-districts", "--source", "--group-share", "--freeze", "--length", "--max-length",
 )
 COMMANDS = {
     "check": (*BASE, "--slack", "--max-cut", *OF_A_FILE),
@@ -87,6 +88,8 @@ DEFAULTS = {
     "--thin": "1000",
     "--group-share": "5000",
     "--freeze": "",
+    "--length": "",
+    "--max-length": str(MOST_LENGTH),
 }
 RANGES = {
     "--size": (1, 30),
@@ -108,6 +111,7 @@ RANGES = {
     "--group-districts": (0, 200),
     "--thin": (1, BILLION),
     "--group-share": (0, 10000),
+    "--max-length": (0, MOST_LENGTH),
 }
 # Which column has to be named where the value of a name is not the default.
 WITH_COLUMN = {
@@ -117,6 +121,7 @@ WITH_COLUMN = {
     "--group-of": "--group",
     "--group-districts": "--group",
     "--group-share": "--group",
+    "--max-length": "--length",
 }
 NO_BINS = (0,) * 9
 ALL_ASKS = {f"{score}:{tail}": (score, tail) for score in SCORES for tail in TAILS}
@@ -124,8 +129,10 @@ ALL_ASKS = {f"{score}:{tail}": (score, tail) for score in SCORES for tail in TAI
 End = namedtuple("End", "status out note slots")
 # The parts of a graph that are read. The regions are empty where no column is named, and so is the
 # group, which else is two lists: the group's, and the whole's. Of frozen units there is a truth
-# value for each unit, or nothing where no column is named.
-Read = namedtuple("Read", "edges people first second plan districts regions group frozen")
+# value for each unit, or nothing where no column is named; and of lengths one for each edge.
+Read = namedtuple(
+    "Read", "edges people first second plan districts regions group frozen lengths", defaults=([],)
+)
 # The digest and the number of the bytes that were read.
 Origin = namedtuple("Origin", "sha256 bytes")
 
@@ -206,6 +213,9 @@ class Setting:
         if name == "--ask":
             asks = text.split(",")
             is_known = all(ask in ALL_ASKS for ask in asks)
+            needs_length = any(ask.startswith("cut-length:") for ask in asks)
+            if needs_length and not self.value["--length"]:
+                return False
             return is_known and len(asks) <= 4 and len(set(asks)) == len(asks)
         if name == "--serial" and text == "yes":
             plans = self.of("--steps") + 1
@@ -250,6 +260,7 @@ class Setting:
             for name in ("--max-split", "--max-splits", "--max-split-regions", "--group-districts")
         )
         self.group_share, self.freeze = self.of("--group-share"), value["--freeze"]
+        self.length, self.max_length = value["--length"], self.of("--max-length")
         if self.command == "check":
             self.asks, self.total, self.save, self.stop, self.resume, self.shift, self.serial = (
                 [], 0, 0, 0, False, False, False,
@@ -393,6 +404,35 @@ def edges_of(places: typing.Any, adjacency: typing.Any) -> typing.Any:
     return edges
 
 
+def lengths_of(
+    places: typing.Any, adjacency: typing.Any, edges: typing.Any, column: str
+) -> typing.List[int]:
+    """The length of each edge, or the first refusal; none where no column is named."""
+    if not column:
+        return []
+    every = [
+        (at, place, one) for at, entry in enumerate(adjacency) for place, one in enumerate(entry)
+    ]
+    for at, place, one in every:
+        if column not in one:
+            refuse(f"neighbour {place} of node {at} has no attribute {column}")
+    for at, place, one in every:
+        if type(one[column]) is not int or not 0 <= one[column] < 2**32:
+            refuse(
+                f"neighbour {place} of node {at} has no whole number from 0 to 4294967295 in"
+                f" attribute {column}"
+            )
+    found: typing.Dict[typing.Any, int] = {}
+    for at, place, one in every:
+        edge = tuple(sorted((at, places[one["id"]])))
+        if found.setdefault(edge, one[column]) != one[column]:
+            refuse(
+                f"neighbour {place} of node {at} has another number in attribute {column} than the"
+                " same edge before"
+            )
+    return [found[edge] for edge in edges]
+
+
 def is_count(value: typing.Any) -> bool:
     """Returns whether a value is a whole number from 0 to a billion."""
     return type(value) is int and 0 <= value <= BILLION
@@ -466,14 +506,16 @@ def reading(data: typing.Any, setting: typing.Any) -> typing.Any:
     except NotJson:
         refuse("not JSON")
     nodes, adjacency = shape(root)
-    edges = edges_of(places_of(nodes), adjacency)
+    places = places_of(nodes)
+    edges = edges_of(places, adjacency)
     people, first, second, labels, *both = columns_of(nodes, setting.columns, setting.group, freeze)
     districts, plan = numbered(labels)
     if not 2 <= districts <= 200:
         refuse(f"{districts} districts, not 2 to 200")
+    lengths = lengths_of(places, adjacency, edges, setting.length)
     return Read(
         edges, people, first, second, plan, districts, regions_of(nodes, setting.region), both,
-        [node[column] > 0 for column in freeze for node in nodes],
+        [node[column] > 0 for column in freeze for node in nodes], lengths,
     )
 
 
@@ -596,7 +638,7 @@ class Job:
         self.setting, self.origin = setting, origin
         (
             self.edges, self.people, self.first, self.second, self.plan, self.districts,
-            self.regions, self.group, self.frozen,
+            self.regions, self.group, self.frozen, self.lengths,
         ) = read
         self.units, self.population = len(self.plan), sum(self.people)
         self.neighbours: typing.Any = [[] for _ in self.plan]
@@ -677,6 +719,18 @@ class Job:
                     f" fewer than {self.setting.group_districts}"
                 ),
             )
+        self.judge_length()
+
+    def judge_length(self) -> None:
+        """Raises Refused if the cut edges are too long."""
+        if self.cut_length(self.plan) > self.setting.max_length:
+            raise Refused(
+                2,
+                (
+                    f"plan: cut edges of total length {self.cut_length(self.plan)}, more than"
+                    f" {self.setting.max_length}"
+                ),
+            )
 
     def sums(self, plan: typing.Any, column: typing.Any) -> typing.Any:
         sums = [0] * self.districts
@@ -696,6 +750,12 @@ class Job:
 
     def cut(self, plan: typing.Any) -> typing.Any:
         return sum(plan[u] != plan[v] for u, v in self.edges)
+
+    def cut_length(self, plan: typing.Any) -> typing.Any:
+        """The total length of the cut edges; 0 where edges have no lengths."""
+        return sum(
+            length for (u, v), length in zip(self.edges, self.lengths) if plan[u] != plan[v]
+        )
 
     def districts_of_regions(self, plan: typing.Any) -> typing.List[typing.Any]:
         """For each region, how many districts a plan gives to its units."""
@@ -730,6 +790,7 @@ class Job:
             and self.splits(plan) <= setting.max_splits
             and self.split_regions(plan) <= setting.max_split_regions
             and self.majorities(plan) >= setting.group_districts
+            and self.cut_length(plan) <= setting.max_length
             and all(
                 plan[unit] == self.plan[unit]
                 for unit, is_frozen in enumerate(self.frozen)
@@ -767,6 +828,8 @@ class Job:
             return sum(3 * b - a if a > b else b - 3 * a for a, b in pairs)
         if score == "cut-edges":
             return self.cut(plan)
+        if score == "cut-length":
+            return self.cut_length(plan)
         shares = sorted(a * BILLION // (a + b) if a + b else BILLION // 2 for a, b in pairs)
         count = self.districts
         return count * (shares[(count - 1) // 2] + shares[count // 2]) - 2 * sum(shares)
@@ -775,6 +838,7 @@ class Job:
         return {
             "seats": 1,
             "cut-edges": 1,
+            "cut-length": 1,
             "mean-median": 2 * self.districts * BILLION,
             "gap": 2 * (sum(self.first) + sum(self.second)),
         }[score]
@@ -791,6 +855,7 @@ class Job:
         limited = setting.max_cut < MOST_CUT or self.regions or self.group or self.frozen
         has_share = self.group and setting.group_share != 5000
         version = 4 if has_share or self.frozen else 3 if further else 2 if limited else 1
+        version = 5 if self.lengths else version
         parts = [b"district-job %d" % version]
         parts += [struct.pack(">3I", self.units, len(self.edges), self.districts)]
         parts += [struct.pack(">2I", *edge) for edge in self.edges]
@@ -823,6 +888,11 @@ class Job:
         parts += [struct.pack(">2Q", *both) for both in zip(*self.group)]
         parts += [b"group-share", struct.pack(">I", setting.group_share)] if has_share else []
         parts += [b"freeze", struct.pack(f">{self.units}I", *self.frozen)] if self.frozen else []
+        if self.lengths:
+            length = dict(zip(self.edges, self.lengths))
+            both = [(u, v) for u, near in enumerate(self.neighbours) for v in sorted(near)]
+            parts += [b"length", struct.pack(">Q", setting.max_length)]
+            parts += [struct.pack(">I", length[min(one), max(one)]) for one in both]
         return hashlib.sha256(b"".join(parts)).digest()
 
 
@@ -947,7 +1017,11 @@ def head(job: typing.Any) -> typing.Any:
     )
     has_share = job.group and setting.group_share != 5000
     lines += [f"group-share {setting.group_share}"] if has_share else []
-    return lines + ([f"frozen {sum(job.frozen)}"] if job.frozen else [])
+    lines += [f"frozen {sum(job.frozen)}"] if job.frozen else []
+    lines += [f"cut-length {job.cut_length(job.plan)}"] if setting.length else []
+    return lines + (
+        [f"max-length {setting.max_length}"] if setting.max_length < MOST_LENGTH else []
+    )
 
 
 def quoted(text: typing.Any) -> typing.Any:
@@ -966,6 +1040,7 @@ def origin_lines(job: typing.Any) -> typing.List[typing.Any]:
         ["group", quoted(setting.group[0]), "of", quoted(setting.group[1])] if setting.group else []
     )
     words += ["freeze", quoted(setting.freeze)] if setting.freeze else []
+    words += ["length", quoted(setting.length)] if setting.length else []
     return [f"source sha256 {job.origin.sha256.hex()} bytes {job.origin.bytes}", " ".join(words)]
 
 

@@ -53,7 +53,7 @@ def main() -> int:
             end = run(words, folder=folder, more={"PYTHONPATH": str(TOP / "python")})
             checks.is_same_text(f"{pathlib.Path(name).stem}_{number}", end.out, wanted)
             count += 1
-    checks.is_true("commands", count >= 15, "at least 15 commands", count)
+    checks.is_true("commands", count >= 12, "at least 12 commands", count)
     return checks.finish()
 
 

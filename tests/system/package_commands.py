@@ -52,7 +52,7 @@ def try_prepare(checks: Checks, auditor: pathlib.Path, room: pathlib.Path) -> No
     end = prepare("apart.json", *SMALL, "--out", room / "apart.json")
     checks.ended("prepare_finds_what_would_be_refused", end, 1)
     for name, part in (
-        ("unit_without_neighbor", 'units without a neighbour: 1: "v"'),
+        ("unit_without_neighbor", 'units without a neighbor: 1: "v"'),
         ("district_in_parts", "district 1 is in several parts"),
         ("district_of_too_few_people", "district 2 has 3 people"),
     ):

@@ -21,6 +21,8 @@ from tests.places import DATA, TOP
 
 COMMANDS = ("check", "run", "make", "plans", "trace")
 ROW = re.compile(r"^\| `(--[a-z-]+)` \| ([a-z, ]+) \| (.*) \| ([^|]*) \|$")
+VALUES = "COLUMN|yes or no|64 hex digits|SCORE:TAIL,..|ID or ID-ID|[0-9]+ to [0-9]+"
+LINE = re.compile(rf"^  (--\S+) +({VALUES}) +(required|default \S+) +\S.*$")
 # Values in the usage for values without a range in the table.
 KINDS = (
     ("key of the column", "COLUMN"),
@@ -59,9 +61,8 @@ def documented(command: str) -> typing.List[typing.Tuple[str, str, str]]:
 
 def told(text: str) -> typing.List[typing.Tuple[str, str, str]]:
     """Returns name, values and default of each argument that a usage tells."""
-    found = (re.match(r"^  (--\S+) +(.*)$", line) for line in text.splitlines())
-    lines = [match.group() for match in found if match]
-    return [(line[2:22].rstrip(), line[22:38].rstrip(), line[38:53].rstrip()) for line in lines]
+    found = (LINE.match(line) for line in text.splitlines())
+    return [(line[1], line[2], line[3]) for line in found if line]
 
 
 def ask(program: str, *words: str) -> typing.Tuple[End, int, typing.List[str]]:
@@ -101,7 +102,7 @@ def check_commands(checks: Checks, auditor: str) -> None:
         lines = text.splitlines()
         checks.is_true(f"{command}_lines", len(lines) <= 40, "at most 40 lines", len(lines))
         longest = max(map(len, lines))
-        checks.is_true(f"{command}_columns", longest <= 102, "at most 102 columns", longest)
+        checks.is_true(f"{command}_columns", longest <= 100, "at most 100 columns", longest)
         checks.is_true(
             f"{command}_usage", text.startswith(f"usage: district-audit {command} "),
             f"usage: district-audit {command} ..", lines[0],

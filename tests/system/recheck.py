@@ -540,6 +540,35 @@ def faults(auditor: typing.Any, room: typing.Any) -> None:
     )
 
 
+def columns_left_out(auditor: typing.Any, room: typing.Any) -> None:
+    """A report without the line `columns` needs each column in words, and each is asked for."""
+    root = json.loads(wheel())
+    for u, node in enumerate(root["nodes"]):
+        node.update(county=u % 2, group=0, frozen=u == 0)
+    for row in root["adjacency"]:
+        for entry in row:
+            entry["length"] = 1
+    graph = json.dumps(root).encode()
+    words = [*CYCLE, "--region", "county", "--group", "group", "--freeze", "frozen", "--length",
+             "length", "--slack", "5000", "--key", ZEROS, "--steps", "9", "--ask", "gap:low"]
+    (room / "columns graph").write_bytes(graph)
+    (room / "columns report").write_bytes(run(auditor, ["run", *words], graph).stdout)
+    both = room / "columns graph", room / "columns report"
+    agrees("all columns are given", *both, *words)
+    for name, line in (
+        ("--pop", "units"), ("--first", "units"), ("--second", "units"), ("--district", "units"),
+        ("--region", "max-split"), ("--group", "group-districts"), ("--freeze", "frozen"),
+        ("--length", "cut-length"),
+    ):
+        at = words.index(name)
+        said = (f"cannot be checked: ValueError: the report has a line `{line}`: give {name}"
+                " COLUMN\n")
+        COUNTS.judge(f"{name} is left out", checked(*both, *words[:at], *words[at + 2:])
+                     == (2, said), said)
+    COUNTS.judge("no column is given", checked(*both) == (
+        2, "cannot be checked: ValueError: the report has a line `units`: give --pop COLUMN\n"))
+
+
 # ---- drawn jobs
 
 
@@ -582,7 +611,7 @@ def drawn_graph(rng: typing.Any) -> bytes:
     keep = {u: nodes[k]["id"] for k, u in enumerate(sorted(plan))}
     rows = [
         [
-            {"id": keep[v]}
+            {"length": 7 * (u + v) % 23, "id": keep[v]}
             for v in rng.sample(sorted(near[u]), len(near[u]))
             if v in keep and (u < v or rng.random() < 0.7)
         ]
@@ -623,6 +652,9 @@ def drawn_words(rng: typing.Any) -> typing.Any:
             "--group", "bvap", *rng.choice([[], ["--group-of", "vap"]]), "--group-districts",
             str(rng.randrange(3)), *rng.choice([[], ["--group-share", "4000"]]),
         ]
+    if rng.random() < 0.3 or any(ask.startswith("cut-length") for ask in asks):
+        words += ["--length", "length"]
+        words += ["--max-length", str(rng.randrange(90, 400))] if rng.random() < 0.4 else []
     return words + (["--freeze", "keep"] if rng.random() < 0.3 else [])
 
 
@@ -723,6 +755,7 @@ def main(args: typing.Any) -> int:
         if len(args) < 2:
             examples(auditor, room)
             faults(auditor, room)
+            columns_left_out(auditor, room)
         campaign(auditor, room, jobs, seed)
     skipped = f", {COUNTS.skipped} skipped" if COUNTS.skipped else ""
     print(f"recheck: {COUNTS.passed} passed, {COUNTS.failed} failed{skipped}")

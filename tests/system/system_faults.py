@@ -774,9 +774,10 @@ def pipes(room: typing.Any) -> str:
 
 # This number of workers has room for 25 outcomes each between two saves. A walk takes so long that
 # they hardly ever wait for one another, and another worker has one walk under way at most. Over
-# loaded processors a few outcomes more may be held while a save is made.
-HOLDING = {"--workers": "4", "--walks": "1010", "--steps": "60000", "--save": "101"}
-MOST_MISSING = 9
+# loaded processors a few outcomes more may be held while a save is made. Workers that hold an
+# outcome at each save, and never hand it in, hold many at the last ten saves.
+HOLDING = {"--workers": "4", "--walks": "4040", "--steps": "60000", "--save": "101"}
+SAVES, LAST, MOST_MISSING = 40, 10, 9
 
 
 def missing(room: typing.Any, words: typing.Any) -> typing.Any:
@@ -806,12 +807,14 @@ def buffered(room: typing.Any) -> typing.Any:
     words = with_values(room.chain, HOLDING)
     counts = missing(room, words)
     room.count += 1
-    middle = sorted(counts)[len(counts) // 2] if counts else None
-    if len(counts) != 10 or middle > MOST_MISSING:
+    middles = [
+        sorted(some)[len(some) // 2] if some else 0 for some in (counts[:LAST], counts[-LAST:])
+    ]
+    if len(counts) != SAVES or max(middles) > MOST_MISSING:
         room.wrong.append(
             f"outcomes that workers hold: of the ids before its last one each save lacks {counts},"
-            f" whose median is {middle}; 10 saves and a median of at most {MOST_MISSING} are"
-            " expected"
+            f" whose medians over the first and the last {LAST} are {middles}; {SAVES} saves and"
+            f" medians of at most {MOST_MISSING} are expected"
         )
     return "outcomes that workers hold at each save"
 
