@@ -5,7 +5,9 @@ It reads Markdown documents, the comments of Rattle code and definitions, Python
 comments, and the comments of shell scripts. `check` compares the findings of each file with the
 recorded ones and fails if a file has more. `list` prints each finding. `record` writes the counts
 that may only fall; files that are not recorded may have none. `subjects` checks the subjects of
-the commits since a given one.
+the commits since a given one. `words` prints how many words the Markdown documents have, outside
+of their blocks of code and with them; `check` fails if they have more than MOST_DOCUMENT_WORDS
+outside.
 """
 
 from __future__ import annotations
@@ -24,6 +26,8 @@ RECORD = TOP / "tools" / "prose_record.json"
 MOST_WORDS = 40
 MOST_COLUMNS = 120
 MOST_SUBJECT = 72
+# Of all Markdown documents together, outside of blocks of code.
+MOST_DOCUMENT_WORDS = 31_000
 
 FIRST_WORDS = re.compile(
     r"^(What|Of which|With what|Where|Whether|Who|Over what|The same|So|How many|How much|That)\b"
@@ -116,6 +120,32 @@ def markdown_passages(lines: list[str]) -> Iterator[Passage]:
                 yield Passage(number, re.sub(r"`[^`]*`", "`code`", cell), False)
 
 
+def word_counts(text: str) -> tuple[int, int]:
+    """Returns the words of a document outside of its blocks of code, and all its words.
+
+    A word stands between spaces and has a letter: numbers and the marks of tables are none.
+    """
+    outside = inside = 0
+    is_code = False
+    for line in text.splitlines():
+        if line.lstrip().startswith(("```", "~~~")):
+            is_code = not is_code
+            continue
+        count = sum(any(map(str.isalpha, word)) for word in line.split())
+        outside += 0 if is_code else count
+        inside += count if is_code else 0
+    return outside, outside + inside
+
+
+def document_words() -> dict[str, tuple[int, int]]:
+    """Returns the counts of words of each Markdown document."""
+    return {
+        path: word_counts((TOP / path).read_text(encoding="utf-8"))
+        for path in tracked_files()
+        if path.endswith(".md")
+    }
+
+
 def passages(path: str, lines: list[str]) -> list[Passage]:
     """Returns the prose of a file by its kind."""
     if path.endswith(".md"):
@@ -182,11 +212,16 @@ def check() -> int:
         print(f"prose: {path}: {len(some)} findings, recorded are {before.get(path, 0)}")
         for one in some[:20]:
             print(f"  {one}")
+    outside = sum(count for count, _ in document_words().values())
+    is_long = outside > MOST_DOCUMENT_WORDS
+    if is_long:
+        print(f"prose: the documents have {outside} words, more than {MOST_DOCUMENT_WORDS}")
     better = sum(len(found.get(path, [])) < count for path, count in before.items())
     total = sum(map(len, found.values()))
     print(f"prose: {total} findings are left; {better} files have fewer than recorded")
-    print(f"{int(not worse)} passed, {int(bool(worse))} failed")
-    return int(bool(worse))
+    failed = int(bool(worse)) + int(is_long)
+    print(f"{2 - failed} passed, {failed} failed")
+    return int(failed > 0)
 
 
 def record() -> int:
@@ -201,6 +236,16 @@ def show() -> int:
     for some in all_findings().values():
         for one in some:
             print(one)
+    return 0
+
+
+def show_words() -> int:
+    """Prints the counts of words of each document and of all."""
+    counts = document_words()
+    for path, (outside, every) in counts.items():
+        print(f"{outside:6} {every:6} {path}")
+    outside, every = (sum(column) for column in zip(*counts.values()))
+    print(f"{outside:6} {every:6} all; the first number is without blocks of code")
     return 0
 
 
@@ -224,11 +269,13 @@ def main() -> int:
     commands.add_parser("check", help="fail if a file has more findings than recorded")
     commands.add_parser("list", help="print each finding")
     commands.add_parser("record", help="write the counts that may only fall")
+    commands.add_parser("words", help="print how many words the documents have")
     commands.add_parser("subjects", help="check commit subjects").add_argument("since")
     given = parser.parse_args()
     if given.command == "subjects":
         return subjects(given.since)
-    return {"check": check, "list": show, "record": record}[given.command]()
+    run = {"check": check, "list": show, "record": record, "words": show_words}
+    return run[given.command]()
 
 
 if __name__ == "__main__":

@@ -5,26 +5,59 @@ reader to hold in the head?
                                      (found by `rt doc`)
     python3 -m tools.shape --many    also names each function of more than six parameters
     python3 -m tools.shape --double  also names each definition that stands in two modules or more
+    python3 -m tools.shape --counts  also prints the counts that have a limit
     python3 -m tools.shape --frames  also names the functions on the way of a run from the top call
                                      to the flip
+    python3 -m tools.shape check     compares the counts that have a limit with it, names what
+                                     stands above it, and ends with status 1 if something does
 
 What is counted: crates, functions and the entries of dependencies; parameters (with `self`),
 `requires` and lines of a body by function; names that two or more modules of specs/ define; lemmas
 of proofs/ that stand below a comment; and the calls on the shortest way from the top call to the
-flip, by names as they stand in the text. Tests are left out. The counts read the text with
-patterns, and not as the prover does.
+flip, by names as they stand in the text. A limit have: crates, those calls, types of one name,
+functions that are named by a participle, functions of more than 40 lines, files of more than 500,
+lines of code over 120 columns (clauses and texts are left out), and lemmas that nothing cites.
+Tests are left out. The counts read the text with patterns, and not as the prover does.
 """
 import argparse
 import os
 import re
 import statistics
 import subprocess
+import sys
 import typing
 from collections import defaultdict, deque
 
+from tests.checks import Checks
+from tools import uncited
 
 TOP = os.path.normpath(os.path.join(os.path.dirname(os.path.abspath(__file__)), ".."))
 BESIDE = ("httparse", "indexmap")
+
+# The most of each count. A count may only fall: lower its limit with it. The aims are 36 crates,
+# 18 calls to the flip, and none of all others.
+LIMITS = {
+    "crates": 39,
+    "calls_to_the_flip": 18,
+    "types_of_one_name": 2,
+    "functions_named_by_a_participle": 58,
+    "functions_of_more_than_40_lines": 5,
+    "files_of_more_than_500_lines": 1,
+    "lines_over_120_columns": 1,
+    "lemmas_that_nothing_cites": 62,
+}
+# Functions of more than 40 lines with one `match`, whose arms are one row of a table each.
+TABLES = {"argument_text"}
+# Participles without `ed`, and the words that make a participle no verb: `given_by`, `led_back`.
+PARTICIPLES = set(
+    "begun broken come cut done drawn driven fallen found given gone held hidden kept known led"
+    " left lent lost made met put read risen said seen sent set shown spelt spent split spoilt"
+    " stood swept taken told thrown torn worn written".split()
+)
+VERBS = {"cut", "put", "read", "set", "split", "feed", "need", "seed", "spread"}
+PARTICLES = {"after", "again", "all", "at", "back", "by", "in", "of", "once", "up", "with"}
+# Public calls that the formats and the users of these crates fix.
+FIXED = {"done", "ended", "saved"}
 
 
 def files(folder: typing.Any, ending: typing.Any) -> typing.Iterator[typing.Any]:
@@ -251,6 +284,75 @@ def counts(folder: typing.Any) -> typing.Any:
     )
 
 
+def is_participle(name: str) -> bool:
+    """Returns true if a function has a bare participle as its name, or one with a particle."""
+    first, *rest = name.split("_")
+    if first in VERBS or name in FIXED or not set(rest) <= PARTICLES:
+        return False
+    return first in PARTICIPLES or first.endswith("ed")
+
+
+def types_of_one_name(folder: str) -> typing.List[str]:
+    """Returns each type name that two files declare."""
+    found: typing.Dict[str, typing.Set[str]] = defaultdict(set)
+    for file, text in files(folder, ".rt"):
+        for name in re.findall(r"^(?:pub(?:\([a-z]+\))? )?(?:struct|enum|trait) (\w+)", text, re.M):
+            found[name].add(os.path.relpath(file, folder))
+    return [f"{name}: {', '.join(sorted(at))}" for name, at in sorted(found.items()) if len(at) > 1]
+
+
+CLAUSE = re.compile(r"^\s*(?:ensures|requires|ghost)\b[^{;]*\{.*?\}$", re.M | re.S)
+
+
+def wide_lines(folder: str) -> typing.List[str]:
+    """Returns the places of lines of code over 120 columns, without clauses and texts."""
+    found = []
+    for file, text in files(folder, ".rt"):
+        code = re.sub(r'"(?:[^"\\\n]|\\.)*"', '""', text)
+        # Clauses, `ghost use` items and tactics are written in the language of proofs.
+        code = re.sub(r"^\s*#\[[^\n]*\]$", "", code, flags=re.M)
+        code = CLAUSE.sub("", code)
+        wide = [line for line in code.splitlines() if len(line) > 120]
+        found += [f"{os.path.relpath(file, folder)}: {line.strip()[:60]}" for line in wide]
+    return found
+
+
+def above_limit(folder: str) -> typing.Dict[str, typing.List[str]]:
+    """Returns what each count with a limit counts."""
+    own = list(functions(folder))
+    return {
+        "crates": sorted(stands_on()),
+        "calls_to_the_flip": [
+            f"{crate}::{name}"
+            for crate, name in way(own, ("audit_run", "audit"), ("flip_kernel", "flip"))
+        ],
+        "types_of_one_name": types_of_one_name(folder),
+        "functions_named_by_a_participle": [
+            f"{f.name} in {os.path.relpath(f.file, folder)}" for f in own if is_participle(f.name)
+        ],
+        "functions_of_more_than_40_lines": [
+            f"{f.name}: {f.lines()}" for f in own if f.lines() > 40 and f.name not in TABLES
+        ],
+        "files_of_more_than_500_lines": [
+            os.path.relpath(file, folder)
+            for file, text in files(folder, ".rt") if text.count("\n") > 500
+        ],
+        "lines_over_120_columns": wide_lines(folder),
+        "lemmas_that_nothing_cites": [f"{name} in {path}" for path, name in uncited.uncited()],
+    }
+
+
+def check() -> int:
+    """Compares each count that has a limit with it."""
+    checks = Checks("shape")
+    for name, counted in above_limit(os.path.join(TOP, "crates")).items():
+        most = LIMITS.get(name, 0)
+        checks.is_true(
+            name, len(counted) <= most, f"at most {most}", f"{len(counted)}: {'; '.join(counted)}"
+        )
+    return checks.finish()
+
+
 def toolchain(name: typing.Any) -> typing.Any:
     try:
         guide = subprocess.run(
@@ -288,6 +390,9 @@ def main(words: typing.Any) -> None:
     if words.double:
         for name, where in sorted(double.items()):
             print(name, ", ".join(sorted(where)))
+    if words.counts:
+        for name, counted in above_limit(os.path.join(TOP, "crates")).items():
+            print(f"{name}: {len(counted)} of at most {LIMITS.get(name, 0)}")
     if words.frames:
         print(" > ".join(f"{crate}::{name}" for crate, name in path))
 
@@ -297,10 +402,14 @@ def arguments() -> argparse.Namespace:
         prog="python3 -m tools.shape", description=__doc__,
         formatter_class=argparse.RawDescriptionHelpFormatter,
     )
-    for name in ("--many", "--double", "--frames"):
+    parser.add_argument("task", nargs="?", choices=["check"], help="see above")
+    for name in ("--many", "--double", "--frames", "--counts"):
         parser.add_argument(name, action="store_true", help="see above")
     return parser.parse_args()
 
 
 if __name__ == "__main__":
-    main(arguments())
+    chosen = arguments()
+    if chosen.task == "check":
+        sys.exit(check())
+    main(chosen)
