@@ -9,7 +9,7 @@ ROUNDS (3) runs counts. The map is a grid of 50 rows and 60 columns, half of who
 diagonal, with drawn people, votes, people of voting age and of these the members of a group, always
 the same. A county is a block of five rows and ten columns, and a district is five rows: six whole
 counties; in three districts the group has a majority. The walk is made without rules, with each
-rule alone and with all at once. Prints the table of docs/user/GUIDE.md: for each the processor
+rule alone and with all at once. Prints a table of docs/dev/MEASUREMENTS.md: for each the processor
 seconds without the reading (as of a walk of one step) for each million steps, those beside a walk
 without rules, and how many of a thousand steps moved. With `--write` it writes the map alone, and
 with `--small` a map of 120 units in six counties and four districts, each of which has the half of
