@@ -3,7 +3,7 @@
 use crate::exit_code::exit_code_of;
 use crate::gather::gather_job;
 use crate::slots::show_folder;
-use audit_input::prepare::prepare;
+use audit_start::prepare::prepare;
 use audit_io::std_adapters::ReadSource;
 use audit_model::fault::WordFault;
 use audit_model::text::Text;

@@ -1,6 +1,6 @@
 //! The build that `--version` reports.
 
-use program_help::Build;
+use audit_words::Build;
 
 /// The version of the package, the commit of the sources, and the kit.
 ///

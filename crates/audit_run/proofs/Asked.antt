@@ -5,10 +5,10 @@ use Rattle.std.proofs.lemmas.Slice.Eq.{bytes_eq-Decides}
 use Rattle.std.specs.Prelude.{bytes_eq, codes, cond, option_map, IsErr}
 use Rattle.audit_model.specs.declared.setting.Setting.{Setting}
 use Rattle.audit_statement.specs.Words.{command_of, setting_of}
-use Rattle.program_help.specs.declared.question.Question.{Question}
-use Rattle.program_help.specs.declared.question.Question.TheVariants.{Arguments}
-use Rattle.program_help.specs.Laws.{QuestionsWereRefused}
-use Rattle.program_help.specs.Questions.{question_of}
+use Rattle.audit_words.specs.declared.question.Question.{Question}
+use Rattle.audit_words.specs.declared.question.Question.TheVariants.{Arguments}
+use Rattle.audit_words.specs.Laws.{QuestionsWereRefused}
+use Rattle.audit_words.specs.Questions.{question_of}
 
 -- `run` and an argument other than `--help` ask for neither
 run_and_word : (next : List ℕ) (help : Bool) → bytes_eq next (codes "--help") ≡ help → next ≢ codes "--help" → question_of (codes "run" ∷ next ∷ []) ≡ None

@@ -1,7 +1,7 @@
 -- Two lists whose elements correspond in order.
 use Rattle.std.proofs.Common.{ℕ, suc, ◌++◌, List, [], ◌∷◌, arith}
 use Rattle.std.specs.List.{All}
-use Rattle.audit_saving.specs.Paired.{ArePaired}
+use Rattle.plan_runs.specs.Paired.{ArePaired}
 
 -- one more element in each list
 pub paired_push : {A B : Type 0} → (P : A → B → Type 0) (xs : List A) (ys : List B) (x : A) (y : B) → ArePaired P xs ys → P x y → ArePaired P (xs ++ x ∷ []) (ys ++ y ∷ [])

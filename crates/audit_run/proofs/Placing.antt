@@ -6,10 +6,10 @@ use Rattle.audit_model.specs.declared.outcome.Outcome.{Outcome}
 use Rattle.audit_statement.specs.Endings.{IsOpening, opening_from}
 use Rattle.audit_laws.specs.Runs.{IsRunJob}
 use Rattle.report.specs.declared.ended.Ended.{Ended}
-use Rattle.audit_input.specs.declared.opening.Target.{Target}
-use Rattle.audit_input.specs.declared.opening.Opening.{Opening}
-use Rattle.audit_input.specs.Opening.{IsOpened, IsTargetFor, IsTarget}
-use Rattle.audit_walks.specs.RunBuffers.{IsStartOf}
+use Rattle.audit_start.specs.declared.opening.Target.{Target}
+use Rattle.audit_start.specs.declared.opening.Opening.{Opening}
+use Rattle.audit_start.specs.Opening.{IsOpened, IsTargetFor, IsTarget}
+use Rattle.plan_runs.specs.RunBuffers.{IsStartOf}
 use Rattle.audit_laws.specs.Calls.{Finishes}
 use Rattle.audit_model.specs.State.{Kept, Stream}
 

@@ -18,9 +18,9 @@ use Rattle.audit_statement.specs.Words.{setting_of}
 use Rattle.report.specs.declared.ended.Ended.{Ended}
 use Rattle.report.specs.declared.ended.Ended.TheVariants as ended
 use Rattle.report.specs.Ended.{columns_kept, ending_of, word_ended}
-use Rattle.audit_input.specs.declared.reading.ReadEnd.{ReadEnd}
-use Rattle.audit_input.specs.declared.reading.ReadEnd.TheVariants as read
-use Rattle.audit_input.specs.Steps.{ReadsSource}
+use Rattle.audit_start.specs.declared.reading.ReadEnd.{ReadEnd}
+use Rattle.audit_start.specs.declared.reading.ReadEnd.TheVariants as read
+use Rattle.audit_start.specs.Steps.{ReadsSource}
 use Rattle.audit_statement.specs.Accepted.{columns_in, most_bytes}
 use Rattle.audit_statement.specs.Endings.{AddsLine, TellsWhy}
 use Rattle.audit_statement.specs.Several.{ArePlansRefused, PlansEnd, PlansLeave, from_jobs, plans_judged}
@@ -29,7 +29,7 @@ use Rattle.audit_model.specs.State.{Kept, Stream}
 use Rattle.audit_model.specs.Observed.{IfObserved}
 use Rattle.audit_statement.specs.World.{World, world}
 use Rattle.audit_run.specs.Stages.{AreReadyFor, ArePlansReady, IsRefusedSo, PlansRefused, PlansRunTo, plans_ended, read_ended}
-use Rattle.audit_saving.specs.Plans.{ReportsPlans}
+use Rattle.plan_runs.specs.Plans.{ReportsPlans}
 use Rattle.audit_run.proofs.Visiting.{visit_legally}
 
 -- ---- the jobs of bytes

@@ -3,9 +3,9 @@ use Rattle.std.proofs.Common.{ℕ, List, arith}
 use Rattle.audit_model.specs.Faults.{Rose}
 use Rattle.audit_model.specs.State.{SureSlots, Stream}
 use Rattle.audit_statement.specs.Sure.{EachEndsSurely, sure_world}
-use Rattle.program_help.specs.declared.build.Build.{Build}
-use Rattle.program_help.specs.Answers.{AnswersOrAudits}
-use Rattle.program_help.specs.Laws.{QuestionsWereRefused}
+use Rattle.audit_words.specs.declared.build.Build.{Build}
+use Rattle.audit_words.specs.Answers.{AnswersOrAudits}
+use Rattle.audit_words.specs.Laws.{QuestionsWereRefused}
 use Rattle.audit_run.proofs.Asked.{accepted_ask_nothing}
 
 -- a count of 0 did not rise

@@ -15,8 +15,8 @@ use Rattle.audit_statement.specs.Trace.{trace_text}
 use Rattle.audit_statement.specs.World.{World, world}
 use Rattle.audit_laws.specs.Calls.{Finishes}
 use Rattle.audit_laws.proofs.Leaving.{left, saved_left}
-use Rattle.plan_trace.specs.declared.tracing.TraceRange.{TraceRange}
-use Rattle.plan_trace.specs.Tracers.{TracesJob}
+use Rattle.plan_runs.specs.declared.tracing.TraceRange.{TraceRange}
+use Rattle.plan_runs.specs.Tracers.{TracesJob}
 use Rattle.report.specs.declared.ended.Ended.{Ended}
 use Rattle.report.specs.declared.ended.Ended.TheVariants as ended
 

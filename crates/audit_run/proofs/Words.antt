@@ -16,7 +16,7 @@ use Rattle.audit_model.specs.State.{Stream}
 use Rattle.audit_words.proofs.Unnamed.{plans_lack, resume_is, save_is}
 use Rattle.audit_laws.specs.Runs.{AcceptedJobsAreRuns}
 use Rattle.audit_run.specs.Stages.{ArePlansReady}
-use Rattle.audit_saving.specs.Plans.{RunsAlone}
+use Rattle.plan_runs.specs.Plans.{RunsAlone}
 
 -- the command is the one on several plans, and nothing is saved or resumed
 pub record IsPlansSetting (setting : Setting) : Type 0 where

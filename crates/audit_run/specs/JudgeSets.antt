@@ -7,8 +7,8 @@ use Rattle.flip_guard.specs.declared.guard.Guard.{Guard}
 use Rattle.plan_csv.specs.declared.named.Named.{Named}
 use Rattle.region_guard.specs.declared.guard.RegionGuard.{RegionGuard}
 use Rattle.region_guard.specs.Guards.{AreRegionGuards}
-use Rattle.audit_saving.specs.Paired.{ArePaired}
-use Rattle.audit_walks.specs.Guards.{AreGuards}
+use Rattle.plan_runs.specs.Paired.{ArePaired}
+use Rattle.plan_runs.specs.Guards.{AreGuards}
 
 -- `count` constraints of a plan, made from one test of the cut edges
 pub record IsCutJudgeSet {F A : Type 0} (test : F) (count : ℕ) (n : Named) (judges : Vec (Guard F) A) : Type 0 where

@@ -12,9 +12,9 @@ use Rattle.plan_csv.specs.Shared.{AreShared}
 use Rattle.report.specs.declared.ended.Ended.{Ended}
 use Rattle.report.specs.declared.ended.Ended.TheVariants as ended
 use Rattle.report.specs.Ended.{columns_kept, ending_of}
-use Rattle.audit_input.specs.declared.reading.ReadEnd.{ReadEnd}
-use Rattle.audit_input.specs.declared.reading.ReadEnd.TheVariants as read
-use Rattle.audit_input.specs.Steps.{ReadsTooMany}
+use Rattle.audit_start.specs.declared.reading.ReadEnd.{ReadEnd}
+use Rattle.audit_start.specs.declared.reading.ReadEnd.TheVariants as read
+use Rattle.audit_start.specs.Steps.{ReadsTooMany}
 use Rattle.audit_statement.specs.Accepted.{columns_of}
 use Rattle.audit_statement.specs.Several.{ArePrepared, PlansCause, PlansLeave, plans_judged, plans_marks}
 use Rattle.audit_statement.specs.Status.{line_of}

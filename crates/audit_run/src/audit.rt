@@ -4,7 +4,7 @@ ghost use Rattle.std.specs.Prelude.{◌≡◌};
 ghost use Rattle.audit_statement.specs.Due.{LetsDueSaves};
 ghost use Rattle.audit_statement.specs.Several.{names_plans as are_of_plans};
 ghost use Rattle.audit_statement.specs.Whole.{KeepsEachPromise};
-ghost use Rattle.program_help.specs.Answers.{AnswersOrAudits};
+ghost use Rattle.audit_words.specs.Answers.{AnswersOrAudits};
 ghost use Rattle.audit_statement.specs.World.{world};
 ghost use Rattle.audit_words.specs.Spoken.{spoken};
 
@@ -15,7 +15,7 @@ use audit_io::keeper::Keeper;
 use audit_io::sink::Sink;
 use audit_io::source::Source;
 use claim_counter::runtime::Runtime;
-use program_help::{Build, answer, question_of};
+use audit_words::{Build, answer, question_of};
 use std::sync::Wait;
 use std::thread::Threads;
 

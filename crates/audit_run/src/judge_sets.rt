@@ -8,7 +8,7 @@ ghost use Rattle.audit_run.specs.JudgeSets.{AreCutJudgeSets, AreRuledJudgeSets, 
 use audit_model::memory::Memory;
 use audit_model::outcome::SumsView;
 use audit_model::rules::Rules;
-use audit_walks::judges::guards;
+use plan_runs::judges::guards;
 use flip_guard::guard::Guard;
 use plan_csv::named::Named;
 use region_guard::guard::RegionGuard;

@@ -5,7 +5,7 @@ ghost use Rattle.audit_statement.specs.World.{world};
 ghost use Rattle.audit_words.specs.Spoken.{spoken};
 ghost use Rattle.audit_statement.specs.Audited.{AuditsPlainly};
 ghost use Rattle.audit_statement.specs.PlainlyEnded.{EndsPlainly};
-ghost use Rattle.program_help.specs.Answers.{AnswersOrAudits};
+ghost use Rattle.audit_words.specs.Answers.{AnswersOrAudits};
 ghost use Rattle.std.specs.Prelude.{◌≢◌, ◌∷◌, [], codes};
 
 use crate::audit::audit;
@@ -15,8 +15,8 @@ use audit_io::sink::Sink;
 use audit_io::source::Source;
 use audit_laws::plain_laws::{promised_calls_audit_plainly, promised_calls_end_plainly};
 use claim_counter::runtime::Runtime;
-use program_help::Build;
-use program_help::laws::questions_were_refused;
+use audit_words::Build;
+use audit_words::laws::questions_were_refused;
 use std::sync::Wait;
 use std::thread::Threads;
 

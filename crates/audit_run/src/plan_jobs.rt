@@ -10,8 +10,8 @@ ghost use Rattle.audit_model.specs.Observed.{IfObserved};
 ghost use Rattle.audit_statement.specs.World.{world};
 ghost use Rattle.audit_words.specs.Spoken.{spoken};
 
-use audit_input::prepare::word_end;
-use audit_input::reading::{ReadEnd, read_source};
+use audit_start::prepare::word_end;
+use audit_start::reading::{ReadEnd, read_source};
 use audit_io::source::Source;
 use audit_model::fault::PlansFault;
 use audit_model::setting::{Columns, Setting};

@@ -4,13 +4,13 @@ ghost use Rattle.std.specs.Prelude.{◌≡◌, ◌<◌, ℕ, [], List, length, A
 ghost use Rattle.plan_csv.specs.declared.named.Named.{Named as NamedOf};
 ghost use Rattle.plan_csv.specs.Named.{jobs_of};
 ghost use Rattle.audit_run.specs.Alike.{MayRunTogether};
-ghost use Rattle.audit_saving.specs.Plans.{ReportsPlans};
+ghost use Rattle.plan_runs.specs.Plans.{ReportsPlans};
 
 use crate::judge_sets::{cut_judge_sets, ruled_judge_sets};
 use audit_io::gate::Gate;
 use audit_io::sink::Sink;
 use audit_model::outcome::SumsView;
-use audit_saving::plans::report_plans;
+use plan_runs::plans::report_plans;
 use claim_counter::runtime::Runtime;
 use plan_core::job::Job;
 use plan_csv::named::Named;

@@ -13,7 +13,7 @@ ghost use Rattle.audit_words.specs.Spoken.{spoken};
 
 use crate::run::finish_run;
 use crate::trace::finish_trace;
-use audit_input::prepare::prepare;
+use audit_start::prepare::prepare;
 use audit_io::gate::Gate;
 use audit_io::keeper::Keeper;
 use audit_io::sink::Sink;

@@ -2,7 +2,7 @@
 
 ghost use Rattle.audit_statement.specs.Sure.{EachEndsSurely, sure_world};
 ghost use Rattle.audit_words.specs.Spoken.{spoken};
-ghost use Rattle.program_help.specs.Answers.{AnswersOrAudits};
+ghost use Rattle.audit_words.specs.Answers.{AnswersOrAudits};
 
 use crate::audit::audit;
 use audit_io::gate::Gate;
@@ -10,8 +10,8 @@ use audit_io::sink::Sink;
 use audit_io::sure::{SureSink, SureSource};
 use audit_io::sure_keeper::SureKeeper;
 use claim_counter::runtime::Runtime;
-use program_help::Build;
-use program_help::laws::questions_were_refused;
+use audit_words::Build;
+use audit_words::laws::questions_were_refused;
 use std::sync::Wait;
 use std::thread::Threads;
 

@@ -5,13 +5,13 @@ ghost use Rattle.audit_laws.specs.Calls.{Finishes};
 ghost use Rattle.audit_model.specs.Limits.{most_trajectories};
 ghost use Rattle.audit_model.specs.State.{Kept};
 ghost use Rattle.audit_model.specs.declared.setting.Command.TheVariants.{Trace};
-ghost use Rattle.plan_trace.specs.Tracers.{TracesJob};
+ghost use Rattle.plan_runs.specs.Tracers.{TracesJob};
 
 use audit_io::sink::Sink;
 use audit_model::outcome::SumsView;
-use audit_walks::judges::guards;
+use plan_runs::judges::guards;
 use plan_core::job::Job;
-use plan_trace::{TraceRange, trace};
+use plan_runs::{TraceRange, trace};
 use region_guard::judges::region_guards;
 use report::ended::Ended;
 use std::alloc::Global;

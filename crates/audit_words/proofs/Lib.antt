@@ -11,3 +11,5 @@ pub mod Ranges
 pub mod Reading
 pub mod Spelling
 pub mod Unnamed
+mod Lines
+mod Questioning

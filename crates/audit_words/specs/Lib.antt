@@ -1,2 +1,7 @@
+pub mod Answers
+pub mod Arguments
 pub mod Judged
+pub mod Laws
+pub mod Questions
 pub mod Spoken
+pub mod Usage

@@ -22,7 +22,7 @@ use audit_model::lists::UnitList;
 use audit_model::memory::Memory;
 use audit_model::outcome::SumsView;
 use audit_model::rules::Rules;
-use audit_walks::todo::todo_of;
+use plan_runs::todo::todo_of;
 use audit_words::read;
 use case_format::{RunKeeper, begin_case, counting_keeper};
 use ckpt_format::digest::job_digest;

@@ -29,7 +29,7 @@ use audit_run::Runtime;
 use audit_run::audit::audit;
 use audit_run::sure::audit_surely;
 use case_format::{Case, Kind, RunKeeper, SureCase, run_files, sure};
-use program_help::Build;
+use audit_words::Build;
 use std::alloc::Global;
 use std::io;
 use std::sync::Wait;

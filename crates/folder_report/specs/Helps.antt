@@ -4,12 +4,12 @@ use Rattle.std.specs.Prelude.{◌≡◌, ℕ, List, [], ◌∷◌, codes, Option
 use Rattle.audit_model.specs.State.{Stream}
 use Rattle.folder_report.specs.declared.help.FolderProgram.{FolderProgram}
 use Rattle.folder_report.specs.declared.help.FolderProgram.TheVariants.{Slots, Gather}
-use Rattle.program_help.specs.declared.build.Build.{Build}
-use Rattle.program_help.specs.declared.question.Question.{Question}
-use Rattle.program_help.specs.declared.question.Question.TheVariants.{Usage, Version, Arguments}
-use Rattle.program_help.specs.Answers.{TellsText}
-use Rattle.program_help.specs.Questions.{question_of_word, version_text}
-use Rattle.program_help.specs.Usage.{on_lines}
+use Rattle.audit_words.specs.declared.build.Build.{Build}
+use Rattle.audit_words.specs.declared.question.Question.{Question}
+use Rattle.audit_words.specs.declared.question.Question.TheVariants.{Usage, Version, Arguments}
+use Rattle.audit_words.specs.Answers.{TellsText}
+use Rattle.audit_words.specs.Questions.{question_of_word, version_text}
+use Rattle.audit_words.specs.Usage.{on_lines}
 
 -- the question of the arguments
 abbrev pub folder_question : List (List ℕ) → Option Question

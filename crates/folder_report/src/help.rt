@@ -2,11 +2,11 @@
 
 ghost use Rattle.std.specs.Prelude.{◌≡◌, map, string_bytes};
 ghost use Rattle.folder_report.specs.Helps as definition;
-ghost use Rattle.program_help.specs.Answers.{TellsText};
+ghost use Rattle.audit_words.specs.Answers.{TellsText};
 ghost use Rattle.report.specs.Said.{IsSaid};
 
 use audit_io::sink::Sink;
-use program_help::{Build, Question, add_lines, add_version, question_of_word};
+use audit_words::{Build, Question, add_lines, add_version, question_of_word};
 use report::ended::Ended;
 use report::note::tell;
 

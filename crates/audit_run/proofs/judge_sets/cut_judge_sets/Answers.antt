@@ -2,7 +2,7 @@ use Rattle.std.proofs.Common.{◌∙◌, ◌++◌, ◌∷◌, [], List, nat_le, 
 use Rattle.std.proofs.lemmas.List.{take_more}
 use Rattle.audit_model.specs.declared.rules.Rules.{Rules}
 use Rattle.plan_csv.specs.declared.named.Named.{Named}
-use Rattle.audit_saving.specs.Paired.{ArePaired}
+use Rattle.plan_runs.specs.Paired.{ArePaired}
 use Rattle.audit_run.specs.JudgeSets.{IsCutBy, IsCutJudgeSet}
 use Rattle.audit_run.proofs.Pairing.{paired_push}
 use Rattle.audit_run.proofs.judge_sets.cut_judge_sets.Goals as goal

@@ -5,8 +5,8 @@ use Rattle.audit_model.specs.declared.setting.Setting.{Setting}
 use Rattle.audit_model.specs.Job.{Job}
 use Rattle.plan_csv.specs.declared.named.Named.{Named}
 use Rattle.audit_laws.proofs.Running.{run_setting}
-use Rattle.audit_saving.specs.Plans.{RunsAlone}
-use Rattle.audit_walks.proofs.Splitting.{takes_plans}
+use Rattle.plan_runs.specs.Plans.{RunsAlone}
+use Rattle.plan_runs.proofs.Splitting.{takes_plans}
 use Rattle.audit_run.proofs.Likeness.{IsLike, all_like, of_first}
 use Rattle.audit_run.proofs.Pairing.{paired_with}
 use Rattle.audit_run.proofs.plan_reports.report_ruled.Goals as goal

@@ -1,10 +1,10 @@
 use Rattle.std.proofs.Common.{List, Option, sym, subst}
 use Rattle.audit_model.specs.Pair.{Pair}
 use Rattle.audit_model.specs.declared.outcome.Outcome.{Outcome}
-use Rattle.audit_input.specs.declared.opening.Target.{Target}
-use Rattle.audit_input.specs.Opening.{IsTargetFor}
+use Rattle.audit_start.specs.declared.opening.Target.{Target}
+use Rattle.audit_start.specs.Opening.{IsTargetFor}
 use Rattle.audit_statement.specs.Endings.{IsOpening}
-use Rattle.audit_walks.specs.RunBuffers.{IsStartOf}
+use Rattle.plan_runs.specs.RunBuffers.{IsStartOf}
 use Rattle.audit_run.proofs.Placing.{no_target_observed, starts_so, target_observed}
 use Rattle.audit_run.proofs.run.finish_judged.Goals as goal
 

@@ -3,7 +3,7 @@ use Rattle.std.proofs.lemmas.Grind.{common_steps}
 use Rattle.audit_model.specs.declared.rules.Rules.{Rules}
 use Rattle.audit_model.specs.declared.setting.Setting.{Setting}
 use Rattle.plan_core.proofs.Freezing.{frozen_home}
-use Rattle.audit_walks.proofs.Splitting.{own_group, takes_plans}
+use Rattle.plan_runs.proofs.Splitting.{own_group, takes_plans}
 use Rattle.audit_laws.proofs.Running.{run_setting}
 use Rattle.audit_run.proofs.run.finish_ruled.Goals as goal
 

@@ -1,5 +1,5 @@
 use Rattle.std.proofs.Common.{sym, subst}
-use Rattle.audit_input.specs.Opening.{IsOpened}
+use Rattle.audit_start.specs.Opening.{IsOpened}
 use Rattle.audit_model.specs.State.{Kept}
 use Rattle.audit_statement.specs.Due.{LetsSavesOf}
 use Rattle.audit_run.proofs.Placing.{goes_on}

@@ -1,5 +1,5 @@
 use Rattle.std.proofs.Common.{◌<◌, ◌≤◌, ℕ, sym, subst}
-use Rattle.plan_trace.specs.declared.tracing.TraceRange.{TraceRange}
+use Rattle.plan_runs.specs.declared.tracing.TraceRange.{TraceRange}
 use Rattle.audit_run.proofs.Tracing.{good_range, traced_ends}
 use Rattle.audit_run.proofs.trace.finish_trace.Goals as goal
 

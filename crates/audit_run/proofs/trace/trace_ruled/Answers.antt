@@ -2,7 +2,7 @@ use Rattle.std.proofs.Common.{◌∙◌, ap, arith, rules, sym}
 use Rattle.std.proofs.lemmas.Grind.{common_steps}
 use Rattle.audit_model.specs.declared.rules.Rules.{Rules}
 use Rattle.plan_core.proofs.Freezing.{frozen_home}
-use Rattle.audit_walks.proofs.Splitting.{own_group, takes_plans}
+use Rattle.plan_runs.proofs.Splitting.{own_group, takes_plans}
 use Rattle.audit_run.proofs.trace.trace_ruled.Goals as goal
 
 pub region_guards-requires-clause-group : goal.region_guards-requires-clause-group

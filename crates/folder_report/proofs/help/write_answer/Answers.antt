@@ -1,6 +1,6 @@
 use Rattle.std.proofs.Common.{ap, refl}
 use Rattle.std.proofs.KnownBytes.{Appends-nil}
-use Rattle.program_help.specs.Usage.{on_lines}
+use Rattle.audit_words.specs.Usage.{on_lines}
 use Rattle.folder_report.proofs.Texts.{adds_as, said_of}
 use Rattle.folder_report.proofs.help.write_answer.Goals as goal
 

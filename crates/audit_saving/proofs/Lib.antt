@@ -1,5 +1,0 @@
-mod Desked
-mod Placing
-mod Reported
-mod Saved
-mod Turning

@@ -1,9 +1,0 @@
-use Rattle.audit_saving.specs.Plans.{plan_title}
-use Rattle.audit_saving.proofs.Reported.{writes_part, writes_then}
-use Rattle.audit_saving.proofs.plans.write_plan.Goals as goal
-
-pub returns-in-Err : goal.returns-in-Err
-returns-in-Err g c = writes_part (g.K.Sink.state c.args.out.now) (g.K.Sink.state c.write_title.new.out) (plan_title c.args.name.now) c.args.text.now c.in-Err.field-0 c.in-Err.field-0 c.in-Err.ensures
-
-pub returns-in-Ok : goal.returns-in-Ok
-returns-in-Ok g c = writes_then (g.K.Sink.state c.args.out.now) (g.K.Sink.state c.write_title.new.out) (g.K.Sink.state c.write_all.new.out) (plan_title c.args.name.now) c.args.text.now c.write_all.result c.in-Ok.ensures c.write_all.ensures

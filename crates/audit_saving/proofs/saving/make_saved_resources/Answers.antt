@@ -1,9 +1,0 @@
-use Rattle.audit_saving.proofs.saving.make_saved_resources.Goals as goal
-
-pub returns-clause-resources : goal.returns-clause-resources
-returns-clause-resources g c = record {
-  ready = c.in_ok-ready.ensures.ready;
-  pool = c.in_ok-pool.ensures.pool;
-  room = c.in_ok-ready.ensures.room;
-  tester = c.in_ok-pool.ensures.tester;
-}

@@ -1,6 +1,0 @@
-pub mod Ending
-pub mod Found
-pub mod Guards
-pub mod Resources
-pub mod RunBuffers
-pub mod Serially

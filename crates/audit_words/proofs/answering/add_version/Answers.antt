@@ -1,0 +1,16 @@
+use Rattle.std.proofs.Common.{[], ◌∷◌, codes, true, refl}
+use Rattle.audit_statement.specs.Report.{line}
+use Rattle.report.specs.Said.{AddsText}
+use Rattle.audit_words.proofs.Lines.{adds_as, adds_both, said_of}
+use Rattle.audit_words.proofs.answering.add_version.Goals as goal
+
+pub returns : goal.returns
+returns g c =
+    let build = c.args.build.now in
+    let first : AddsText (g.O.Sink.state c.args.out.now) (g.O.Sink.state c.add_line-going.new.note) true (line (c.args.program.now ∷ build.version.now ∷ [])) c.add_line-going.result
+    = adds_as c.add_line-going.ensures refl in
+    let second : AddsText (g.O.Sink.state c.add_line-going.new.note) (g.O.Sink.state c.add_line-going-2.new.note) c.add_line-going.result (line (codes "commit" ∷ build.commit.now ∷ [])) c.add_line-going-2.result
+    = adds_as c.add_line-going-2.ensures refl in
+    let third : AddsText (g.O.Sink.state c.add_line-going-2.new.note) (g.O.Sink.state c.add_line.new.note) c.add_line-going-2.result (line (build.kit.now ∷ [])) c.add_line.result
+    = adds_as c.add_line.ensures refl in
+    said_of (adds_both (adds_both first second) third)

@@ -1,0 +1,94 @@
+//! The answer to arguments that ask for help or the version.
+
+ghost use Rattle.std.specs.Prelude.{◌≡◌, map};
+ghost use Rattle.audit_statement.specs.Report.{line};
+ghost use Rattle.audit_words.specs.Answers.{TellsText};
+ghost use Rattle.audit_words.specs.Arguments as definition;
+ghost use Rattle.audit_words.specs.Questions.{answer_to, version_text};
+ghost use Rattle.audit_words.specs.Usage.{command_lines, on_lines};
+ghost use Rattle.report.specs.Said.{AddsText, IsSaid};
+
+use crate::arguments::argument_text;
+use crate::build::Build;
+use crate::question::Question;
+use crate::usage::{foot_of, head_of, usage_lines};
+use audit_io::sink::Sink;
+use audit_model::fault::Name;
+use audit_model::setting::Command;
+use crate::names::names_of;
+use report::ended::Ended;
+use report::note::{add_line, tell};
+use report::piece::Piece::Text;
+
+/// Appends lines if nothing has failed before. Returns true if nothing has failed.
+pub fn add_lines<O: Sink>(out: &mut O, going: bool, lines: &[&str]) -> bool
+    ensures { AddsText (O.state out.old) (O.state out.new) going (on_lines (map (λ l. l.now) lines.now)) result }
+{
+    let mut going = going;
+    for line in lines {
+        going = add_line(out, going, &[], &[Text(line)]);
+    }
+    going
+}
+
+// Appends a line for each argument if nothing has failed before. Returns true if nothing has
+// failed.
+fn add_arguments<O: Sink>(out: &mut O, going: bool, names: &[Name]) -> bool
+    ensures { AddsText (O.state out.old) (O.state out.new) going (on_lines (map definition.argument_text names.now)) result }
+{
+    let mut going = going;
+    for name in names {
+        going = add_line(out, going, &[], &[Text(argument_text(*name))]);
+    }
+    going
+}
+
+// Writes the usage of a command. Returns true if nothing failed.
+fn add_command<O: Sink>(out: &mut O, command: Command) -> bool
+    ensures { IsSaid (O.state out.old) (O.state out.new) (on_lines (command_lines command)) result }
+{
+    let going = add_lines(out, true, head_of(command));
+    let going = add_arguments(out, going, names_of(command));
+    add_lines(out, going, foot_of(command))
+}
+
+/// Writes the version of a program. Returns true if nothing failed.
+pub fn add_version<'x, O: Sink>(out: &mut O, program: &'x str, build: &Build<'x>) -> bool
+    ensures { IsSaid (O.state out.old) (O.state out.new) (version_text program.now build.now) result }
+{
+    let going = add_line(
+        out,
+        true,
+        &[],
+        &[Text(program), Text(" "), Text(build.version)],
+    );
+    let going = add_line(out, going, &[], &[Text("commit "), Text(build.commit)]);
+    add_line(out, going, &[], &[Text(build.kit)])
+}
+
+// Writes the answer to a question. Returns true if nothing failed.
+fn write_answer<O: Sink>(out: &mut O, build: &Build<'_>, question: Question) -> bool
+    ensures { IsSaid (O.state out.old) (O.state out.new) (answer_to build.now question) result }
+{
+    match question {
+        Question::Usage => add_lines(out, true, usage_lines()),
+        Question::Version => add_version(out, "district-audit", build),
+        Question::Arguments(command) => add_command(out, command),
+    }
+}
+
+/// Writes the auditor's answer to a question. Returns the exit status: 0, or 5 if a write failed,
+/// with a line on `note`.
+pub fn answer<O: Sink, N: Sink>(
+    build: &Build<'_>,
+    question: Question,
+    out: &mut O,
+    note: &mut N,
+) -> u8
+    ensures { TellsText (answer_to build.now question) (O.state out.old) (O.state out.new) (N.state note.old) (N.state note.new) result }
+{
+    if write_answer(out, build, question) {
+        return 0;
+    }
+    tell(&Ended::WriteFault, note)
+}

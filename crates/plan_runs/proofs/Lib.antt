@@ -1,0 +1,13 @@
+pub mod EarlyStops
+pub mod Plain
+pub mod Splitting
+pub mod Strides
+pub mod Telling
+pub mod Tracing
+mod Desked
+mod Finished
+mod Placing
+mod Reported
+mod Saved
+mod Testing
+mod Turning

@@ -1,0 +1,106 @@
+-- Several plans, walked one after the other.
+use Rattle.std.proofs.Common.{◌≡◌, ◌⊎◌, inl, inr, ℕ, zero, suc, ◌<◌, ◌≤◌, ◌++◌, List, [], ◌∷◌, length, length-append, Result, Ok, Err, refl, sym, ap, ◌∙◌, subst, arith}
+use Rattle.std.proofs.lemmas.Bool.{cases_lt}
+use Rattle.audit_io.specs.declared.source.Failed.{Failed}
+use Rattle.audit_model.specs.Faults.{Rose}
+use Rattle.audit_model.specs.State.{Stream}
+use Rattle.audit_model.specs.declared.outcome.Outcome.{Outcome}
+use Rattle.audit_model.specs.Job.{Job}
+use Rattle.audit_model.specs.Below.{map_below}
+use Rattle.audit_model.specs.Run.{total}
+use Rattle.audit_model.specs.Serially.{serial_observed}
+use Rattle.audit_model.specs.Trajectory.{Draws, outcome, sequence}
+use Rattle.audit_model.proofs.Resumed.{full_is_sequence}
+use Rattle.audit_statement.specs.Draw.{draw}
+use Rattle.audit_statement.specs.Report.{full_report, plan_text, plans_text, report, thread_report}
+use Rattle.report.specs.Outcomes.{reported}
+use Rattle.report.specs.Said.{WritesAllOf}
+use Rattle.report.proofs.Appended.{appends_more, appends_nothing, part_after, part_of_more}
+use Rattle.audit_statement.specs.Endings.{full_of}
+use Rattle.audit_laws.specs.Runs.{AreAll}
+use Rattle.audit_laws.proofs.Running.{leaves_none}
+use Rattle.audit_laws.proofs.Starting.{every_id, none_right}
+use Rattle.plan_runs.specs.declared.found.Found.{Found}
+use Rattle.plan_runs.specs.Found.{HasFound, TellsAll, listed_in, observed_in}
+use Rattle.plan_runs.proofs.Telling.{length-listed}
+use Rattle.plan_runs.specs.Plans.{RunsAlone}
+
+-- ---- one text after another
+
+-- a text that was written in full, followed by another
+pub writes_then : (a b c : Stream) (xs ys : List ℕ) (r : Result (Unit {0}) Failed) → WritesAllOf a b xs (Ok tt) → WritesAllOf b c ys r → WritesAllOf a c (xs ++ ys) r
+writes_then a b c xs ys (Ok done) p q = (appends_more a.bytes b.bytes c.bytes xs ys p.0 q.0, q.1 ∙ p.1)
+writes_then a b c xs ys (Err failed) p q =
+    (part_after a.bytes b.bytes c.bytes xs ys p.0 q.0, subst (λ (k : ℕ). Rose k c.faults) p.1 q.1)
+
+-- a text that was written in part
+pub writes_part : (a b : Stream) (xs ys : List ℕ) (failed other : Failed) → WritesAllOf a b xs (Err failed) → WritesAllOf a b (xs ++ ys) (Err other)
+writes_part a b xs ys failed other p = (part_of_more a.bytes b.bytes xs ys p.0, p.1)
+
+-- ---- the reports of all plans
+
+-- without plans nothing is written
+pub texts_none : (draws : Draws) → plans_text draws [] ≡ []
+unfolding plans_text
+texts_none draws = refl
+
+-- the text of the first plan, followed by those of the others
+pub texts_first : (draws : Draws) (plan : List ℕ × Job) (rest : List (List ℕ × Job)) → plans_text draws (plan ∷ rest) ≡ plan_text draws plan ++ plans_text draws rest
+unfolding plans_text
+texts_first draws plan rest = refl
+
+-- the texts of the plans, if the first was written in full
+pub plans_go_on : (draws : Draws) (a b c : Stream) (left rest : List (List ℕ × Job)) (plan : List ℕ × Job) (r : Result (Unit {0}) Failed) → left ≡ plan ∷ rest
+    → WritesAllOf a b (plan_text draws plan) (Ok tt) → WritesAllOf b c (plans_text draws rest) r → WritesAllOf a c (plans_text draws left) r
+plans_go_on draws a b c left rest plan r is p q =
+    subst (λ (text : List ℕ). WritesAllOf a c text r) (sym (ap (plans_text draws) is ∙ texts_first draws plan rest))
+    (writes_then a b c (plan_text draws plan) (plans_text draws rest) r p q)
+
+-- if the first text was not written in full, nothing follows it
+pub plans_break : (draws : Draws) (a b : Stream) (left rest : List (List ℕ × Job)) (plan : List ℕ × Job) (failed other : Failed) → left ≡ plan ∷ rest
+    → WritesAllOf a b (plan_text draws plan) (Err failed) → WritesAllOf a b (plans_text draws left) (Err other)
+plans_break draws a b left rest plan failed other is p =
+    subst (λ (text : List ℕ). WritesAllOf a b text (Err other)) (sym (ap (plans_text draws) is ∙ texts_first draws plan rest))
+    (writes_part a b (plan_text draws plan) (plans_text draws rest) failed other p)
+
+-- if no plan is left, the text is complete
+pub plans_end : (draws : Draws) (a : Stream) (left : List (List ℕ × Job)) → left ≡ [] → WritesAllOf a a (plans_text draws left) (Ok tt)
+plans_end draws a left is =
+    subst (λ (text : List ℕ). WritesAllOf a a text (Ok tt)) (sym (ap (plans_text draws) is ∙ texts_none draws)) (appends_nothing a.bytes, refl)
+
+-- ---- the report of one plan
+
+-- the table of a function below n has n entries
+length-below : {A : Type 0} (n : ℕ) (f : ℕ → A) → length (map_below n f) ≡ n
+length-below zero f = refl
+length-below (suc n) f = omega (arith, length-append (map_below n f) (f n ∷ []), length-below n f)
+
+module _ (job : Job) (by : RunsAlone job) where
+  -- all outcomes of a run without initial outcomes are those of one thread
+  all_are_one : (outcomes : List Outcome) → AreAll job [] outcomes → outcomes ≡ sequence job (draw job.setting.key)
+  all_are_one outcomes all =
+      let draws = draw job.setting.key in
+      let whole : full_of job [] ≡ sequence job draws =
+      full_is_sequence job draws [] (none_right job draws) job.setting.budget (every_id job [] (leaves_none job [] by.run by.unsaved)) in
+      all.full ∙ whole
+
+  -- the number of outcomes is the number of trajectories
+  all_observed : (outcomes : List Outcome) → AreAll job [] outcomes → total job ≤ length outcomes
+  unfolding sequence
+  all_observed outcomes all = omega (arith, ap length (all_are_one outcomes all), length-below (total job) (outcome job (draw job.setting.key)))
+
+  -- no outcome of the report is missing
+  pub none_short : (f : Found) → HasFound job [] f → reported job ≤ f.listed
+  none_short f has = by_order (cases_lt f.listed (reported job))
+    where
+      by_order : (f.listed < reported job) ⊎ (reported job ≤ f.listed) → reported job ≤ f.listed
+      by_order (inl less) =
+          let left = has.short less in
+          absurd (omega (arith, less, left.due, length-listed f has.tellable.enough, all_observed (listed_in f) left.all))
+      by_order (inr enough) = enough
+
+  -- the report on the outcomes is the report of one thread
+  pub thread_observed : (f : Found) → TellsAll job [] f → report job (listed_in f) (observed_in f) (serial_observed job (draw job.setting.key)) ≡ thread_report job (draw job.setting.key)
+  unfolding thread_report
+  thread_observed f tells =
+      tells.same ∙ ap (λ (os : List Outcome). full_report job (draw job.setting.key) os) (all_are_one tells.outcomes tells.all)

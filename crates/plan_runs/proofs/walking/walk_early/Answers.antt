@@ -1,0 +1,23 @@
+use Rattle.std.proofs.Common.{◌∙◌, ap, length, List}
+use Rattle.audit_model.specs.declared.outcome.Outcome.{Outcome}
+use Rattle.audit_model.specs.declared.setting.Setting.{Setting}
+use Rattle.audit_model.specs.Run.{run_ids}
+use Rattle.plan_runs.proofs.EarlyStops.{all_walked}
+use Rattle.plan_runs.proofs.Telling.{early_found}
+use Rattle.plan_runs.proofs.walking.walk_early.Goals as goal
+
+pub walk_to_stops-stops-requires-clause-ids : goal.walk_to_stops-stops-requires-clause-ids
+walk_to_stops-stops-requires-clause-ids g c κs within =
+    let job = c.args.job.now in
+    let ready = c.requires.ready in
+    let early = c.requires.workers.early in
+    c.as_slice.ensures ∙ ready.ids ∙ ap (λ (os : List Outcome). run_ids job os job.setting.budget) (ready.start.fresh early) ∙ all_walked job ready.start.run early
+
+pub returns : goal.returns
+returns g c =
+    let walked = c.walk_to_stops-stops.ensures in
+    let ready = c.requires.ready in
+    early_found c.args.job.now ready.start.run c.requires.workers.early c.args.ready.book.outcomes (ready.start.fresh c.requires.workers.early) _ walked.in_time
+    (ap (λ (s : Setting). s.walks) c.setting-setting.ensures)
+    (c.len.ensures ∙ ap (λ (s : Setting). length s.asks) c.setting-setting.ensures)
+    walked.stops walked.parts walked.four ready.blank ready.report_room

@@ -1,0 +1,11 @@
+pub mod Ending
+pub mod Found
+pub mod Guards
+pub mod Paired
+pub mod Pens
+pub mod Plans
+pub mod Resources
+pub mod RunBuffers
+pub mod Saving
+pub mod Serially
+pub mod Tracers

@@ -1,0 +1,78 @@
+//! The next line of a trace.
+
+ghost use Rattle.std.specs.Prelude.{◌≡◌, ◌≤◌, ◌+◌, length, IfOk};
+ghost use Rattle.audit_statement.specs.Along.{ask_values};
+ghost use Rattle.audit_statement.specs.Trace as definition;
+ghost use Rattle.plan_runs.specs.Pens.{IsPen};
+
+use audit_model::buffers::Bytes;
+use audit_model::lists::UnitList;
+use audit_model::memory::Memory;
+use flip_guard::judge::Judge;
+use plan_core::job::Job;
+use report::trace::{plan_line, plan_line_room, trajectory_line};
+use std::alloc::Global;
+use walker::walker::Walker;
+
+/// The previous plan, and a buffer for the next line with capacity for any legal plan.
+#[derive(Drop)]
+pub struct Pen {
+    pub before: UnitList,
+    pub line: Bytes,
+}
+
+/// Allocates a pen.
+pub fn make_pen(alloc: Global, job: &Job) -> Result<Pen, Memory>
+    ensures { IfOk result (λ p. IsPen job.now p) }
+{
+    let line = Bytes::with_room(alloc, plan_line_room(job))?;
+    let before = job.start().copy()?;
+    Ok(Pen { before, line })
+}
+
+/// Copies a plan over another.
+fn keep(before: &mut UnitList, plan: &[u32])
+    requires { length before.old ≡ length plan.now }
+    ensures { before.new ≡ plan.now }
+{
+    before.as_mut_slice().copy_from_slice(plan);
+}
+
+/// Fills the buffer with the line that starts a trajectory. The trajectory's first plan is compared with the start
+/// plan. Allocates nothing.
+pub fn start_trajectory(job: &Job, id: u32, thin: u32, pen: &mut Pen)
+    requires { IsPen job.now pen.old }
+    ensures pen { IsPen job.now pen.new }
+    ensures line { pen.new.line.items ≡ definition.trace_id_line job.now id thin }
+    ensures before { pen.new.before ≡ job.now.start }
+{
+    pen.line.clear();
+    trajectory_line(job, id, thin, &mut pen.line);
+    keep(&mut pen.before, job.start().as_slice());
+}
+
+/// Fills the buffer with the line of the walker's current plan, after this many steps and moves. Allocates nothing.
+pub fn put_plan<J: Judge>(job: &Job, walker: &mut Walker<J>, step: u32, moved: u32, pen: &mut Pen)
+    requires made { walker.old.job ≡ job.now }
+    requires pen { IsPen job.now pen.old }
+    ensures pen { IsPen job.now pen.new }
+    ensures line { pen.new.line.items ≡ definition.plan_line step moved (ask_values job.now walker.old.plan) pen.old.before walker.old.plan }
+    ensures before { pen.new.before ≡ walker.old.plan }
+    ensures same { walker.new ≡ walker.old }
+{
+    // Called for its contract: the job is within its limits.
+    let _units = job.units();
+    let values = walker.values(job);
+    let asks = job.setting().asks.len();
+    let plan = walker.plan().as_slice();
+    pen.line.clear();
+    plan_line(
+        step,
+        moved,
+        &values[..asks],
+        pen.before.as_slice(),
+        plan,
+        &mut pen.line,
+    );
+    keep(&mut pen.before, plan);
+}

@@ -1,0 +1,111 @@
+//! Walks a run that saves nothing, in one part or until each of its tests has stopped.
+
+ghost use Rattle.std.specs.Prelude.{◌≡◌, false, length};
+ghost use Rattle.audit_statement.specs.Endings.{IsOpening, saves};
+ghost use Rattle.audit_laws.specs.Calls.{Finishes};
+ghost use Rattle.audit_model.specs.State.{Kept};
+ghost use Rattle.plan_runs.specs.Ending.{ended_as};
+ghost use Rattle.plan_runs.specs.Found.{HasFound};
+ghost use Rattle.plan_runs.specs.Resources.{AreWorkersFor, AreWorkersForAll, AreWorkersForStops, IsResourcesFor};
+ghost use Rattle.plan_runs.specs.RunBuffers.{AreBuffersFor};
+
+use crate::ending::{Finished, end_run};
+use crate::found::Found;
+use crate::ready::RunBuffers;
+use crate::resources::{Resources, Workers};
+use audit_io::gate::Gate;
+use audit_io::sink::Sink;
+use claim_counter::pool::WorkerPool;
+use claim_counter::runtime::Runtime;
+use claim_counter::walking::walk_run;
+use flip_guard::judge::Judge;
+use plan_core::job::Job;
+use sequential_test::pool::StoppingPool;
+use sequential_test::walking::walk_to_stops;
+use std::thread::Threads;
+
+// Walks all pending trajectories.
+fn walk_all<R: Threads + Sync, J: Judge + Send, G: Gate + Sync>(
+    rt: &Runtime<'_, R, G>,
+    job: &Job,
+    ready: RunBuffers,
+    pool: WorkerPool<J>,
+) -> Found
+    requires ready { AreBuffersFor job.now ready }
+    requires workers { AreWorkersForAll job.now (length ready.todo) pool }
+    ensures { HasFound job.now ready.book.outcomes result }
+{
+    let RunBuffers {
+        mut book,
+        todo,
+        mut sorted,
+        text,
+    } = ready;
+    walk_run(rt, job, todo.as_slice(), pool, &mut book, &mut sorted);
+    Found::all(sorted, text)
+}
+
+// Walks all outlier trajectories, then endpoint trajectories in rounds, until every test has stopped.
+fn walk_early<R: Threads + Sync, J: Judge + Send, G: Gate + Sync>(
+    rt: &Runtime<'_, R, G>,
+    job: &Job,
+    ready: RunBuffers,
+    pool: StoppingPool<J>,
+) -> Found
+    requires ready { AreBuffersFor job.now ready }
+    requires workers { AreWorkersForStops job.now pool }
+    ensures { HasFound job.now ready.book.outcomes result }
+{
+    let RunBuffers {
+        mut book,
+        todo,
+        mut sorted,
+        text,
+    } = ready;
+    let stops = walk_to_stops(rt, job, todo.as_slice(), pool, &mut book, &mut sorted);
+    let setting = job.setting();
+    Found {
+        sorted,
+        listed: setting.walks as usize,
+        stops,
+        observed: setting.asks.len(),
+        text,
+    }
+}
+
+/// Walks the pending trajectories with these workers. Allocates nothing.
+pub fn walk<R: Threads + Sync, J: Judge + Send, G: Gate + Sync>(
+    rt: &Runtime<'_, R, G>,
+    job: &Job,
+    ready: RunBuffers,
+    workers: Workers<J>,
+) -> Found
+    requires ready { AreBuffersFor job.now ready }
+    requires workers { AreWorkersFor job.now (length ready.todo) workers }
+    ensures { HasFound job.now ready.book.outcomes result }
+{
+    match workers {
+        Workers::All(pool) => walk_all(rt, job, ready, pool),
+        Workers::Early(pool) => walk_early(rt, job, ready, pool),
+    }
+}
+
+/// Walks a run that saves nothing, and writes the report. Allocates nothing.
+pub fn finish_unsaved<R: Threads + Sync, K: Sink, J: Judge + Send, G: Gate + Sync>(
+    rt: &Runtime<'_, R, G>,
+    job: &Job,
+    resources: Resources<J>,
+    out: &mut K,
+) -> Finished
+    requires unsaved { saves job.now.setting ≡ false }
+    requires resources { IsResourcesFor job.now resources }
+    ensures { (k : Kept) → IsOpening job.now k.slots resources.ready.book.outcomes → Finishes job.now (K.state out.old) (K.state out.new) k k (ended_as result) }
+{
+    let Resources {
+        ready,
+        workers,
+        tester,
+    } = resources;
+    let found = walk(rt, job, ready, workers);
+    end_run(job, found, tester, Ok(()), out)
+}

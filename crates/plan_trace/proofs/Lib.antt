@@ -1,2 +1,0 @@
-pub mod Strides
-pub mod Telling

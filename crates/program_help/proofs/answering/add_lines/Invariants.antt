@@ -1,8 +1,0 @@
-use Rattle.std.proofs.Common.{map, take}
-use Rattle.program_help.specs.Usage.{on_lines}
-use Rattle.report.specs.Said.{AddsText}
-use Rattle.program_help.proofs.answering.add_lines.Given as goal
-
-abbrev pub invariant-loop-line : goal.invariant-loop-line
-invariant-loop-line g l =
-    AddsText (g.O.Sink.state l.fn.out) (g.O.Sink.state l.out) l.fn.going (on_lines (map (λ t. t.now) (take l.line-index l.lines))) l.going
