@@ -5,7 +5,7 @@ use Rattle.std.specs.IoError.{error_kind}
 use Rattle.std_io.specs.declared.io.error.Error.{Error}
 use Rattle.std_io.specs.declared.io.kind.ErrorKind.{ErrorKind}
 use Rattle.std_io.specs.declared.io.kind.ErrorKind.TheVariants.{AlreadyExists, InvalidInput, NotFound, Unsupported}
-use Rattle.audit_io.specs.declared.file_calls.Found.{Found}
+use Rattle.audit_io.specs.declared.file_calls.FileEntry.{FileEntry}
 use Rattle.audit_io.specs.Files.{file_name}
 
 -- a call on files: to look at what stands in the place of a name, and what was found there; to look there, also if it
@@ -13,7 +13,7 @@ use Rattle.audit_io.specs.Files.{file_name}
 -- name where there is none; to open the one that is there, and empty it; to write all these bytes to the file that was
 -- made or emptied last; and to wait until that file is stored
 pub data What : Type 0 where
-  looked : List ℕ → Option Found → What
+  looked : List ℕ → Option FileEntry → What
   looked_at_link : List ℕ → What
   locked : List ℕ → Bool → What
   opened : List ℕ → What

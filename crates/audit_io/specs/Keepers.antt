@@ -7,7 +7,7 @@ use Rattle.std_io.specs.declared.io.kind.ErrorKind.{ErrorKind}
 use Rattle.std_io.specs.declared.io.kind.ErrorKind.TheVariants.{NotFound, OutOfMemory}
 use Rattle.audit_io.specs.declared.keeper.LoadError.{LoadError}
 use Rattle.audit_io.specs.declared.keeper.LoadError.TheVariants as load
-use Rattle.audit_io.specs.declared.file_calls.Found.{Found}
+use Rattle.audit_io.specs.declared.file_calls.FileEntry.{FileEntry}
 use Rattle.audit_io.specs.Files.{LoadsFile, file_name}
 use Rattle.audit_io.specs.FileCalls.{Call, answered, called, error_of, here, locked, looked}
 use Rattle.audit_io.specs.Looks.{HasOpened, HasOpenedSlot, HasSaved, are_one, kinds}
@@ -47,8 +47,8 @@ within folder name = folder ++ codes "/" ++ name
 
 -- the calls since look at a folder and at the working folder, and say whether they are one
 pub record HasComparedHere (before after : Option (List Call)) (folder : List ℕ) (same : Bool) : Type 0 where
-  pub one : Result Found Error
-  pub other : Result Found Error
+  pub one : Result FileEntry Error
+  pub other : Result FileEntry Error
   pub calls : after ≡ called (called before (looked folder (answered one)) (error_of one)) (looked here (answered other)) (error_of other)
   pub is : same ≡ are_one (kinds one) (kinds other)
 

@@ -12,7 +12,7 @@ use std::{fs, io};
 
 /// The file, folder or device in the place of a name.
 #[derive(Clone, Copy)]
-pub struct Found {
+pub struct FileEntry {
     /// It is a plain file.
     pub is_plain: bool,
     /// The number of its device.
@@ -34,7 +34,7 @@ pub trait FileCalls {
     ghost calls: { Self → Option (List Call) };
 
     /// Looks at what stands in the place of a name. Follows links.
-    fn look(&mut self, name: &str) -> io::Result<Found>
+    fn look(&mut self, name: &str) -> io::Result<FileEntry>
         ensures { calls self.new ≡ called (calls self.old) (looked name.now (answered result)) (error_of result) };
 
     /// Looks at what stands in the place of a name, also if it is a link to nothing.
@@ -81,8 +81,8 @@ impl<'a, R: Files> SystemCalls<'a, R> {
 }
 
 // Returns what the system says of a name.
-fn found_in(found: Metadata) -> Found {
-    Found {
+fn entry_of(found: Metadata) -> FileEntry {
+    FileEntry {
         is_plain: found.is_file(),
         device: found.dev(),
         node: found.ino(),
@@ -96,9 +96,9 @@ impl<R: Files> FileCalls for SystemCalls<'_, R> {
 
     ghost calls = { λ _. None };
 
-    fn look(&mut self, name: &str) -> io::Result<Found> {
+    fn look(&mut self, name: &str) -> io::Result<FileEntry> {
         match fs::metadata(self.files, name) {
-            Ok(found) => Ok(found_in(found)),
+            Ok(found) => Ok(entry_of(found)),
             Err(error) => Err(error),
         }
     }

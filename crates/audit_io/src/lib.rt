@@ -26,7 +26,7 @@ pub mod stop_keeper;
 pub mod sure;
 pub mod sure_keeper;
 
-pub use file_calls::{FileCalls, Found, SystemCalls};
+pub use file_calls::{FileCalls, FileEntry, SystemCalls};
 pub use file_keeper::FileKeeper;
 pub use folder_calls::FolderCalls;
 pub use folder_keeper::FolderKeeper;

@@ -6,7 +6,7 @@ ghost use Rattle.audit_io.specs.FileCalls.{answered, error_of};
 ghost use Rattle.audit_io.specs.Files.{file_name};
 ghost use Rattle.audit_io.specs.Looks.{HasCheckedPlace, HasCompared, HasLookedFor, HasOpened, HasOpenedSlot, HasSeen, HasSeenLink, are_one, kinds};
 
-use crate::file_calls::{FileCalls, Found};
+use crate::file_calls::{FileCalls, FileEntry};
 use std::io;
 use std::io::ErrorKind;
 
@@ -22,7 +22,7 @@ pub(crate) fn name_of(slot: u8) -> &'static str
 }
 
 // Refuses a link to nothing where a name was not found.
-fn refuse_link<D: FileCalls>(disk: &mut D, name: &str, error: io::Error) -> io::Result<Found>
+fn refuse_link<D: FileCalls>(disk: &mut D, name: &str, error: io::Error) -> io::Result<FileEntry>
     ensures { HasSeenLink (D.calls disk.old) (D.calls disk.new) name.now (error_kind error) (kinds result) }
 {
     match disk.look_at_link(name) {
@@ -33,7 +33,7 @@ fn refuse_link<D: FileCalls>(disk: &mut D, name: &str, error: io::Error) -> io::
 
 // Returns what stands in the place of a name, if it is a plain file or a link to one. A link to nothing is there, and
 // is no plain file.
-fn plain_file<D: FileCalls>(disk: &mut D, name: &str) -> io::Result<Found>
+fn plain_file<D: FileCalls>(disk: &mut D, name: &str) -> io::Result<FileEntry>
     ensures { HasSeen (D.calls disk.old) (D.calls disk.new) name.now (kinds result) }
 {
     match disk.look(name) {
@@ -62,7 +62,7 @@ pub fn open_plain<D: FileCalls>(disk: &mut D, name: &str) -> io::Result<D::Opene
 }
 
 // Returns whether both are one file.
-pub(crate) fn are_same(first: &io::Result<Found>, second: &io::Result<Found>) -> bool
+pub(crate) fn are_same(first: &io::Result<FileEntry>, second: &io::Result<FileEntry>) -> bool
     ensures { result ≡ are_one (kinds first.now) (kinds second.now) }
 {
     match (first, second) {

@@ -10,12 +10,12 @@ ghost use Rattle.report.specs.Said.{AddsText, IsSaid};
 
 use crate::arguments::argument_text;
 use crate::build::Build;
+use crate::names::names_of;
 use crate::question::Question;
 use crate::usage::{foot_of, head_of, usage_lines};
 use audit_io::sink::Sink;
 use audit_model::fault::Name;
 use audit_model::setting::Command;
-use crate::names::names_of;
 use report::ended::Ended;
 use report::note::{add_line, tell};
 use report::piece::Piece::Text;

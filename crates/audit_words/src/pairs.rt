@@ -51,7 +51,7 @@ pub fn is_repeated(words: &[String], place: usize) -> bool
 }
 
 /// Returns the value of the first pair with this name.
-pub fn given(words: &[String], name: Name) -> Option<&str>
+pub fn find_value(words: &[String], name: Name) -> Option<&str>
     ensures { option_map (λ s. s.now) result ≡ definition.given command.Check (pairs_in words.now) name }
 {
     for k in 0..count(words) {
@@ -66,7 +66,7 @@ pub fn given(words: &[String], name: Name) -> Option<&str>
 pub fn value_of(words: &[String], name: Name) -> Option<&str>
     ensures { option_map (λ s. s.now) result ≡ definition.given_or_default command.Check (pairs_in words.now) name }
 {
-    match given(words, name) {
+    match find_value(words, name) {
         Some(value) => Some(value),
         None => default_of(name),
     }

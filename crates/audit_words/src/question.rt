@@ -4,8 +4,8 @@ ghost use Rattle.std.specs.Prelude.{◌≡◌};
 ghost use Rattle.audit_words.specs.Spoken.{spoken};
 ghost use Rattle.audit_words.specs.Questions as definition;
 
-use audit_model::setting::Command;
 use crate::command_of;
+use audit_model::setting::Command;
 
 /// The questions that arguments can ask.
 #[derive(Clone, Copy)]

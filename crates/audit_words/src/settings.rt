@@ -19,7 +19,7 @@ use audit_model::text::Text;
 use std::alloc::Global;
 
 /// Copies the word to a text. The only error is out of memory.
-pub fn copied(alloc: Global, word: &str) -> Result<Text, Memory>
+pub fn copy_text(alloc: Global, word: &str) -> Result<Text, Memory>
     ensures { IfOk result (λ text. text ≡ word.now) }
 {
     let mut text = Text::new(alloc);
@@ -45,14 +45,14 @@ fn columns_of(alloc: Global, words: &[String]) -> Result<Columns, Memory>
     ensures { IfOk result (λ columns. columns ≡ definition.columns_named command.Check (pairs_in words.now)) }
 {
     Ok(Columns {
-        population: copied(alloc, text_of(words, Name::Pop))?,
-        first: copied(alloc, text_of(words, Name::First))?,
-        second: copied(alloc, text_of(words, Name::Second))?,
-        district: copied(alloc, text_of(words, Name::District))?,
-        group: copied(alloc, text_of(words, Name::Group))?,
-        whole: copied(alloc, whole_column(words))?,
-        frozen: copied(alloc, text_of(words, Name::Freeze))?,
-        length: copied(alloc, text_of(words, Name::Length))?,
+        population: copy_text(alloc, text_of(words, Name::Pop))?,
+        first: copy_text(alloc, text_of(words, Name::First))?,
+        second: copy_text(alloc, text_of(words, Name::Second))?,
+        district: copy_text(alloc, text_of(words, Name::District))?,
+        group: copy_text(alloc, text_of(words, Name::Group))?,
+        whole: copy_text(alloc, whole_column(words))?,
+        frozen: copy_text(alloc, text_of(words, Name::Freeze))?,
+        length: copy_text(alloc, text_of(words, Name::Length))?,
     })
 }
 
@@ -60,10 +60,10 @@ fn columns_of_grid(alloc: Global) -> Result<Columns, Memory>
     ensures { IfOk result (λ columns. columns ≡ record { population = codes "pop"; first = codes "a"; second = codes "b"; district = codes "district"; group = []; whole = []; frozen = []; length = [] }) }
 {
     Ok(Columns {
-        population: copied(alloc, "pop")?,
-        first: copied(alloc, "a")?,
-        second: copied(alloc, "b")?,
-        district: copied(alloc, "district")?,
+        population: copy_text(alloc, "pop")?,
+        first: copy_text(alloc, "a")?,
+        second: copy_text(alloc, "b")?,
+        district: copy_text(alloc, "district")?,
         group: Text::new(alloc),
         whole: Text::new(alloc),
         frozen: Text::new(alloc),
@@ -128,7 +128,7 @@ fn check_setting(alloc: Global, words: &[String]) -> Result<Setting, Memory>
         shift: false,
         stop: 0,
         serial: false,
-        region: copied(alloc, text_of(words, Name::Region))?,
+        region: copy_text(alloc, text_of(words, Name::Region))?,
         max_split: limits.max_split,
         parts: 1,
         part: 0,
@@ -207,7 +207,7 @@ fn read_setting(alloc: Global, command: Command, words: &[String]) -> Result<Set
     let ground = Ground {
         columns: columns_of(alloc, words)?,
         size: 0,
-        region: copied(alloc, text_of(words, Name::Region))?,
+        region: copy_text(alloc, text_of(words, Name::Region))?,
         limits: limits_of(words),
         source: text_of(words, Name::Source) == "yes",
     };

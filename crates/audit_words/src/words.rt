@@ -11,7 +11,7 @@ ghost use Rattle.audit_statement.specs.Words.{setting_of};
 use crate::fields::is_good;
 use crate::names::{command_of, name_of, names_of};
 use crate::pairs::{count, is_repeated, name_at, value_at, value_of};
-use crate::settings::{copied, setting_for};
+use crate::settings::{copy_text, setting_for};
 use audit_model::fault::WordFault;
 use audit_model::memory::Memory;
 use audit_model::setting::{Command, Setting};
@@ -46,7 +46,7 @@ pub fn read(alloc: Global, words: &[String]) -> Result<Setting, WordFault>
 fn unknown_command(alloc: Global, word: &str) -> WordFault
     ensures { (result ≡ fault.Memory) ⊎ (result ≡ fault.UnknownCommand word.now) }
 {
-    match copied(alloc, word) {
+    match copy_text(alloc, word) {
         Ok(text) => WordFault::UnknownCommand(text),
         Err(Memory) => WordFault::Memory,
     }
@@ -56,7 +56,7 @@ fn unknown_command(alloc: Global, word: &str) -> WordFault
 fn unknown_name(alloc: Global, word: &str) -> WordFault
     ensures { (result ≡ fault.Memory) ⊎ (result ≡ fault.UnknownName word.now) }
 {
-    match copied(alloc, word) {
+    match copy_text(alloc, word) {
         Ok(text) => WordFault::UnknownName(text),
         Err(Memory) => WordFault::Memory,
     }

@@ -55,7 +55,7 @@ impl CountingGate {
     }
 
     /// Returns the number of announced ids.
-    pub fn observed(&self) -> u64 {
+    pub fn announced_count(&self) -> u64 {
         self.observed.load(Ordering::SeqCst)
     }
 
@@ -68,7 +68,7 @@ impl CountingGate {
         Ok(CountedKeeper {
             inner,
             observed,
-            saves: Saves { all: 0, early: 0 },
+            saves: SaveCounts { all: 0, early: 0 },
         })
     }
 }
@@ -87,7 +87,7 @@ impl Gate for CountingGate {
 
 /// The number of saves, and the number of early ones. A save is early if fewer ids were announced than it has outcomes.
 #[derive(Clone, Copy)]
-pub struct Saves {
+pub struct SaveCounts {
     pub all: u64,
     pub early: u64,
 }
@@ -96,7 +96,7 @@ pub struct Saves {
 pub struct CountedKeeper<K> {
     inner: K,
     observed: Arc<AtomicU64, Global>,
-    saves: Saves,
+    saves: SaveCounts,
 }
 
 /// The keeper of a run.
@@ -115,7 +115,7 @@ impl<K: Drop> Drop for CountedKeeper<K> {
 
 impl<K> CountedKeeper<K> {
     /// Returns the counts of saves.
-    pub fn saves(&self) -> Saves {
+    pub fn saves(&self) -> SaveCounts {
         self.saves
     }
 

@@ -24,12 +24,12 @@ impl CrowdGate {
     }
 
     /// Returns the number of announced ids.
-    pub fn begun(&self) -> u64 {
+    pub fn announced_count(&self) -> u64 {
         self.begun.load(Ordering::SeqCst)
     }
 
     /// Returns the number of callers that were let go too early.
-    pub fn given_up(&self) -> u64 {
+    pub fn given_up_count(&self) -> u64 {
         self.given_up.load(Ordering::SeqCst)
     }
 }
@@ -38,7 +38,7 @@ impl Gate for CrowdGate {
     fn before(&self, _id: u32) {
         self.begun.fetch_add(1, Ordering::SeqCst);
         for _ in 0..10_000_000 {
-            if self.begun() >= self.wanted {
+            if self.announced_count() >= self.wanted {
                 return;
             }
             thread::yield_now();

@@ -46,7 +46,7 @@ fn failing_call(setup: &Setup<'_>, calls: &str, run: u64) -> u64 {
     if setup.calls == calls { run } else { 0 }
 }
 
-fn given_in<'a>(setup: &Setup<'a>, run: u64) -> Given<'a> {
+fn input_of_run<'a>(setup: &Setup<'a>, run: u64) -> Given<'a> {
     Given {
         graph: GraphSource::File(setup.file),
         most_read: setup.most,
@@ -59,7 +59,7 @@ fn given_in<'a>(setup: &Setup<'a>, run: u64) -> Given<'a> {
 }
 
 /// Returns the setup of the run with this number.
-pub fn said_in<'a>(setup: &Setup<'a>, run: u64) -> Said<'a> {
+pub fn setup_in<'a>(setup: &Setup<'a>, run: u64) -> Said<'a> {
     Said {
         held: Held {
             zero: setup.zero,
@@ -67,7 +67,7 @@ pub fn said_in<'a>(setup: &Setup<'a>, run: u64) -> Said<'a> {
             failing_load: failing_call(setup, "loads", run),
         },
         saves: saves_failing(failing_call(setup, "saves", run)),
-        given: given_in(setup, run),
+        given: input_of_run(setup, run),
         is_observed: true,
     }
 }

@@ -45,7 +45,7 @@ impl NotingGate {
     }
 
     /// Returns the number of announced ids.
-    pub fn begun(&self) -> u64 {
+    pub fn announced_count(&self) -> u64 {
         self.begun.load(Ordering::SeqCst)
     }
 
@@ -57,7 +57,7 @@ impl NotingGate {
     // Waits until `wanted` have begun.
     fn hold(&self) {
         for _ in 0..10_000_000 {
-            if self.begun() >= self.wanted {
+            if self.announced_count() >= self.wanted {
                 self.seen.store(1, Ordering::SeqCst);
                 return;
             }

@@ -2,7 +2,7 @@
 //! shares a count with the keeper, and one has a clock. After its name a line has the file of the graph and the
 //! arguments of the audit. The status and the notes of the gate are printed.
 
-use crate::counted::Saves;
+use crate::counted::SaveCounts;
 use crate::crowd::CrowdGate;
 use crate::run_setup::{Given, GraphSource, READ, Watched};
 use crate::said::Said;
@@ -13,7 +13,7 @@ use std::io;
 use std::str::SplitWhitespace;
 
 /// Parses a line for a run at such a gate.
-pub fn said_of<'a>(parts: &mut SplitWhitespace<'a>, watched: Watched) -> Said<'a> {
+pub fn parse_setup<'a>(parts: &mut SplitWhitespace<'a>, watched: Watched) -> Said<'a> {
     let given = Given {
         graph: GraphSource::File(word(parts)),
         most_read: READ,
@@ -33,14 +33,19 @@ pub fn said_of<'a>(parts: &mut SplitWhitespace<'a>, watched: Watched) -> Said<'a
 
 /// Prints the status, the number of announced ids, and the number of callers let go before three had begun.
 pub fn show_crowd(rt: &HostRuntime, status: u8, gate: &CrowdGate) -> io::Result<()> {
-    let observed = gate.begun();
-    let given_up = gate.given_up();
+    let observed = gate.announced_count();
+    let given_up = gate.given_up_count();
     println!(rt; "status {status} told {observed} given up {given_up}")
 }
 
 /// Prints the result of a run that saves with each post: its status, the number of announced ids, and the numbers of
 /// saves and of early saves.
-pub fn show_counted(rt: &HostRuntime, status: u8, observed: u64, saves: Saves) -> io::Result<()> {
+pub fn show_counted(
+    rt: &HostRuntime,
+    status: u8,
+    observed: u64,
+    saves: SaveCounts,
+) -> io::Result<()> {
     println!(rt;
         "status {status} told {observed} saves {} early {}",
         saves.all, saves.early
@@ -51,6 +56,6 @@ pub fn show_counted(rt: &HostRuntime, status: u8, observed: u64, saves: Saves) -
 /// the first half of the time.
 pub fn show_timed(rt: &HostRuntime, status: u8, gate: &TimedGate) -> io::Result<()> {
     let early = gate.was_observed_early();
-    let observed = gate.observed();
+    let observed = gate.announced_count();
     println!(rt; "status {status} told {observed} in the first half {early}")
 }

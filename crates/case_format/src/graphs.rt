@@ -19,7 +19,7 @@ fn graph_of(line: &str) -> GraphSource<'_> {
 }
 
 /// Returns the setup of a line's check.
-pub fn said_of(line: &str) -> Said<'_> {
+pub fn parse_setup(line: &str) -> Said<'_> {
     let given = Given {
         graph: graph_of(line),
         most_read: READ,

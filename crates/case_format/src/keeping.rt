@@ -40,7 +40,7 @@ fn saves_of(said: &str) -> Result<Saves, ParseIntError> {
     }
 }
 
-fn held_of<'a>(parts: &mut SplitWhitespace<'a>) -> Result<Held<'a>, Fail> {
+fn parse_held<'a>(parts: &mut SplitWhitespace<'a>) -> Result<Held<'a>, Fail> {
     let zero = word(parts);
     let one = word(parts);
     let failing_load = number(parts)?;
@@ -52,8 +52,8 @@ fn held_of<'a>(parts: &mut SplitWhitespace<'a>) -> Result<Held<'a>, Fail> {
 }
 
 /// Parses the part of a line before the arguments.
-pub fn said_of<'a>(parts: &mut SplitWhitespace<'a>) -> Result<Said<'a>, Fail> {
-    let held = held_of(parts)?;
+pub fn parse_setup<'a>(parts: &mut SplitWhitespace<'a>) -> Result<Said<'a>, Fail> {
+    let held = parse_held(parts)?;
     let saves = saves_of(word(parts))?;
     let room = number(parts)? as usize;
     let given = Given {

@@ -1,7 +1,7 @@
 //! The runs of the lines of a file.
 
 use crate::counted::RunKeeper;
-use crate::faults::{PAST_RUNS, said_in, setup_of};
+use crate::faults::{PAST_RUNS, setup_in, setup_of};
 use crate::graphs::WORDS;
 use crate::names::begin_line;
 use crate::run_setup::{Watched, case_of};
@@ -31,27 +31,27 @@ pub enum Kind {
 
 fn faulty<'a>(parts: &mut SplitWhitespace<'a>, run: u64) -> Result<Said<'a>, Fail> {
     let setup = setup_of(parts)?;
-    Ok(said_in(&setup, run))
+    Ok(setup_in(&setup, run))
 }
 
 // Parses the setup of a run of this line, and returns it with the arguments of the audit.
-fn said_of<'a>(
+fn parse_setup<'a>(
     kind: Kind,
     line: &'a str,
     run: u64,
     parts: &mut SplitWhitespace<'a>,
 ) -> Result<Said<'a>, Fail> {
     match kind {
-        Kind::Plain => plain::said_of(parts),
-        Kind::Keeping => keeping::said_of(parts),
+        Kind::Plain => plain::parse_setup(parts),
+        Kind::Keeping => keeping::parse_setup(parts),
         Kind::Faults => faulty(parts, run),
         Kind::Graphs => {
             *parts = WORDS.split_whitespace();
-            Ok(graphs::said_of(line))
+            Ok(graphs::parse_setup(line))
         }
-        Kind::Crowd => Ok(gated::said_of(parts, Watched::Crowd)),
-        Kind::Counted => Ok(gated::said_of(parts, Watched::Counted)),
-        Kind::Timed => Ok(gated::said_of(parts, Watched::Timed)),
+        Kind::Crowd => Ok(gated::parse_setup(parts, Watched::Crowd)),
+        Kind::Counted => Ok(gated::parse_setup(parts, Watched::Counted)),
+        Kind::Timed => Ok(gated::parse_setup(parts, Watched::Timed)),
     }
 }
 
@@ -119,7 +119,7 @@ fn run_line<A: Fn(&mut Case, RunKeeper) -> (u8, RunKeeper)>(
     for run in 1..past_runs(kind) {
         show_number(rt, kind, run)?;
         let mut parts = line.split_whitespace();
-        let said = said_of(kind, line, run, &mut parts)?;
+        let said = parse_setup(kind, line, run, &mut parts)?;
         let status = run_said(rt, audit, &said, parts, left)?;
         if status == 0 || status == 7 {
             return Ok(());

@@ -12,7 +12,7 @@ use std::str::SplitWhitespace;
 use std::test::Fail;
 
 /// Parses the part of a line before the arguments.
-pub fn said_of<'a>(parts: &mut SplitWhitespace<'a>) -> Result<Said<'a>, Fail> {
+pub fn parse_setup<'a>(parts: &mut SplitWhitespace<'a>) -> Result<Said<'a>, Fail> {
     let failing_read = number(parts)?;
     let room = number(parts)? as usize;
     let wanted = number(parts)?;

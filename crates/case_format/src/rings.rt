@@ -10,12 +10,12 @@ use std::alloc::Global;
 use std::io;
 
 // Returns the number of faces found.
-fn found(alloc: Global, graph: &Graph) -> Result<usize, Memory> {
+fn count_faces(alloc: Global, graph: &Graph) -> Result<usize, Memory> {
     Ok(faces_of(alloc, graph)?.faces().len())
 }
 
 // Returns the number of the listed faces that are kept.
-fn kept(alloc: Global, graph: &Graph, listed: &[Face]) -> Result<usize, Memory> {
+fn count_kept(alloc: Global, graph: &Graph, listed: &[Face]) -> Result<usize, Memory> {
     Ok(list_faces(alloc, graph, listed)?.faces().len())
 }
 
@@ -34,7 +34,7 @@ fn faces_amid_three(alloc: Global) -> Result<usize, Memory> {
         (4, 5),
     ];
     let graph = Graph::from_pairs(alloc, 6, &pairs)?;
-    found(alloc, &graph)
+    count_faces(alloc, &graph)
 }
 
 // Returns the number kept of a list with a square and a triangle twice each and a ring that is no face. Each face is
@@ -49,7 +49,7 @@ fn faces_kept(alloc: Global) -> Result<usize, Memory> {
         Face::Triangle(4, 2, 3),
         Face::Triangle(0, 1, 3),
     ];
-    kept(alloc, &graph, &listed)
+    count_kept(alloc, &graph, &listed)
 }
 
 // Returns the number of faces of a unit with five others around it, without one side. The four triangles are found
@@ -67,14 +67,14 @@ fn faces_of_fan(alloc: Global) -> Result<usize, Memory> {
         (4, 5),
     ];
     let graph = Graph::from_pairs(alloc, 6, &pairs)?;
-    found(alloc, &graph)
+    count_faces(alloc, &graph)
 }
 
 // Returns the number of faces of an empty ring of five units: one pentagon.
 fn faces_of_five(alloc: Global) -> Result<usize, Memory> {
     let pairs = [(0, 1), (0, 4), (1, 2), (2, 3), (3, 4)];
     let graph = Graph::from_pairs(alloc, 5, &pairs)?;
-    found(alloc, &graph)
+    count_faces(alloc, &graph)
 }
 
 // Returns the number of faces of five units around a sixth, without one side: three triangles and a square, but not the
@@ -92,14 +92,14 @@ fn faces_round_hub(alloc: Global) -> Result<usize, Memory> {
         (3, 5),
     ];
     let graph = Graph::from_pairs(alloc, 6, &pairs)?;
-    found(alloc, &graph)
+    count_faces(alloc, &graph)
 }
 
 // Returns the number of faces of a triangle on a side of a ring of five: two.
 fn faces_of_house(alloc: Global) -> Result<usize, Memory> {
     let pairs = [(0, 1), (0, 4), (0, 5), (1, 2), (1, 5), (2, 3), (3, 4)];
     let graph = Graph::from_pairs(alloc, 6, &pairs)?;
-    found(alloc, &graph)
+    count_faces(alloc, &graph)
 }
 
 // Returns the number of pentagons kept of a list. A pentagon is kept once, whichever unit comes first. A ring with a
@@ -114,7 +114,7 @@ fn pentagons_kept(alloc: Global) -> Result<usize, Memory> {
         Face::Pentagon(2, 0, 1, 2, 3),
         Face::Triangle(0, 2, 1),
     ];
-    kept(alloc, &graph, &listed)
+    count_kept(alloc, &graph, &listed)
 }
 
 fn show_faces(rt: &HostRuntime) -> io::Result<()> {

@@ -1,6 +1,6 @@
 //! The printed result of a run.
 
-use crate::counted::{Saves, Watch};
+use crate::counted::{SaveCounts, Watch};
 use crate::gate::NotingGate;
 use crate::gated::{show_counted, show_crowd, show_timed};
 use crate::runs::Case;
@@ -14,14 +14,14 @@ pub fn show_run(
     status: u8,
     is_observed: bool,
     case: &Case,
-    saves: Saves,
+    saves: SaveCounts,
     left: &MemKeeper,
 ) -> io::Result<()> {
     match case.gate.watch() {
         Watch::Noting(gate) => show_noted(rt, status, is_observed, gate, case, left),
         Watch::Crowd(gate) => show_crowd(rt, status, gate),
         Watch::Timed(gate) => show_timed(rt, status, gate),
-        Watch::Nothing => show_counted(rt, status, case.gate.observed(), saves),
+        Watch::Nothing => show_counted(rt, status, case.gate.announced_count(), saves),
     }
 }
 
@@ -67,7 +67,7 @@ fn show_observed(rt: &HostRuntime, gate: &NotingGate) -> io::Result<()> {
     if gate.has_seen() {
         rt.print("held, ")?;
     }
-    let count = gate.begun();
+    let count = gate.announced_count();
     print!(rt; "told {count}:")?;
     show_ids(rt, gate)
 }

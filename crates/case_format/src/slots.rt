@@ -21,23 +21,23 @@ pub fn slot_of(rt: &HostRuntime, said: &str, before: Option<&[u8]>) -> Result<Op
     let alloc = rt.alloc();
     match said {
         "absent" => Ok(None),
-        "same" => held_again(alloc, before),
-        "spoilt" => held_spoilt(alloc, before),
+        "same" => copy_of_stored(alloc, before),
+        "spoilt" => stored_spoilt(alloc, before),
         "long" => held_zeros(alloc),
         file => held_file(rt, file),
     }
 }
 
-fn held_again(alloc: Global, before: Option<&[u8]>) -> Result<Option<Bytes>, Fail> {
+fn copy_of_stored(alloc: Global, before: Option<&[u8]>) -> Result<Option<Bytes>, Fail> {
     match before {
         Some(bytes) => Ok(Some(bytes_of(alloc, bytes)?)),
         None => Ok(None),
     }
 }
 
-fn held_spoilt(alloc: Global, before: Option<&[u8]>) -> Result<Option<Bytes>, Fail> {
+fn stored_spoilt(alloc: Global, before: Option<&[u8]>) -> Result<Option<Bytes>, Fail> {
     match before {
-        Some(bytes) => Ok(Some(spoilt(alloc, bytes)?)),
+        Some(bytes) => Ok(Some(spoil(alloc, bytes)?)),
         None => Ok(None),
     }
 }
@@ -47,11 +47,11 @@ fn held_zeros(alloc: Global) -> Result<Option<Bytes>, Fail> {
 }
 
 fn held_file(rt: &HostRuntime, file: &str) -> Result<Option<Bytes>, Fail> {
-    Ok(Some(decoded(rt, file)?))
+    Ok(Some(read_hex(rt, file)?))
 }
 
 // Reads bytes from a file of hexadecimal digits.
-fn decoded(rt: &HostRuntime, file: &str) -> Result<Bytes, Fail> {
+fn read_hex(rt: &HostRuntime, file: &str) -> Result<Bytes, Fail> {
     let digits = text_of(rt, file)?;
     let bytes = decode(rt.alloc(), digits.trim())?;
     let copy = bytes_of(rt.alloc(), bytes.as_slice())?;
@@ -67,7 +67,7 @@ fn zeros(alloc: Global, count: usize) -> Result<Bytes, Memory> {
 }
 
 // Copies the bytes with each bit of the last one flipped.
-fn spoilt(alloc: Global, bytes: &[u8]) -> Result<Bytes, Memory> {
+fn spoil(alloc: Global, bytes: &[u8]) -> Result<Bytes, Memory> {
     let mut copy = Bytes::new(alloc);
     if let Some((last, front)) = bytes.split_last() {
         copy.append(front)?;

@@ -27,19 +27,19 @@ impl TimedGate {
     }
 
     /// Returns the number of announced ids.
-    pub fn observed(&self) -> u64 {
+    pub fn announced_count(&self) -> u64 {
         self.observed.load(Ordering::SeqCst)
     }
 
     // Returns the microseconds since the gate was made, if the clock works.
-    fn passed(&self) -> Option<u64> {
+    fn microseconds(&self) -> Option<u64> {
         let passed = self.start.elapsed(&self.rt).ok()?;
         u64::try_from(passed.as_micros()).ok()
     }
 
     /// Returns true if the first id came in the first half of the time since the gate was made.
     pub fn was_observed_early(&self) -> bool {
-        match self.passed() {
+        match self.microseconds() {
             Some(passed) => self.first.load(Ordering::SeqCst) < passed / 2,
             None => false,
         }
@@ -49,7 +49,7 @@ impl TimedGate {
 impl Gate for TimedGate {
     fn before(&self, _id: u32) {
         self.observed.fetch_add(1, Ordering::SeqCst);
-        if let Some(passed) = self.passed() {
+        if let Some(passed) = self.microseconds() {
             self.first.fetch_min(passed, Ordering::SeqCst);
         }
     }

@@ -155,7 +155,7 @@ fn times_of(pool: &[Drawer], number: usize) -> u32 {
 }
 
 // Returns the number of numbers drawn exactly once by all passes together.
-fn drawn_once(pool: &[Drawer]) -> usize {
+fn count_drawn_once(pool: &[Drawer]) -> usize {
     (0..LIMIT as usize)
         .filter(|number| times_of(pool, *number) == 1)
         .count()
@@ -173,7 +173,7 @@ fn draw_from<R: Threads + Sync>(
 {
     let mut pool = make_pool(alloc, claims, pass)?;
     draw_each(rt, claims, pool.as_mut_slice());
-    Ok((pool.len(), drawn_once(pool.as_slice())))
+    Ok((pool.len(), count_drawn_once(pool.as_slice())))
 }
 
 // Lets passes for these seats draw. Returns their number, and the number of numbers drawn exactly once.

@@ -6,7 +6,7 @@ ghost use Rattle.ckpt_store.specs.Collected.{IsCovered};
 ghost use Rattle.ckpt_store.specs.Findings.{IsFound, is_added, is_start};
 
 use crate::collection::Collection;
-use crate::folder_content::{given_by, has_broken};
+use crate::folder_content::{has_broken, newest_content};
 use crate::look::{LookFault, look};
 use audit_io::keeper::Keeper;
 use audit_model::buffers::Bytes;
@@ -88,7 +88,7 @@ pub fn find_in<F: Keeper>(
     match look(alloc, folder, job, digest, room) {
         Ok(slots) => {
             let beside = has_broken(&slots);
-            let given = given_by(job, digest, slots);
+            let given = newest_content(job, digest, slots);
             collection.add(alloc, job, given, beside)
         }
         Err(LookFault::Failed) => {

@@ -24,7 +24,7 @@ pub enum FolderContent {
 }
 
 /// Returns the outcomes of the newest of these slots, or the reason why there are none.
-pub fn given_by(job: &Job, digest: &[u8; 32], slots: Slots) -> FolderContent
+pub fn newest_content(job: &Job, digest: &[u8; 32], slots: Slots) -> FolderContent
     requires zero { HasFitOutcomes job.now slots.zero }
     requires one { HasFitOutcomes job.now slots.one }
     ensures fit { IsFitGiven job.now result }

@@ -35,12 +35,12 @@ pub fn judge_bytes(
 {
     match decode(alloc, bytes) {
         Ok(checkpoint) => Ok(judge(job, digest, checkpoint)),
-        Err(fault) => broken(fault),
+        Err(fault) => broken_slot(fault),
     }
 }
 
 /// Returns a broken slot with this fault, or an error if the fault is out of memory.
-fn broken(fault: CkptFault) -> Result<Slot, Memory>
+fn broken_slot(fault: CkptFault) -> Result<Slot, Memory>
     ensures slot { IfOk result (λ s. s ≡ Slot.Broken fault) }
     ensures known { OnOk result (fault ≡ variant.Memory → ⊥) }
     ensures by_bytes { IfOk result IsByBytes }

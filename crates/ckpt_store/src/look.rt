@@ -87,7 +87,7 @@ fn look_at<C: Keeper>(
 {
     match keeper.load(slot, LIMIT, room) {
         Ok(found) => judge_loaded(alloc, job, digest, found, room.as_slice()),
-        Err(error) => unloaded(error),
+        Err(error) => slot_of_load_error(error),
     }
 }
 
@@ -112,7 +112,7 @@ fn judge_loaded(
 }
 
 /// Returns the state of a slot after a failed load: broken if it has too many bytes, else the error.
-fn unloaded(error: LoadError) -> Result<Slot, LookFault>
+fn slot_of_load_error(error: LoadError) -> Result<Slot, LookFault>
     ensures { result ≡ unloaded error }
 {
     match error {

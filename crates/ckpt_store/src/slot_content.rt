@@ -70,18 +70,18 @@ pub fn load_slot<C: Keeper>(alloc: Global, keeper: &mut C, slot: u8) -> Result<L
 /// # Errors
 ///
 /// Out of memory for the outcomes of a checkpoint.
-pub fn held_of(alloc: Global, loaded: &Loaded) -> Result<SlotContent, Memory>
+pub fn content_of(alloc: Global, loaded: &Loaded) -> Result<SlotContent, Memory>
     ensures { IfOk result (λ h. (slot : Option (List ℕ)) → IsLoadedFrom loaded.now slot → HoldsStored slot h) }
 {
     match loaded {
         Loaded::Absent => Ok(SlotContent::Absent),
         Loaded::Long => Ok(SlotContent::Broken(CkptFault::TooLong(LIMIT))),
-        Loaded::Bytes(bytes) => held_in(alloc, bytes.as_slice()),
+        Loaded::Bytes(bytes) => content_of_bytes(alloc, bytes.as_slice()),
     }
 }
 
 /// Returns the contents of a slot with these bytes.
-fn held_in(alloc: Global, bytes: &[u8]) -> Result<SlotContent, Memory>
+fn content_of_bytes(alloc: Global, bytes: &[u8]) -> Result<SlotContent, Memory>
     ensures { IfOk result (Holds bytes.now) }
 {
     if bytes.len() as u64 > LIMIT {
@@ -89,12 +89,12 @@ fn held_in(alloc: Global, bytes: &[u8]) -> Result<SlotContent, Memory>
     }
     match decode(alloc, bytes) {
         Ok(checkpoint) => Ok(SlotContent::Whole(checkpoint)),
-        Err(fault) => broken(fault),
+        Err(fault) => broken_content(fault),
     }
 }
 
 /// Returns a broken slot with this fault, or an error if the fault is out of memory.
-fn broken(fault: CkptFault) -> Result<SlotContent, Memory>
+fn broken_content(fault: CkptFault) -> Result<SlotContent, Memory>
     ensures slot { IfOk result (λ h. h ≡ SlotContent.Broken fault) }
     ensures known { OnOk result (fault ≡ variant.Memory → ⊥) }
 {

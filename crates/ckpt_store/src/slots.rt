@@ -67,7 +67,7 @@ impl Slot {
     }
 
     /// Returns the checkpoint of a valid slot, if it belongs to the wanted job.
-    fn opened(self, wanted: &[u8; 32]) -> Result<Option<Checkpoint>, StoreFault>
+    fn checkpoint_of(self, wanted: &[u8; 32]) -> Result<Option<Checkpoint>, StoreFault>
         ensures { result ≡ opened self wanted.now }
     {
         match self {
@@ -124,8 +124,8 @@ impl Slots {
     {
         match self.newest_number() {
             None => self.without_valid(),
-            Some(0) => self.zero.opened(wanted),
-            Some(_) => self.one.opened(wanted),
+            Some(0) => self.zero.checkpoint_of(wanted),
+            Some(_) => self.one.checkpoint_of(wanted),
         }
     }
 

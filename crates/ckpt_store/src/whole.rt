@@ -16,7 +16,7 @@ ghost use Rattle.ckpt_store.specs.Whole.{HasBegun, HasFailed, IsGathering, IsSav
 
 use crate::collection::Collection;
 use crate::finding::{Finding, find_in};
-use crate::folder_content::{given_by, has_broken};
+use crate::folder_content::{has_broken, newest_content};
 use crate::gather::save_list;
 use crate::gather_result::{FindingList, GatherResult, Ungathered};
 use crate::look::{LookFault, look};
@@ -155,7 +155,7 @@ fn begin_with(
     let mut collection = Collection::with_room(alloc, job.total())?;
     let place = slots.place();
     let beside = has_broken(&slots);
-    let given = given_by(job, digest, slots);
+    let given = newest_content(job, digest, slots);
     let own = collection.add(alloc, job, given, beside)?;
     Ok(Begun {
         place,

@@ -61,7 +61,7 @@ impl Face {
     }
 
     /// Rotates the ring to begin with its second unit.
-    pub fn turned(self) -> Face
+    pub fn rotate(self) -> Face
         ensures { result ≡ turned self }
     {
         match self {

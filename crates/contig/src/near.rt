@@ -6,7 +6,7 @@ ghost use Rattle.contig.specs.Faces.{AreFaces};
 
 use crate::face::Face;
 use crate::list::{FaceList, list_faces};
-use crate::peel::{Sides, peeled};
+use crate::peel::{Sides, order_by_peeling};
 use audit_model::memory::Memory;
 use dual_graph::graph::Graph;
 use std::alloc::Global;
@@ -29,7 +29,7 @@ pub fn faces_of(alloc: Global, graph: &Graph) -> Result<FaceList, Memory>
     if found.rings.len() > MOST {
         return Ok(FaceList::new(alloc));
     }
-    let order = peeled(alloc, graph, &found.rings)?;
+    let order = order_by_peeling(alloc, graph, &found.rings)?;
     if are_all(graph, order.len()) {
         return list_faces(alloc, graph, &order);
     }
@@ -42,7 +42,7 @@ pub fn faces_of(alloc: Global, graph: &Graph) -> Result<FaceList, Memory>
     for ring in &order {
         found.rings.push(*ring)?;
     }
-    let longer = peeled(alloc, graph, &found.rings)?;
+    let longer = order_by_peeling(alloc, graph, &found.rings)?;
     list_faces(alloc, graph, &longer)
 }
 

@@ -85,7 +85,7 @@ impl Sides {
         for _ in 0..length_of(ring) {
             let side = self.own(graph, turn);
             self.count(side, number, more)?;
-            turn = turn.turned();
+            turn = turn.rotate();
         }
         Ok(())
     }
@@ -139,7 +139,7 @@ impl Sides {
     }
 
     /// Counts the sides of a ring that more than two rings have.
-    fn crowded(&self, graph: &Graph, ring: Face) -> u8 {
+    fn count_crowded_sides(&self, graph: &Graph, ring: Face) -> u8 {
         let mut crowded = 0u8;
         let mut turn = ring;
         for _ in 0..length_of(ring) {
@@ -147,19 +147,19 @@ impl Sides {
             if side < self.counts.len() && self.counts[side] > 2 {
                 crowded = crowded.wrapping_add(1);
             }
-            turn = turn.turned();
+            turn = turn.rotate();
         }
         crowded
     }
 
     /// Rotates a ring to begin with a side.
-    fn begun(&self, graph: &Graph, ring: Face, side: usize) -> Face {
+    fn rotate_to(&self, graph: &Graph, ring: Face, side: usize) -> Face {
         let mut turn = ring;
         for _ in 0..length_of(ring) {
             if self.own(graph, turn) == side {
                 return turn;
             }
-            turn = turn.turned();
+            turn = turn.rotate();
         }
         ring
     }
@@ -170,7 +170,7 @@ impl Sides {
 ///
 /// It takes off a ring that alone has some side, again and again; the last one comes first. If
 /// there is none, it drops a ring. In a plane graph, at most two faces share a side.
-pub fn peeled(alloc: Global, graph: &Graph, rings: &[Face]) -> Result<Vec<Face>, Memory> {
+pub fn order_by_peeling(alloc: Global, graph: &Graph, rings: &[Face]) -> Result<Vec<Face>, Memory> {
     let mut sides = Sides::of(alloc, graph, rings)?;
     let mut counts = sides.counts.clone()?;
     let mut left: Vec<bool> = vec![in alloc; true; rings.len()]?;
@@ -222,7 +222,7 @@ fn drop_order(
 fn class_of(graph: &Graph, sides: &Sides, ring: Face) -> usize
     ensures { result < 181 }
 {
-    let crowded = CROWDED.wrapping_mul(sides.crowded(graph, ring) as usize);
+    let crowded = CROWDED.wrapping_mul(sides.count_crowded_sides(graph, ring) as usize);
     let weight = neighbours_of(graph, ring).saturating_add(crowded);
     (CLASSES - 1).saturating_sub(weight)
 }
@@ -236,7 +236,7 @@ fn neighbours_of(graph: &Graph, ring: Face) -> usize {
         if unit < graph.units() {
             all = all.wrapping_add(graph.neighbours(unit).len());
         }
-        turn = turn.turned();
+        turn = turn.rotate();
     }
     all
 }
@@ -317,7 +317,7 @@ fn keep_ready(
             None => return Ok(()),
             Some((side, number)) => {
                 if take_off(graph, rings, sides, left, number)? && number < rings.len() {
-                    kept.push(sides.begun(graph, rings[number], side))?;
+                    kept.push(sides.rotate_to(graph, rings[number], side))?;
                 }
             }
         }

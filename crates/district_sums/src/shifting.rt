@@ -71,7 +71,7 @@ fn with_one(count: u32, counts: bool) -> u32
 
 /// Updates a count for one neighbor, which `counted` before and `counts` now.
 #[inline]
-fn recounted(count: u32, counted: bool, counts: bool) -> u32
+fn count_after(count: u32, counted: bool, counts: bool) -> u32
     requires some { IsTrue counted → 0 < count }
     requires few { count ≤ most_units }
     ensures { result + cond counted 1 0 ≡ count + cond counts 1 0 }
@@ -95,7 +95,7 @@ fn recount(member: Member, into: u32, apart: &mut [u32])
     for other in member.graph.neighbours(member.unit) {
         let v = *other as usize;
         let district = plan[v];
-        apart[v] = recounted(apart[v], district != home, district != into);
+        apart[v] = count_after(apart[v], district != home, district != into);
         others = with_one(others, district != into);
     }
     apart[member.unit as usize] = others;

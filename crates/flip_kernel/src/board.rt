@@ -144,7 +144,7 @@ impl Board {
     /// Returns the unit and the district that a draw proposes, if the pair is open. No other draw
     /// changes the plan.
     #[inline]
-    pub(crate) fn proposed(&self, draw: u64) -> Option<(u32, u32)>
+    pub(crate) fn proposal_of(&self, draw: u64) -> Option<(u32, u32)>
         ensures { MatchOption result (next self.now.job self.now.plan draw ≡ self.now.plan)
             (λ pair. ProposesOpen self.now.job self.now.plan draw pair.0 pair.1) }
     {
@@ -262,12 +262,12 @@ impl Board {
     ///
     /// It tests the counts of faces first and the rules last. `None` means that the flip is a move
     /// if the unit may leave its district.
-    fn observed<J: Judge>(&mut self, judge: &J, flip: Flip) -> Option<bool>
+    fn decide_without_search<J: Judge>(&mut self, judge: &J, flip: Flip) -> Option<bool>
         requires made { self.old.job ≡ flip.job.now }
         requires judge { IsSeated flip.job.now self.old.plan (J.judging judge.now) }
         requires beside { IsTrue (is_open flip.job.now.graph self.old.plan flip.unit flip.district) }
         requires kept { KeepsBoundsIn flip.job.now self.old.plan flip.unit flip.district }
-        ensures observed { MatchOption result
+        ensures decided { MatchOption result
             (MayLeave flip.entry.job.now.graph self.old.plan flip.entry.unit ↔ IsMove flip.entry.job.now self.old.plan flip.entry.unit flip.entry.district)
             (λ moves. IsTrue moves ↔ IsMove flip.entry.job.now self.old.plan flip.entry.unit flip.entry.district) }
         ensures same { self.new ≡ self.old }
@@ -327,7 +327,7 @@ impl Board {
         ensures searches { (steps.old ≤ steps.new) × (steps.new ≤ steps.old + 1) }
         ensures local { IsLocal flip.entry.job.now.graph self.old.plan flip.entry.unit → steps.new ≡ steps.old }
     {
-        match self.observed(judge, flip) {
+        match self.decide_without_search(judge, flip) {
             Some(moves) => moves,
             None => self.searching_tells(flip.job, flip.unit, steps),
         }
@@ -341,7 +341,7 @@ impl Board {
         requires beside { IsTrue (is_open flip.job.now.graph self.old.plan flip.unit flip.district) }
         ensures same { self.new ≡ self.old }
     {
-        if !self.keeps_bounds(flip) || self.observed(judge, flip).is_some() {
+        if !self.keeps_bounds(flip) || self.decide_without_search(judge, flip).is_some() {
             return false;
         }
         !local_holds(

@@ -35,7 +35,7 @@ pub fn try_flip<J: Judge, L: Ledger>(
 {
     // Called for its contract: the job is within its limits, and its start plan is legal.
     let _units = job.units();
-    match state.proposed(draw) {
+    match state.proposal_of(draw) {
         None => false,
         Some((unit, district)) => state.flip(
             Flip {
@@ -64,12 +64,12 @@ pub fn mirror<J: Judge>(job: &Job, state: &mut State<J>, draw: u64) -> u64
     ensures back { next job.now (next job.now state.old.plan draw) result ≡ state.old.plan }
     ensures again { mirrored job.now (next job.now state.old.plan draw) result ≡ draw }
 {
-    led_back::<J, Brand>(job, state, draw, Blank::new(1))
+    find_mirror::<J, Brand>(job, state, draw, Blank::new(1))
 }
 
 // Does the work of `mirror`, with its own counter of searches. The draw that leads back is in the
 // same block, at the place of the unit's old district. The flip is tested, not made.
-fn led_back<J: Judge, L: Ledger>(job: &Job, state: &mut State<J>, draw: u64, blank: Blank) -> u64
+fn find_mirror<J: Judge, L: Ledger>(job: &Job, state: &mut State<J>, draw: u64, blank: Blank) -> u64
     requires name { blank.name ≡ L.name }
     requires parts { blank.parts ≡ L.parts }
     requires some { 0 < L.parts }
@@ -81,7 +81,7 @@ fn led_back<J: Judge, L: Ledger>(job: &Job, state: &mut State<J>, draw: u64, bla
     // Called for its contract: the job is within its limits, and its start plan is legal.
     let _units = job.units();
     let plan = state.plan();
-    match state.proposed(draw) {
+    match state.proposal_of(draw) {
         None => draw,
         Some((unit, district)) => {
             let home = plan.as_slice()[unit as usize];

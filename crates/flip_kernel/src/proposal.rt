@@ -43,7 +43,7 @@ impl Pairs {
         requires { AreBlocks self.now }
         ensures { result ≡ draw % self.now.count }
     {
-        divided(draw, self.count, self.inverse).1
+        divide(draw, self.count, self.inverse).1
     }
 
     /// Returns true if a draw with this remainder lies after the last whole block. Such a draw has
@@ -77,7 +77,7 @@ impl Pairs {
         requires few { place < 2 ^ 32 }
         ensures { result ≡ (place / self.now.districts, place % self.now.districts) }
     {
-        let (unit, district) = divided(place, u64::from(self.districts), self.district_inverse);
+        let (unit, district) = divide(place, u64::from(self.districts), self.district_inverse);
         (unit as u32, district as u32)
     }
 }
@@ -87,7 +87,7 @@ impl Pairs {
 ///
 /// The high half of the product is the quotient or one less.
 #[inline]
-fn divided(number: u64, divisor: u64, inverse: u64) -> (u64, u64)
+fn divide(number: u64, divisor: u64, inverse: u64) -> (u64, u64)
     requires some { 0 < divisor }
     requires enough { inverse * divisor < 2 ^ 64 }
     requires most { 2 ^ 64 ≤ inverse * divisor + divisor }

@@ -84,11 +84,11 @@ impl<J: Judge> State<J> {
     /// Returns the unit and the district that a draw proposes, if the pair is open. The board
     /// itself stays private: no step can change the plan without the constraint.
     #[inline]
-    pub(crate) fn proposed(&self, draw: u64) -> Option<(u32, u32)>
+    pub(crate) fn proposal_of(&self, draw: u64) -> Option<(u32, u32)>
         ensures { MatchOption result (next self.now.job self.now.plan draw ≡ self.now.plan)
             (λ pair. ProposesOpen self.now.job self.now.plan draw pair.0 pair.1) }
     {
-        self.board.proposed(draw)
+        self.board.proposal_of(draw)
     }
 
     /// Returns true if the flip on an open pair is a move. Neither the plan nor the constraint
@@ -111,7 +111,7 @@ impl<J: Judge> State<J> {
     {
         // Called for its contract: the job is within its limits, and its start plan is legal.
         let _units = job.units();
-        match self.board.proposed(draw) {
+        match self.board.proposal_of(draw) {
             None => false,
             Some((unit, district)) => {
                 let flip = Flip {

@@ -53,7 +53,7 @@ pub fn tell_slots<C: Keeper, O: Sink, N: Sink>(
         (record { out = O.state out.old; note = N.state note.old }) (record { out = O.state out.new; note = N.state note.new }) result }
 {
     match load_both(alloc, keeper) {
-        Ok(both) => match shown_of(alloc, job, &both) {
+        Ok(both) => match report_on(alloc, job, &both) {
             Ok(shown) => show(&shown, out, note),
             Err(_) => tell(&Ended::NoMemory, note),
         },
@@ -75,7 +75,7 @@ fn load_both<C: Keeper>(alloc: Global, keeper: &mut C) -> Result<Both, LookFault
 }
 
 // Returns the report on the slots. The only error is out of memory.
-fn shown_of(alloc: Global, job: Option<&Job>, both: &Both) -> Result<SlotsReport, Memory>
+fn report_on(alloc: Global, job: Option<&Job>, both: &Both) -> Result<SlotsReport, Memory>
     ensures { IfOk result (λ s. (p : Pair) → IsLoadedFrom both.now.zero p.zero_slot → IsLoadedFrom both.now.one p.one_slot → IsShownOf (option_map (λ j. j.now) job.entry) p s) }
 {
     let first = held_of(alloc, &both.zero)?;

@@ -58,7 +58,7 @@ fn above(side: u32, unit: u32) -> Option<u32>
 }
 
 /// Returns the unit to the left in the same row.
-fn left(square: Square, unit: u32) -> Option<u32>
+fn unit_to_the_left(square: Square, unit: u32) -> Option<u32>
     ensures { result ≡ unit_left (grid_side square.size) unit }
 {
     let side = 10 * square.size;
@@ -86,7 +86,7 @@ fn neighbours_of(alloc: Global, square: Square, unit: u32) -> Result<Value, Memo
 {
     let mut list = Vec::new(alloc);
     push_entry(alloc, &mut list, above(10 * square.size, unit))?;
-    push_entry(alloc, &mut list, left(square, unit))?;
+    push_entry(alloc, &mut list, unit_to_the_left(square, unit))?;
     push_entry(alloc, &mut list, right(square, unit))?;
     push_entry(alloc, &mut list, below(square, unit))?;
     Ok(Value::Array(list))

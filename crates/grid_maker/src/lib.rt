@@ -33,7 +33,7 @@ pub fn make(alloc: Global, size: u32, key: [u8; 32]) -> Result<Bytes, Memory>
     let adjacency = adjacency_of(alloc, square)?;
     let nodes = nodes_of(alloc, square, key)?;
     let root = root_of(alloc, adjacency, nodes)?;
-    written(alloc, &root)
+    serialize(alloc, &root)
 }
 
 /// Builds the root of the JSON from the adjacency lists and the nodes.
@@ -50,7 +50,7 @@ fn root_of(alloc: Global, adjacency: Value, nodes: Value) -> Result<Value, Memor
 }
 
 /// Serializes a value without spaces.
-fn written(alloc: Global, value: &Value) -> Result<Bytes, Memory>
+fn serialize(alloc: Global, value: &Value) -> Result<Bytes, Memory>
     requires { has_float (view value.now) ≡ false }
     ensures { IfOk result (λ bytes. bytes.items ≡ compact_text (view value.now)) }
 {

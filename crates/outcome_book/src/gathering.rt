@@ -142,7 +142,7 @@ impl Gathering {
         ensures both { HoldsBoth self.old.outcomes (outcome.now ∷ []) self.new.outcomes }
     {
         let place = outcome.id as usize;
-        let kept = kept_of(&self.places[place], outcome);
+        let kept = combine(&self.places[place], outcome);
         self.places[place] = Some(kept);
     }
 
@@ -215,7 +215,7 @@ fn fuller(one: &Outcome, other: &Outcome) -> Outcome
 }
 
 // Combines the outcome present for an id, if any, with one more.
-fn kept_of(held: &Option<Outcome>, outcome: &Outcome) -> Outcome
+fn combine(held: &Option<Outcome>, outcome: &Outcome) -> Outcome
     ensures { Some result ≡ fuller_if held.now (Some outcome.now) }
 {
     match held {

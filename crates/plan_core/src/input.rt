@@ -177,7 +177,7 @@ impl Input {
 
     /// Copies the input with another start plan of `districts` districts. Fails if there is no
     /// memory.
-    pub fn restarted(&self, start: UnitList, districts: u32) -> Result<Input, Memory>
+    pub fn restart(&self, start: UnitList, districts: u32) -> Result<Input, Memory>
         requires start { GivesDistricts self.now.graph.units districts start }
         requires two { 2 ≤ districts }
         requires few { districts ≤ most_districts }

@@ -143,7 +143,7 @@ impl Job {
             (λ fault. (fault ≡ plan.Memory) ⊎ (job_with self.now start labels ≡ Err fault)) }
         ensures sound { IfOk result (λ job. IsJob job) }
     {
-        match self.input.restarted(start, labels.len() as u32) {
+        match self.input.restart(start, labels.len() as u32) {
             Ok(input) => Job::of_input(alloc, input),
             Err(_) => Err(PlanFault::Memory),
         }

@@ -19,7 +19,7 @@ ghost use Rattle.plan_csv.specs.JobStages.{IsOwn, IsOwnFault};
 ghost use Rattle.audit_model.specs.Several.{named_jobs};
 
 use crate::fault::{of_graph, of_own, of_regions, of_table};
-use crate::named::{Named, named_all};
+use crate::named::{Named, make_jobs};
 use crate::parts::{Parts, parts_of};
 use crate::read_plans;
 use audit_model::fault::{PlansFault, RegionFault};
@@ -66,7 +66,7 @@ fn join(alloc: Global, own: Named, plans: &[Assigned]) -> Result<Vec<Named>, Pla
         (λ f. (f ≡ fault.Memory) ⊎ (from_others own.name own.job (named_jobs own.job plans.now) ≡ Err f)) }
     ensures shared { IfOk result (λ named. AreShared own.job.setting named.items) }
 {
-    match named_all(alloc, &own.job, plans) {
+    match make_jobs(alloc, &own.job, plans) {
         Err(fault) => Err(fault),
         Ok(named) => match with_first(named, own) {
             Ok(all) => Ok(all),

@@ -56,7 +56,7 @@ pub fn plan_of(
             count: districts as u64,
         });
     }
-    Ok(assigned_of(alloc, field(header, plan + 1), &names, &found, records)?)
+    Ok(make_assigned(alloc, field(header, plan + 1), &names, &found, records)?)
 }
 
 /// Returns the label of each record in a plan's column.
@@ -84,7 +84,7 @@ fn text_of(alloc: Global, text: &str) -> Result<Text, Memory>
 }
 
 /// Maps the district of each record to the district of each unit.
-fn picked(alloc: Global, districts: &[u32], records: &[usize]) -> Result<UnitList, Memory>
+fn unit_districts(alloc: Global, districts: &[u32], records: &[usize]) -> Result<UnitList, Memory>
     requires { (u : ℕ) → u < length records.now → slice_index records.now u < length districts.now }
     ensures { IfOk result (λ start. start ≡ map_below (length records.now) (λ u. slice_index districts.now (slice_index records.now u))) }
 {
@@ -97,7 +97,7 @@ fn picked(alloc: Global, districts: &[u32], records: &[usize]) -> Result<UnitLis
 
 /// Makes a plan from its name, the label of each record, the distinct labels and the record of each
 /// unit.
-fn assigned_of(
+fn make_assigned(
     alloc: Global,
     name: &str,
     names: &[NodeName<'_>],
@@ -117,7 +117,7 @@ fn assigned_of(
     };
     Ok(Assigned {
         name: text_of(alloc, name)?,
-        start: picked(alloc, districts.as_slice(), records)?,
+        start: unit_districts(alloc, districts.as_slice(), records)?,
         labels,
     })
 }

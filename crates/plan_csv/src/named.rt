@@ -24,7 +24,7 @@ ghost use Rattle.plan_csv.specs.Named.{jobs_of, IsOneOf};
 ghost use Rattle.plan_csv.specs.JobStages.{IsNamedBy, IsNamedFault, RefusesPlan};
 
 /// Makes the job of one plan of a table on the graph and setting of `job`.
-fn named_of(alloc: Global, job: &Job, plan: &Assigned) -> Result<Named, PlansFault>
+fn make_job(alloc: Global, job: &Job, plan: &Assigned) -> Result<Named, PlansFault>
     requires fit { IsPlanOf job.now.graph.units plan.now }
     ensures { MatchResult result (IsNamedBy job.now plan.now) (λ f. (f ≡ fault.Memory) ⊎ RefusesPlan job.now plan.now f) }
 {
@@ -57,7 +57,7 @@ fn add_all(
     ensures each { IfOk result (λ _. All (IsOneOf job.now.setting job.now.regions job.now.group job.now.frozen) named.new.items) }
 {
     for plan in plans {
-        match named_of(alloc, job, plan) {
+        match make_job(alloc, job, plan) {
             Err(fault) => return Err(fault),
             Ok(one) => {
                 let Ok(()) = named.push(one) else {
@@ -70,7 +70,7 @@ fn add_all(
 }
 
 /// Makes the jobs of a table's plans on the graph and setting of `job`. Stops at the first fault.
-pub fn named_all(alloc: Global, job: &Job, plans: &[Assigned]) -> Result<Vec<Named>, PlansFault>
+pub fn make_jobs(alloc: Global, job: &Job, plans: &[Assigned]) -> Result<Vec<Named>, PlansFault>
     requires fit { All (IsPlanOf job.now.graph.units) plans.now }
     ensures read { MatchResult result (λ named. named_jobs job.now plans.now ≡ Ok (jobs_of named.items))
         (λ f. (f ≡ fault.Memory) ⊎ IsNamedFault (named_jobs job.now plans.now) f) }

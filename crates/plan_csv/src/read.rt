@@ -56,7 +56,7 @@ pub fn read_plans(alloc: Global, bytes: &[u8], ids: &LabelList) -> Result<Assign
 }
 
 /// Makes the plans of the columns after the first. `records` gives the record of each unit.
-fn labelled(
+fn read_columns(
     alloc: Global,
     header: &StringRecord,
     entries: &[StringRecord],
@@ -99,5 +99,5 @@ fn plans_from(
 {
     let plans = plans_of(header)?;
     let records = records_from(alloc, entries, ids.as_slice())?;
-    labelled(alloc, header, entries, records.as_slice(), plans)
+    read_columns(alloc, header, entries, records.as_slice(), plans)
 }

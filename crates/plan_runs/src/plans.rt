@@ -8,14 +8,14 @@ ghost use Rattle.audit_statement.specs.Report.{plan_text, plans_text, thread_rep
 ghost use Rattle.plan_runs.specs.Resources.{IsJudgeSet, IsResourcesFor};
 ghost use Rattle.plan_runs.specs.Plans.{AreJudgeSets, AreWalksFor, IsWalkOf, ReportsPlans, RunsAlone, plan_title, walk_pair};
 
+use crate::ending::text_of;
+use crate::resources::{Resources, make_resources};
+use crate::walking::walk;
 use audit_io::gate::Gate;
 use audit_io::sink::Sink;
 use audit_io::source::Failed;
 use audit_model::buffers::Bytes;
 use audit_model::memory::Memory;
-use crate::ending::text_of;
-use crate::resources::{Resources, make_resources};
-use crate::walking::walk;
 use claim_counter::runtime::Runtime;
 use flip_guard::judge::Judge;
 use plan_core::job::Job;

@@ -150,7 +150,7 @@ fn write_strides<J: Judge, K: Sink>(
             job,
             &mut tracer.walker,
             step,
-            way.moved(),
+            way.move_count(),
             &mut tracer.pen,
             out,
         ) {
@@ -180,7 +180,7 @@ fn write_lines<J: Judge, K: Sink>(
         job,
         &mut tracer.walker,
         0,
-        way.moved(),
+        way.move_count(),
         &mut tracer.pen,
         out,
     ) {

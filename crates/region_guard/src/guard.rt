@@ -50,7 +50,7 @@ impl<F: Fn(&SumsView) -> bool + Drop, T: Fn(u32) -> bool + Drop> RegionGuard<F, 
 
     /// Returns the number of regions that fail the test after one region has changed from `width`
     /// to `wide` districts.
-    fn broken_after(&self, width: u32, wide: u32) -> u32
+    fn count_broken_after(&self, width: u32, wide: u32) -> u32
         requires callable { T.IsAlwaysCallable self.now.test }
         requires answers { (width : ℕ) (answer : Bool) → width < 2 ^ 32 → T.post self.now.test width answer → answer ≡ nat_le width self.now.rules.max_split }
         requires some { nat_le width self.now.rules.max_split ≡ false → 1 ≤ self.now.splits.totals.broken }
@@ -135,8 +135,8 @@ impl<F: Fn(&SumsView) -> bool + Drop, T: Fn(u32) -> bool + Drop> RegionGuard<F, 
         }
         let wide = self.split_with(after, unit, from);
         let width = self.splits.width_of(self.region_of(unit));
-        let broken = self.broken_after(width, wide);
-        self.splits.totals.changed(broken, width, wide)
+        let broken = self.count_broken_after(width, wide);
+        self.splits.totals.after_change(broken, width, wide)
     }
 
     /// Returns true if the rules on regions are met after a move.
@@ -306,7 +306,7 @@ impl<F: Fn(&SumsView) -> bool + Drop, T: Fn(u32) -> bool + Drop> Judge for Regio
         }
         let kept = self.keeps_with(after, unit, from);
         self.move_region(after, unit, from);
-        self.tally.moved(&self.rules.group, after, unit, from);
+        self.tally.record_move(&self.rules.group, after, unit, from);
         self.kept = kept;
     }
 

@@ -148,7 +148,7 @@ impl GroupTally {
     }
 
     /// Updates the sums after a move to another district, if there is a group.
-    pub(crate) fn moved(&mut self, group: &Group, after: &[u32], unit: u32, from: u32)
+    pub(crate) fn record_move(&mut self, group: &Group, after: &[u32], unit: u32, from: u32)
         requires table { IsGroupTable group.now (length self.old.members) self.old }
         requires step { IsFitStep group.now.members (length self.old.members) after.now unit from }
         requires stood { IsTallied group.now (length self.old.members) self.old (slice_set after.now unit from) }

@@ -22,7 +22,7 @@ impl Totals {
     /// Returns the totals after one region has changed from `width` to `wide` districts. `broken`
     /// is the new number of regions in too many districts.
     #[inline]
-    pub(crate) fn changed(self, broken: u32, width: u32, wide: u32) -> Totals
+    pub(crate) fn after_change(self, broken: u32, width: u32, wide: u32) -> Totals
         requires few_in_all { self.in_all ≤ most_splits }
         requires few_split { self.split ≤ most_regions }
         requires few { wide ≤ most_districts }

@@ -11,7 +11,7 @@ ghost use Rattle.audit_statement.specs.Report.{ends_line, ends_lines};
 use crate::lines::{Word, push_line};
 use crate::names::{score_text, tail_text};
 use crate::outcomes::ends_of;
-use crate::values::{asks_of, denominator_of, ranked};
+use crate::values::{asks_of, denominator_of, ranked_count};
 use audit_model::buffers::Bytes;
 use audit_model::memory::Memory;
 use audit_model::outcome::Outcome;
@@ -72,7 +72,7 @@ fn push_rank_line(
     requires rank { (1 ≤ start_rank) × (start_rank ≤ job.now.setting.ends + 1) }
     ensures { AppendsText out.old out.new (rank_line job.now ask start_rank) result }
 {
-    let values = ranked(job);
+    let values = ranked_count(job);
     push_line(
         out,
         &[

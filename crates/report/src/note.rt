@@ -174,7 +174,7 @@ fn text_line(text: &str) -> Line<'_>
 }
 
 // Returns the spelling of an argument name.
-fn spelled<'a>(name: &Name) -> &'a str
+fn spelling_of<'a>(name: &Name) -> &'a str
     ensures { result.now ≡ name_text name.now }
 {
     name.text()
@@ -190,10 +190,10 @@ fn word_line(fault: &WordFault) -> Line<'_>
             Text(word.as_str()),
         ]),
         WordFault::UnknownName(word) => line_of(&[Text("unknown name "), Text(word.as_str())]),
-        WordFault::Twice(name) => line_of(&[Text(spelled(name)), Text(" is given twice")]),
-        WordFault::NoValue(name) => line_of(&[Text("no value for "), Text(spelled(name))]),
-        WordFault::MissingName(name) => line_of(&[Text(spelled(name)), Text(" is missing")]),
-        WordFault::BadValue(name) => line_of(&[Text("bad value for "), Text(spelled(name))]),
+        WordFault::Twice(name) => line_of(&[Text(spelling_of(name)), Text(" is given twice")]),
+        WordFault::NoValue(name) => line_of(&[Text("no value for "), Text(spelling_of(name))]),
+        WordFault::MissingName(name) => line_of(&[Text(spelling_of(name)), Text(" is missing")]),
+        WordFault::BadValue(name) => line_of(&[Text("bad value for "), Text(spelling_of(name))]),
         WordFault::Memory => text_line("memory"),
     }
 }

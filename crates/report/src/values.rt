@@ -31,7 +31,7 @@ pub fn visits(job: &Job) -> u64
 
 /// Returns the number of ranked values: the start plan's and those of the endpoints.
 #[tactic(auto, using(crate::proofs::Limits::small))]
-pub fn ranked(job: &Job) -> u64
+pub fn ranked_count(job: &Job) -> u64
     ensures value { result ≡ job.now.setting.ends + 1 }
     ensures few { result ≤ 100001 }
 {

@@ -45,7 +45,7 @@ impl Way {
     }
 
     /// Returns the number of steps that changed the plan.
-    pub fn moved(&self) -> u32
+    pub fn move_count(&self) -> u32
         ensures { result ≡ self.now.moved }
     {
         self.moved

@@ -56,7 +56,8 @@ pub fn check_text_with_lengths()
         codes "cut-length 7" ++ 10 ∷ codes "end" ++ 10 ∷ [] }
 {}
 
-/// Shows that the digest of a job has its fifth form exactly if edges have lengths. The limit and the lengths come last.
+/// Shows that the digest of a job has its fifth form exactly if edges have lengths. The limit and the lengths come
+/// last.
 pub fn bytes_with_lengths()
     ensures fifth { take 14 (job_bytes (job_of_lengths 258 [])) ≡ codes "district-job 5" }
     ensures behind { drop 218 (job_bytes (job_of_lengths 258 [])) ≡

@@ -14,7 +14,7 @@ returns c =
     let number : Name → ℕ = definition.number_named command.Check (pairs_in c.args.words.now) in
     let slack : c.number_at.result ≡ number name.Slack = c.number_at.ensures (omega (arith, (number-bounds 0 10000 (text name.Slack) c.requires.slack).1)) in
     let max_cut : c.number_at-2.result ≡ number name.MaxCut = c.number_at-2.ensures (omega (arith, (number-bounds 0 400000 (text name.MaxCut) c.requires.max_cut).1)) in
-    let region : c.in_ok-copied.field-0 ≡ text name.Region = c.in_ok-copied.ensures ∙ c.text_of.ensures in
+    let region : c.in_ok-copy_text.field-0 ≡ text name.Region = c.in_ok-copy_text.ensures ∙ c.text_of.ensures in
     let source : c.eq.result ≡ bytes_eq (text name.Source) (codes "yes") = c.eq.ensures ∙ ap (λ t. bytes_eq t (codes "yes")) c.text_of-2.ensures in
     rw (
       c.in_ok-columns_of.ensures,

@@ -8,7 +8,7 @@ use Rattle.audit_words.proofs.settings.read_setting.Goals as goal
 
 pub returns : goal.returns
 returns c =
-    let region : c.in_ok-copied.field-0 ≡ definition.text_of command.Check (pairs_in c.args.words.now) name.Region = c.in_ok-copied.ensures ∙ c.text_of.ensures in
+    let region : c.in_ok-copy_text.field-0 ≡ definition.text_of command.Check (pairs_in c.args.words.now) name.Region = c.in_ok-copy_text.ensures ∙ c.text_of.ensures in
     let source : c.eq.result ≡ bytes_eq (definition.text_of command.Check (pairs_in c.args.words.now) name.Source) (codes "yes") =
     c.eq.ensures ∙ ap (λ t. bytes_eq t (codes "yes")) c.text_of-2.ensures in
     rw (

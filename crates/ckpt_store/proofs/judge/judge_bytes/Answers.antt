@@ -9,7 +9,7 @@ returns-in-Ok-clause-slot c =
 
 pub returns-in-Err-clause-slot : goal.returns-in-Err-clause-slot
 returns-in-Err-clause-slot c =
-    slot_of_broken c.args.job.now c.args.digest.now c.args.bytes.now c.in-Err.fault c.broken.result c.requires c.in-Err.ensures.err c.broken.ensures.slot c.broken.ensures.known
+    slot_of_broken c.args.job.now c.args.digest.now c.args.bytes.now c.in-Err.fault c.broken_slot.result c.requires c.in-Err.ensures.err c.broken_slot.ensures.slot c.broken_slot.ensures.known
 
 pub returns-in-Err-clause-sound : goal.returns-in-Err-clause-sound
-returns-in-Err-clause-sound c = broken_is_fit c.args.job.now c.in-Err.fault c.broken.result c.broken.ensures.slot
+returns-in-Err-clause-sound c = broken_is_fit c.args.job.now c.in-Err.fault c.broken_slot.result c.broken_slot.ensures.slot

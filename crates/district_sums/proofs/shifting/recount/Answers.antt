@@ -34,8 +34,8 @@ pub bounds-apart-member : goal.bounds-apart-member
 bounds-apart-member c =
     omega (arith, c.args.member.within, c.loop-other.auto.apart, width c.args.member.graph.now c.args.member.plan.now c.args.apart.now c.requires)
 
-pub recounted-requires-clause-some : goal.recounted-requires-clause-some
-recounted-requires-clause-some c = λ counted.
+pub count_after-requires-clause-some : goal.count_after-requires-clause-some
+count_after-requires-clause-some c = λ counted.
     let g : Graph = c.args.member.graph.now in
     let row : List ℕ = c.neighbours-other-items.result.now in
     let i : ℕ = c.loop-other.other-index in
@@ -46,8 +46,8 @@ recounted-requires-clause-some c = λ counted.
     c.neighbours-other-items.ensures.list c.loop-other-test.true c.requires c.loop-other.invariant.walked) counted in
     omega (arith, is, some)
 
-pub recounted-requires-clause-few : goal.recounted-requires-clause-few
-recounted-requires-clause-few c =
+pub count_after-requires-clause-few : goal.count_after-requires-clause-few
+count_after-requires-clause-few c =
     let g : Graph = c.args.member.graph.now in
     let row : List ℕ = c.neighbours-other-items.result.now in
     let i : ℕ = c.loop-other.other-index in
@@ -82,11 +82,11 @@ loop-other-preserved c =
     c.args.member.sound c.neighbours-other-items.ensures.list c.loop-other-test.true c.requires c.loop-other.invariant.walked c.loop-other.auto.apart in
     record {
       counted = omega (arith, counted, c.with_one-others.ensures, c.loop-other.invariant.counted);
-      walked = subst (λ (xs : List ℕ). IsRecounted plan home c.args.into xs c.args.apart.now (set c.loop-other.apart v c.recounted.result)) (sym more)
-          (walked_more plan home c.args.into v c.recounted.result (take i row) c.args.apart.now c.loop-other.apart c.loop-other.invariant.walked
+      walked = subst (λ (xs : List ℕ). IsRecounted plan home c.args.into xs c.args.apart.now (set c.loop-other.apart v c.count_after.result)) (sym more)
+          (walked_more plan home c.args.into v c.count_after.result (take i row) c.args.apart.now c.loop-other.apart c.loop-other.invariant.walked
           (fresh g plan c.args.member.unit c.args.into i row c.args.apart.now c.loop-other.apart c.args.member.sound
           c.neighbours-other-items.ensures.list c.loop-other-test.true c.requires c.loop-other.invariant.walked)
-          inside c.recounted.ensures);
+          inside c.count_after.ensures);
     }
 
 pub returns : goal.returns

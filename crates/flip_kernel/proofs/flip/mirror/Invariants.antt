@@ -1,4 +1,4 @@
 use Rattle.flip_kernel.proofs.flip.mirror.Given as goal
 
-abbrev pub ghosts-led_back : goal.ghosts-led_back
-ghosts-led_back g a = record { name = a.blank.name; parts = a.blank.parts }
+abbrev pub ghosts-find_mirror : goal.ghosts-find_mirror
+ghosts-find_mirror g a = record { name = a.blank.name; parts = a.blank.parts }

@@ -30,7 +30,7 @@ returns-clause-read c =
     let rows = map fields_of c.args.entries.now in
     let header = fields_of c.args.header.now in
     let records = c.args.records.now in
-    let a = c.in_ok-assigned_of.field-0 in
+    let a = c.in_ok-make_assigned.field-0 in
     let names = c.in_ok-names.names.items in
     let found = c.in-Ok.found.items in
     let are : AreDifferent names found = subst (λ (ns : List NodeName). AreDifferent ns found) c.deref.ensures.value c.in-Ok.ensures in
@@ -43,7 +43,7 @@ returns-clause-read c =
     let is : IsAssigned (plan_name [] header [] c.args.plan) (labels_from names) (labels_from found) records a =
     subst (λ (n : List ℕ). IsAssigned n (labels_from names) (labels_from found) records a) named
     (subst (λ (ns : List NodeName). IsAssigned c.field.result.now (labels_from ns) (labels_from found) records a) c.deref-2.ensures.value
-    (subst (λ (fs : List NodeName). IsAssigned c.field.result.now (labels_from c.deref-2.result.now) (labels_from fs) records a) c.deref-3.ensures.value c.in_ok-assigned_of.ensures)) in (
+    (subst (λ (fs : List NodeName). IsAssigned c.field.result.now (labels_from c.deref-2.result.now) (labels_from fs) records a) c.deref-3.ensures.value c.in_ok-make_assigned.ensures)) in (
       ap (λ n. nat_lt n 2 || nat_lt 200 n) (sym same) ∙ sym c.is_miscounted.ensures ∙ c.if-is_miscounted.false,
       assigned_is header rows c.args.plan (labels_from names) (labels_from found) records a c.in_ok-names.ensures is
           (λ u l. let under : get_or records u 0 < length c.args.entries.now = c.requires.under u l in omega (arith, under, length-map c.args.entries.now fields_of)),
@@ -54,7 +54,7 @@ returns-clause-fit c =
     let rows = map fields_of c.args.entries.now in
     let header = fields_of c.args.header.now in
     let records = c.args.records.now in
-    let a = c.in_ok-assigned_of.field-0 in
+    let a = c.in_ok-make_assigned.field-0 in
     let names = c.in_ok-names.names.items in
     let found = c.in-Ok.found.items in
     let size : c.len-districts.result ≡ length found = search rules in
@@ -63,7 +63,7 @@ returns-clause-fit c =
     let is : IsAssigned (plan_name [] header [] c.args.plan) (labels_from names) (labels_from found) records a =
     subst (λ (n : List ℕ). IsAssigned n (labels_from names) (labels_from found) records a) named
     (subst (λ (ns : List NodeName). IsAssigned c.field.result.now (labels_from ns) (labels_from found) records a) c.deref-2.ensures.value
-    (subst (λ (fs : List NodeName). IsAssigned c.field.result.now (labels_from c.deref-2.result.now) (labels_from fs) records a) c.deref-3.ensures.value c.in_ok-assigned_of.ensures)) in
+    (subst (λ (fs : List NodeName). IsAssigned c.field.result.now (labels_from c.deref-2.result.now) (labels_from fs) records a) c.deref-3.ensures.value c.in_ok-make_assigned.ensures)) in
     let both = or_parts (nat_lt c.len-districts.result 2) (nat_lt 200 c.len-districts.result) (sym c.is_miscounted.ensures ∙ c.if-is_miscounted.false) in
     let two : 2 ≤ c.len-districts.result = ltb-false c.len-districts.result 2 both.0 in
     let few : c.len-districts.result ≤ 200 = ltb-false 200 c.len-districts.result both.1 in

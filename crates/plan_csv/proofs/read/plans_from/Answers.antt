@@ -10,8 +10,8 @@ use Rattle.plan_csv.proofs.Assembled.{plans_are}
 use Rattle.plan_csv.proofs.Early.{count_first, none_later}
 use Rattle.plan_csv.proofs.read.plans_from.Goals as goal
 
-pub labelled-requires-clause-under : goal.labelled-requires-clause-under
-labelled-requires-clause-under c = λ u l.
+pub read_columns-requires-clause-under : goal.read_columns-requires-clause-under
+read_columns-requires-clause-under c = λ u l.
     let r = c.in_ok-records.ensures in
     let have = c.as_slice-2.ensures.value in
     let inside : u < length c.as_slice.result.now = omega (arith, l, ap length have, r.1.size) in
@@ -30,7 +30,7 @@ returns-clause-read c =
     let are : AreRecords ids rows c.as_slice-2.result.now =
     subst (λ (ls : List Label). AreRecords ls rows c.as_slice-2.result.now) c.as_slice.ensures
     (subst (λ (rs : List ℕ). AreRecords c.as_slice.result.now rows rs) (sym have) c.in_ok-records.ensures.1) in
-    match_map c.labelled.result _ _ _ _ c.labelled.ensures.read
+    match_map c.read_columns.result _ _ _ _ c.read_columns.ensures.read
     (λ list h. (
       none_later ids header rows p.1 p.2 p.3 units h.0,
       h.1 ∙ plans_are ids header rows c.as_slice-2.result.now c.in_ok-plans.plans are p.0,
@@ -44,4 +44,4 @@ pub returns-clause-fit : goal.returns-clause-fit
 returns-clause-fit c =
     let size : length c.as_slice-2.result.now ≡ length c.args.ids.now =
     omega (arith, ap length c.as_slice-2.ensures.value, c.in_ok-records.ensures.1.size, ap (λ (ls : List Label). length ls) c.as_slice.ensures) in
-    ok_map c.labelled.result _ _ c.labelled.ensures.fit (λ list h. subst (λ n. All (IsPlanOf n) list) size h)
+    ok_map c.read_columns.result _ _ c.read_columns.ensures.fit (λ list h. subst (λ n. All (IsPlanOf n) list) size h)

@@ -20,7 +20,7 @@ returns-in-Err-clause-written g c =
     (one_at_least (quotient_up (own_steps job id) thin))
     (subst (λ (t : List ℕ). WritesAllOf (g.K.Sink.state c.args.out.now) (g.K.Sink.state c.write_line.new.out) t (Err c.in-Err.field-0))
     (ap (λ (q : List ℕ). line_at job (draw job.setting.key) id q 0) c.requires.before ∙ sym (first_line job (draw job.setting.key) id thin))
-    (c.in-Err.ensures.written id (record { plan = under.visited; counted = c.moved.ensures ∙ under.counted })))
+    (c.in-Err.ensures.written id (record { plan = under.visited; counted = c.move_count.ensures ∙ under.counted })))
 
 pub returns-in-Ok-clause-written : goal.returns-in-Ok-clause-written
 returns-in-Ok-clause-written g c =
@@ -30,4 +30,4 @@ returns-in-Ok-clause-written g c =
     c.write_strides.ensures.written (g.K.Sink.state c.args.out.now)
     (subst (λ (t : List ℕ). WritesAllOf (g.K.Sink.state c.args.out.now) (g.K.Sink.state c.write_line.new.out) t (Ok tt))
     (ap (λ (q : List ℕ). line_at job (draw job.setting.key) id q 0) c.requires.before ∙ sym (first_line job (draw job.setting.key) id c.args.traced.thin))
-    (c.in-Ok.ensures.written id (record { plan = under.visited; counted = c.moved.ensures ∙ under.counted })))
+    (c.in-Ok.ensures.written id (record { plan = under.visited; counted = c.move_count.ensures ∙ under.counted })))

@@ -30,7 +30,7 @@ loop-place-preserved g c =
       written = λ before first.
           lines_then job (draw job.setting.key) id thin before (g.K.Sink.state c.loop-place.out) (g.K.Sink.state c.write_line.new.out) c.loop-place.place step (step + c.min-stride.result)
           c.loop-place.tracer.pen.before (Ok tt) held.at next (held.before ∙ held.way.walked.visited) (held.written before first)
-          (c.in-Ok.ensures.written id (record { plan = under.walked.visited; counted = c.moved.ensures ∙ under.walked.counted }));
+          (c.in-Ok.ensures.written id (record { plan = under.walked.visited; counted = c.move_count.ensures ∙ under.walked.counted }));
     }
 
 pub returns-in-Err-clause-written : goal.returns-in-Err-clause-written
@@ -49,4 +49,4 @@ returns-in-Err-clause-written g c = λ before first.
     (two_more c.loop-place.place (quotient_up (own_steps job id) thin) below)
     (lines_then job (draw job.setting.key) id thin before (g.K.Sink.state c.loop-place.out) (g.K.Sink.state c.write_line.new.out) c.loop-place.place step (step + c.min-stride.result)
     c.loop-place.tracer.pen.before (Err c.in-Err.field-0) held.at next (held.before ∙ held.way.walked.visited) (held.written before first)
-    (c.in-Err.ensures.written id (record { plan = under.walked.visited; counted = c.moved.ensures ∙ under.walked.counted })))
+    (c.in-Err.ensures.written id (record { plan = under.walked.visited; counted = c.move_count.ensures ∙ under.walked.counted })))

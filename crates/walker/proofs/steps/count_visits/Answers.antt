@@ -51,8 +51,8 @@ settle-requires-clause-bins g c =
     (arrived job job.setting.key c.args.course.stream c.loop-place.place c.args.course.steps c.loop-place.track.draws c.loop-place.track.trail held.same_key held.same_stream
     (omega (arith, c.loop-place-test.false, c.loop-place.auto.place-end)) held.on.trail) c.requires.few
 
-pub returns-clause-moved : goal.returns-clause-moved
-returns-clause-moved g c =
+pub returns-clause-move_count : goal.returns-clause-move_count
+returns-clause-move_count g c =
     let job = c.args.job.now in
     let held = c.loop-place.invariant in
     c.settle.ensures.moved

@@ -25,8 +25,8 @@ width_of-width-requires g c =
     let splits : SplitCounts = c.args.self.now.splits in
     record { region = row_below regions after most districts c.args.unit c.args.from c.requires.step splits c.region_of.result c.requires.table c.requires.stood c.region_of.ensures }
 
-pub broken_after-broken-requires-clause-some : goal.broken_after-broken-requires-clause-some
-broken_after-broken-requires-clause-some g c =
+pub count_broken_after-broken-requires-clause-some : goal.count_broken_after-broken-requires-clause-some
+count_broken_after-broken-requires-clause-some g c =
     let regions : List ℕ = c.args.self.now.rules.regions in
     let after : List ℕ = c.args.after.now in
     let most : ℕ = c.args.self.now.rules.max_split in
@@ -34,8 +34,8 @@ broken_after-broken-requires-clause-some g c =
     let splits : SplitCounts = c.args.self.now.splits in
     λ h. some_broken regions after most districts c.args.unit c.args.from c.requires.step splits c.region_of.result c.requires.table c.requires.stood c.region_of.ensures (ap (λ x. nat_le x most) (sym c.width_of-width.ensures) ∙ h)
 
-pub broken_after-broken-requires-clause-few : goal.broken_after-broken-requires-clause-few
-broken_after-broken-requires-clause-few g c =
+pub count_broken_after-broken-requires-clause-few : goal.count_broken_after-broken-requires-clause-few
+count_broken_after-broken-requires-clause-few g c =
     let regions : List ℕ = c.args.self.now.rules.regions in
     let after : List ℕ = c.args.after.now in
     let most : ℕ = c.args.self.now.rules.max_split in
@@ -43,8 +43,8 @@ broken_after-broken-requires-clause-few g c =
     let splits : SplitCounts = c.args.self.now.splits in
     few_broken regions after most districts c.args.unit c.args.from c.requires.step splits c.region_of.result c.requires.table c.requires.stood c.region_of.ensures
 
-pub changed-requires-clause-few_in_all : goal.changed-requires-clause-few_in_all
-changed-requires-clause-few_in_all g c =
+pub after_change-requires-clause-few_in_all : goal.after_change-requires-clause-few_in_all
+after_change-requires-clause-few_in_all g c =
     let regions : List ℕ = c.args.self.now.rules.regions in
     let after : List ℕ = c.args.after.now in
     let most : ℕ = c.args.self.now.rules.max_split in
@@ -52,8 +52,8 @@ changed-requires-clause-few_in_all g c =
     let splits : SplitCounts = c.args.self.now.splits in
     few_in_all regions after most districts c.args.unit c.args.from c.requires.step splits c.region_of.result c.requires.table c.requires.stood c.region_of.ensures
 
-pub changed-requires-clause-few_split : goal.changed-requires-clause-few_split
-changed-requires-clause-few_split g c =
+pub after_change-requires-clause-few_split : goal.after_change-requires-clause-few_split
+after_change-requires-clause-few_split g c =
     let regions : List ℕ = c.args.self.now.rules.regions in
     let after : List ℕ = c.args.after.now in
     let most : ℕ = c.args.self.now.rules.max_split in
@@ -61,8 +61,8 @@ changed-requires-clause-few_split g c =
     let splits : SplitCounts = c.args.self.now.splits in
     few_split_regions regions after most districts c.args.unit c.args.from c.requires.step splits c.region_of.result c.requires.table c.requires.stood c.region_of.ensures
 
-pub changed-requires-clause-few : goal.changed-requires-clause-few
-changed-requires-clause-few g c =
+pub after_change-requires-clause-few : goal.after_change-requires-clause-few
+after_change-requires-clause-few g c =
     let regions : List ℕ = c.args.self.now.rules.regions in
     let after : List ℕ = c.args.after.now in
     let most : ℕ = c.args.self.now.rules.max_split in
@@ -70,8 +70,8 @@ changed-requires-clause-few g c =
     let splits : SplitCounts = c.args.self.now.splits in
     few_wide regions after most districts c.args.unit c.args.from c.requires.step splits c.region_of.result c.requires.table c.requires.stood c.region_of.ensures c.if-after-unit.false c.split_with-wide.result c.split_with-wide.ensures
 
-pub changed-requires-clause-some_in_all : goal.changed-requires-clause-some_in_all
-changed-requires-clause-some_in_all g c =
+pub after_change-requires-clause-some_in_all : goal.after_change-requires-clause-some_in_all
+after_change-requires-clause-some_in_all g c =
     let regions : List ℕ = c.args.self.now.rules.regions in
     let after : List ℕ = c.args.after.now in
     let most : ℕ = c.args.self.now.rules.max_split in
@@ -80,8 +80,8 @@ changed-requires-clause-some_in_all g c =
     let some = some_in_all regions after most districts c.args.unit c.args.from c.requires.step splits c.region_of.result c.requires.table c.requires.stood c.region_of.ensures c.if-after-unit.false c.split_with-wide.result c.split_with-wide.ensures in
     omega (arith, some, c.width_of-width.ensures)
 
-pub changed-requires-clause-some_split : goal.changed-requires-clause-some_split
-changed-requires-clause-some_split g c =
+pub after_change-requires-clause-some_split : goal.after_change-requires-clause-some_split
+after_change-requires-clause-some_split g c =
     let regions : List ℕ = c.args.self.now.rules.regions in
     let after : List ℕ = c.args.after.now in
     let most : ℕ = c.args.self.now.rules.max_split in
@@ -98,8 +98,8 @@ returns g c =
     let districts : ℕ = c.args.self.now.districts in
     let splits : SplitCounts = c.args.self.now.splits in
     let wide : ℕ = c.split_with-wide.result in
-    let b : ℕ = c.broken_after-broken.result in
+    let b : ℕ = c.count_broken_after-broken.result in
     let is_broken : b ≡ broken_in regions most after = broken_found regions after most districts c.args.unit c.args.from c.requires.step splits c.region_of.result c.requires.table c.requires.stood c.region_of.ensures wide b c.split_with-wide.ensures
-    (subst (λ w. b + one_if (not (nat_le w most)) ≡ splits.totals.broken + one_if (not (nat_le wide most))) c.width_of-width.ensures c.broken_after-broken.ensures) in
-    totals_found regions after most districts c.args.unit c.args.from c.requires.step splits c.region_of.result c.requires.table c.requires.stood c.region_of.ensures c.if-after-unit.false c.split_with-wide.result c.split_with-wide.ensures b is_broken c.changed.result
-    (c.changed.ensures ∙ ap (λ (w : ℕ). (let t : Totals = record { broken = b; in_all = splits.totals.in_all + wide - w; split = splits.totals.split + one_if (nat_lt 1 wide) - one_if (nat_lt 1 w) } in t)) c.width_of-width.ensures)
+    (subst (λ w. b + one_if (not (nat_le w most)) ≡ splits.totals.broken + one_if (not (nat_le wide most))) c.width_of-width.ensures c.count_broken_after-broken.ensures) in
+    totals_found regions after most districts c.args.unit c.args.from c.requires.step splits c.region_of.result c.requires.table c.requires.stood c.region_of.ensures c.if-after-unit.false c.split_with-wide.result c.split_with-wide.ensures b is_broken c.after_change.result
+    (c.after_change.ensures ∙ ap (λ (w : ℕ). (let t : Totals = record { broken = b; in_all = splits.totals.in_all + wide - w; split = splits.totals.split + one_if (nat_lt 1 wide) - one_if (nat_lt 1 w) } in t)) c.width_of-width.ensures)

@@ -12,8 +12,8 @@ returns-clause-kept g c =
     let kept = c.requires.kept in
     let long : length {A = ℕ} new.tally.members ≡ new.districts =
     ap (λ (s : G). length {A = ℕ} s.tally.members) others ∙ kept.6.members ∙ ap (λ (s : G). s.districts) (sym others) in
-    let last : IsGroupTable new.rules.group new.districts c.moved.new.self =
-    subst (λ (n : ℕ). IsGroupTable new.rules.group n c.moved.new.self) long c.moved.ensures.table in
-    let same : IsGroupTable old.rules.group old.districts c.moved.new.self =
-    subst (λ (s : G). IsGroupTable s.rules.group s.districts c.moved.new.self) others last in
-    rw others (kept.0, kept.1, kept.2, kept.3, kept.4, c.move_region.ensures.table, same, c.moved.ensures.share ∙ ap (λ (s : G). s.tally.share) others ∙ kept.7, kept.8)
+    let last : IsGroupTable new.rules.group new.districts c.record_move.new.self =
+    subst (λ (n : ℕ). IsGroupTable new.rules.group n c.record_move.new.self) long c.record_move.ensures.table in
+    let same : IsGroupTable old.rules.group old.districts c.record_move.new.self =
+    subst (λ (s : G). IsGroupTable s.rules.group s.districts c.record_move.new.self) others last in
+    rw others (kept.0, kept.1, kept.2, kept.3, kept.4, c.move_region.ensures.table, same, c.record_move.ensures.share ∙ ap (λ (s : G). s.tally.share) others ∙ kept.7, kept.8)

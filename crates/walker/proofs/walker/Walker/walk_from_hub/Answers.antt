@@ -20,14 +20,14 @@ returns-clause-outcome g c =
     let stream = 2 * c.from.result + 3 in
     let held = ap (λ (h : Held). h.plan) c.set.ensures.held in
     let steps = ap (λ (s : Setting). s.hub_steps) c.setting-setting.ensures in
-    end_found job (draw job.setting.key) c.args.id stream c.from-2.result c.args.hub.now c.walk-moved.new.state c.as_slice.result.now c.values.result
+    end_found job (draw job.setting.key) c.args.id stream c.from-2.result c.args.hub.now c.walk-move_count.new.state c.as_slice.result.now c.values.result
     (ap (λ (n : ℕ). 2 * n + 3) (c.from.ensures ∙ ap (λ (s : Setting). c.args.id - s.walks) c.setting-setting.ensures))
     c.requires.hub
-    (c.from-2.ensures ∙ c.walk-moved.ensures.moved
+    (c.from-2.ensures ∙ c.walk-move_count.ensures.moved
     ∙ ap (λ (p : List ℕ). moves job (draw job.setting.key stream) p c.setting-setting.result.now.hub_steps) held
     ∙ ap (λ (n : ℕ). moves job (draw job.setting.key stream) c.args.hub.now n) steps)
-    (ap (λ (h : Held). h.job) c.walk-moved.ensures.plan ∙ ap (λ (h : Held). h.job) c.set.ensures.held ∙ ap (λ (h : Held). h.job) c.self.view_is ∙ c.requires.made)
-    (ap (λ (h : Held). h.plan) c.walk-moved.ensures.plan
+    (ap (λ (h : Held). h.job) c.walk-move_count.ensures.plan ∙ ap (λ (h : Held). h.job) c.set.ensures.held ∙ ap (λ (h : Held). h.job) c.self.view_is ∙ c.requires.made)
+    (ap (λ (h : Held). h.plan) c.walk-move_count.ensures.plan
     ∙ ap (λ (p : List ℕ). visit job (draw job.setting.key stream) p c.setting-setting.result.now.hub_steps) held
     ∙ ap (λ (n : ℕ). visit job (draw job.setting.key stream) c.args.hub.now n) steps)
     (c.as_slice.ensures ∙ ap (λ (s : Setting). s.asks) c.setting-setting.ensures)

@@ -4,7 +4,7 @@ use Rattle.csv.specs.Records.{fields_of}
 use Rattle.audit_model.specs.declared.plans.Assigned.{Assigned}
 use Rattle.plan_csv.specs.Fit.{IsPlanOf}
 use Rattle.plan_csv.proofs.Assembled.{listed_more, refused_here, listed_all}
-use Rattle.plan_csv.proofs.read.labelled.Goals as goal
+use Rattle.plan_csv.proofs.read.read_columns.Goals as goal
 
 pub loop-plan-init : goal.loop-plan-init
 loop-plan-init c = record {

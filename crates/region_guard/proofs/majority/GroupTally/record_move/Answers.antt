@@ -1,6 +1,6 @@
 use Rattle.std.proofs.Common.{◌≡◌, ℕ, ◌∙◌, length, arith}
 use Rattle.region_guard.proofs.Tallying.{none_tallied, own_columns}
-use Rattle.region_guard.proofs.majority.GroupTally.moved.Goals as goal
+use Rattle.region_guard.proofs.majority.GroupTally.record_move.Goals as goal
 
 pub returns-else-len-gt0-clause-stands : goal.returns-else-len-gt0-clause-stands
 returns-else-len-gt0-clause-stands c =

@@ -3,8 +3,8 @@ use Rattle.std.proofs.lemmas.Bool.{cond-true, cond-false}
 use Rattle.flip_kernel.specs.Held.{Held, ProposesOpen}
 use Rattle.flip_kernel.proofs.Holding.{held_for}
 use Rattle.flip_kernel.proofs.Proposing.{still_held, closed_stays, is_proposed}
-use Rattle.flip_kernel.proofs.board.Board.proposed.Goals.{then-not-has-via-then-not-has, then-not-has-via-else-not-has+then-is_past}
-use Rattle.flip_kernel.proofs.board.Board.proposed.Goals as goal
+use Rattle.flip_kernel.proofs.board.Board.proposal_of.Goals.{then-not-has-via-then-not-has, then-not-has-via-else-not-has+then-is_past}
+use Rattle.flip_kernel.proofs.board.Board.proposal_of.Goals as goal
 
 pub returns-then-not-has : goal.returns-then-not-has
 returns-then-not-has c =

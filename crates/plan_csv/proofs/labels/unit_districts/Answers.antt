@@ -1,7 +1,7 @@
 use Rattle.std.proofs.Common.{◌≡◌, ℕ, length, get_or, refl, ap, ◌∙◌, arith}
 use Rattle.audit_model.specs.Below.{map_below}
 use Rattle.audit_model.proofs.Below.{map_below_more}
-use Rattle.plan_csv.proofs.labels.picked.Goals as goal
+use Rattle.plan_csv.proofs.labels.unit_districts.Goals as goal
 
 pub loop-unit-preserved : goal.loop-unit-preserved
 loop-unit-preserved c =

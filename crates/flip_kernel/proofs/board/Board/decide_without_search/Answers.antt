@@ -5,10 +5,10 @@ use Rattle.audit_model.specs.JobOf.{IsJob}
 use Rattle.audit_model.specs.Plan.{IsLegal}
 use Rattle.flip_kernel.proofs.Beside.{open_elsewhere}
 use Rattle.flip_kernel.proofs.Moves.{is_move, legal_allows, move_leaves}
-use Rattle.flip_kernel.proofs.board.Board.observed.Goals as goal
+use Rattle.flip_kernel.proofs.board.Board.decide_without_search.Goals as goal
 
-pub returns-in-Some-true-clause-observed : goal.returns-in-Some-true-clause-observed
-returns-in-Some-true-clause-observed g c =
+pub returns-in-Some-true-clause-decided : goal.returns-in-Some-true-clause-decided
+returns-in-Some-true-clause-decided g c =
     let flip = c.args.flip in
     let job = flip.job.now in
     let plan : List ℕ = c.args.self.now.plan in
@@ -22,8 +22,8 @@ returns-in-Some-true-clause-observed g c =
       λ move. c.allows.ensures.allows ∙ legal_allows job after move.legal,
     )
 
-pub returns-in-Some-false-clause-observed : goal.returns-in-Some-false-clause-observed
-returns-in-Some-false-clause-observed g c =
+pub returns-in-Some-false-clause-decided : goal.returns-in-Some-false-clause-decided
+returns-in-Some-false-clause-decided g c =
     let flip = c.args.flip in
     let job = flip.job.now in
     let plan : List ℕ = c.args.self.now.plan in
@@ -35,8 +35,8 @@ returns-in-Some-false-clause-observed g c =
           (c.in-Some-false.ensures.1 (move_leaves job plan flip.unit flip.district sound legal flip.unit_below flip.district_below off move))),
     )
 
-pub returns-then-allows-clause-observed : goal.returns-then-allows-clause-observed
-returns-then-allows-clause-observed g c =
+pub returns-then-allows-clause-decided : goal.returns-then-allows-clause-decided
+returns-then-allows-clause-decided g c =
     let flip = c.args.flip in
     let job = flip.job.now in
     let plan : List ℕ = c.args.self.now.plan in
@@ -50,8 +50,8 @@ returns-then-allows-clause-observed g c =
       λ move. move_leaves job plan flip.unit flip.district sound legal flip.unit_below flip.district_below off move,
     )
 
-pub returns-else-allows-clause-observed : goal.returns-else-allows-clause-observed
-returns-else-allows-clause-observed g c =
+pub returns-else-allows-clause-decided : goal.returns-else-allows-clause-decided
+returns-else-allows-clause-decided g c =
     let flip = c.args.flip in
     let job = flip.job.now in
     let after : List ℕ = set c.args.self.now.plan flip.unit flip.district in (

@@ -1,7 +1,7 @@
 use Rattle.std.proofs.Common.{◌≡◌, ℕ, ◌+◌, ◌*◌, ◌/◌, ◌%◌, ◌^◌, ◌<◌, ◌≤◌, ap, ◌∙◌, arith}
 use Rattle.std.proofs.lemmas.Nat.{div-add-mod', mod_below}
 use Rattle.flip_kernel.proofs.Dividing.{blocks_fit, divided_is, divided_next}
-use Rattle.flip_kernel.proofs.proposal.divided.Goals as goal
+use Rattle.flip_kernel.proofs.proposal.divide.Goals as goal
 
 -- the quotient of a product of equal numbers
 record IsQuotient (number inverse quotient : ℕ) : Type 0 where
