@@ -1,17 +1,11 @@
 -- The calls of the keepers over files, one after the other.
-use Rattle.std.proofs.Common.{◌≡◌, ◌∙◌, ℕ, Bool, true, false, List, Option, None, Result, Ok, Err, is_err, is_ok, sym, ap, subst}
+use Rattle.std.proofs.Common.{◌≡◌, ◌∙◌, ℕ, Bool, true, false, List, Option, None, Result, sym, ap, subst}
 use Rattle.std_io.specs.declared.io.error.Error.{Error}
 use Rattle.audit_io.specs.declared.keeper.LoadError.{LoadError}
-use Rattle.audit_io.specs.declared.keeper.LoadError.TheVariants as load
 use Rattle.audit_io.specs.Files.{file_name}
 use Rattle.audit_io.specs.FileCalls.{Call, called, error_of, here, locked}
 use Rattle.audit_io.specs.Looks.{HasOpened, HasSaved}
-use Rattle.audit_io.specs.Keepers.{HasComparedHere, HasKept, HasLoadedSlot, HasReadFolder, HasReadLocked, HasReadSlot, HasTakenFolder, LoadsOpened, folder_asked, folder_other, folder_working, keep_done, lock_free, lock_taken, read_opened, within}
-
--- the lock is asked for
-pub asked : {A E : Type 0} (a b : Option (List Call)) (is_own : Bool) (name : List ℕ) (r : Result A E) → is_own ≡ false → name ≡ here → b ≡ called a (locked name (is_err r)) None → HasTakenFolder a b is_own (is_ok r)
-asked a b is_own name (Ok lock) is named after = folder_asked is (subst (λ (n : List ℕ). b ≡ called a (locked n false) None) named after)
-asked a b is_own name (Err e) is named after = folder_asked is (subst (λ (n : List ℕ). b ≡ called a (locked n true) None) named after)
+use Rattle.audit_io.specs.Keepers.{HasComparedHere, HasKept, HasLoadedSlot, HasReadFolder, HasReadLocked, HasReadSlot, HasTakenFolder, LoadsOpened, folder_other, folder_working, keep_done, lock_free, read_opened, within}
 
 -- a slot of a folder is opened under its name
 pub read_path : {F : Type 0} (a b : Option (List Call)) (folder name : List ℕ) (slot : ℕ) (bytes : F → Option (List ℕ)) (limit : ℕ) (room : List ℕ) (result : Result Bool LoadError) (answer : Result F Error)
@@ -32,10 +26,6 @@ pub locked_free : {F : Type 0} (a b d : Option (List Call)) (folder path : List 
     → path ≡ within folder here → b ≡ called a (locked path false) None → HasReadSlot b d folder slot bytes limit room result → HasReadLocked a d folder slot bytes limit room result
 locked_free a b d folder path slot bytes limit room result named after done =
     lock_free (subst (λ (o : Option (List Call)). HasReadSlot o d folder slot bytes limit room result) (after ∙ ap (λ (n : List ℕ). called a (locked n false) None) named) done)
-
-pub locked_taken : {F : Type 0} (a b : Option (List Call)) (folder path : List ℕ) (slot : ℕ) (bytes : F → Option (List ℕ)) (limit : ℕ) (room : List ℕ) (result : Result Bool LoadError)
-    → path ≡ within folder here → b ≡ called a (locked path true) None → result ≡ Err load.Taken → HasReadLocked a b folder slot bytes limit room result
-locked_taken a b folder path slot bytes limit room result named after is = lock_taken (after ∙ ap (λ (n : List ℕ). called a (locked n true) None) named) is
 
 -- equal answers
 pub loaded_same : {F : Type 0} (a b : Option (List Call)) (is_own : Bool) (slot : ℕ) (bytes : F → Option (List ℕ)) (limit : ℕ) (room : List ℕ) (r s : Result Bool LoadError) → s ≡ r

@@ -1,13 +1,11 @@
 -- The parts of the state that a run leaves unchanged, and the endings of a run that does not start.
 use Rattle.std.proofs.Common.{◌≡◌, ℕ, ◌&&◌, Bool, true, false, List, Result, refl, sym, subst, ap}
-use Rattle.std.specs.Prelude.{IsTrue}
-use Rattle.audit_model.specs.Faults.{Rose}
 use Rattle.audit_model.specs.declared.fault.WordFault.{WordFault}
 use Rattle.audit_model.specs.declared.setting.Setting.{Setting}
 use Rattle.audit_model.specs.Job.{Job}
 use Rattle.audit_statement.specs.Words.{setting_of}
 use Rattle.report.specs.declared.ended.Ended.TheVariants as ended
-use Rattle.audit_statement.specs.Endings.{IsPrepared, IsReadBy, LeavesUntouched, EndingMarks, SameUnless, is_reading, loads, passes, saves}
+use Rattle.audit_statement.specs.Endings.{IsPrepared, IsReadBy, LeavesUntouched, EndingMarks, SameUnless, is_reading, passes, saves}
 use Rattle.audit_laws.specs.Calls.{Finishes}
 use Rattle.audit_model.specs.State.{Kept, Stream}
 use Rattle.audit_statement.specs.World.{world}
@@ -18,11 +16,6 @@ use Rattle.audit_statement.specs.World.{world}
 same_always : {A : Type 0} (b : Bool) (x : A) → SameUnless b x x
 same_always true x = tt
 same_always false x = refl
-
--- an unchanged value is unchanged unless a test passes
-same_if : {A : Type 0} (b : Bool) (x y : A) → y ≡ x → SameUnless b x y
-same_if true x y e = tt
-same_if false x y e = e
 
 -- a stream read only if a test passes is unchanged unless it passes
 read_same : (b : Bool) (before after : Stream) → IsReadBy b before after → SameUnless b before after
@@ -62,24 +55,6 @@ module _ (words : List (List ℕ)) (before after : Stream) (job : Job) (p : IsPr
   }
 
 -- ---- runs that do not start
-
--- a failed load that changes nothing else is an ending of the call
-pub load_fault_ends : (job : Job) (out : Stream) (k l : Kept) → IsTrue (loads job.setting) → l.slots ≡ k.slots → l.attempted ≡ k.attempted → l.save_faults ≡ k.save_faults
-    → Rose k.load_faults.all l.load_faults.all → l.load_faults.taken ≡ k.load_faults.taken → Finishes job out out k l ended.LoadFault
-load_fault_ends job out k l loading slots attempted saved rose untaken = λ words before after p. record {
-  cause = record { fault = record { job = job; prepared = p; loading = loading; rose = rose }; untaken = untaken };
-  untouched = left words before after job p out out k l _ refl slots attempted refl refl tt saved;
-  line_is = refl;
-}
-
--- a load that failed because of a lock is an ending of the call
-pub folder_taken_ends : (job : Job) (out : Stream) (k l : Kept) → IsTrue (loads job.setting) → l.slots ≡ k.slots → l.attempted ≡ k.attempted → l.save_faults ≡ k.save_faults
-    → Rose k.load_faults.all l.load_faults.all → Rose k.load_faults.taken l.load_faults.taken → Finishes job out out k l ended.FolderTaken
-folder_taken_ends job out k l loading slots attempted saved rose taken = λ words before after p. record {
-  cause = record { fault = record { job = job; prepared = p; loading = loading; rose = rose }; taken = taken };
-  untouched = left words before after job p out out k l _ refl slots attempted refl refl tt saved;
-  line_is = refl;
-}
 
 -- out of memory without any change is an ending of the call
 pub no_memory_ends : (job : Job) (out : Stream) (k l : Kept) → l.slots ≡ k.slots → l.attempted ≡ k.attempted → l.save_faults ≡ k.save_faults → l.load_faults ≡ k.load_faults

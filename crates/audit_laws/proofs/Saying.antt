@@ -96,11 +96,6 @@ asks_spelled (part ∷ parts) e = by (ask_of part) (asks_of parts) refl refl e (
 
 -- ---- the key
 
--- an option that is there has its value
-sized_back : (r : Option (List ℕ)) (bytes : List ℕ) → is_some r ≡ true → r ≡ Some (unwrap_or r bytes)
-sized_back None bytes e = cc
-sized_back (Some x) bytes e = refl
-
 -- a result that tests as a success is one
 ok_back : {E : Type 0} (r : Result (List ℕ) E) → is_some (result_ok r) ≡ true → r ≡ Ok (unwrap_or (result_ok r) [])
 ok_back (Ok x) e = refl

@@ -13,11 +13,6 @@ same_bool true b f g = sym (f refl)
 same_bool false true f g = g refl
 same_bool false false f g = refl
 
--- or-false is the other part
-pub or_false : (b : Bool) → (b || false) ≡ b
-or_false true = refl
-or_false false = refl
-
 -- the first of four parts implies the disjunction
 pub in_1 : (a b c d : Bool) → a ≡ true → (a || b || c || d) ≡ true
 in_1 a b c d h = or_left (a || b || c) d (or_left (a || b) c (or_left a b h))

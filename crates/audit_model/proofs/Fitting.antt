@@ -106,15 +106,6 @@ module _ (job : Job) (draws : Draws) where
           (λ k l. each_value 4 (λ v. int_le (pos 1) v && int_le v (pos (job.setting.steps + 1))) _ job.setting.asks _ k (count_fits _) few l)) (walk_bins b)
       by false b e = fitting job (end_outcome job draws id) false e below (count_below_le _ _) (zeros_after _ job.setting.asks) (λ h. cc) refl
 
-  -- its histogram adds up to at most the number of visits
-  pub found_bins : (with_bins : Bool) (id : ℕ) → sum (outcome_with with_bins job draws id).bins ≤ job.setting.steps + 1
-  found_bins with_bins id = by (nat_lt id job.setting.walks) with_bins
-    where
-      by : (walks b : Bool) → sum (outcome_by walks b job draws id).bins ≤ job.setting.steps + 1
-      by true true = omega (arith, bins_add_up job (draws (2 * id)))
-      by true false = omega arith
-      by false b = omega arith
-
   pub found_id : (with_bins : Bool) (id : ℕ) → (outcome_with with_bins job draws id).id ≡ id
   found_id with_bins id = by (nat_lt id job.setting.walks) with_bins
     where

@@ -113,10 +113,6 @@ module _ (job : Job) (plan : List ℕ) (draw : ℕ) (legal : IsLegal job plan) (
   unfolding unit_of size
   unit_below = div_below (draw % size job) job.districts job.graph.units districts_above_zero (mod_below draw (size job) size_above_zero)
 
-  district_below : district_of job draw < job.districts
-  unfolding district_of
-  district_below = mod_below (draw % (job.graph.units * job.districts)) job.districts districts_above_zero
-
   old_below : slice_index plan (unit_of job draw) < job.districts
   old_below = legal.in_range (unit_of job draw) unit_below
 

@@ -15,24 +15,24 @@ use Rattle.audit_model.specs.Run.{fits, is_bare, taken_up}
 use Rattle.audit_model.specs.Trajectory.{bare}
 use Rattle.audit_model.proofs.Bins.{bare_fits}
 use Rattle.audit_statement.specs.Checkpoint.{AreRising, job_digest}
-use Rattle.audit_statement.specs.Slots.{Slot, newest, opening, other, save_place, slot_at, slot_of}
+use Rattle.audit_statement.specs.Slots.{Slot, newest, opening, other, slot_at, slot_of}
 use Rattle.ckpt_store.specs.declared.slots.Slot.{Slot as Looked}
 use Rattle.ckpt_store.specs.declared.slots.Slot.TheVariants as looked
 use Rattle.ckpt_store.specs.declared.slots.Slots.{Slots}
 use Rattle.ckpt_store.specs.declared.slots.StoreFault.{StoreFault}
 use Rattle.ckpt_store.specs.declared.slots.StoreFault.TheVariants.{Damaged, OtherJob}
-use Rattle.ckpt_store.specs.Fitting.{AreFit, HasFitOutcomes}
+use Rattle.ckpt_store.specs.Fitting.{AreFit}
 use Rattle.ckpt_store.specs.Looked.{AreSlots, SawSlots}
 use Rattle.ckpt_format.specs.declared.decode.Checkpoint.{Checkpoint}
-use Rattle.ckpt_store.specs.View.{answer_at, held_seen, newest_answer, newest_seen, opened, place_seen, slot_view}
+use Rattle.ckpt_store.specs.View.{answer_at, held_seen, newest_answer, newest_seen, opened, slot_view}
 use Rattle.report.specs.declared.ended.Ended.{Ended}
 use Rattle.report.specs.declared.ended.Ended.TheVariants as ended
 use Rattle.audit_start.specs.declared.opening.Opening.{Opening}
 use Rattle.audit_start.specs.declared.opening.Target.{Target}
-use Rattle.audit_statement.specs.Endings.{IsOpening, Saw, opening_from, place_of, saves}
-use Rattle.audit_start.specs.Opening.{IsOtherSeen, IsTargetFor, IsTarget, Opens, OpensWith, RefusesSlots, refused_by}
+use Rattle.audit_statement.specs.Endings.{IsOpening, Saw, opening_from, saves}
+use Rattle.audit_start.specs.Opening.{IsOtherSeen, IsTarget, Opens, OpensWith, RefusesSlots, refused_by}
 use Rattle.audit_laws.specs.Runs.{IsRunJob}
-use Rattle.audit_laws.proofs.Starting.{saves_not, saves_some}
+use Rattle.audit_laws.proofs.Starting.{saves_not}
 use Rattle.audit_laws.proofs.Running.{fit_list, rising_above, rising_once, rising_rest}
 
 -- ---- the slots that were looked at, in terms of the known slots
@@ -50,9 +50,6 @@ module _ (job : Job) (digest : List ℕ) (p : Pair) (slots : Slots) (is : digest
 
   both_observed : {A : Type 0} (f : Slot → Slot → A) → f (slot_view slots.zero) (slot_view slots.one) ≡ f (slot_of job (job_digest job) p.zero_slot) (slot_of job (job_digest job) p.one_slot)
   both_observed f = ap (λ s. f s (slot_view slots.one)) zero_observed ∙ ap (λ s. f (slot_of job (job_digest job) p.zero_slot) s) one_observed
-
-  pub place_observed : place_seen slots ≡ place_of job p
-  place_observed = both_observed save_place
 
   pub opening_observed : opening_seen job.setting slots ≡ opening true job.setting (slot_of job (job_digest job) p.zero_slot) (slot_of job (job_digest job) p.one_slot)
   opening_observed = both_observed (opening true job.setting)
@@ -77,22 +74,6 @@ saw_observed job digest (Some p) slots saw = subst (λ q. AreSlots job digest q 
 -- a run that saves nothing has no place to save
 pub no_target : (job : Job) (slots : Option Pair) → job.setting.save_every ≡ 0 → IsTarget (saves job.setting) job slots None
 no_target job slots none = subst (λ b. IsTarget b job slots None) (sym (saves_not job none)) tt
-
--- a run that saves has a place to save
-pub some_target : (job : Job) (slots : Option Pair) (t : Target) → IsRunJob job → (job.setting.save_every ≡ 0 → ⊥) → IsTargetFor job slots t → IsTarget (saves job.setting) job slots (Some t)
-some_target job slots t run some placed = subst (λ b. IsTarget b job slots (Some t)) (sym (saves_some job run some)) placed
-
--- the place that was seen is that of the known slots
-place_by : (job : Job) (observed : Option Pair) (slots : Slots) (t : Target) → t.digest ≡ job_digest job → (t.place.slot, t.place.generation) ≡ place_seen slots
-    → IfObserved observed (λ p. AreSlots job t.digest p slots) → IfObserved observed (λ p. (t.place.slot, t.place.generation) ≡ place_of job p)
-place_by job None slots t is at seen = tt
-place_by job (Some p) slots t is at seen = at ∙ place_observed job t.digest p slots is seen
-
--- the run saves at the place that was seen
-pub placed_at : (job : Job) (observed : Option Pair) (slots : Slots) (t : Target) → t.digest ≡ job_digest job → t.place.slot < 2 → t.place.generation < 3
-    → (t.place.slot, t.place.generation) ≡ place_seen slots → IfObserved observed (λ p. AreSlots job t.digest p slots) → IsTargetFor job observed t
-placed_at job observed slots t is slot generation at seen =
-    record { digest_is = is; slot_below = slot; generation_below = generation; observed = place_by job observed slots t is at seen }
 
 -- ---- the initial outcomes
 
@@ -188,28 +169,6 @@ opens_taken job run digest k slots held outcomes target is resumes observed seen
   where
     here : o.outcomes.items ≡ taken_up job.setting.shift job.setting.walks held
     here = items ∙ taken
-
--- the outcomes of a decoded checkpoint are plausible for the job
-opened_fit : (job : Job) (wanted : List ℕ) (s : Looked) (c : Checkpoint) → HasFitOutcomes job s → opened s wanted ≡ Ok (Some c) → AreFit job c.outcomes.items
-opened_fit job wanted looked.Absent c fit e = cc
-opened_fit job wanted (looked.Broken fault) c fit e = cc
-opened_fit job wanted (looked.Other found generation) c fit e = cc
-opened_fit job wanted (looked.Ours checkpoint) c fit e =
-    let same : checkpoint ≡ c = cc in subst (λ (k : Checkpoint). AreFit job k.outcomes.items) same fit
-
--- the checkpoint of the newest slot is that of a slot that was looked at
-pub newest_fit : (job : Job) (slots : Slots) (wanted : List ℕ) (c : Checkpoint) → HasFitOutcomes job slots.zero → HasFitOutcomes job slots.one
-    → newest_answer slots wanted ≡ Ok (Some c) → AreFit job c.outcomes.items
-newest_fit job slots wanted c zero_fit one_fit e = by (newest_seen slots) e
-  where
-    without : (b : Bool) → cond {A = Result (Option Checkpoint) StoreFault} b (Ok None) (Err (Damaged slots)) ≡ Ok (Some c) → AreFit job c.outcomes.items
-    without true h = cc
-    without false h = cc
-
-    by : (n : Option ℕ) → answer_at slots wanted n ≡ Ok (Some c) → AreFit job c.outcomes.items
-    by None h = without _ h
-    by (Some zero) h = opened_fit job wanted slots.zero c zero_fit h
-    by (Some (suc n)) h = opened_fit job wanted slots.one c one_fit h
 
 -- ---- the reason why it does not start
 

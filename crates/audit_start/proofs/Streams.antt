@@ -1,18 +1,11 @@
 -- Bytes that are read in several calls.
-use Rattle.std.proofs.Common.{◌≡◌, ℕ, suc, true, ◌<◌, List, ◌++◌, length, Option, Some, None, refl, ap, ◌∙◌, length-append, arith}
-use Rattle.std.proofs.lemmas.List.{append-nil}
-use Rattle.std.specs.Io.KnownBytes.{Consumes, IsAtEnd}
+use Rattle.std.proofs.Common.{◌≡◌, ℕ, suc, true, ◌<◌, List, length, Option, Some, None, refl, ap, length-append, arith}
+use Rattle.std.specs.Io.KnownBytes.{Consumes}
 use Rattle.audit_statement.specs.Accepted.{most_bytes}
 use Rattle.audit_statement.specs.Endings.{TakesTooMany}
 use Rattle.audit_start.specs.Steps.{ReadsTooMany}
 use Rattle.audit_model.specs.State.{Stream}
 use Rattle.audit_model.specs.Observed.{IfObserved}
-
--- at the end, the bytes consumed are all that remained
-pub consumed_all : (a c : Option (List ℕ)) (xs : List ℕ) → Consumes a c xs → IsAtEnd c → IfObserved a (λ left. left ≡ xs)
-consumed_all None c xs p e = tt
-consumed_all (Some u) None xs p e = absurd p
-consumed_all (Some u) (Some v) xs p e = p ∙ ap (λ r. xs ++ r) e ∙ append-nil xs
 
 -- the remaining bytes: the known ones, or else those consumed
 abbrev pub left_or : Option (List ℕ) → List ℕ → List ℕ

@@ -1,5 +1,5 @@
 -- Searches from the front that skip failing elements.
-use Rattle.std.proofs.Common.{◌≡◌, ℕ, zero, suc, ◌<◌, ◌≤◌, Bool, true, false, not, List, [], ◌∷◌, length, get_or, drop, refl, sym, arith, Option, Some, None}
+use Rattle.std.proofs.Common.{◌≡◌, ℕ, zero, suc, ◌<◌, Bool, true, false, not, List, [], ◌∷◌, length, get_or, drop, refl, sym, arith, Option, Some, None}
 use Rattle.std.specs.Prelude.{find, is_none, is_some, option_map}
 use Rattle.audit_model.specs.First.{first_some_below}
 
@@ -8,19 +8,6 @@ pub find-skips : {X : Type 0} (p : X → Bool) (xs : List X) (i : ℕ) (d : X) �
 find-skips p [] i d h e = absurd (omega arith)
 find-skips p (x ∷ xs) zero d h e = rw e refl
 find-skips p (x ∷ xs) (suc i) d h e = find-skips p xs i d (omega arith) e
-
--- a search from a place whose element passes finds this element
-pub find-stops : {X : Type 0} (p : X → Bool) (xs : List X) (i : ℕ) (d : X) → i < length xs → p (get_or xs i d) ≡ true → find p (drop i xs) ≡ Some (get_or xs i d)
-find-stops p [] i d h e = absurd (omega arith)
-find-stops p (x ∷ xs) zero d h e = rw e refl
-find-stops p (x ∷ xs) (suc i) d h e = find-stops p xs i d (omega arith) e
-
--- a search from the end finds nothing
-pub find-end : {X : Type 0} (p : X → Bool) (xs : List X) (i : ℕ) → length xs ≤ i → find p (drop i xs) ≡ None
-find-end p [] zero h = refl
-find-end p [] (suc i) h = refl
-find-end p (x ∷ xs) zero h = absurd (omega arith)
-find-end p (x ∷ xs) (suc i) h = find-end p xs i (omega arith)
 
 -- one number more that gives nothing leaves nothing found
 pub first_some_below-none : {A : Type 0} (k m : ℕ) (f : ℕ → Option A) → m ≡ suc k → first_some_below k f ≡ None → f k ≡ None → first_some_below m f ≡ None

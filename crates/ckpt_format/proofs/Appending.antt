@@ -1,13 +1,9 @@
 -- Appending bytes piece by piece.
-use Rattle.std.proofs.Common.{◌≡◌, ℕ, ◌+◌, ◌<◌, List, [], ◌++◌, length, get_or, take, ap, sym, subst, ◌∙◌, arith, append_assoc, append-nil, length-append}
+use Rattle.std.proofs.Common.{◌≡◌, ℕ, ◌+◌, ◌<◌, List, [], ◌++◌, length, get_or, take, ap, sym, subst, ◌∙◌, arith, append_assoc, length-append}
 use Rattle.std.proofs.lemmas.List.{flat_map_more, take_more}
 use Rattle.std.specs.List.{flat_map}
 use Rattle.audit_model.specs.Room.{RoomyBytes}
 use Rattle.ckpt_format.specs.Written.{AppendsBytes}
-
--- nothing was appended
-pub appends_none : (a : RoomyBytes) → AppendsBytes a a []
-appends_none a = record { items = sym (append-nil a.items); spare = omega arith }
 
 -- one part is appended after the other
 pub appends_then : (a b c : RoomyBytes) (xs ys : List ℕ) → AppendsBytes a b xs → AppendsBytes b c ys → AppendsBytes a c (xs ++ ys)
@@ -23,10 +19,6 @@ appends_more f xs i d a b c l first second =
     let next : flat_map f (take i xs) ++ f (get_or xs i d) ≡ flat_map f (take (i + 1) xs) =
     flat_map_more f [] (take i xs) (get_or xs i d) ∙ ap (flat_map f) (sym (take_more xs i d l)) in
     subst (AppendsBytes a c) next (appends_then a b c (flat_map f (take i xs)) (f (get_or xs i d)) first second)
-
--- the total capacity is unchanged
-pub appends_room : (a b : RoomyBytes) (xs : List ℕ) → AppendsBytes a b xs → length b.items + b.spare ≡ length a.items + a.spare
-appends_room a b xs done = omega (arith, done.spare, ap length done.items, length-append a.items xs)
 
 -- the bytes of a small buffer are appended at once
 pub appends_piece : (a b p q : RoomyBytes) (xs ys : List ℕ) → p ≡ record { items = []; spare = 80 } → AppendsBytes p q ys → xs ≡ q.items

@@ -10,12 +10,8 @@ use Rattle.audit_model.specs.declared.outcome.Outcome.{Outcome}
 use Rattle.audit_model.specs.Run.{with_id}
 use Rattle.audit_model.specs.Trajectory.{no_bins}
 use Rattle.outcome_book.specs.Union.{Agree, AgreeIf, AgreesWith, AreById, IsFirstDifference, IsUnion, fuller_if}
-use Rattle.ckpt_store.specs.Collected.{Collected, IsCovered, IsFirstOther, no_collected, passed_over}
+use Rattle.ckpt_store.specs.Collected.{Collected, IsCovered, IsFirstOther, passed_over}
 use Rattle.ckpt_store.specs.Findings.{IsLeftOut}
-
--- without folders nothing is gathered
-pub covered_none : (total : ℕ) → IsCovered (no_collected total)
-covered_none total o all = tt
 
 -- one more folder that adds nothing
 pub covered_passed : (c : Collected) → IsCovered c → IsCovered (passed_over c)

@@ -58,17 +58,3 @@ unsaved_from job digest saves folders folders_now before between after (Err why)
       unsaved = failed_from digest f.place f.all before between after h f.unsaved;
     })
     before between after why h loads k
-
--- a failed look is not a failed save
-pub never_failed : (Q : Type 0) (before after : Kept) (why : Ungathered) → IsUnsaved ⊥ before after why → IsUnsaved Q before after why
-never_failed Q before after ungathered.Memory k = k
-never_failed Q before after ungathered.Unread k = k
-never_failed Q before after ungathered.Taken k = k
-never_failed Q before after ungathered.Unsaved k = absurd k
-
--- an implication carries over to the statement on the failed save
-pub failed_as : (P Q : Type 0) → (P → Q) → (before after : Kept) (why : Ungathered) → IsUnsaved P before after why → IsUnsaved Q before after why
-failed_as P Q from before after ungathered.Memory k = k
-failed_as P Q from before after ungathered.Unread k = k
-failed_as P Q from before after ungathered.Taken k = k
-failed_as P Q from before after ungathered.Unsaved k = from k

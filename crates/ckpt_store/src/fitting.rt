@@ -56,7 +56,8 @@ fn steps_of(job: &Job, is_walk: bool) -> u32
     }
 }
 
-/// Returns true if the values past the asks are 0.
+/// Returns true if all values after those of the asks are 0. An outcome has four values, the first
+/// of them one for each ask.
 fn ends_in_zeros(job: &Job, outcome: &Outcome) -> bool
     ensures { result ≡ list_all (λ v. int_eq v (pos 0)) (drop (length job.now.setting.asks) outcome.now.values) }
 {
@@ -79,7 +80,8 @@ fn are_zeros(values: &[i64]) -> bool
     values.iter().all(|value| *value == 0)
 }
 
-/// Returns true if each value of a walk is a number of visits.
+/// Returns true if the outcome is not a walk's, or if each of its values is from 1 to the number of
+/// plans that the walk visits.
 fn counts_visits(job: &Job, outcome: &Outcome) -> bool
     ensures { result ≡ (not (nat_lt outcome.now.id job.now.setting.walks) || all_below (length job.now.setting.asks)
         (λ k. int_le (pos 1) (value_at outcome.now k) && int_le (value_at outcome.now k) (pos (job.now.setting.steps + 1)))) }
@@ -102,7 +104,8 @@ fn is_visit(value: i64, steps: u32) -> bool
     1 <= value && value <= i64::from(steps) + 1
 }
 
-/// Returns true if the histogram is all 0, or that of a walk and adds up to its number of visits.
+/// Returns true if the histogram is all 0, or if the outcome is a walk's and the histogram adds up
+/// to the number of plans that the walk visits.
 fn has_fit_bins(job: &Job, outcome: &Outcome) -> bool
     ensures { result ≡ bins_fit (nat_lt outcome.now.id job.now.setting.walks) job.now outcome.now }
 {

@@ -5,13 +5,14 @@ ghost use Rattle.ckpt_store.specs.GatheredLaws.{GatheredSlotsAreConsistent, Cons
 use crate::laws::{a_stop_in_a_save_leaves_consistent_slots, checkpoints_are_ours};
 use outcome_book::union_laws::unions_are_right;
 
-/// Shows that the outcomes of the newest of consistent slots were found by the job's trajectories.
+/// Slots are consistent if the outcomes in them are those of the job's trajectories. Shows that this is then true of
+/// the outcomes in the newest slot.
 pub fn consistent_slots_give_consistent_outcomes()
     ensures { ConsistentSlotsGiveConsistentOutcomes }
 {}
 
 /// Shows that consistent slots stay consistent when their outcomes are merged with those of another folder and saved
-/// over them. A run that resumes from them and ends with status 0 thus writes the report of one thread.
+/// over them. A run that resumes from them and ends with status 0 thus writes the report that one thread would give.
 pub fn gathered_slots_are_consistent()
     ensures { GatheredSlotsAreConsistent }
 {

@@ -11,9 +11,9 @@ pub fn checkpoints_are_ours()
     ensures { CheckpointsAreOurs }
 {}
 
-/// Shows that a slot matches its bytes. A slot of the job is a checkpoint of the job's digest with these outcomes. A
-/// slot of another job is a checkpoint of another digest. A broken slot is no checkpoint of the job's digest with
-/// plausible outcomes.
+/// Shows that a slot matches its bytes. If the state is `Ours`, the slot's bytes are a checkpoint with the job's digest
+/// and the outcomes in that state. A slot of another job is a checkpoint of another digest. A broken slot is no
+/// checkpoint of the job's digest with plausible outcomes.
 pub fn slots_are_what_they_are()
     ensures { SlotsAreWhatTheyAre }
 {
@@ -21,13 +21,14 @@ pub fn slots_are_what_they_are()
     checkpoints_are_read();
 }
 
-/// Shows that a valid slot with the place's generation in the place's slot is the newest, whatever both slots were
-/// before.
+/// Shows that a checkpoint that was written to the place of the next checkpoint (`Slots::place`) is in the newest slot,
+/// whatever both slots held before.
 pub fn written_slots_are_newest()
     ensures { WrittenSlotsAreNewest }
 {}
 
-/// Shows that a checkpoint of a job that is written to the place of its slots is in the newest slot.
+/// Shows that after a job's checkpoint is written to the place of the next checkpoint, the newest slot is the one with
+/// this checkpoint.
 pub fn saved_slots_are_newest()
     ensures { SavedSlotsAreNewest }
 {}
@@ -39,7 +40,8 @@ pub fn right_outcomes_are_consistent()
     bare_outcomes_have_no_bins();
 }
 
-/// Shows that outcomes from consistent slots with which a run may start are those of the job's trajectories.
+/// Shows that if slots are consistent and a run may start with their outcomes, these outcomes are those of the job's
+/// trajectories.
 pub fn consistent_slots_open_right()
     ensures { ConsistentSlotsOpenRight }
 {

@@ -39,8 +39,9 @@ impl From<Memory> for LookFault {
     }
 }
 
-/// Loads both slots, slot 0 first, and returns their states for the job with this digest. No slot is changed. Even if
-/// the slots are not observable in proofs, the result is that of two slots that were seen.
+/// Loads both slots, slot 0 first, and returns their states for the job with this digest. No slot is changed. If proofs
+/// cannot observe the keeper's slots, the contract still says that the result is the state of some contents of two
+/// slots.
 ///
 /// # Errors
 ///

@@ -31,7 +31,7 @@ pub struct Slots {
 /// The reason why no checkpoint is taken from the slots.
 #[derive(Drop)]
 pub enum StoreFault {
-    /// No slot is valid, and at least one is not empty.
+    /// Neither slot has a checkpoint, and at least one of them has damaged bytes.
     Damaged(Slots),
     /// The newest slot holds a checkpoint of another job.
     OtherJob { found: [u8; 32], wanted: [u8; 32] },
@@ -141,7 +141,7 @@ impl Slots {
     }
 }
 
-/// Returns the place beside a valid slot.
+/// Returns the place in a slot, with the generation after that of the other slot, which is valid.
 fn beside(slot: u8, newest: &Slot) -> Place
     ensures place { result ≡ record { slot = slot; generation = definition.generation_after (definition.generation_of (slot_view newest.now)) } }
     ensures generation { result.generation < 3 }

@@ -38,9 +38,9 @@ struct Begun {
 }
 
 /// Gathers the job's outcomes from the slots of the working folder and then of each other folder. With `saves`, the
-/// union is saved at the place of the working folder's next checkpoint. It is not saved if the working folder has a
-/// checkpoint that cannot be taken, or if another folder has none that can. Neither is it saved if two folders have
-/// different outcomes for one id.
+/// union is saved at the place of the working folder's next checkpoint. It is saved only if three things hold: the
+/// working folder's outcomes were added or it has no checkpoint, the outcomes of every other folder were added, and no
+/// two folders have different outcomes for one id.
 ///
 /// # Errors
 ///

@@ -10,7 +10,7 @@ use Rattle.dual_graph.specs.Marked.{Marked}
 use Rattle.contig.specs.Parts.{AllOne, IsSpread, IsSeeded}
 use Rattle.contig.proofs.Between.{IsGrowing}
 use Rattle.contig.proofs.Growing.{joined_all, mate_stays}
-use Rattle.contig.proofs.Leaving.{leaves, has_mate}
+use Rattle.contig.proofs.Leaving.{leaves}
 
 module _ (g : Graph) (plan : List ℕ) (u : ℕ) (graph : IsGraph g) (lt : u < g.units) (connected : IsConnected g (in_district plan (slice_index plan u))) where
   -- a unit with one mate may leave
@@ -23,14 +23,6 @@ module _ (g : Graph) (plan : List ℕ) (u : ℕ) (graph : IsGraph g) (lt : u < g
       leaves g plan u graph lt connected seed.0 i
       (λ a b ia ib. subst (λ t. HasPath g (stays_behind plan u) t b) (sym (is_seed a ia))
       (subst (λ t. HasPath g (stays_behind plan u) seed.0 t) (sym (is_seed b ib)) (path_one g (stays_behind plan u) seed.0 i)))
-
-  -- a unit without mates may not leave
-  pub none_stays : (m : Marked) → IsSeeded g plan u 0 m → MayLeave g plan u → ⊥
-  none_stays m s may =
-      let mate = has_mate g plan u graph lt connected may in
-      let p = s.complete mate.0 mate.1 in
-      let l = s.small mate.0 in
-      omega (arith, p, l)
 
   -- if all labels have one root, the unit may leave
   pub all_leave : (last label : ℕ) (m after : Marked) (row roots now ends : List ℕ) (at : ℕ) → IsGrowing g (stays_behind plan u) last m roots ends at → label ≤ last → 0 < last

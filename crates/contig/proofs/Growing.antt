@@ -34,27 +34,6 @@ seeds_joined g plan u last m roots s few same = record {
       subst (λ t. HasPath g (is_mate g plan u) v t) is (path_one g (is_mate g plan u) v (s.mates v pv));
 }
 
--- with the mates marked, the search may begin
-pub grow_begins : (g : Graph) (plan : List ℕ) (u last : ℕ) (m : Marked) (roots ends : List ℕ) → IsSeeded g plan u last m → last ≤ 16
-    → IsJoined g (stays_behind plan u) m.labels roots → NotOne roots last → length roots ≡ 17 → length ends ≡ 17 → ((k : ℕ) → k < 17 → get_or ends k 0 ≡ k)
-    → IsGrowing g (stays_behind plan u) last m roots ends 0
-grow_begins g plan u last m roots ends s few joined parted long wide same = record {
-  units = s.units;
-  marked = s.marked;
-  joined = joined;
-  small = s.small;
-  seeds = s.seeds;
-  closed = λ k l. absurd (omega arith);
-  ended = λ k l.
-      let label = s.order k l in
-      let le = s.small (get_or m.items k 0) in
-      let end = same (get_or m.labels (get_or m.items k 0) 0) (omega (arith, le, few)) in
-      omega (arith, label, end);
-  parted = parted;
-  widths = (long, wide);
-  bound = omega arith;
-}
-
 -- ---- a turn
 
 module _ (g : Graph) (inside : ℕ → Bool) (last : ℕ) (m : Marked) (roots ends : List ℕ) (at : ℕ) (s : IsGrowing g inside last m roots ends at) (few : last ≤ 16) where

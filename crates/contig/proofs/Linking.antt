@@ -1,34 +1,17 @@
 -- Joining adjacent mates.
-use Rattle.std.proofs.Common.{◌≡◌, ℕ, ◌+◌, ◌<◌, ◌≤◌, true, List, [], length, get_or, sym, ap, ◌∙◌, subst, inl, inr, arith}
-use Rattle.std.proofs.lemmas.Bool.{cases_eq}
+use Rattle.std.proofs.Common.{◌≡◌, ℕ, ◌<◌, ◌≤◌, true, List, length, get_or, sym, ap, ◌∙◌, subst, arith}
 use Rattle.audit_model.specs.Graph.{Graph, adjacent, IsIn, IsGraph}
 use Rattle.audit_model.specs.Local.{is_mate, stays_behind, IsLocal}
 use Rattle.audit_model.proofs.ListFacts.{has_at}
 use Rattle.audit_model.proofs.Paths.{path_stays, path_within}
 use Rattle.dual_graph.specs.Marked.{Marked}
-use Rattle.contig.specs.Parts.{part, IsJoined, AllOne, NotOne, IsSpread, IsSeeded}
+use Rattle.contig.specs.Parts.{part, IsJoined, AllOne, NotOne, IsSeeded}
 use Rattle.contig.proofs.Between.{IsLinking}
 use Rattle.contig.proofs.Growing.{joined_all, mate_stays}
 
 module _ (g : Graph) (plan : List ℕ) (u last : ℕ) (m : Marked) (s : IsSeeded g plan u last m) where
   pub linking_begins : (roots : List ℕ) → IsJoined g (is_mate g plan u) m.labels roots → length roots ≡ 17 → IsLinking g plan u m roots 0
   linking_begins roots joined long = record { joined = joined; closed = λ k l. absurd (omega arith); width = long }
-
-  pub linking_more : (roots now : List ℕ) (place unit : ℕ) → last ≤ 16 → place < length m.items → unit ≡ get_or m.items place 0 → IsLinking g plan u m roots place
-      → IsSpread g (is_mate g plan u) (get_or g.neighbours unit []) (get_or m.labels unit 0) m m roots now → IsLinking g plan u m now (place + 1)
-  linking_more roots now place unit few lt is l spread = record {
-    joined = spread.joined;
-    closed = λ k below v i a. elim (cases_eq k place) [
-      | inl at ↦
-          let ku : get_or m.items k 0 ≡ unit = ap (λ t. get_or m.items t 0) at ∙ sym is in
-          (spread.each v i (subst (λ t. adjacent g t v ≡ true) ku a)).1 ∙ sym (ap (λ t. part m.labels now t) ku)
-      | inr off ↦ spread.coarser (get_or m.labels v 0) (get_or m.labels (get_or m.items k 0) 0) (inside v) (inside (get_or m.items k 0)) (l.closed k (omega arith) v i a)
-    ];
-    width = spread.width ∙ l.width;
-  }
-    where
-      inside : (v : ℕ) → get_or m.labels v 0 < length roots
-      inside v = omega (arith, s.small v, l.width, few)
 
   module _ (roots : List ℕ) (place : ℕ) (l : IsLinking g plan u m roots place) where
     pub linked_stays : IsGraph g → IsJoined g (stays_behind plan u) m.labels roots

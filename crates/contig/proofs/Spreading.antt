@@ -1,7 +1,7 @@
 -- Finding the neighbors of one unit.
 use Rattle.std.proofs.Common.{◌≡◌, ℕ, zero, suc, ◌<◌, Bool, true, cond, List, [], ◌∷◌, ◌++◌, length, get_or, set, refl, sym, ap, ◌∙◌, subst, inl, inr, arith, length-append, get_or-set_same, get_or-set_other}
 use Rattle.std.specs.Prelude.{◌==◌}
-use Rattle.std.proofs.lemmas.Bool.{cases_eq, eq-eqb, ne_eqb, false≢true, cond-true, cond-false}
+use Rattle.std.proofs.lemmas.Bool.{cases_eq, eq-eqb, ne_eqb, cond-true, cond-false}
 use Rattle.std.proofs.lemmas.List.{get_or_append_left, get_or_push}
 use Rattle.audit_model.specs.Graph.{Graph, adjacent, IsIn}
 use Rattle.audit_model.specs.Path.{HasPath}
@@ -9,7 +9,7 @@ use Rattle.audit_model.proofs.Connected.{has-append_parts}
 use Rattle.audit_model.proofs.ListFacts.{has_one}
 use Rattle.audit_model.proofs.Paths.{path_one, path_before, path_after, path_joined, path_end}
 use Rattle.dual_graph.specs.Marked.{Marked, IsMarked}
-use Rattle.contig.specs.Parts.{part, IsJoined, IsSpread}
+use Rattle.contig.specs.Parts.{part, IsSpread}
 use Rattle.audit_model.specs.Replaced.{Replaced}
 
 -- the roots, with that of one label replaced by that of another
@@ -23,23 +23,6 @@ moved_at roots from into x e = cond-true {A = ℕ} (x == get_or roots from 0) (g
 -- each other root stays
 moved_off : (roots : List ℕ) (from into x : ℕ) → (x ≡ get_or roots from 0 → ⊥) → moved roots from into x ≡ x
 moved_off roots from into x e = cond-false {A = ℕ} (x == get_or roots from 0) (get_or roots into 0) x (ne_eqb x (get_or roots from 0) e)
-
--- before the first neighbor, nothing has to be found
-pub spread_none : (g : Graph) (inside : ℕ → Bool) (label : ℕ) (m : Marked) (roots : List ℕ) → IsMarked m → IsJoined g inside m.labels roots
-    → IsSpread g inside [] label m m roots roots
-spread_none g inside label m roots marked joined = record {
-  units = refl;
-  marked = marked;
-  longer = omega arith;
-  front = λ k l. refl;
-  kept = λ v h. refl;
-  fresh = λ v. inl refl;
-  added = λ k l h. absurd (omega arith);
-  each = λ v i h. absurd (false≢true h);
-  coarser = λ a b la lb e. e;
-  joined = joined;
-  width = refl;
-}
 
 module _ (g : Graph) (inside : ℕ → Bool) (row : List ℕ) (label : ℕ) (old new : Marked) (before after : List ℕ) (v : ℕ) (s : IsSpread g inside row label old new before after) where
   -- the next neighbor is not in the set, or already in the part

@@ -21,13 +21,6 @@ module _ (g : Graph) (counts : Counts) (plan : List ℕ) (sums : Following) (sta
   pub second_width : length sums.view.second ≡ length sums.view.population
   second_width = places (districts_in sums) (district_sum counts.second plan) sums.view.second (ap (λ (v : SumsView). v.second) stands.view)
 
-  pub are_added : AreAdded counts (length sums.view.population) plan sums.view
-  are_added = record {
-    population = ap (λ (v : SumsView). v.population) stands.view;
-    first = ap (λ (v : SumsView). v.first) stands.view;
-    second = ap (λ (v : SumsView). v.second) stands.view;
-  }
-
   pub cut_is : sums.view.cut ≡ cut_edges g plan
   cut_is = ap (λ (v : SumsView). v.cut) stands.view
 

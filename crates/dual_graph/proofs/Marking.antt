@@ -67,37 +67,6 @@ pub record IsClearing (items before labels : List ℕ) (k : ℕ) : Type 0 where
   pub width : length labels ≡ length before
   pub gone : (v : ℕ) → 0 < get_or labels v 0 → (0 < get_or before v 0) × ((j : ℕ) → j < k → get_or items j 0 ≡ v → ⊥)
 
--- before the first step, the labels are unchanged
-pub clearing_none : (items labels : List ℕ) → IsClearing items labels labels 0
-clearing_none items labels = record { width = refl; gone = λ v p. (p, λ j l e. absurd (omega arith)) }
-
--- clearing one more unit removes its label and no other
-pub clearing_more : (items before labels : List ℕ) (k : ℕ) → IsClearing items before labels k → IsClearing items before (set labels (get_or items k 0) 0) (k + 1)
-clearing_more items before labels k c = record {
-  width = length-set labels (get_or items k 0) 0 ∙ c.width;
-  gone = λ v p. elim (cases_eq v (get_or items k 0)) [
-    | inl e ↦ absurd (zeroed v e p)
-    | inr off ↦
-        let was = c.gone v (subst (λ t. 0 < t) (get_or-set_other labels (get_or items k 0) v 0 0 off) p) in (
-          was.0,
-          λ j l e. elim (cases_eq j k) [
-            | inl at ↦ off (subst (λ t. v ≡ get_or items t 0) at (sym e))
-            | inr other ↦ was.1 j (omega arith) e
-          ],
-        )
-  ];
-}
-  where
-    zeroed : (v : ℕ) → v ≡ get_or items k 0 → 0 < get_or (set labels (get_or items k 0) 0) v 0 → ⊥
-    zeroed v e p =
-        let q : 0 < get_or (set labels (get_or items k 0) 0) (get_or items k 0) 0 = subst (λ t. 0 < get_or (set labels (get_or items k 0) 0) t 0) e p in
-        zero_at labels (get_or items k 0) q
-      where
-        zero_at : (xs : List ℕ) (i : ℕ) → 0 < get_or (set xs i 0) i 0 → ⊥
-        zero_at [] i h = omega arith
-        zero_at (x ∷ xs) zero h = omega arith
-        zero_at (x ∷ xs) (suc i) h = zero_at xs i h
-
 -- a number that is not above zero is zero
 pub is_zero : (n : ℕ) → (0 < n → ⊥) → n ≡ 0
 is_zero zero h = refl

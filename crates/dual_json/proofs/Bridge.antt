@@ -36,11 +36,6 @@ pub option_map_same : {A B : Type 0} → (o : Option A) (f g : A → B) → ((a 
 option_map_same None f g same = refl
 option_map_same (Some a) f g same = ap Some (same a refl)
 
--- the first of three options, in any grouping
-or_assoc : {A : Type 0} → (x y z : Option A) → option_or (option_or x y) z ≡ option_or x (option_or y z)
-or_assoc None y z = refl
-or_assoc (Some a) y z = refl
-
 -- ---- the ids
 
 module _ (nodes : List Data) (ids : List Label) (are : AreLabels (codes "id") nodes ids) where

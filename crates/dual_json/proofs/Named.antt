@@ -24,12 +24,6 @@ nth-push_other [] name k l = absurd (omega arith)
 nth-push_other (x ∷ names) name zero l = refl
 nth-push_other (x ∷ names) name (suc k) l = nth-push_other names name k (omega arith)
 
--- the label at a position is that of the name there
-pub nth_is : (names : List NodeName) (k : ℕ) (name : NodeName) → k < length names → name ≡ get_or names k name → nth (labels_from names) k ≡ label_from name
-nth_is [] k name l is = absurd (omega arith)
-nth_is (x ∷ names) zero name l is = ap label_from (sym is)
-nth_is (x ∷ names) (suc k) name l is = nth_is names k name (omega arith) is
-
 -- the label at a position is that of the name there, for any default
 pub nth_get : (names : List NodeName) (k : ℕ) (d : NodeName) → k < length names → nth (labels_from names) k ≡ label_from (get_or names k d)
 nth_get [] k d l = absurd (omega arith)

@@ -8,7 +8,7 @@ use Rattle.audit_model.specs.Job.{Job}
 use Rattle.audit_model.specs.Plan.{IsLegal}
 use Rattle.audit_model.proofs.ListFacts.{above_all_most}
 use Rattle.flip_guard.specs.Judging.{IsAfterMove, IsTaken, Judging}
-use Rattle.flip_kernel.specs.Judged.{IsJudgeFor, IsSeated, TakesPlansOf}
+use Rattle.flip_kernel.specs.Judged.{IsJudgeFor, IsSeated}
 use Rattle.flip_kernel.proofs.Holding.{put_back}
 
 -- a plan of the job is accepted
@@ -36,15 +36,3 @@ judged_after job by plan judge legal after unit district home inside within is w
       taken_before = subst (λ (p : List ℕ). IsTaken by p) (sym back) (plan_taken job by judge.fit plan legal.complete legal.in_range);
       stood = subst by.stands (sym back) judge.stood;
     }
-
--- a constraint that describes a plan, with rules and acceptance unchanged, is one for the job and the plan
-pub seated_now : (job : Job) (old new : Judging) (plan : List ℕ) → IsJudgeFor job old → new.keeps → new.stands plan → new.rules ≡ old.rules → new.takes ≡ old.takes
-    → IsSeated job plan new
-seated_now job old new plan judge kept stood same_rules same_takes = record {
-  fit = record {
-    kept = kept;
-    ruled = same_rules ∙ judge.ruled;
-    taken = subst (TakesPlansOf job) (sym same_takes) judge.taken;
-  };
-  stood = stood;
-}

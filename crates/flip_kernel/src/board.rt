@@ -141,8 +141,8 @@ impl Board {
         self.sums.view()
     }
 
-    /// Returns the unit and the district that a draw proposes, if the pair is open. No other draw
-    /// changes the plan.
+    /// Returns the unit and the district that a draw proposes, if the pair is open. A draw for which it returns `None`
+    /// does not change the plan.
     #[inline]
     pub(crate) fn proposal_of(&self, draw: u64) -> Option<(u32, u32)>
         ensures { MatchOption result (next self.now.job self.now.plan draw ≡ self.now.plan)
@@ -196,7 +196,8 @@ impl Board {
         is_permitted(judge, flip, &mut self.sums, &mut self.plan)
     }
 
-    /// Returns true if the cut edges are not too long in all after the flip, from the total before it.
+    /// Returns true if the total length of the cut edges after the flip is at most the limit. Computes it from the
+    /// total before the flip.
     #[inline]
     fn keeps_length(&self, flip: Flip) -> bool
         requires made { self.now.job ≡ flip.job.now }
@@ -221,8 +222,8 @@ impl Board {
         self.permits(judge, flip)
     }
 
-    /// Decides by links and counts of faces if the unit may leave its district. `None` means that a
-    /// search is needed.
+    /// Decides, by the faces that link the unit's neighbors in its district and by counts of faces, if the unit may
+    /// leave its district. `None` means that a search is needed.
     fn counting_tells(&self, job: &Job, unit: u32) -> Option<bool>
         requires made { self.now.job ≡ job.now }
         requires unit { unit < job.now.graph.units }
@@ -406,7 +407,8 @@ fn put_unit(plan: &mut UnitList, unit: u32, district: u32)
     plan.as_mut_slice()[unit as usize] = district;
 }
 
-/// Returns true if the cut edges are not too long in all after the flip, from the total before it.
+/// Returns true if the total length of the cut edges after the flip is at most the limit. Computes it from the total
+/// before the flip.
 #[inline]
 fn is_short(flip: Flip, sums: &Sums, plan: &UnitList) -> bool
     requires summed { IsSummed flip.job.now plan.now sums.now }
@@ -459,8 +461,8 @@ fn is_permitted<J: Judge>(judge: &J, flip: Flip, sums: &mut Sums, plan: &mut Uni
 
 /// Returns true if both populations stay within the bounds when `people` move.
 ///
-/// A violated bound makes a difference wrap to 2^63 or more. So one comparison, of the larger
-/// difference, tests both bounds.
+/// If a bound is violated, a difference wraps around to 2^63 or more. So one comparison, of the larger difference,
+/// tests both bounds.
 #[inline]
 fn are_kept(low: u64, high: u64, people: u64, from: u64, to: u64) -> bool
     requires people { people ≤ from }

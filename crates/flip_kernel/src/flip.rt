@@ -16,8 +16,8 @@ use std::sync::ledger::{Blank, Ledger};
 
 /// Takes the step of a draw. Returns true if it changed the plan.
 ///
-/// The functions of `contig` that search a district tick `steps`. A step makes at most one search,
-/// and none if the unit's neighbors in its district are connected among themselves.
+/// The functions of `contig` count each search of a district in `steps`. A step makes at most one
+/// search, and none if the unit's neighbors in its district are connected among themselves.
 #[inline]
 pub fn try_flip<J: Judge, L: Ledger>(
     job: &Job,

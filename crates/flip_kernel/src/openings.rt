@@ -55,7 +55,7 @@ impl Openings {
         put_bit(&mut self.words, place_of(unit, district, districts), flag);
     }
 
-    /// Opens or closes a pair, unless the unit is in that district (`there`). That pair is closed
+    /// Opens or closes a pair, unless its district is `there`, the unit's own. That pair is closed
     /// already.
     #[inline]
     fn put_elsewhere(&mut self, districts: u32, unit: u32, district: u32, there: u32, flag: bool)
@@ -75,7 +75,8 @@ impl Openings {
         self.words.fill(0);
     }
 
-    /// Opens the districts of a unit's neighbors to the unit. All its pairs must be closed.
+    /// Opens the pairs of a unit with each other district in which it has a neighbor. All its pairs
+    /// must be closed.
     fn open_beside(&mut self, graph: &Graph, plan: &[u32], districts: u32, unit: u32)
         requires plan { length plan.now ≡ graph.now.units }
         requires in_range { (u : ℕ) → u < graph.now.units → slice_index plan.now u < districts }

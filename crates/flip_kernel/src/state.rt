@@ -1,4 +1,4 @@
-//! A legal plan of a job, with a constraint that describes it.
+//! A legal plan of a job, with a constraint that learns of every change of the plan.
 
 ghost use Rattle.std.specs.Prelude.{◌≡◌, ◌+◌, ◌≤◌, ◌↔◌, slice_set, IfOk, MatchOption, IsTrue, IsFalse};
 ghost use Rattle.audit_model.specs.JobOf.{IsJob};
@@ -91,8 +91,8 @@ impl<J: Judge> State<J> {
         self.board.proposal_of(draw)
     }
 
-    /// Returns true if the flip on an open pair is a move. Neither the plan nor the constraint
-    /// changes.
+    /// Returns true if the flip on an open pair is a move: the plan after it is legal. Neither the
+    /// plan nor the constraint changes.
     pub(crate) fn may_move<L: Ledger>(&mut self, flip: Flip, steps: &mut Steps<L>) -> bool
         requires made { self.old.job ≡ flip.job.now }
         requires beside { IsTrue (is_open flip.job.now.graph self.old.plan flip.unit flip.district) }

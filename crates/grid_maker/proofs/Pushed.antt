@@ -1,25 +1,8 @@
 -- Lists of JSON values, item by item.
-use Rattle.std.proofs.Common.{◌≡◌, ℕ, ◌+◌, List, [], ◌∷◌, ◌++◌, map, Option, refl, sym, ap, ◌∙◌, add-one}
+use Rattle.std.proofs.Common.{◌≡◌, ℕ, ◌+◌, List, [], ◌++◌, map, Option, sym, ap, ◌∙◌}
 use Rattle.std.specs.Prelude.{option_to_list}
 use Rattle.serde_json.specs.Data.{Data}
-use Rattle.serde_json.specs.View.{view}
-use Rattle.serde_json.specs.declared.value.Value.{Value}
-use Rattle.audit_model.specs.Below.{map_below}
 use Rattle.std.proofs.lemmas.List.{map-append}
-
--- the view of an appended list
-map_view-append : (vs ws : List Value) → map view (vs ++ ws) ≡ map view vs ++ map view ws
-map_view-append [] ws = refl
-map_view-append (v ∷ vs) ws = ap (λ (ds : List Data). view v ∷ ds) (map_view-append vs ws)
-
--- appending one more value
-pub pushed : (n : ℕ) (f : ℕ → Data) (vs ws : List Value) (v : Value) → ws ≡ vs ++ v ∷ [] → map view vs ≡ map_below n f → view v ≡ f n
-    → map view ws ≡ map_below (n + 1) f
-pushed n f vs ws v is before at =
-    ap (λ (us : List Value). map view us) is ∙ map_view-append vs (v ∷ [])
-    ∙ ap (λ (ds : List Data). ds ++ view v ∷ []) before
-    ∙ ap (λ (d : Data). map_below n f ++ d ∷ []) at
-    ∙ rw add-one refl
 
 -- appending the value of an option, if there is one
 one_more : (f : ℕ → Data) (before after : List Data) (numbers : List ℕ) (o p : Option ℕ) → before ≡ map f numbers → o ≡ p

@@ -56,10 +56,6 @@ module _ (ps : List (Option Outcome)) (placed : ArePlacedById 0 ps) (o kept : Ou
 
 -- ---- several
 
--- the union with the empty list is the list itself
-pub holds_none : (xs : List Outcome) → HoldsBoth xs [] xs
-holds_none xs id = sym (joined_none (with_id xs id))
-
 -- two outcomes added in turn equal their combination, if one is missing
 next_joined : (x y q : Option Outcome) → ((y ≡ None) ⊎ (q ≡ None)) → fuller_if (fuller_if x y) q ≡ fuller_if x (option_or y q)
 next_joined x None q either = ap (λ o. fuller_if o q) (joined_none x)

@@ -1,9 +1,8 @@
 -- Regions that a plan splits among too many districts, found by counting.
-use Rattle.std.proofs.Common.{◌≡◌, ℕ, suc, ◌+◌, ◌<◌, ◌≤◌, Bool, true, false, ◌&&◌, ◌||◌, List, [], ◌∷◌, length, refl, sym, ap, ◌∙◌, subst, inl, inr, arith, set, get_or-set_same, get_or-set_other, add-one}
+use Rattle.std.proofs.Common.{◌≡◌, ℕ, suc, ◌<◌, ◌≤◌, Bool, true, ◌&&◌, List, [], ◌∷◌, length, arith}
 use Rattle.std.specs.Prelude.{◌==◌, slice_index}
-use Rattle.std.specs.List.{slice_index_or}
-use Rattle.std.proofs.lemmas.Bool.{and_parts, cases_eq, eq-eqb, ne_eqb, eqb-true}
-use Rattle.audit_model.specs.Below.{above_all, any_below, count_below}
+use Rattle.std.proofs.lemmas.Bool.{and_parts, eqb-true}
+use Rattle.audit_model.specs.Below.{above_all, count_below}
 use Rattle.audit_model.specs.Meets.{lies_in, split_of}
 use Rattle.audit_model.proofs.Below.{count_below_into, any_below_some}
 use Rattle.audit_model.proofs.Meeting.{below_above_all}
@@ -17,49 +16,6 @@ above_all_most (x ∷ xs) n each =
     omega (arith, each 0 (omega arith), above_all_most xs n (λ u l. each (suc u) (omega (arith, l))))
 
 -- ---- the districts of a region
-
--- and-true on the right of an or
-or_true : (a b : Bool) → b ≡ true → (a || b && true) ≡ (a || b)
-or_true a true h = refl
-or_true a false h = cc
-
--- or-false is the other part
-or_no : (a b : Bool) → (a || b && false) ≡ a
-or_no true true = refl
-or_no true false = refl
-or_no false true = refl
-or_no false false = refl
-
--- and-true is the other part
-and_on : (b : Bool) → (b && true) ≡ b
-and_on true = refl
-and_on false = refl
-
--- after one more unit, a district is marked if a unit of the region so far lies in it
-pub seen_more : (regions plan : List ℕ) (region unit d : ℕ) (seen : List Bool) → slice_index plan unit < length seen
-    → slice_index_or seen (slice_index plan unit) false ≡ any_below unit (λ u. (slice_index regions u == region) && (slice_index plan u == slice_index plan unit))
-    → slice_index_or seen d false ≡ any_below unit (λ u. (slice_index regions u == region) && (slice_index plan u == d))
-    → slice_index_or (set seen (slice_index plan unit) (slice_index_or seen (slice_index plan unit) false || (slice_index regions unit == region))) d false
-    ≡ any_below (unit + 1) (λ u. (slice_index regions u == region) && (slice_index plan u == d))
-seen_more regions plan region unit d seen below own so_far =
-    let p : ℕ = slice_index plan unit in
-    let b : Bool = slice_index regions unit == region in
-    let test : ℕ → Bool = λ u. (slice_index regions u == region) && (slice_index plan u == d) in
-    let last : any_below (unit + 1) test ≡ (any_below unit test || test unit) = rw add-one refl in
-    elim (cases_eq d p) [
-      | inl e ↦
-          let here : slice_index_or (set seen p (slice_index_or seen p false || b)) d false ≡ (slice_index_or seen p false || b) =
-          subst (λ t. slice_index_or (set seen p (slice_index_or seen p false || b)) t false ≡ (slice_index_or seen p false || b)) (sym e)
-          (get_or-set_same seen p (slice_index_or seen p false || b) false below) in
-          let counts : test unit ≡ b = ap (λ (t : Bool). b && t) (eq-eqb p d (sym e)) ∙ and_on b in
-          let same : slice_index_or seen p false ≡ any_below unit test = subst (λ t. slice_index_or seen t false ≡ any_below unit test) e so_far in
-          here ∙ ap (λ (t : Bool). t || b) same ∙ ap (λ (t : Bool). any_below unit test || t) (sym counts) ∙ sym last
-      | inr off ↦
-          let there : slice_index_or (set seen p (slice_index_or seen p false || b)) d false ≡ slice_index_or seen d false =
-          get_or-set_other seen p d (slice_index_or seen p false || b) false off in
-          let none : test unit ≡ (b && false) = ap (λ (t : Bool). b && t) (ne_eqb p d (λ e. off (sym e))) in
-          there ∙ so_far ∙ sym (or_no (any_below unit test) b) ∙ ap (λ (t : Bool). any_below unit test || t) (sym none) ∙ sym last
-    ]
 
 -- ---- the number of these districts
 

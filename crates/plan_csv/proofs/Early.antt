@@ -2,7 +2,6 @@
 use Rattle.std.proofs.Common.{◌≡◌, ℕ, List, [], ◌∷◌, length, Option, Some, None, refl, sym, ap, ◌∙◌}
 use Rattle.std.specs.List.{slice_index_or}
 use Rattle.std.specs.Option.{option_or}
-use Rattle.audit_model.specs.First.{first_some}
 use Rattle.audit_model.specs.declared.fault.TableFault.{TableFault}
 use Rattle.audit_model.specs.declared.setting.Label.{Label}
 use Rattle.audit_statement.specs.Table.{misses_header, too_many, bad_name, shared_id, unknown_id, repeated_unit, missing_unit, refused_count}
@@ -41,9 +40,6 @@ module _ (ids : List Label) (header : List (List ℕ)) (entries : List (List (Li
 
   abbrev after_heads : Option TableFault
   after_heads = option_or (shared_id ids [] entries) (option_or (unknown_id ids [] entries) (option_or (repeated_unit ids [] entries) (option_or (missing_unit ids [] entries) (option_or count None))))
-
-  pub heads_first : (f : TableFault) → first_some (misses_header [] header [] ∷ too_many [] header [] ∷ bad_name [] header [] ∷ []) ≡ Some f → later ids header entries ≡ Some f
-  heads_first f e = among (misses_header [] header []) (too_many [] header []) (bad_name [] header []) after_heads f e
 
   module _ (two : misses_header [] header [] ≡ None) (few : too_many [] header [] ≡ None) (named : bad_name [] header [] ≡ None) where
     past_heads : later ids header entries ≡ after_heads

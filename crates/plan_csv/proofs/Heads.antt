@@ -1,5 +1,5 @@
 -- Faults of the header record.
-use Rattle.std.proofs.Common.{◌≡◌, ◌≤◌, ◌<◌, ◌-◌, ◌∷◌, ℕ, List, [], length, Some, None, false, not, nat_lt, ap, ◌∙◌, subst}
+use Rattle.std.proofs.Common.{◌≡◌, ◌≤◌, ◌<◌, ◌-◌, ◌∷◌, ℕ, List, [], length, Some, None, false, not, nat_lt, ap, ◌∙◌}
 use Rattle.std.specs.Option.{option_map, option_or}
 use Rattle.std.proofs.lemmas.Bool.{cond-false, le-ltb}
 use Rattle.audit_model.specs.First.{first_below, first_some}
@@ -23,6 +23,3 @@ module _ (header : List (List ℕ)) where
       ap (λ o. option_or o (option_or (too_many [] header []) (option_or (bad_name [] header []) None))) (enough two)
       ∙ ap (λ o. option_or o (option_or (bad_name [] header []) None)) (few most)
       ∙ ap (λ o. option_or o None) found
-
-  pub all_named : (plan : ℕ) → plan ≡ length header - 1 → first_below plan (λ p. not (is_plan_name (plan_name [] header [] p))) ≡ None → bad_name [] header [] ≡ None
-  all_named plan all none = ap (option_map fault.BadName) (subst (λ k. first_below k (λ p. not (is_plan_name (plan_name [] header [] p))) ≡ None) all none)

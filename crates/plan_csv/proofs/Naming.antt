@@ -1,20 +1,16 @@
 -- The jobs of the table's plans, one by one.
-use Rattle.std.proofs.Common.{◌≡◌, ℕ, zero, suc, ◌+◌, ◌<◌, ◌++◌, List, [], ◌∷◌, length, drop, get_or, Option, Some, None, Result, Ok, Err, refl, sym, ap, ◌∙◌, subst, inl, inr, arith, append_assoc}
-use Rattle.std.specs.Prelude.{◌⊎◌}
+use Rattle.std.proofs.Common.{◌≡◌, ℕ, zero, suc, ◌+◌, ◌<◌, ◌++◌, List, [], ◌∷◌, length, drop, get_or, Option, Some, None, Result, Ok, Err, refl, sym, ap, ◌∙◌, subst, arith, append_assoc}
 use Rattle.std.specs.List.{All}
 use Rattle.std.proofs.lemmas.List.{append-nil, drop_all, map-append}
 use Rattle.std.proofs.lemmas.List.Elements.{All-push}
 use Rattle.audit_model.specs.declared.fault.PlanFault.{PlanFault}
-use Rattle.audit_model.specs.declared.fault.PlanFault.TheVariants as plan
 use Rattle.audit_model.specs.declared.plans.Assigned.{Assigned}
 use Rattle.audit_model.specs.declared.setting.Label.{Label}
 use Rattle.audit_model.specs.Job.{Job}
 use Rattle.audit_model.specs.JobOf.{job_or, job_with, plan_fault, restarted}
 use Rattle.audit_model.specs.Several.{named_before, named_jobs}
 use Rattle.audit_model.specs.declared.fault.PlansFault.{PlansFault}
-use Rattle.audit_model.specs.declared.fault.PlansFault.TheVariants as fault
 use Rattle.plan_csv.specs.declared.named.Named.{Named}
-use Rattle.plan_csv.specs.Refusals.{named_end}
 use Rattle.plan_csv.specs.Named.{jobs_of, pair_of, IsOneOf}
 use Rattle.audit_statement.specs.Jobs.{Jobs}
 use Rattle.plan_csv.specs.JobStages.{IsNamedBy, IsNamedFault, RefusesPlan}
@@ -102,11 +98,3 @@ named_all_of job plans i named all is =
 module _ (job : Job) (p : Assigned) (name start : List ℕ) (labels : List Label) (named : name ≡ p.name) (started : start ≡ p.start) (labelled : labels ≡ p.labels) where
   with_own : job_with job start labels ≡ job_with job p.start p.labels
   with_own = ap (λ (s : List ℕ). job_with job s labels) started ∙ ap (λ (ls : List Label). job_with job p.start ls) labelled
-
-  pub made_own : (made : Job) → job_with job start labels ≡ Ok made → job_with job p.start p.labels ≡ Ok made
-  made_own made e = sym with_own ∙ e
-
-  pub refuses_own : (f : PlanFault) → (f ≡ plan.Memory) ⊎ (job_with job start labels ≡ Err f) → (named_end name f ≡ fault.Memory) ⊎ RefusesPlan job p (named_end name f)
-  refuses_own plan.Memory r = inl refl
-  refuses_own f (inl e) = cc e
-  refuses_own f (inr e) = inr (f, sym with_own ∙ e, ap (λ (n : List ℕ). fault.Other n f) named)

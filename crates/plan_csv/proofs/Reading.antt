@@ -5,11 +5,6 @@ use Rattle.std.specs.List.{All}
 use Rattle.audit_model.specs.declared.fault.GraphFault.{GraphFault}
 use Rattle.audit_model.specs.declared.fault.GraphFault.TheVariants as graph
 use Rattle.audit_model.specs.declared.fault.PlanFault.{PlanFault}
-use Rattle.audit_model.specs.declared.fault.PlanFault.TheVariants as plan
-use Rattle.audit_model.specs.declared.fault.RegionFault.{RegionFault}
-use Rattle.audit_model.specs.declared.fault.RegionFault.TheVariants as region
-use Rattle.audit_model.specs.declared.fault.TableFault.{TableFault}
-use Rattle.audit_model.specs.declared.fault.TableFault.TheVariants as table
 use Rattle.audit_model.specs.declared.origin.Origin.{Origin}
 use Rattle.audit_model.specs.declared.plans.Assigned.{Assigned}
 use Rattle.audit_model.specs.declared.setting.Label.{Label}
@@ -24,13 +19,13 @@ use Rattle.audit_statement.specs.Regions.{id_reading}
 use Rattle.audit_statement.specs.Table.{graph_part, table_part, table_reading}
 use Rattle.audit_model.specs.declared.fault.PlansFault.{PlansFault}
 use Rattle.audit_model.specs.declared.fault.PlansFault.TheVariants as fault
-use Rattle.plan_csv.specs.Refusals.{graph_end, region_end, table_end, plan_end}
+use Rattle.plan_csv.specs.Refusals.{graph_end}
 use Rattle.plan_csv.specs.Named.{IsOneOf}
 use Rattle.plan_csv.specs.Shared.{AreShared}
-use Rattle.audit_statement.specs.Jobs.{Jobs, from_graph, from_others, from_own, jobs_over_regions, from_table, jobs_reading}
+use Rattle.audit_statement.specs.Jobs.{Jobs, from_graph, from_others, from_own, from_table, jobs_reading}
 use Rattle.audit_statement.specs.Origin.{origin_of, with_origin}
 use Rattle.plan_csv.specs.declared.named.Named.{Named}
-use Rattle.plan_csv.specs.JobStages.{IsNamedFault, IsOwn, IsOwnFault}
+use Rattle.plan_csv.specs.JobStages.{IsOwn, IsOwnFault}
 
 -- ---- each fault
 
@@ -40,30 +35,6 @@ pub graph_refused : (setting : Setting) (origin : Option Origin) (g t : List ℕ
 graph_refused setting origin g t r graph.Memory e = inl refl
 graph_refused setting origin g t r f (inl e) = cc e
 graph_refused setting origin g t r f (inr e) = inr (ap (from_graph setting origin g t) e)
-
--- a fault of the regions is the first if the graph is sound
-pub regions_refused : (setting : Setting) (origin : Option Origin) (g t : List ℕ) (p : Parsed) (r : Result (List ℕ) RegionFault) (f : RegionFault)
-    → (f ≡ region.Memory) ⊎ (r ≡ Err f) → (region_end f ≡ fault.Memory) ⊎ (jobs_over_regions setting origin g t p r ≡ Err (region_end f))
-regions_refused setting origin g t p r region.Memory e = inl refl
-regions_refused setting origin g t p r f (inl e) = cc e
-regions_refused setting origin g t p r f (inr e) = inr (ap (jobs_over_regions setting origin g t p) e)
-
--- a fault of the table is the first if the graph and its regions are sound
-pub table_refused : (setting : Setting) (origin : Option Origin) (p : Parsed) (regions : List ℕ) (r : Result (List Assigned) TableFault) (f : TableFault)
-    → (f ≡ table.Memory) ⊎ (r ≡ Err f) → (table_end f ≡ fault.Memory) ⊎ (from_table setting origin p regions r ≡ Err (table_end f))
-table_refused setting origin p regions r table.Memory e = inl refl
-table_refused setting origin p regions r f (inl e) = cc e
-table_refused setting origin p regions r f (inr e) = inr (ap (from_table setting origin p regions) e)
-
--- a fault of the graph's own plan is one of the plan
-pub own_refused : (r : Result Job PlanFault) (f : PlanFault) → (f ≡ plan.Memory) ⊎ (r ≡ Err f) → (plan_end f ≡ fault.Memory) ⊎ IsOwnFault r (plan_end f)
-own_refused r plan.Memory e = inl refl
-own_refused r f (inl e) = cc e
-own_refused r f (inr e) = inr (f, e, refl)
-
--- a fault of a plan of the table carries the plan's name
-pub others_refused : (name : List ℕ) (job : Job) (r : Result Jobs (List ℕ × PlanFault)) (f : PlansFault) → IsNamedFault r f → from_others name job r ≡ Err f
-others_refused name job r f is = ap (from_others name job) is.2 ∙ ap Err (sym is.3)
 
 -- ---- facts about the graph's own job
 

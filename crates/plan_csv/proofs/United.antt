@@ -1,5 +1,5 @@
 -- The units that records name, record by record.
-use Rattle.std.proofs.Common.{◌≡◌, ◌<◌, ◌+◌, ◌++◌, ℕ, suc, List, [], ◌∷◌, length, bytes_eq, not, Some, None, Bool, sym, ap, ◌∙◌, subst, inl, inr, arith, length-append}
+use Rattle.std.proofs.Common.{◌≡◌, ◌<◌, ◌+◌, ◌++◌, ℕ, suc, List, [], ◌∷◌, length, bytes_eq, not, Some, None, sym, ap, ◌∙◌, subst, inl, inr, arith, length-append}
 use Rattle.std.specs.List.{slice_index_or}
 use Rattle.std.specs.Map.{lookup}
 use Rattle.std.specs.Option.{option_map}
@@ -14,9 +14,6 @@ use Rattle.audit_model.proofs.First.{first_below_more, first_below_here, any_fro
 use Rattle.audit_statement.specs.Table.{unit_text, names_unit, unknown_id}
 use Rattle.plan_csv.specs.Stages.{IsUnitIndex, AreUnits}
 use Rattle.plan_csv.proofs.Pushed.{push_same, push_other}
-
-abbrev unknown : List Label → List (List (List ℕ)) → ℕ → Bool
-unknown ids rows e = not (any_below (length ids) (names_unit ids [] rows e))
 
 pub record IsUnited (ids : List Label) (rows : List (List (List ℕ))) (j : ℕ) (units : List ℕ) : Type 0 where
   pub none : first_below j (λ e. not (any_below (length ids) (names_unit ids [] rows e))) ≡ None

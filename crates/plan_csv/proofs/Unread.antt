@@ -4,7 +4,7 @@ use Rattle.std.specs.List.{list_all, slice_index_or}
 use Rattle.std.specs.Option.{option_map}
 use Rattle.std.specs.Str.{is_utf8}
 use Rattle.std.proofs.lemmas.Bool.{eqb-true, and_from, and_parts}
-use Rattle.std.proofs.lemmas.List.{length-map, map-append, append-nil}
+use Rattle.std.proofs.lemmas.List.{length-map, map-append}
 use Rattle.std.proofs.lemmas.Str.{IsUtf8-from_is_utf8, is_utf8-from_IsUtf8}
 use Rattle.csv.specs.Records.{AllText, Row, fields_of, field_at}
 use Rattle.audit_model.specs.First.{first_below}
@@ -98,10 +98,3 @@ module _ (columns : ℕ) (rows : List (List (List ℕ))) (texts left after : Lis
         subst (λ k. first_below k (λ r. is_unread columns (slice_index_or rows r [])) ≡ None) size
         (first_below_more (length texts) (λ r. is_unread columns (slice_index_or rows r [])) before.none (ap (is_unread columns) here ∙ good));
   }
-
--- once none is left, the records are those read, and none is unreadable
-pub read_all : (columns : ℕ) (rows : List (List (List ℕ))) (texts left : List Row) → IsRead columns rows texts left → left ≡ [] → (map fields_of texts ≡ rows) × (unread columns rows ≡ None)
-read_all columns rows texts left before none =
-    let all : map fields_of texts ≡ rows = sym (append-nil (map fields_of texts)) ∙ ap (λ (l : List Row). map fields_of texts ++ map fields_of l) (sym none) ∙ before.split in
-    let size : length texts ≡ length rows = sym (length-map texts fields_of) ∙ ap length all in
-    (all, ap (option_map fault.Unreadable) (subst (λ k. first_below k (λ r. is_unread columns (slice_index_or rows r [])) ≡ None) size before.none))

@@ -1,21 +1,18 @@
 -- The lines of a trajectory and of a range, one after the other.
-use Rattle.std.proofs.Common.{◌≡◌, ℕ, zero, suc, ◌+◌, ◌-◌, ◌*◌, ◌<◌, ◌≤◌, ◌^◌, List, [], ◌∷◌, ◌++◌, length, min, take, map, replicate, Bool, true, false, Ok, Err, Result, pos, ℤ, refl, sym, ap, ◌∙◌, subst, arith, add-one, append-nil, append_assoc, codes}
+use Rattle.std.proofs.Common.{◌≡◌, ℕ, zero, suc, ◌+◌, ◌-◌, ◌*◌, ◌<◌, ◌≤◌, List, [], ◌∷◌, ◌++◌, length, min, take, map, replicate, Ok, Err, Result, pos, ℤ, refl, sym, ap, ◌∙◌, subst, arith, add-one, append-nil, append_assoc, codes}
 use Rattle.std.proofs.lemmas.List.{take-append-le}
 use Rattle.std.proofs.Math.Seq.{take-length}
 use Rattle.std.specs.Io.KnownBytes.{Appends}
 use Rattle.audit_io.specs.declared.source.Failed.{Failed}
 use Rattle.audit_model.specs.Faults.{Rose}
 use Rattle.audit_model.specs.Job.{Job}
-use Rattle.audit_model.specs.JobOf.{IsJob}
-use Rattle.audit_model.specs.Run.{steps_of}
 use Rattle.audit_model.specs.State.{Stream}
 use Rattle.audit_model.specs.Trajectory.{Draws, four_values}
-use Rattle.audit_statement.specs.Along.{ask_values, is_walk, moves_after, own_steps, plan_after}
+use Rattle.audit_statement.specs.Along.{ask_values, moves_after, own_steps, plan_after}
 use Rattle.audit_statement.specs.Report.{line}
 use Rattle.audit_statement.specs.Trace.{count_shown, first_lines, line_at, plan_line, shown, range_lines, shown_before, trace_head, trace_id_line, trace_line, trace_text, trajectory_lines}
 use Rattle.report.specs.Said.{WritesAllOf}
 use Rattle.report.proofs.Appended.{appends_more, appends_nothing, part_after, part_of_more}
-use Rattle.report.proofs.Limits.{small}
 
 -- ---- one text after another
 
@@ -38,21 +35,6 @@ shown_next thin steps place step at =
   where
     by : (p : ℕ) → step ≡ min p steps → step + min thin (steps - step) ≡ min (p + thin) steps
     by p e = omega arith
-
--- no shown step is past the last
-pub shown_le : (thin steps place : ℕ) → shown thin steps place ≤ steps
-shown_le thin steps place = by (place * thin)
-  where
-    by : (p : ℕ) → min p steps ≤ steps
-    by p = omega arith
-
--- no trajectory has more than 10 ^ 9 steps
-pub own_steps_few : (job : Job) → IsJob job → (id : ℕ) → own_steps job id ≤ 10 ^ 9
-own_steps_few job sound id = by (is_walk job id)
-  where
-    by : (b : Bool) → steps_of b job ≤ 10 ^ 9
-    by true = (small job sound).few_steps
-    by false = (small job sound).few_hub_steps
 
 -- the values of the asks are the first of four
 pub values_of_four : (values : List ℤ) → length values ≤ 4 → take (length values) (four_values values) ≡ values

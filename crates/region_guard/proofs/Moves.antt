@@ -1,10 +1,10 @@
 -- The change of the counts by a move.
-use Rattle.std.proofs.Common.{◌≡◌, ℕ, zero, suc, ◌+◌, ◌*◌, ◌-◌, ◌<◌, ◌≤◌, Bool, true, false, not, ◌&&◌, ◌==◌, List, ◌++◌, length, take, drop, get_or, refl, sym, ap, ◌∙◌, subst, inl, inr, arith, add-one}
+use Rattle.std.proofs.Common.{◌≡◌, ℕ, zero, suc, ◌+◌, ◌*◌, ◌-◌, ◌<◌, ◌≤◌, Bool, true, false, not, ◌&&◌, ◌==◌, List, length, get_or, refl, sym, ap, ◌∙◌, subst, inl, inr, arith, add-one}
 use Rattle.std.specs.Prelude.{nat_lt, nat_le}
 use Rattle.std.proofs.Math.Nat.{mul-le-mul_right}
 use Rattle.std.proofs.Math.ListN.{set, length-set}
 use Rattle.std.proofs.lemmas.Bool.{cases_eq, cond-true, cond-false, eq-eqb, ne_eqb, eqb-true, le-leb, lt-ltb, and_from, and_left, and_right, and_parts, not_from_false, false_from_ne_true}
-use Rattle.std.proofs.lemmas.List.{get_or-set_same, get_or-set_other, set-get_or, take-append-le, take_all, nil_from_length}
+use Rattle.std.proofs.lemmas.List.{get_or-set_same, get_or-set_other, set-get_or, nil_from_length}
 use Rattle.audit_model.specs.Below.{above_all, all_below, count_below}
 use Rattle.audit_model.specs.declared.rules.Rules.{Rules}
 use Rattle.audit_model.specs.Meets.{are_whole, split_of, split_regions, splits_in_all}
@@ -442,11 +442,6 @@ stands_anew regions most districts splits plan long below rows units widths h =
           (λ q l. ap (nat_lt 1) (split q l)))
           ∙ ap (λ (n : ℕ). totals_from n most (split_of regions plan)) rows;
     }
-
--- a list that is overwritten entirely is what was written
-pub over_is : (old new : List ℕ) → length new ≡ length old → take (length old) (new ++ drop (length new) old) ≡ new
-over_is old new long =
-    take-append-le (length old) new (drop (length new) old) (omega (arith, long)) ∙ take_all (length old) new (omega (arith, long))
 
 -- counts written as a plan's are its counts
 pub stands_as : (regions : List ℕ) (most districts : ℕ) (cells written widths written_widths : List ℕ) (t : Totals) (plan : List ℕ)

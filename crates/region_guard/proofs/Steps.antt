@@ -36,21 +36,6 @@ module _ (rules : Rules) (districts : ℕ) (after : List ℕ) (u from : ℕ) (ta
   here : IsFit rules districts (length after) (above_all after)
   here = fit_parts rules districts (length after) (above_all after) taken
 
-  was : IsFit rules districts (length (set after u from)) (above_all (set after u from))
-  was = fit_parts rules districts (length (set after u from)) (above_all (set after u from)) taken_before
-
-  -- plans that fit before and after a move are a step for the regions
-  pub region_step : IsFitStep rules.regions districts after u from
-  region_step = record { long = here.regions; unit_below = inside; after_below = here.below; before_below = was.below }
-
-  -- plans that fit before and after a move are a step for the group
-  pub group_step : IsFitStep rules.group.members districts after u from
-  group_step = record { long = here.group; unit_below = inside; after_below = here.below; before_below = was.below }
-
-  -- there is at most one flag of frozen units per unit
-  pub frozen_entries : length rules.frozen ≤ length after
-  frozen_entries = no_more (length after) rules.frozen here.frozen
-
 -- if the list is not empty, each unit has an entry
 pub sure_step : (entries : List ℕ) (districts : ℕ) (after : List ℕ) (u from : ℕ) → IsFitStep entries districts after u from → (length entries ≡ 0 → ⊥)
     → IsStep entries districts after u from

@@ -12,7 +12,7 @@ use Rattle.audit_model.specs.declared.setting.Tail.TheVariants.{Low}
 use Rattle.audit_model.specs.Job.{Job}
 use Rattle.report.specs.Lines.{AppendsText}
 use Rattle.audit_model.specs.Stopping.{placed_asks}
-use Rattle.report.proofs.Written.{IsWritten, written-none, written-more, written-err}
+use Rattle.report.proofs.Written.{IsWritten, written-more, written-err}
 
 -- the first i pieces are appended
 pub record ArePieces {X : Type 0} (piece : X → List ℕ) (xs : List X) (i : ℕ) (old now : RoomyBytes) : Type 0 where
@@ -23,10 +23,6 @@ pieces-step : {X : Type 0} (piece : X → List ℕ) (xs : List X) (i : ℕ) (x d
     → flat_map piece (drop i xs) ≡ piece x ++ flat_map piece (drop (i + 1) xs)
 pieces-step piece xs i x d below is =
     rw (add-one, drop-cons xs i d) (ap (λ y. piece y ++ flat_map piece (drop (suc i) xs)) is)
-
--- before the first step no piece is appended
-pub pieces-none : {X : Type 0} (piece : X → List ℕ) (xs : List X) (old : RoomyBytes) → ArePieces piece xs 0 old old
-pieces-none piece xs old = record { written = written-none old (flat_map piece xs) (flat_map piece xs) refl }
 
 -- one more piece is appended
 pub pieces-more : {X : Type 0} (piece : X → List ℕ) (xs : List X) (i : ℕ) (x d : X) (old now new : RoomyBytes)

@@ -1,41 +1,15 @@
 -- The number of regions, counted by marks, and the lines of splits in all, of the share and of frozen units.
-use Rattle.std.proofs.Common.{◌≡◌, ℕ, suc, ◌<◌, ◌≤◌, ◌^◌, Bool, true, false, ◌||◌, List, [], ◌∷◌, ◌++◌, length, All, refl, sym, ap, ◌∙◌, subst, inl, inr, arith, set, get_or-set_same, get_or-set_other}
+use Rattle.std.proofs.Common.{◌≡◌, ℕ, suc, ◌<◌, ◌≤◌, ◌^◌, Bool, true, false, ◌||◌, List, [], ◌∷◌, length, All, sym, ap, subst, inl, inr, arith}
 use Rattle.std.specs.Prelude.{◌==◌, codes, decimal, nat_lt}
-use Rattle.std.specs.List.{slice_index_or}
-use Rattle.std.proofs.lemmas.Bool.{cases_Bool, cond-true, cond-false, cases_eq, eq-eqb, ne_eqb, eqb-true}
+use Rattle.std.proofs.lemmas.Bool.{cases_Bool, cond-true, cond-false, eqb-true}
 use Rattle.audit_model.specs.Below.{above_all, count_below}
 use Rattle.audit_model.specs.Graph.{has}
 use Rattle.audit_model.specs.Limits.{AreFrozen}
 use Rattle.audit_model.specs.Meets.{region_count}
 use Rattle.audit_model.proofs.Below.{count_below_into}
-use Rattle.audit_model.proofs.Bools.{or_false}
 use Rattle.audit_statement.specs.Report.{line, share_line, splits_line}
 
 -- ---- the marks
-
--- a list extended by a number has that number and those from before
-has_more : (xs : List ℕ) (x r : ℕ) → has (xs ++ x ∷ []) r ≡ (has xs r || (x == r))
-has_more [] x r = or_false (x == r)
-has_more (y ∷ xs) x r = or_both (y == r) (has (xs ++ x ∷ []) r) (has xs r) (x == r) (has_more xs x r)
-  where
-    or_both : (a b c d : Bool) → b ≡ (c || d) → (a || b) ≡ ((a || c) || d)
-    or_both true b c d h = refl
-    or_both false b c d h = h
-
--- an 'or' with a true operand is true
-or_yes : (b : Bool) → (b || true) ≡ true
-or_yes true = refl
-or_yes false = refl
-
--- the marks after one more region are those of the longer list
-pub seen_more : (seen : List Bool) (xs : List ℕ) (x r : ℕ) → x < length seen → slice_index_or seen r false ≡ has xs r → slice_index_or (set seen x true) r false ≡ has (xs ++ x ∷ []) r
-seen_more seen xs x r below so_far = elim (cases_eq r x) [
-  | inl e ↦
-      let here : slice_index_or (set seen x true) r false ≡ true = subst (λ t. slice_index_or (set seen x true) t false ≡ true) (sym e) (get_or-set_same seen x true false below) in
-      here ∙ sym (has_more xs x r ∙ ap (λ b. has xs r || b) (eq-eqb x r (sym e)) ∙ or_yes (has xs r))
-  | inr off ↦
-      get_or-set_other seen x r true false off ∙ so_far ∙ sym (has_more xs x r ∙ ap (λ b. has xs r || b) (ne_eqb x r (λ e. off (sym e))) ∙ or_false (has xs r))
-]
 
 -- ---- the number of marks
 

@@ -4,11 +4,11 @@ use Rattle.std.specs.Prelude.{◌==◌, ◌%◌, ◌&&◌, slice_get}
 use Rattle.std.proofs.lemmas.Bool.{eq-eqb, false≢true}
 use Rattle.std.proofs.lemmas.List.{append-nil, length-take-le, length-replicate, get_or-replicate, take_all, take-append-le}
 use Rattle.std.proofs.lemmas.List.Folds.{list_any-append}
-use Rattle.std.proofs.lemmas.Option.{slice_get-get_or, slice_get_past}
+use Rattle.std.proofs.lemmas.Option.{slice_get-get_or}
 use Rattle.std.proofs.Math.Nat.{mod-one}
 use Rattle.audit_model.specs.declared.outcome.Did.{Did}
-use Rattle.audit_model.specs.declared.outcome.Did.TheVariants.{Claimed, Empty, Posted, Saved, Halted}
-use Rattle.audit_model.specs.declared.outcome.Event.TheVariants.{Claim, Post, Save, Halt}
+use Rattle.audit_model.specs.declared.outcome.Did.TheVariants.{Claimed, Posted, Halted}
+use Rattle.audit_model.specs.declared.outcome.Event.TheVariants.{Claim, Post, Halt}
 use Rattle.audit_model.specs.Apart.{AllApart}
 use Rattle.audit_model.specs.Below.{filter_below}
 use Rattle.audit_model.specs.Graph.{has}
@@ -84,10 +84,6 @@ module _ (total started saved : ℕ) (done : List ℕ) (next : ℕ) (held : List
 
   -- ---- a claim
 
-  pub claim_is_empty : (w : ℕ) → slice_get held w ≡ Some None → length ids ≤ next → (machine total started saved done next held, Empty) ≡ step (machine total started saved done next held) (Claim w)
-  claim_is_empty w free past = claim_takes (machine total started saved done next held) w None free
-      (ap (λ xs. slice_get xs next) (sym kept.ids) ∙ slice_get_past ids next past)
-
   pub claim_is : (w id : ℕ) → slice_get held w ≡ Some None → next < length ids → id ≡ get_or ids next 0
       → (machine total started saved done (next + 1) (set held w (Some id)), Claimed id) ≡ step (machine total started saved done next held) (Claim w)
   claim_is w id free within is = claim_takes (machine total started saved done next held) w (Some id) free
@@ -139,24 +135,6 @@ module _ (total started saved : ℕ) (done : List ℕ) (next : ℕ) (held : List
     }
 
   -- ---- a save
-
-  pub save_is : (count : ℕ) → count ≡ length done → (machine total started count done next held, Saved count) ≡ step (machine total started saved done next held) Save
-  save_is count is =
-      ap (λ s. (record { total = total; parts = 1; part = 0; budget = total; start = take started done; saved = s; done = done; next = next; held = held }, Saved count))
-      (take_all count done (omega (arith, is)))
-      ∙ ap (λ c. (record { total = total; parts = 1; part = 0; budget = total; start = take started done; saved = done; done = done; next = next; held = held }, Saved c)) is
-
-  pub kept_save : (count : ℕ) → count ≡ length done → IsKept (machine total started count done next held) started count ids marks
-  kept_save count is = record {
-    run = subst (λ (r : Machine × Did). IsRun r.0) (sym (save_is count is)) (step_keeps (machine total started saved done next held) Save kept.run);
-    small = kept.small;
-    workers = kept.workers;
-    start_saved = omega (arith, is, kept.start_saved, kept.saved_done);
-    saved_done = omega (arith, is);
-    ids = kept.ids;
-    width = kept.width;
-    marks = kept.marks;
-  }
 
   -- ---- a halt
 

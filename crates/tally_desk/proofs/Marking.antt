@@ -61,13 +61,6 @@ up_to_save-all [] t i (suc zero) is = refl
 up_to_save-all [] t i (suc (suc n)) is = absurd (omega arith)
 up_to_save-all (x ∷ l) t i (suc n) is = ap (λ (q : List Entry). x ∷ q) (up_to_save-all l t i (cond x.saved n (suc n)) (next_is x l n is))
 
--- nothing comes after a mark on the last post
-pub after_save-none : (l : List Entry) (t i n : ℕ) → n ≡ saves_made l + 1 → after_save n (l ++ post_of t i true ∷ []) ≡ []
-after_save-none l t i zero is = absurd (omega arith)
-after_save-none [] t i (suc zero) is = refl
-after_save-none [] t i (suc (suc n)) is = absurd (omega arith)
-after_save-none (x ∷ l) t i (suc n) is = after_save-none l t i (cond x.saved n (suc n)) (next_is x l n is)
-
 -- the mark of the last post
 pub ends_saved-push : (b : Bool) (l : List Entry) (e : Entry) → ends_saved_from b (l ++ e ∷ []) ≡ e.saved
 ends_saved-push b [] e = refl

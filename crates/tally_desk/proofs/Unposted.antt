@@ -11,7 +11,7 @@ use Rattle.std.proofs.lemmas.List.Elements.{All-nil, All-push}
 use Rattle.atomic_table.specs.Seated.{TableId}
 use Rattle.audit_model.specs.declared.outcome.Outcome.{Outcome}
 use Rattle.audit_model.specs.Times.{times}
-use Rattle.audit_model.proofs.ListFacts.{popped_last, popped_rest}
+use Rattle.audit_model.proofs.ListFacts.{popped_rest}
 use Rattle.audit_model.proofs.Times.{one, one_same, times_push}
 use Rattle.claim_counter.specs.Walks.{found}
 use Rattle.tally_desk.specs.declared.pass.DeskPass.{DeskPass}
@@ -71,10 +71,6 @@ may_post_held parts v held o h =
       claimed = omega (arith, h.once o.id some);
       unposted = omega (arith, h.once o.id some, h.counted o.id, some);
     }
-
--- the last buffered outcome is that of its trajectory
-pub found_held : (parts : Parts) (v : PassView) (held : List Outcome) (o : Outcome) → HoldsRest parts v (held ++ o ∷ []) → o ≡ found parts.job o.id
-found_held parts v held o h = popped_last (λ u. u ≡ found parts.job u.id) (held ++ o ∷ []) held o h.right refl
 
 -- after a post, the others are still buffered
 pub posted_held : (parts : Parts) (v w : PassView) (held : List Outcome) (o : Outcome) → HoldsRest parts v (held ++ o ∷ []) → Posts o.id v w → HoldsRest parts w held

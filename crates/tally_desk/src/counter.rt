@@ -7,7 +7,8 @@ use claim_counter::laws::{
     start_is_counted,
 };
 
-// Brings the laws of the counter into scope: each kind of draw keeps its rule.
+// Brings the laws of the counter into scope: a draw, a draw past the end, a split and a join of
+// passes keep the counter's rule.
 pub(crate) fn counter_laws()
     ensures { CounterLaws }
 {

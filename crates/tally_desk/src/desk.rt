@@ -49,7 +49,8 @@ impl<C: Keeper> Desk<C> {
     ghost use Rattle.tally_desk.specs.RunResult.{starts};
     ghost use Rattle.tally_desk.specs.Views.{waiting};
 
-    /// Makes a desk for at most `seats` passes, and its first pass. The book must have no outcome for the ids to do.
+    /// Makes a desk for at most `seats` passes, and its first pass. The book must have no outcome whose id is in
+    /// `todo`.
     ///
     /// # Errors
     ///
@@ -254,7 +255,8 @@ impl<C: Keeper> Desk<C> {
         if found == served { Some(served) } else { None }
     }
 
-    // Spins until the ticket is served. The pass then owns the slot.
+    // Spins until the ticket is served. The pass then owns the table's only slot, with the book, the keeper and the
+    // buffers.
     fn await_turn<R: Wait>(&self, rt: &R, seat: &mut Seat<Home<C>, DeskView>, ticket: u64, id: u32)
         requires table { seat.old.table_id ≡ self.now.table.shared.table_id }
         requires empty { seat.old.me.1 ≡ [] }

@@ -16,15 +16,17 @@ use ckpt_store::laws::{
     saves_leave_consistent_slots,
 };
 
-/// Shows that each step of a pass keeps the rule of the desk. It also takes the matching state of the run machine to
-/// the state after the step's events: a claim, a post, or a post and a save.
+/// Shows that each step of a pass keeps the rule of the desk. In the model of a run as a machine (`Machine` of
+/// `audit_model`), the state that matches the desk before the step goes over to the state that matches the desk after
+/// it, by the step's events: a claim, a post, or a post and a save.
 pub fn steps_are_events<C: Keeper>()
     ensures { (parts : Parts) → StepsAreEvents (HomeAs C.state C.lets) parts }
 {
     counter_laws();
 }
 
-/// Shows that a pass that posts what it claims has posted all its claims, also after such passes are joined.
+/// Shows that a pass has still posted all its claims after it claims and posts one more, and after two such passes are
+/// joined.
 pub fn posts_stay_whole()
     ensures { PostsStayWhole }
 {}
@@ -34,8 +36,9 @@ pub fn unfailed_posts_are_regular()
     ensures { UnfailedPostsAreRegular }
 {}
 
-/// Shows the slots after a run without failed saves, with a last save unless the last post had one. The last save is
-/// complete, at its place and the newest. The other slot is unchanged or holds the save before.
+/// Shows what the slots hold after a run in which no save failed. The last save is that of the last post, or one more
+/// at the end. The last save has all outcomes, is in the slot of its place, and that slot is the newest. The other slot
+/// is unchanged or holds the save before.
 pub fn unfailed_runs_save_in_turn()
     ensures { UnfailedRunsSaveInTurn }
 {

@@ -12,7 +12,8 @@ use std::alloc::Global;
 const MOST_EACH: usize = 32;
 
 /// The prefix of the next checkpoint: the first outcomes of the last checkpoint, up to the least id still to do.
-/// Nothing is proved about it, since a checkpoint with another prefix is hashed from its first byte.
+/// Nothing needs to be proved about it: a wrong prefix only costs time, since a checkpoint that does not begin with it
+/// is hashed from its first byte.
 #[derive(Drop)]
 pub(crate) struct NextSave {
     pub(crate) ahead: Ahead,
@@ -63,7 +64,7 @@ impl NextSave {
     }
 }
 
-// Returns the number of outcomes before the first id to do without an outcome.
+// Returns the number of outcomes whose ids are below the first id in `todo` that has no outcome yet.
 fn count_sure(outcomes: &[Outcome], todo: &[u32]) -> usize {
     let mut done = 0;
     for (place, outcome) in outcomes.iter().enumerate() {

@@ -24,7 +24,7 @@ impl DeskPass {
     ghost use Rattle.std.specs.Prelude.{◌≡◌};
     ghost use Rattle.tally_desk.specs.Passes.{view_of};
 
-    /// Returns true if a claim of each joined pass found no id left.
+    /// Returns true if this pass, and each pass that was joined to it, has made a claim that found no id left.
     pub fn ended(&self) -> bool
         ensures { result ≡ (view_of self.now).own.ended }
     {

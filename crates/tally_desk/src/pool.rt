@@ -41,8 +41,8 @@ const MOST_HELD: usize = 4096;
 /// too little of the processors.
 const MOST_HOLDERS: usize = 4;
 
-/// Makes a worker for each constraint, which must be that of the job. The only error is out of memory, and walking
-/// allocates nothing more.
+/// Makes a walker and a buffer for each of `judges`, each of which must be a constraint made for this job. The only
+/// error is out of memory, and walking allocates nothing more.
 pub fn make_pool<J: Judge>(alloc: Global, job: &Job, judges: Vec<J>) -> Result<DeskPool<J>, Memory>
     requires judges { AreJudges job.now J.judging judges.items }
     ensures { IfOk result (IsDeskPool job.now (vec_len judges)) }

@@ -12,8 +12,8 @@ use audit_io::keeper::Keeper;
 use audit_model::outcome::Outcome;
 use std::sync::Wait;
 
-/// Posts the outcome of the last claim and then the buffered ones, until another pass has its turn. The outcome is then
-/// buffered, or waits for its turn if the buffer is full.
+/// Posts the outcome of the last claim and then the buffered ones, until another pass has its turn. An outcome that
+/// cannot be posted at once is buffered. If the buffer is full, the pass waits for its turn and posts the outcome.
 pub fn hand_in<R: Wait, C: Keeper>(
     rt: &R,
     desk: &Desk<C>,
