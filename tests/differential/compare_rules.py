@@ -329,7 +329,7 @@ def turned(words: typing.Any, data: typing.Any) -> typing.Any:
     ]
 
 
-def held(folder: typing.Any) -> typing.List[typing.Any]:
+def files(folder: typing.Any) -> typing.List[typing.Any]:
     return [
         pathlib.Path(folder, name).read_bytes() if pathlib.Path(folder, name).exists() else None
         for name in FILES
@@ -350,7 +350,7 @@ def one_run(task: typing.Any) -> typing.Any:
             )
             found, slots = (
                 model.End(
-                    done.returncode, done.stdout.decode(), done.stderr.decode(), held(folder)
+                    done.returncode, done.stdout.decode(), done.stderr.decode(), files(folder)
                 ),
                 wanted.slots,
             )

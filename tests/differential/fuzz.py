@@ -309,7 +309,7 @@ def aged(data: typing.Any) -> typing.Any:
     return model.checkpoint(data[12:44], data[47], outcomes_in(data), 1)
 
 
-def with_bins(data: typing.Any, chance: typing.Any) -> typing.Any:
+def with_histogram(data: typing.Any, chance: typing.Any) -> typing.Any:
     """A good checkpoint of which one outcome has other bins: none, some that add up as they have
     to, or that do so but for a multiple of 2^32.
     """
@@ -345,7 +345,7 @@ def broken_slot(data: typing.Any, chance: typing.Any) -> typing.Any:
         )
     kind = chance.random()
     if kind < 0.2:
-        return with_bins(data, chance)
+        return with_histogram(data, chance)
     if kind < 0.3:
         data = aged(data)
     return sealed_anew(data, chance) if chance.random() < 0.5 else broken_bytes(data, chance, None)
@@ -452,7 +452,7 @@ def run_program(
     return done.returncode, done.stdout, done.stderr
 
 
-def held(folder: typing.Any) -> typing.Any:
+def files(folder: typing.Any) -> typing.Any:
     slots = []
     for at in (0, 1):
         path = f"{folder}/audit-{at}.ckpt"
@@ -482,7 +482,7 @@ def differs(
         status, out, note = run_program(program, words, data, folder)
     except subprocess.TimeoutExpired:
         return "no end within 20 seconds", wanted
-    after = held(folder)
+    after = files(folder)
     if status != wanted.status:
         return f"status {status} and not {wanted.status}: {note[:200]}", wanted
     if out != wanted.out.encode():

@@ -296,9 +296,9 @@ def parts_of(words: typing.Any, text: typing.Any) -> typing.Any:
     """The digest of a job, and what its trajectories find, with bins and without."""
     setting = Setting(words.split())
     job = job_of(setting, text)
-    bare = dict(enumerate(outcomes(job, *setting.trajectories())))
+    plain = dict(enumerate(outcomes(job, *setting.trajectories())))
     job.shift = True
-    return digest(job, setting), bare, dict(enumerate(outcomes(job, *setting.trajectories())))
+    return digest(job, setting), plain, dict(enumerate(outcomes(job, *setting.trajectories())))
 
 
 def damaged(words: typing.Any, text: typing.Any) -> typing.Dict[typing.Any, typing.Any]:

@@ -903,7 +903,7 @@ def is_inside(value: typing.Any, start: typing.Any, tail: typing.Any) -> bool:
     return bool(value <= start if tail == "low" else value >= start)
 
 
-def bins_of(job: typing.Any, visited: typing.Any) -> typing.Any:
+def histogram_of(job: typing.Any, visited: typing.Any) -> typing.Any:
     """Returns the histogram of seats against the start's: 4 fewer or less, 3 fewer, up to 4 more or
     above.
     """
@@ -930,7 +930,7 @@ def outcomes(job: typing.Any, key: typing.Any) -> typing.Any:
                     sum(is_inside(job.value(one, score), first, tail) for one in visited)
                     for first, (score, tail) in zip(start, setting.asks)
                 ],
-                bins_of(job, visited),
+                histogram_of(job, visited),
             )
         )
     hub = job.walk(plan, 1, setting.hub_steps)[0][-1] if setting.ends else None
@@ -1204,7 +1204,7 @@ def newest(slots: typing.Any) -> typing.Any:
     return intact[0] if intact else None
 
 
-def opening(
+def initial_outcomes(
     slots: typing.Any, digest: typing.Any, setting: typing.Any
 ) -> typing.Dict[typing.Any, typing.Any]:
     """The outcomes from which a run goes on: bare ones where it asks for no bins, and else the
@@ -1287,7 +1287,7 @@ def run(job: typing.Any, slots: typing.Any) -> typing.Any:
         if setting.save or setting.resume
         else None
     )
-    found = opening(seen, digest, setting) if setting.resume else {}
+    found = initial_outcomes(seen, digest, setting) if setting.resume else {}
     todo = [one for one in range(setting.part, setting.total, setting.parts) if one not in found][
         : setting.budget
     ]

@@ -354,14 +354,14 @@ def gather_names_the_first_that_differs(room: Room) -> None:
             "gather: outcome 0 differs in ../p and ../r\n"
         ),
     )
-    bare, binned = some((0,)), some((0,), found=BINNED)
+    plain, binned = some((0,)), some((0,), found=BINNED)
     bins = list(binned[0][2])
     at = next(place for place, count in enumerate(bins) if count)
     bins[at], bins[at - 1] = bins[at] - 1, bins[at - 1] + 1
     moved = {0: (*binned[0][:2], tuple(bins))}
     room.gather(
         ["../p", "../q", "../r", *RUN],
-        {"../p": holding(bare), "../q": holding(binned), "../r": holding(moved)},
+        {"../p": holding(plain), "../q": holding(binned), "../r": holding(moved)},
         said="gather: outcome 0 differs in ../q and ../r\n",
     )
 
@@ -476,19 +476,19 @@ def unlocked_reads(trace: str) -> List[str]:
     """Returns the slots that a program opened while it did not hold the lock of their folder."""
     folders: Dict[str, str] = {}
     locks: Dict[str, str] = {}
-    bare = []
+    plain = []
     for line in power_cuts.whole_lines(trace):
         if found := OPENED.match(line):
             name, number = found[1], found[2]
             folders[number] = os.path.normpath(name)
             is_locked = (os.path.dirname(os.path.normpath(name)) or ".") in locks.values()
             if name.endswith(NAMES) and not is_locked:
-                bare.append(name)
+                plain.append(name)
         elif found := LOCKED.match(line):
             locks[found[1]] = folders.get(found[1], "")
         elif found := CLOSED.match(line):
             locks.pop(found[1], None)
-    return bare
+    return plain
 
 
 @traced

@@ -43,8 +43,8 @@ def outcomes_of(data: bytes) -> Outcomes:
 def differ(one: Outcome, other: Outcome) -> bool:
     """Returns whether two outcomes of an id differ, apart from a histogram that one does not have.
     """
-    both_have_bins = any(one[2]) and any(other[2])
-    return one[:2] != other[:2] or (both_have_bins and one[2] != other[2])
+    both_have_histograms = any(one[2]) and any(other[2])
+    return one[:2] != other[:2] or (both_have_histograms and one[2] != other[2])
 
 
 def merged(one: Outcome, other: Outcome) -> Outcome:

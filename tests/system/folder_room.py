@@ -47,7 +47,7 @@ def with_value(name: str, value: str) -> List[str]:
 JOB = model.job_of(model.Setting(RUN), CYCLE)
 DIGEST = JOB.digest()
 OTHER = model.job_of(model.Setting(with_value("--slack", "9000")), CYCLE).digest()
-BARE: Outcomes = dict(enumerate(model.asked(JOB, DIGEST)))
+PLAIN: Outcomes = dict(enumerate(model.asked(JOB, DIGEST)))
 BINNED: Outcomes = dict(enumerate(model.outcomes(JOB, DIGEST)))
 
 
@@ -58,7 +58,7 @@ def changed(outcome: Any) -> Any:
 
 def some(ids: Sequence[int], *others: int, found: Optional[Outcomes] = None) -> Outcomes:
     """Returns the outcomes with these ids; those of `others` are changed."""
-    found = BARE if found is None else found
+    found = PLAIN if found is None else found
     return {one: changed(found[one]) if one in others else found[one] for one in ids}
 
 
@@ -84,7 +84,7 @@ def damaged() -> Dict[str, bytes]:
         "bad generation": saved(some(range(4)), 3),
         "bad count": good + b"x",
         "bad digest": good[:-1] + bytes([good[-1] ^ 1]),
-        "unfit": saved({0: (9, *BARE[0][1:])}, 1),
+        "unfit": saved({0: (9, *PLAIN[0][1:])}, 1),
     }
 
 

@@ -374,10 +374,10 @@ def judged(
     end = subprocess.run(
         [program, *RESUMED], input=CYCLE, cwd=folder, capture_output=True, timeout=60, check=False
     )
-    held = [(folder / name).read_bytes() if (folder / name).exists() else None for name in NAMES]
+    stored = [(folder / name).read_bytes() if (folder / name).exists() else None for name in NAMES]
     for part, one, other in (
         ("status", end.returncode, wanted.status), ("report", end.stdout, wanted.out.encode()),
-        ("note", end.stderr, wanted.note.encode()), ("files", held, list(wanted.slots)),
+        ("note", end.stderr, wanted.note.encode()), ("files", stored, list(wanted.slots)),
     ):
         if one != other:
             return f"{part} {str(one)[:200]} and not {str(other)[:200]}"

@@ -307,25 +307,25 @@ class Room:
         self.counted, self.seconds = folder / "counted", 0
         self.slots.mkdir()
 
-    def hold(self, held: typing.Any) -> None:
+    def hold(self, files: typing.Any) -> None:
         shutil.rmtree(self.slots)
         self.slots.mkdir()
-        for name, data in held.items():
+        for name, data in files.items():
             (self.slots / name).write_bytes(data)
 
-    def held(self) -> typing.Dict[typing.Any, typing.Any]:
+    def files(self) -> typing.Dict[typing.Any, typing.Any]:
         return {path.name: path.read_bytes() for path in self.slots.iterdir()}
 
     def run(
         self,
         words: typing.Any,
         graph: typing.Any,
-        held: typing.Any,
+        files: typing.Any,
         number: int = 0,
         is_all: bool = False,
     ) -> typing.Any:
         """Status, output, note, files, and whether an allocation was refused."""
-        self.hold(held)
+        self.hold(files)
         self.mark.unlink(missing_ok=True)
         given = {
             **os.environ,
@@ -343,10 +343,10 @@ class Room:
                 timeout=20, check=False,
             )
         except subprocess.TimeoutExpired:
-            return "none after 20 seconds", b"", b"", held, self.mark.exists()
+            return "none after 20 seconds", b"", b"", files, self.mark.exists()
         finally:
             self.seconds = taken() - begun
-        return done.returncode, done.stdout, done.stderr, self.held(), self.mark.exists()
+        return done.returncode, done.stdout, done.stderr, self.files(), self.mark.exists()
 
 
 class Folders(Room):
@@ -354,14 +354,14 @@ class Folders(Room):
 
     NAMES = ("slots", "p", "q")
 
-    def hold(self, held: typing.Any) -> None:
+    def hold(self, files: typing.Any) -> None:
         for name in self.NAMES:
             shutil.rmtree(self.slots.parent / name, ignore_errors=True)
             (self.slots.parent / name).mkdir()
-        for name, data in held.items():
+        for name, data in files.items():
             (self.slots / name).write_bytes(data)
 
-    def held(self) -> typing.Dict[typing.Any, typing.Any]:
+    def files(self) -> typing.Dict[typing.Any, typing.Any]:
         return {
             os.path.relpath(path, self.slots): path.read_bytes()
             for name in self.NAMES
@@ -374,15 +374,15 @@ def folder_calls() -> typing.Dict[typing.Any, typing.Any]:
     job = model.job_of(model.Setting(CHAIN), (DATA / "cycle.json").read_bytes())
     digest, every = job.digest(), dict(enumerate(model.outcomes(job, job.digest())))
 
-    def held(name: typing.Any, *parts: typing.Any) -> typing.Dict[typing.Any, typing.Any]:
+    def files(name: typing.Any, *parts: typing.Any) -> typing.Dict[typing.Any, typing.Any]:
         return {
             f"{name}audit-{at}.ckpt": model.checkpoint(digest, at, {one: every[one] for one in ids})
             for at, ids in enumerate(parts)
         }
 
-    own, others = held("", range(2), range(3)), {
-        **held("../p/", range(2, 5), range(2, 6)),
-        **held("../q/", range(5, 9)),
+    own, others = files("", range(2), range(3)), {
+        **files("../p/", range(2, 5), range(2, 6)),
+        **files("../q/", range(5, 9)),
     }
     changed = {one: (every[one][0] ^ 1, *every[one][1:]) for one in range(5, 9)}
     differing = {**others, "../q/audit-0.ckpt": model.checkpoint(digest, 0, changed)}
@@ -405,20 +405,20 @@ def refuse_folders(room: typing.Any, tally: typing.Any) -> None:
     where none is refused.
     """
     graph = (DATA / "cycle.json").read_bytes()
-    for name, (words, held) in folder_calls().items():
-        tries = Tries(room, name, words, graph, held)
-        wanted = wanted_of(words, graph, held)
+    for name, (words, files) in folder_calls().items():
+        tries = Tries(room, name, words, graph, files)
+        wanted = wanted_of(words, graph, files)
         if (tries.own[0], tries.own[1].decode(), tries.own[2].decode()) != wanted:
             tries.found.append(f"{name}: {tries.own[:3]} and not {wanted}")
         tries.refuse_each()
         tally.add(tries)
 
 
-def wanted_of(words: typing.Any, graph: typing.Any, held: typing.Any) -> typing.Any:
+def wanted_of(words: typing.Any, graph: typing.Any, files: typing.Any) -> typing.Any:
     """Returns the model's status and both texts."""
 
     def slots(name: typing.Any) -> typing.Any:
-        return folder_model.Folder([held.get(f"{name}audit-{at}.ckpt") for at in (0, 1)])
+        return folder_model.Folder([files.get(f"{name}audit-{at}.ckpt") for at in (0, 1)])
 
     folders = {".": slots(""), "../p": slots("../p/"), "../q": slots("../q/")}
     end = (folder_model.slots if words[0] == "slots" else folder_model.gather)(
@@ -432,14 +432,14 @@ def taken() -> typing.Any:
     return resource.getrusage(resource.RUSAGE_CHILDREN).ru_utime
 
 
-def wrong(end: typing.Any, own: typing.Any, held: typing.Any, is_told: typing.Any) -> typing.Any:
+def wrong(end: typing.Any, own: typing.Any, files: typing.Any, is_told: typing.Any) -> typing.Any:
     """Returns what is wrong with an end, or None.
 
     With `is_told` it is told which outcomes each save has, as it is of one worker.
     """
     status, out, note, after, _ = end
     if status == 3 and own[0] != 3:
-        if out or after != held:
+        if out or after != files:
             return "status 3, and the output or the files changed"
         return None if note in (b"memory\n", b"") else f"status 3 with the note {note}"
     parts = 4 if is_told else 3
@@ -472,9 +472,9 @@ class Tries:
         name: typing.Any,
         words: typing.Any,
         graph: typing.Any,
-        held: typing.Any,
+        files: typing.Any,
     ) -> None:
-        self.room, self.name, self.job, self.held = room, name, (words, graph, held), held
+        self.room, self.name, self.job, self.files = room, name, (words, graph, files), files
         self.own, self.seconds = room.run(*self.job), room.seconds
         self.made = int.from_bytes(room.counted.read_bytes(), sys.byteorder)
         self.is_told = "--workers" not in words or "--save" not in words
@@ -485,7 +485,7 @@ class Tries:
         """Makes the run without an allocation, and answers whether there was one to refuse."""
         end = self.room.run(*self.job, number, is_all)
         self.count, self.threes = self.count + end[4], self.threes + (end[0] == 3)
-        why = wrong(end, self.own, self.held, self.is_told)
+        why = wrong(end, self.own, self.files, self.is_told)
         if end[0] == 3 and 1 < self.seconds < 10 * self.room.seconds:
             why = (
                 f"status 3 after {self.room.seconds:.1f} seconds of a processor, where the run"
@@ -526,16 +526,16 @@ class Tally:
 
 def refuse_runs(room: typing.Any, most: typing.Any, draw: typing.Any, tally: typing.Any) -> None:
     for name, chain in runs().items():
-        held = {"audit-0.ckpt": (TEST_DATA / "version_1.ckpt").read_bytes()} if name == OLD else {}
+        files = {"audit-0.ckpt": (TEST_DATA / "version_1.ckpt").read_bytes()} if name == OLD else {}
         for place, (words, graph) in enumerate(chain):
-            tries = Tries(room, f"{name} {place + 1}", words, graph, held)
+            tries = Tries(room, f"{name} {place + 1}", words, graph, files)
             if most:
                 for number, is_all in drawn_of(tries.made, most, draw):
                     tries.refuse(number, is_all)
             else:
                 tries.refuse_each()
             tally.add(tries)
-            held = tries.own[3]
+            files = tries.own[3]
 
 
 def drawn_job(draw: typing.Any, graphs: typing.Any) -> typing.Any:

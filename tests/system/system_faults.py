@@ -100,7 +100,7 @@ class Room:
             if data is not None:
                 (self.slots / name).write_bytes(data)
 
-    def held(self) -> typing.List[typing.Any]:
+    def stored(self) -> typing.List[typing.Any]:
         return [
             (self.slots / name).read_bytes() if (self.slots / name).exists() else None
             for name in NAMES
@@ -123,7 +123,7 @@ class Room:
                 cwd=self.slots, env={**os.environ, **(given or {})}, preexec_fn=prepared,
                 timeout=120, check=False,
             )
-        return done.returncode, out_file.read_bytes(), done.stderr, self.held()
+        return done.returncode, out_file.read_bytes(), done.stderr, self.stored()
 
     def judge(
         self,
@@ -171,7 +171,7 @@ def saved(words: typing.Any, slots: typing.Any, fails: typing.Any) -> typing.Any
     job = model.job_of(setting, CYCLE)
     digest = job.digest()
     seen = [model.looked(setting, digest, data) for data in slots]
-    found = model.opening(seen, digest, setting) if setting.resume else {}
+    found = model.initial_outcomes(seen, digest, setting) if setting.resume else {}
     todo = [one for one in range(setting.total) if one not in found][: setting.budget]
     every, slots = model.asked(job, digest), list(slots)
     newest = model.newest(seen)
@@ -237,7 +237,7 @@ class Injections:
             "strace", "-f", "-qq", "-o", "/dev/null", "-P", str(path), "-P",
             str(self.room.slots / path), "-e", f"trace={call}", "-e", f"inject={call}:{what}",
         ]
-        status, out, said, held = self.room.run(words, CYCLE, before=trace)
+        status, out, said, stored = self.room.run(words, CYCLE, before=trace)
         said = b"".join(
             line
             for line in said.splitlines(True)
@@ -246,7 +246,7 @@ class Injections:
         wanted, note = end
         self.room.judge(
             name,
-            (status, out, said, held),
+            (status, out, said, stored),
             wanted,
             self.report if wanted in (0, 9) else "",
             note,
@@ -589,17 +589,17 @@ def checkpoints(room: typing.Any) -> str:
             (model.checkpoint(own, 1, {**most, 100000: most[0]}, version), None),
         )
     chain = with_values(CHAIN, {"--steps": "7"})
-    bare, binned = (
+    plain, binned = (
         model.audit([*chain, "--save", "100", "--shift", shift], CYCLE, [None, None]).slots[0]
         for shift in ("no", "yes")
     )
     old = model.checkpoint(
-        bare[12:44],
+        plain[12:44],
         0,
-        {one[0]: (one[1], one[2:6], one[6:]) for one in model.decoded(bare).records[:5]},
+        {one[0]: (one[1], one[2:6], one[6:]) for one in model.decoded(plain).records[:5]},
         1,
     )
-    for slots in ((old, None), (old, binned), (binned, old), (bare, None), (binned, bare)):
+    for slots in ((old, None), (old, binned), (binned, old), (plain, None), (binned, plain)):
         for shift in ("no", "yes"):
             for serial in ("no", "yes"):
                 said = [*chain, "--resume", "yes", "--shift", shift, "--serial", serial]

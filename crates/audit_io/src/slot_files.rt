@@ -30,7 +30,7 @@ impl Known {
 
 // Takes the answer of a wait for a folder. A system that stores no folders says so, and then there is nothing to wait
 // for.
-fn settle_folder(stored: io::Result<()>) -> io::Result<()>
+fn accept_unsupported(stored: io::Result<()>) -> io::Result<()>
     ensures { is_ok result ≡ no_folder_error (error_of stored) }
 {
     match stored {
@@ -48,7 +48,7 @@ fn store_folder<D: FileCalls>(disk: &mut D) -> io::Result<()>
     ensures { HasDone (D.calls disk.old) (D.calls disk.new) folder_steps (is_ok result) }
 {
     match disk.store(".") {
-        Ok(stored) => settle_folder(stored),
+        Ok(stored) => accept_unsupported(stored),
         Err(error) => Err(error),
     }
 }

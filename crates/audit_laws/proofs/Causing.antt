@@ -7,11 +7,11 @@ use Rattle.audit_statement.specs.Words.{setting_of}
 use Rattle.audit_statement.specs.Accepted.{IsAccepted, IsRefused, judged, input_of}
 use Rattle.audit_statement.specs.Causes.{IsObserved, MayEndWell, IsComplete, HasBudget}
 use Rattle.audit_statement.specs.Status.{status_of}
-use Rattle.audit_statement.specs.Endings.{Cause, EndsFor, TellsOpening, leaves_work, is_walking, IsStopped, IsSlotsFault}
+use Rattle.audit_statement.specs.Endings.{Cause, EndsFor, ObservesInitialOutcomes, leaves_work, is_walking, IsStopped, IsSlotsFault}
 use Rattle.audit_model.specs.State.{Stream}
 use Rattle.audit_statement.specs.World.{World}
 use Rattle.audit_laws.proofs.Telling.{known_at, same_setting}
-use Rattle.audit_laws.proofs.Starting.{opening_known, undefined_known}
+use Rattle.audit_laws.proofs.Starting.{initial_outcomes_known, undefined_known}
 use Rattle.audit_model.specs.Pair.{Pair}
 
 -- a refusal of the known input is a refusal of its bytes
@@ -59,8 +59,8 @@ not_stopped words before after done all m s =
     let same : s.job ≡ m.job = same_job words before m.job s.job m.bytes m.observed m.accepted s.prepared.accepted in
     let walking : is_walking m.job.setting.command ≡ true = ap (λ (j : Job). is_walking j.setting.command) (sym same) ∙ both_left _ _ s.saving in
     let has : HasBudget true m.job before = subst (λ (b : Bool). HasBudget b m.job before) walking m.budget in
-    let observed : TellsOpening s.job before.keeper.slots (Some has.0) = subst (λ (j : Job). TellsOpening j before.keeper.slots (Some has.0)) (sym same) has.1 in
-    let opened : Some has.0 ≡ Some s.stopped.outcomes = opening_known s.job before.keeper.slots (Some has.0) s.stopped.outcomes observed s.stopped.opened in
+    let observed : ObservesInitialOutcomes s.job before.keeper.slots (Some has.0) = subst (λ (j : Job). ObservesInitialOutcomes j before.keeper.slots (Some has.0)) (sym same) has.1 in
+    let opened : Some has.0 ≡ Some s.stopped.outcomes = initial_outcomes_known s.job before.keeper.slots (Some has.0) s.stopped.outcomes observed s.stopped.opened in
     let left : leaves_work s.job s.stopped.outcomes ≡ true = s.stopped.work_left in
     let enough : leaves_work m.job has.0 ≡ false = has.2 in
     cc
@@ -72,7 +72,7 @@ not_undefined words before after found m s =
     let same : s.job ≡ m.job = same_job words before m.job s.job m.bytes m.observed m.accepted s.prepared.accepted in
     let walking : is_walking m.job.setting.command ≡ true = ap (λ (j : Job). is_walking j.setting.command) (sym same) ∙ both_left _ _ s.resuming in
     let has : HasBudget true m.job before = subst (λ (b : Bool). HasBudget b m.job before) walking m.budget in
-    let observed : TellsOpening s.job before.keeper.slots (Some has.0) = subst (λ (j : Job). TellsOpening j before.keeper.slots (Some has.0)) (sym same) has.1 in
+    let observed : ObservesInitialOutcomes s.job before.keeper.slots (Some has.0) = subst (λ (j : Job). ObservesInitialOutcomes j before.keeper.slots (Some has.0)) (sym same) has.1 in
     let none : Some has.0 ≡ None = undefined_known s.job before.keeper.slots (Some has.0) (found s.job) observed s.seen in
     cc
 

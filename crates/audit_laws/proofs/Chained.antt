@@ -16,7 +16,7 @@ use Rattle.audit_model.specs.Trajectory.{outcome}
 use Rattle.audit_model.proofs.Filtered.{each_passes, each_rises}
 use Rattle.audit_model.proofs.ListFacts.{find_passes}
 use Rattle.audit_statement.specs.Checkpoint.{job_digest}
-use Rattle.audit_statement.specs.Slots.{IsConsistentSlot, opening, slot_of}
+use Rattle.audit_statement.specs.Slots.{IsConsistentSlot, initial_outcomes, slot_of}
 use Rattle.audit_model.specs.declared.place.Place.{Place}
 use Rattle.audit_statement.specs.Histories.{IsRightSave}
 use Rattle.ckpt_store.specs.Laws.{ConsistentSlotsOpenRight, RightIsConsistent}
@@ -27,13 +27,13 @@ use Rattle.audit_statement.specs.Note.{Ending, write_fault, stopped, save_fault}
 use Rattle.audit_statement.specs.Causes.{IsTheJob}
 use Rattle.audit_statement.specs.Chain.{AreConsistentOf, AreSavesWhere, StaysConsistent, AttemptedRightly, AttemptsOver, has_walked}
 use Rattle.audit_statement.specs.Status.{status_of}
-use Rattle.audit_laws.proofs.Held.{as_many_as_due, later_hold_more}
+use Rattle.audit_laws.proofs.LaterSaves.{as_many_as_due, later_hold_more}
 use Rattle.audit_model.specs.State.{Stream}
 use Rattle.audit_model.specs.Observed.{IfBothObserved, IfObserved}
-use Rattle.audit_statement.specs.Endings.{Cause, EndsFor, IsOpening, IsOpeningOrFound, IsPartly, IsPrepared, IsTryOf, LeavesUntouched, NoSaveFailed, SameUnless, SavesAll, SavesInTurn, SavesInTurnAt, SavesWhere, AttemptsOf, AttemptsObserved, count_of_saves, full_of, last_place, marks_of, StartsFrom, TellsOpening, is_walking, passes, saves}
+use Rattle.audit_statement.specs.Endings.{Cause, EndsFor, AreInitialOutcomes, IsInitialOrFound, IsPartly, IsPrepared, IsTryOf, LeavesUntouched, NoSaveFailed, SameUnless, SavesAll, SavesInTurn, SavesInTurnAt, SavesWhere, AttemptsOf, AttemptsObserved, count_of_saves, full_of, last_place, marks_of, StartsFrom, ObservesInitialOutcomes, is_walking, passes, saves}
 use Rattle.audit_statement.specs.Headline.{WritesWhole}
 use Rattle.audit_statement.specs.World.{World}
-use Rattle.audit_laws.proofs.Starting.{none_right, opening_known, opening_observed}
+use Rattle.audit_laws.proofs.Starting.{none_right, initial_outcomes_known, initial_outcomes_observed}
 use Rattle.audit_laws.proofs.Running.{kept_id, rising_apart}
 use Rattle.audit_laws.proofs.Statuses.{job_is}
 
@@ -89,12 +89,12 @@ module _ (job : Job) (kept : List Outcome) (right : IsRight job (draw job.settin
 -- ---- the initial outcomes of a run
 
 module _ (law : ConsistentSlotsOpenRight) (job : Job) where
-  observed_right : (p : Pair) (outcomes : List Outcome) → AreConsistentOf job p → opening true job.setting (slot_of job (job_digest job) p.zero_slot) (slot_of job (job_digest job) p.one_slot) ≡ Some outcomes
+  observed_right : (p : Pair) (outcomes : List Outcome) → AreConsistentOf job p → initial_outcomes true job.setting (slot_of job (job_digest job) p.zero_slot) (slot_of job (job_digest job) p.one_slot) ≡ Some outcomes
       → IsRight job (draw job.setting.key) outcomes
   observed_right p outcomes consistent e =
       law job (draw job.setting.key) (slot_of job (job_digest job) p.zero_slot) (slot_of job (job_digest job) p.one_slot) outcomes consistent.zero_slot consistent.one_slot e
 
-  start_right : (slots : Option Pair) (outcomes : List Outcome) → TellsOpening job slots (Some outcomes) → (IsTrue job.setting.resume → IfObserved slots (AreConsistentOf job))
+  start_right : (slots : Option Pair) (outcomes : List Outcome) → ObservesInitialOutcomes job slots (Some outcomes) → (IsTrue job.setting.resume → IfObserved slots (AreConsistentOf job))
       → IsRight job (draw job.setting.key) outcomes
   start_right slots outcomes opened consistent = by job.setting.resume slots opened consistent
     where
@@ -103,8 +103,8 @@ module _ (law : ConsistentSlotsOpenRight) (job : Job) where
       by true None e h = absurd e
       by true (Some p) e h = observed_right p outcomes (h refl) e
 
-  opening_right : (p : Pair) (outcomes : List Outcome) → IsOpening job (Some p) outcomes → AreConsistentOf job p → IsRight job (draw job.setting.key) outcomes
-  opening_right p outcomes opened consistent = start_right (Some p) outcomes (opening_observed job (Some p) p outcomes refl opened) (λ _. consistent)
+  initial_outcomes_right : (p : Pair) (outcomes : List Outcome) → AreInitialOutcomes job (Some p) outcomes → AreConsistentOf job p → IsRight job (draw job.setting.key) outcomes
+  initial_outcomes_right p outcomes opened consistent = start_right (Some p) outcomes (initial_outcomes_observed job (Some p) p outcomes refl opened) (λ _. consistent)
 
 -- ---- the slots that a run leaves
 
@@ -155,28 +155,28 @@ module _ (honestly : RightIsConsistent) (job : Job) (p q : Pair) (consistent : A
   was_consistent (suc n) = consistent.one_slot
 
   -- a property of the initial outcomes and of those found holds for a part
-  part_all : (opening : List Outcome) (P : Outcome → Type 0) → All P opening
-      → ((o : Outcome) → o.id < total job → o ≡ outcome job (draw job.setting.key) o.id → P o) → (o : Outcome) → IsOpeningOrFound job opening o → P o
-  part_all opening P all found o (inl has) = All-contains P opening o all has
-  part_all opening P all found o (inr is) = found o is.1 is.3
+  part_all : (initial_outcomes : List Outcome) (P : Outcome → Type 0) → All P initial_outcomes
+      → ((o : Outcome) → o.id < total job → o ≡ outcome job (draw job.setting.key) o.id → P o) → (o : Outcome) → IsInitialOrFound job initial_outcomes o → P o
+  part_all initial_outcomes P all found o (inl has) = All-contains P initial_outcomes o all has
+  part_all initial_outcomes P all found o (inr is) = found o is.1 is.3
 
-  part_right : (opening : List Outcome) (count generation : ℕ) (s : Option (List ℕ)) → IsRight job (draw job.setting.key) opening → IsPartly job opening count generation s → IsConsistentHere s
-  part_right opening count generation s right part = subst (IsConsistentSlot job (draw job.setting.key)) (sym part.slot_is) (honestly job (draw job.setting.key) part.saved (record {
+  part_right : (initial_outcomes : List Outcome) (count generation : ℕ) (s : Option (List ℕ)) → IsRight job (draw job.setting.key) initial_outcomes → IsPartly job initial_outcomes count generation s → IsConsistentHere s
+  part_right initial_outcomes count generation s right part = subst (IsConsistentSlot job (draw job.setting.key)) (sym part.slot_is) (honestly job (draw job.setting.key) part.saved (record {
     apart = rising_apart part.saved part.sound.rising;
-    below = λ k d inside. part_all opening (λ (o : Outcome). o.id < total job) right.below (λ o less is. less) _ (part.holds.each k d inside);
-    found = λ k d inside. part_all opening (λ (o : Outcome). o ≡ outcome job (draw job.setting.key) o.id) right.found (λ o less is. is) _ (part.holds.each k d inside);
+    below = λ k d inside. part_all initial_outcomes (λ (o : Outcome). o.id < total job) right.below (λ o less is. less) _ (part.holds.each k d inside);
+    found = λ k d inside. part_all initial_outcomes (λ (o : Outcome). o ≡ outcome job (draw job.setting.key) o.id) right.found (λ o less is. is) _ (part.holds.each k d inside);
   }))
 
-  beside_consistent : (opening : List Outcome) (at : Place) (count : ℕ) → 1 ≤ count → IsRight job (draw job.setting.key) opening → SavesInTurnAt job opening p q at count
+  beside_consistent : (initial_outcomes : List Outcome) (at : Place) (count : ℕ) → 1 ≤ count → IsRight job (draw job.setting.key) initial_outcomes → SavesInTurnAt job initial_outcomes p q at count
       → IsConsistentHere (stored q (1 - at.slot))
-  beside_consistent opening at zero least right s = absurd (omega arith)
-  beside_consistent opening at (suc zero) least right s = subst IsConsistentHere (sym (s.only refl)) (was_consistent (1 - at.slot))
-  beside_consistent opening at (suc (suc n)) least right s = part_right opening _ _ (stored q (1 - at.slot)) right (s.before_last (omega arith))
+  beside_consistent initial_outcomes at zero least right s = absurd (omega arith)
+  beside_consistent initial_outcomes at (suc zero) least right s = subst IsConsistentHere (sym (s.only refl)) (was_consistent (1 - at.slot))
+  beside_consistent initial_outcomes at (suc (suc n)) least right s = part_right initial_outcomes _ _ (stored q (1 - at.slot)) right (s.before_last (omega arith))
 
-  pub turns_stay : (opening : List Outcome) → IsRight job (draw job.setting.key) opening → SavesInTurn job opening p q → AreConsistentOf job q
-  turns_stay opening right s =
-      both_consistent (last_place job opening p).slot (subst (IsConsistentSlot job (draw job.setting.key)) (sym s.last_is) (honestly job (draw job.setting.key) (full_of job opening) (full_right job opening right)))
-      (beside_consistent opening (last_place job opening p) (count_of_saves job opening) (some_save (length (run_ids job opening job.setting.budget)) job.setting.save_every) right s)
+  pub turns_stay : (initial_outcomes : List Outcome) → IsRight job (draw job.setting.key) initial_outcomes → SavesInTurn job initial_outcomes p q → AreConsistentOf job q
+  turns_stay initial_outcomes right s =
+      both_consistent (last_place job initial_outcomes p).slot (subst (IsConsistentSlot job (draw job.setting.key)) (sym s.last_is) (honestly job (draw job.setting.key) (full_of job initial_outcomes) (full_right job initial_outcomes right)))
+      (beside_consistent initial_outcomes (last_place job initial_outcomes p) (count_of_saves job initial_outcomes) (some_save (length (run_ids job initial_outcomes job.setting.budget)) job.setting.save_every) right s)
 
 module _ (law : ConsistentSlotsOpenRight) (honestly : RightIsConsistent) (words : List (List ℕ)) (before after : World) (p q : Pair) (was : before.keeper.slots ≡ Some p) (is : after.keeper.slots ≡ Some q) where
   -- the claim to show for a job
@@ -189,12 +189,12 @@ module _ (law : ConsistentSlotsOpenRight) (honestly : RightIsConsistent) (words 
       let eq : p ≡ q = cc in
       subst (AreConsistentOf job) eq consistent
 
-  opening_of_observed : (job : Job) (outcomes : List Outcome) → IsOpening job before.keeper.slots outcomes → AreConsistentOf job p → IsRight job (draw job.setting.key) outcomes
-  opening_of_observed job outcomes opened consistent = opening_right law job p outcomes (subst (λ (s : Option Pair). IsOpening job s outcomes) was opened) consistent
+  observed_initial_outcomes_right : (job : Job) (outcomes : List Outcome) → AreInitialOutcomes job before.keeper.slots outcomes → AreConsistentOf job p → IsRight job (draw job.setting.key) outcomes
+  observed_initial_outcomes_right job outcomes opened consistent = initial_outcomes_right law job p outcomes (subst (λ (s : Option Pair). AreInitialOutcomes job s outcomes) was opened) consistent
 
   all_stays : (made : Type 0) (job : Job) → (NoSaveFailed before after → made) → SavesAll made job before after → Stays job
   all_stays made job m s consistent calm =
-      turns_stay honestly job p q consistent s.outcomes (opening_of_observed job s.outcomes s.opened consistent) (both_known _ _ p q (SavesInTurn job s.outcomes) was is (s.in_turn (m calm)))
+      turns_stay honestly job p q consistent s.outcomes (observed_initial_outcomes_right job s.outcomes s.opened consistent) (both_known _ _ p q (SavesInTurn job s.outcomes) was is (s.in_turn (m calm)))
 
   where_stays : (b : Bool) (made : Type 0) (job : Job) → (NoSaveFailed before after → made) → SavesWhere b made job before after → Stays job
   where_stays false made job m s = unchanged job s
@@ -249,26 +249,26 @@ module _ (law : ConsistentSlotsOpenRight) (words : List (List ℕ)) (before afte
       by zero false h = absurd (true≢false (sym h))
       by (suc n) b h = omega arith
 
-  over_of : (job : Job) (outcomes : List Outcome) → saves job.setting ≡ true → has_walked status ≡ true → IsOpening job before.keeper.slots outcomes → (observed now : List Try) → AttemptsOf job outcomes p before.keeper.save_faults after.keeper.save_faults observed now → AttemptsOver job before after p status observed now
+  over_of : (job : Job) (outcomes : List Outcome) → saves job.setting ≡ true → has_walked status ≡ true → AreInitialOutcomes job before.keeper.slots outcomes → (observed now : List Try) → AttemptsOf job outcomes p before.keeper.save_faults after.keeper.save_faults observed now → AttemptsOver job before after p status observed now
   over_of job outcomes saving walks opened observed now t = record {
     attempts = t.attempts;
     appended = t.appended;
     exactly = λ others others_observed.
-        let same : Some others ≡ Some outcomes = opening_known job before.keeper.slots (Some others) outcomes others_observed opened in
+        let same : Some others ≡ Some outcomes = initial_outcomes_known job before.keeper.slots (Some others) outcomes others_observed opened in
         let is : outcomes ≡ others = cc in
         subst (λ (x : Bool × List Outcome). AreSavesWhere x.0 job x.1 p t.attempts) (λ i. ((sym saving i) && (sym walks i), is i)) t.exact;
     in_turn = t.in_turn;
     each = λ others others_observed.
-        let same : Some others ≡ Some outcomes = opening_known job before.keeper.slots (Some others) outcomes others_observed opened in
+        let same : Some others ≡ Some outcomes = initial_outcomes_known job before.keeper.slots (Some others) outcomes others_observed opened in
         let is : outcomes ≡ others = cc in
         subst (λ (os : List Outcome). All (IsTryOf job os) t.attempts) is t.each;
     growing = later_hold_more job outcomes p t.attempts (some_every job saving) t.exact;
     counted = λ others others_observed walking all.
-        let same : Some others ≡ Some outcomes = opening_known job before.keeper.slots (Some others) outcomes others_observed opened in
+        let same : Some others ≡ Some outcomes = initial_outcomes_known job before.keeper.slots (Some others) outcomes others_observed opened in
         let is : outcomes ≡ others = cc in
         subst (λ (os : List Outcome). length t.attempts ≡ count_of_saves job os) is (as_many_as_due job outcomes p t.attempts (some_every job saving) t.exact all);
     covered = t.covered;
-    right = λ consistent. t.right (start_right law job before.keeper.slots outcomes (opening_observed job before.keeper.slots p outcomes was opened) consistent);
+    right = λ consistent. t.right (start_right law job before.keeper.slots outcomes (initial_outcomes_observed job before.keeper.slots p outcomes was opened) consistent);
   }
 
   observed_map : (a b : Option (List Try)) (P Q : List Try → List Try → Type 0) → ((x y : List Try) → P x y → Q x y) → IfBothObserved a b P → IfBothObserved a b Q
@@ -276,7 +276,7 @@ module _ (law : ConsistentSlotsOpenRight) (words : List (List ℕ)) (before afte
   observed_map (Some x) None P Q f h = h
   observed_map (Some x) (Some y) P Q f h = f x y h
 
-  attempted_all_of : (job : Job) (outcomes : List Outcome) → saves job.setting ≡ true → has_walked status ≡ true → IsOpening job before.keeper.slots outcomes → AttemptsObserved job outcomes before.keeper after.keeper → Attempted job
+  attempted_all_of : (job : Job) (outcomes : List Outcome) → saves job.setting ≡ true → has_walked status ≡ true → AreInitialOutcomes job before.keeper.slots outcomes → AttemptsObserved job outcomes before.keeper after.keeper → Attempted job
   attempted_all_of job outcomes saving walks opened t =
       observed_map before.keeper.attempted after.keeper.attempted (AttemptsOf job outcomes p before.keeper.save_faults after.keeper.save_faults) (AttemptsOver job before after p status) (over_of job outcomes saving walks opened)
       (subst (λ (s : Option Pair). IfObserved s (λ x. IfBothObserved before.keeper.attempted after.keeper.attempted (AttemptsOf job outcomes x before.keeper.save_faults after.keeper.save_faults))) was t)

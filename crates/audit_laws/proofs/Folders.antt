@@ -7,7 +7,7 @@ use Rattle.audit_model.specs.Observed.{IfBothObserved, IfObserved}
 use Rattle.audit_model.specs.declared.outcome.Outcome.{Outcome}
 use Rattle.audit_model.specs.Job.{Job}
 use Rattle.audit_statement.specs.Checkpoint.{checkpoint, job_digest}
-use Rattle.audit_statement.specs.Slots.{IsAfterStop, Slot, absent, broken, newest, opening_of, other, ours, outcomes_of_slot, place_beside, slot_of}
+use Rattle.audit_statement.specs.Slots.{IsAfterStop, Slot, absent, broken, newest, outcomes_of_newest, other, ours, outcomes_of_slot, place_beside, slot_of}
 use Rattle.ckpt_store.specs.declared.finding.Finding.{Finding}
 use Rattle.ckpt_store.specs.declared.finding.Finding.TheVariants as finding
 use Rattle.audit_model.specs.Run.{total}
@@ -15,7 +15,7 @@ use Rattle.ckpt_store.specs.Collected.{Collected, no_collected, passed_over}
 use Rattle.ckpt_store.specs.Findings.{AreFound, Finds, HasSeen, IsFound}
 use Rattle.ckpt_store.specs.Gives.{Gives, damaged, gives, has_broken, nothing, other_job, outcomes, slot_gives, slots_give}
 use Rattle.ckpt_store.specs.Whole.{HasBegun, IsSavedIf, IsSavedUnion}
-use Rattle.audit_laws.specs.Gathered.{AreAllReached, AreGathered, AreReached, CutGatheringsReach, GatheringsReach, Hold, IsSavedOver, after_gathering, begun, held, united}
+use Rattle.audit_laws.specs.Gathered.{AreAllReached, AreGathered, AreReached, CutGatheringsReach, GatheringsReach, Hold, IsSavedOver, after_gathering, begun, kept_outcomes, united}
 
 -- ---- the outcomes taken from slots, and their contents
 
@@ -27,7 +27,7 @@ slot_holds (other d g) os e = cc
 slot_holds (ours g kept) os e = cc
 
 -- slots whose outcomes can be taken start a run with them
-slots_hold : (first second : Slot) (n : Option ℕ) (os : List Outcome) → slots_give first second n ≡ outcomes os → opening_of first second n ≡ Some os
+slots_hold : (first second : Slot) (n : Option ℕ) (os : List Outcome) → slots_give first second n ≡ outcomes os → outcomes_of_newest first second n ≡ Some os
 slots_hold first second (Some zero) os e = slot_holds first os e
 slots_hold first second (Some (suc n)) os e = slot_holds second os e
 slots_hold absent absent None os e = cc
@@ -42,14 +42,14 @@ module _ (job : Job) where
   abbrev digest : List ℕ
   digest = job_digest job
 
-  given_is_held : (p : Pair) (os : List Outcome) → gives job digest p ≡ outcomes os → Hold job p os
-  given_is_held p os e = slots_hold (slot_of job digest p.zero_slot) (slot_of job digest p.one_slot) (newest (slot_of job digest p.zero_slot) (slot_of job digest p.one_slot)) os e
+  given_is_contained : (p : Pair) (os : List Outcome) → gives job digest p ≡ outcomes os → Hold job p os
+  given_is_contained p os e = slots_hold (slot_of job digest p.zero_slot) (slot_of job digest p.one_slot) (newest (slot_of job digest p.zero_slot) (slot_of job digest p.one_slot)) os e
 
   -- the empty list is gathered
   nothing_gathered : AreGathered job []
   nothing_gathered =
       let none : Pair = record { zero_slot = None; one_slot = None } in
-      held none [] (begun none (record { zero_slot = tt; one_slot = tt })) refl
+      kept_outcomes none [] (begun none (record { zero_slot = tt; one_slot = tt })) refl
 
   -- ---- the finding in one folder
 
@@ -68,7 +68,7 @@ module _ (job : Job) where
 
   seen_so : (p : Pair) (bad : Bool) (what : Finding) (before after : Collected) → AreReached job p → AreGathered job before.outcomes
       → Finds before (gives job digest p) bad what after → AreGathered job after.outcomes
-  seen_so p bad what before after reached b f = found_so (gives job digest p) bad what before after b (λ os e. held p os reached (given_is_held p os e)) f
+  seen_so p bad what before after reached b f = found_so (gives job digest p) bad what before after b (λ os e. kept_outcomes p os reached (given_is_contained p os e)) f
 
   seen_is : (observed : Option Pair) (p seen : Pair) → observed ≡ Some p → IfObserved observed (λ x. seen ≡ x) → seen ≡ p
   seen_is None p seen e same = cc

@@ -23,7 +23,7 @@ use Rattle.audit_statement.specs.Draw.{draw}
 use Rattle.ckpt_store.specs.GatheredLaws.{ConsistentSlotsGiveConsistentOutcomes}
 use Rattle.outcome_book.specs.Laws.{UnionsAreConsistent}
 use Rattle.audit_statement.specs.Chain.{AreConsistentOf}
-use Rattle.audit_laws.specs.Gathered.{AreGathered, AreReached, GatheredRunsWriteOneReport, IsSavedOver, after_gathering, after_run, begun, held, united}
+use Rattle.audit_laws.specs.Gathered.{AreGathered, AreReached, GatheredRunsWriteOneReport, IsSavedOver, after_gathering, after_run, begun, kept_outcomes, united}
 use Rattle.audit_laws.proofs.Halted.{ended_leave}
 use Rattle.audit_laws.proofs.Reruns.{chains_write_one_report, event_stays}
 
@@ -47,7 +47,7 @@ module _ (opens : ConsistentSlotsOpenRight) (rights : RightIsConsistent) (gives 
         gathering_stays stops job outcomes p q (gathered_is_consistent outcomes gathered) saved (reached_is_consistent p reached)
 
     gathered_is_consistent : (outcomes : List Outcome) → AreGathered job outcomes → IsConsistent job (draw job.setting.key) outcomes
-    gathered_is_consistent outcomes (held p _ reached holds) =
+    gathered_is_consistent outcomes (kept_outcomes p _ reached holds) =
         let consistent = reached_is_consistent p reached in
         gives job (draw job.setting.key) (slot_of job (job_digest job) p.zero_slot) (slot_of job (job_digest job) p.one_slot) outcomes consistent.zero_slot consistent.one_slot holds
     gathered_is_consistent outcomes (united some others _ one other is) =

@@ -18,7 +18,7 @@ use Rattle.audit_model.proofs.Fitting.{outcome_id}
 use Rattle.audit_statement.specs.Checkpoint.{IsCheckpoint, job_digest}
 use Rattle.audit_statement.specs.Chain.{AreConsistentOf}
 use Rattle.audit_statement.specs.Draw.{draw}
-use Rattle.audit_statement.specs.Endings.{opening_from}
+use Rattle.audit_statement.specs.Endings.{initial_outcomes_from}
 use Rattle.audit_statement.specs.Histories.{AreCarriedOut, IsEnded}
 use Rattle.audit_statement.specs.InOrder.{AreSavesFrom, IsSaveOfIds, place_after, taken_in}
 use Rattle.audit_statement.specs.Rerun.{AreAttemptsSoFar}
@@ -74,7 +74,7 @@ module _ (job : Job) (draws : Draws) (digest : List ℕ) (generation : ℕ) (out
 
 -- ---- a run with correct initial outcomes
 
-module _ (job : Job) (opening : List Outcome) (right : IsRight job (draw job.setting.key) opening) where
+module _ (job : Job) (initial_outcomes : List Outcome) (right : IsRight job (draw job.setting.key) initial_outcomes) where
   abbrev draws : Draws
   draws = draw job.setting.key
 
@@ -82,33 +82,33 @@ module _ (job : Job) (opening : List Outcome) (right : IsRight job (draw job.set
   Found o = o ≡ outcome job draws o.id
 
   -- the outcomes of a save, initial or found by trajectories, are correct
-  saved_right : (place : Place) (ids : List ℕ) (t : Try) → IsSaveOfIds job opening place ids t → IsRight job draws (taken_in job opening ids)
+  saved_right : (place : Place) (ids : List ℕ) (t : Try) → IsSaveOfIds job initial_outcomes place ids t → IsRight job draws (taken_in job initial_outcomes ids)
   saved_right place ids t s =
-      let os = opening ++ map (outcome job draws) ids in
-      let found : All Found os = All-append Found opening (map (outcome job draws) ids) right.found
+      let os = initial_outcomes ++ map (outcome job draws) ids in
+      let found : All Found os = All-append Found initial_outcomes (map (outcome job draws) ids) right.found
       (All-map Found (outcome job draws) ids (λ k d inside. ap (outcome job draws) (sym (outcome_id job draws _)))) in
       record {
         apart = λ i j d before inside same. let less = by_id-rising (total job) os i j d before inside in absurd (omega (arith, less, same));
         below = by_id-below (total job) os;
-        found = All-permutation Found os (taken_in job opening ids) s.all found;
+        found = All-permutation Found os (taken_in job initial_outcomes ids) s.all found;
       }
 
   -- the saves so far leave consistent slots, wherever each failed or was cut off
   saves_stay : RightIsConsistent → StopsLeaveConsistentSlots → (every : ℕ) (walked : List ℕ) (n : ℕ) (place : Place) (attempts : List Try) (p q : Pair)
-      → AreSavesFrom job opening every walked n place attempts → AreCarriedOut IsNotOurs job (job_digest job) p attempts q → AreConsistentOf job p → AreConsistentOf job q
+      → AreSavesFrom job initial_outcomes every walked n place attempts → AreCarriedOut IsNotOurs job (job_digest job) p attempts q → AreConsistentOf job p → AreConsistentOf job q
   saves_stay consistent_law law every walked n place [] p q saves out consistent = subst (AreConsistentOf job) (sym out) consistent
   saves_stay consistent_law law every walked n place (t ∷ rest) p q saves out consistent =
-      let taken = taken_in job opening (take (n * every) walked) in
-      let held = consistent_law job draws taken (saved_right place (take (n * every) walked) t saves.0) in
-      let left = ended_leave job draws (job_digest job) place.generation taken held t.succeeded t.bytes (stored p t.slot) (stored out.0 t.slot) saves.0.sound out.1.ended in
+      let taken = taken_in job initial_outcomes (take (n * every) walked) in
+      let kept_outcomes = consistent_law job draws taken (saved_right place (take (n * every) walked) t saves.0) in
+      let left = ended_leave job draws (job_digest job) place.generation taken kept_outcomes t.succeeded t.bytes (stored p t.slot) (stored out.0 t.slot) saves.0.sound out.1.ended in
       saves_stay consistent_law law every walked (suc n) (place_after place t) rest out.0 q saves.1 out.2
       (law job draws (job_digest job) p out.0 t.slot out.1.beside left consistent)
 
 -- the initial outcomes from consistent slots are correct
-opening_right : ConsistentSlotsOpenRight → (resumes : Bool) (job : Job) (p : Pair) (outcomes : List Outcome) → opening_from resumes job p ≡ Some outcomes → AreConsistentOf job p
+initial_outcomes_right : ConsistentSlotsOpenRight → (resumes : Bool) (job : Job) (p : Pair) (outcomes : List Outcome) → initial_outcomes_from resumes job p ≡ Some outcomes → AreConsistentOf job p
     → IsRight job (draw job.setting.key) outcomes
-opening_right law false job p outcomes e consistent = subst (IsRight job (draw job.setting.key)) (same_Some [] outcomes e) (none_right job (draw job.setting.key))
-opening_right law true job p outcomes e consistent =
+initial_outcomes_right law false job p outcomes e consistent = subst (IsRight job (draw job.setting.key)) (same_Some [] outcomes e) (none_right job (draw job.setting.key))
+initial_outcomes_right law true job p outcomes e consistent =
     law job (draw job.setting.key) (slot_of job (job_digest job) p.zero_slot) (slot_of job (job_digest job) p.one_slot) outcomes consistent.zero_slot consistent.one_slot e
 
 -- the attempts up to a stop leave consistent slots
@@ -117,4 +117,4 @@ pub stop_stays : ConsistentSlotsOpenRight → RightIsConsistent → StopsLeaveCo
 stop_stays opens consistent_law law job p q attempts (inl none) out consistent =
     subst (AreConsistentOf job) (sym (subst (λ (ts : List Try). AreCarriedOut IsNotOurs job (job_digest job) p ts q) none out)) consistent
 stop_stays opens consistent_law law job p q attempts (inr run) out consistent =
-    saves_stay job run.0 (opening_right opens job.setting.resume job p run.0 run.1 consistent) consistent_law law job.setting.save_every run.2.walked 1 _ attempts p q run.2.first.each out consistent
+    saves_stay job run.0 (initial_outcomes_right opens job.setting.resume job p run.0 run.1 consistent) consistent_law law job.setting.save_every run.2.walked 1 _ attempts p q run.2.first.each out consistent

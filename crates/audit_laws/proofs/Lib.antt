@@ -6,7 +6,7 @@ mod Folders
 mod Following
 mod Gathering
 mod Halted
-mod Held
+mod LaterSaves
 mod Judged
 mod Labels
 mod Lasting

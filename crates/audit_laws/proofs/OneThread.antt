@@ -19,13 +19,13 @@ use Rattle.audit_statement.specs.Headline.{WritesOneThreads, StartsWith, WritesW
 use Rattle.audit_model.specs.State.{Stream}
 use Rattle.audit_statement.specs.World.{World}
 use Rattle.audit_laws.proofs.Starting.{every_id}
-use Rattle.audit_laws.proofs.Statuses.{zero_only, job_is, report_of, opening_is, opening_at}
+use Rattle.audit_laws.proofs.Statuses.{zero_only, job_is, report_of, initial_outcomes_are, initial_outcomes_at}
 
 module _ (words : List (List ℕ)) (before after : World) where
   pub whole_text : (job : Job) (outcomes : List Outcome) → StartsWith words before job outcomes → (r : WritesReport true job before after)
       → Appends before.out.bytes after.out.bytes (full_report job (draw job.setting.key) (full_of job outcomes))
   whole_text job outcomes s r =
-      let e : Some outcomes ≡ Some r.outcomes = opening_is words before after job (Some outcomes) r.outcomes s.opened r.opened in
+      let e : Some outcomes ≡ Some r.outcomes = initial_outcomes_are words before after job (Some outcomes) r.outcomes s.opened r.opened in
       let same : r.outcomes ≡ outcomes = cc in
       subst (λ (os : List Outcome). Appends before.out.bytes after.out.bytes (full_report job (draw job.setting.key) (full_of job os))) same r.written
 
@@ -33,7 +33,7 @@ module _ (words : List (List ℕ)) (before after : World) where
       → (r : WritesReport true job before after) → WritesOneThreads job before after
   unfolding thread_report
   one_report job outcomes s right r =
-      let e : Some outcomes ≡ Some r.outcomes = opening_is words before after job (Some outcomes) r.outcomes s.opened r.opened in
+      let e : Some outcomes ≡ Some r.outcomes = initial_outcomes_are words before after job (Some outcomes) r.outcomes s.opened r.opened in
       let same : outcomes ≡ r.outcomes = cc in
       let right' : IsRight job (draw job.setting.key) r.outcomes = subst (λ (os : List Outcome). IsRight job (draw job.setting.key) os) same right in
       let all : full_of job r.outcomes ≡ sequence job (draw job.setting.key) =
@@ -66,7 +66,7 @@ module _ (words : List (List ℕ)) (before after : World) where
       → leaves_work job outcomes ≡ false → WritesOrStops whole other before after → WritesReport true job before after
   whole_report true job other outcomes s same none w = subst (λ (j : Job). WritesReport true j before after) same w
   whole_report false job other outcomes s same none w =
-      let e : Some outcomes ≡ Some w.outcomes = opening_is words before after job (Some outcomes) w.outcomes s.opened (opening_at words before after job other w.outcomes same w.opened) in
+      let e : Some outcomes ≡ Some w.outcomes = initial_outcomes_are words before after job (Some outcomes) w.outcomes s.opened (initial_outcomes_at words before after job other w.outcomes same w.opened) in
       let left : leaves_work job w.outcomes ≡ true = subst (λ (j : Job). leaves_work j w.outcomes ≡ true) same w.work_left in
       cc
 

@@ -17,11 +17,11 @@ use Rattle.audit_model.specs.Below.{all_below, count_below, map_below}
 use Rattle.audit_model.specs.First.{first_below}
 use Rattle.audit_model.specs.Job.{Job}
 use Rattle.audit_model.specs.Plan.{is_legal}
-use Rattle.audit_model.specs.Run.{IsConsistent, bins_fit, fits, steps_of, total}
+use Rattle.audit_model.specs.Run.{IsConsistent, histogram_fits, fits, steps_of, total}
 use Rattle.audit_model.specs.Serially.{place_and_ranks, serial_by, serial_of, serial_place, serial_rank}
 use Rattle.audit_model.specs.Step.{next}
 use Rattle.audit_model.specs.Stopping.{stops_by, stops_of}
-use Rattle.audit_model.specs.Trajectory.{Draws, bare, bin_of, four_values, in_tail, no_bins, outcome, outcome_by, outcome_with, plan_seats, plan_value, sequence, value_at, visit, whole}
+use Rattle.audit_model.specs.Trajectory.{Draws, without_histogram, bin_of, four_values, in_tail, empty_histogram, outcome, outcome_by, outcome_with, plan_seats, plan_value, sequence, value_at, visit, whole}
 use Rattle.audit_statement.specs.Checkpoint.{checkpoint_fault, job_digest, stated_count}
 use Rattle.audit_statement.specs.Slots.{IsConsistentSlot, Slot, absent, broken, checkpoint_limit, other, ours, outcome_in, slot_of, slot_of_bytes, slot_of_checkpoint, slot_of_digest, slot_of_ours, IsNotOurs}
 use Rattle.audit_statement.specs.Histories.{AreCarriedOut, stopped_in}
@@ -35,7 +35,7 @@ use Rattle.audit_statement.specs.Endings.{WritesReport}
 use Rattle.audit_statement.specs.Headline.{StartsWith, WritesOneThreads}
 use Rattle.audit_statement.specs.Rerun.{FindTheSame, ChainsWriteOneReport, Event, HasWritten, IsEvent, IsLink, IsRunOver, Link, Manner, RerunsAreAlike, WroteOneThreads, asking, job_in, ran, rerun, slots_after, stopped}
 use Rattle.audit_laws.proofs.Halted.{stop_stays}
-use Rattle.audit_laws.proofs.Starting.{opening_observed}
+use Rattle.audit_laws.proofs.Starting.{initial_outcomes_observed}
 use Rattle.audit_laws.proofs.Chained.{rises_or_not}
 use Rattle.audit_laws.proofs.Statuses.{job_is, report_of}
 
@@ -69,7 +69,7 @@ walk_by v job draws id = record {
   id = id;
   moved = moves_by v (draws (2 * id)) job.start job.setting.steps;
   values = four_values (map (λ ask. pos (tail_by v job (draws (2 * id)) job.setting.steps ask)) job.setting.asks);
-  bins = no_bins;
+  bins = empty_histogram;
 }
 
 abbrev hub_by : Visits → Job → Draws → List ℕ
@@ -94,7 +94,7 @@ end_by v job draws id = record {
   id = id;
   moved = moves_by v (draws (2 * (id - job.setting.walks) + 3)) (hub_by v job draws) job.setting.hub_steps;
   values = four_values (map (λ ask. plan_value job (v (draws (2 * (id - job.setting.walks) + 3)) (hub_by v job draws) job.setting.hub_steps) ask.score) job.setting.asks);
-  bins = no_bins;
+  bins = empty_histogram;
 }
 
 -- ---- tests and lines that are defined by cases
@@ -220,14 +220,14 @@ module _ (job : Job) (manner : Manner) where
   steps_same true = refl
   steps_same false = refl
 
-  bins_same : (b : Bool) (o : Outcome) → bins_fit b again o ≡ bins_fit b job o
-  bins_same true o = refl
-  bins_same false o = refl
+  histogram_same : (b : Bool) (o : Outcome) → histogram_fits b again o ≡ histogram_fits b job o
+  histogram_same true o = refl
+  histogram_same false o = refl
 
   fits_same : (o : Outcome) → fits again o ≡ fits job o
   fits_same o =
-      ap (λ (n : ℕ). fits_by n (bins_fit (nat_lt o.id job.setting.walks) again o) job o) (steps_same (nat_lt o.id job.setting.walks))
-      ∙ ap (λ (b : Bool). fits_by (steps_of (nat_lt o.id job.setting.walks) job) b job o) (bins_same (nat_lt o.id job.setting.walks) o)
+      ap (λ (n : ℕ). fits_by n (histogram_fits (nat_lt o.id job.setting.walks) again o) job o) (steps_same (nat_lt o.id job.setting.walks))
+      ∙ ap (λ (b : Bool). fits_by (steps_of (nat_lt o.id job.setting.walks) job) b job o) (histogram_same (nat_lt o.id job.setting.walks) o)
 
   of_digest_same : (bytes : List ℕ) (b : Bool) → slot_of_digest again bytes b ≡ slot_of_digest job bytes b
   of_digest_same bytes false = refl
@@ -249,10 +249,10 @@ module _ (job : Job) (manner : Manner) where
   slot_same : (s : Stored) → slot_of again (job_digest again) s ≡ slot_of job (job_digest job) s
   slot_same s = ap (λ d. slot_of again d s) digest_same ∙ stored_same (job_digest job) s
 
-  found_same : (draws : Draws) (o : Outcome) → (o ≡ whole job draws o.id) ⊎ (o ≡ bare (whole job draws o.id))
-      → (o ≡ whole again draws o.id) ⊎ (o ≡ bare (whole again draws o.id))
+  found_same : (draws : Draws) (o : Outcome) → (o ≡ whole job draws o.id) ⊎ (o ≡ without_histogram (whole job draws o.id))
+      → (o ≡ whole again draws o.id) ⊎ (o ≡ without_histogram (whole again draws o.id))
   found_same draws o (inl e) = inl (e ∙ sym (whole_same draws o.id))
-  found_same draws o (inr e) = inr (e ∙ ap bare (sym (whole_same draws o.id)))
+  found_same draws o (inr e) = inr (e ∙ ap without_histogram (sym (whole_same draws o.id)))
 
   runs_consistent : (draws : Draws) (outcomes : List Outcome) → IsConsistent job draws outcomes → IsConsistent again draws outcomes
   runs_consistent draws outcomes consistent = record {
@@ -366,7 +366,7 @@ module _ (law : SavesLeaveConsistentSlots) (job : Job) (p : Pair) (l : Link) (co
         record {
           the_job = link.over.the_job;
           walking = link.walking;
-          opened = opening_observed (job_in job l) l.before.keeper.slots p r.outcomes link.over.found r.opened;
+          opened = initial_outcomes_observed (job_in job l) l.before.keeper.slots p r.outcomes link.over.found r.opened;
         },
       )
 

@@ -140,13 +140,13 @@ fit_list job (x ∷ xs) fit = and_from (fits job x) (list_all (fits job) xs) (fi
 -- ---- all outcomes
 
 -- the initial outcomes and those found are plausible, in any order
-pub found_fit : (job : Job) → IsRunJob job → (opening : List Outcome) (todo : List ℕ) (outcomes : List Outcome) → AreFit job opening → All (λ id. id < total job) todo
-    → IsPermutation outcomes (opening ++ map (found job) todo) → All (λ o. IsTrue (fits job o)) outcomes
+pub found_fit : (job : Job) → IsRunJob job → (initial_outcomes : List Outcome) (todo : List ℕ) (outcomes : List Outcome) → AreFit job initial_outcomes → All (λ id. id < total job) todo
+    → IsPermutation outcomes (initial_outcomes ++ map (found job) todo) → All (λ o. IsTrue (fits job o)) outcomes
 unfolding found
-found_fit job run opening todo outcomes fit within moved =
-    All-permutation (λ (o : Outcome). IsTrue (fits job o)) (opening ++ map (found job) todo) outcomes
-    (IsPermutation-sym outcomes (opening ++ map (found job) todo) moved)
-    (All-append (λ (o : Outcome). IsTrue (fits job o)) opening (map (found job) todo) fit.fit
+found_fit job run initial_outcomes todo outcomes fit within moved =
+    All-permutation (λ (o : Outcome). IsTrue (fits job o)) (initial_outcomes ++ map (found job) todo) outcomes
+    (IsPermutation-sym outcomes (initial_outcomes ++ map (found job) todo) moved)
+    (All-append (λ (o : Outcome). IsTrue (fits job o)) initial_outcomes (map (found job) todo) fit.fit
     (All-map (λ (o : Outcome). IsTrue (fits job o)) (found job) todo
     (λ k d inside. fitting.found_fits job (draw job.setting.key) job.setting.shift (run_setting job run).few_asks (get_or todo k d) (within k d inside))))
 
@@ -158,16 +158,16 @@ pairs_rise (x ∷ y ∷ xs) rising =
     (rising 0 1 x (omega arith) (omega arith), pairs_rise (y ∷ xs) (λ i j d before inside. rising (suc i) (suc j) d (omega arith) (omega arith)))
 
 -- the outcomes of a run by rising id are the initial and the walked ones
-pub are_all : (job : Job) → IsRunJob job → (opening kept : List Outcome) (todo : List ℕ) (sorted : List Outcome) → kept ≡ opening → AreFit job opening
-    → todo ≡ run_ids job opening job.setting.budget → All (λ id. id < total job) todo
+pub are_all : (job : Job) → IsRunJob job → (initial_outcomes kept : List Outcome) (todo : List ℕ) (sorted : List Outcome) → kept ≡ initial_outcomes → AreFit job initial_outcomes
+    → todo ≡ run_ids job initial_outcomes job.setting.budget → All (λ id. id < total job) todo
     → ((budget : ℕ) → todo ≡ run_ids job kept budget → sorted ≡ full job (draw job.setting.key) kept budget)
-    → IsPermutation sorted (kept ++ map (found job) todo) → AllPairs (λ a b. a.id < b.id) sorted → AreAll job opening sorted
-are_all job run opening kept todo sorted same start ids within fullness moved rising =
-    let here : IsPermutation sorted (opening ++ map (found job) todo) = subst (λ os. IsPermutation sorted (os ++ map (found job) todo)) same moved in
-    let counted : length sorted ≡ length opening + length (run_ids job opening job.setting.budget) =
-    omega (arith, length_permutation sorted (opening ++ map (found job) todo) here, length-append opening (map (found job) todo), length-map todo (found job), ap length ids) in
-    let rest : pending job opening + length opening ≡ total job = pending_rest job opening (rising_apart opening start.rising) (all_below_total job opening start.fit) in
-    let few : length (run_ids job opening job.setting.budget) ≤ pending job opening = few_run_ids job opening job.setting.budget in
+    → IsPermutation sorted (kept ++ map (found job) todo) → AllPairs (λ a b. a.id < b.id) sorted → AreAll job initial_outcomes sorted
+are_all job run initial_outcomes kept todo sorted same start ids within fullness moved rising =
+    let here : IsPermutation sorted (initial_outcomes ++ map (found job) todo) = subst (λ os. IsPermutation sorted (os ++ map (found job) todo)) same moved in
+    let counted : length sorted ≡ length initial_outcomes + length (run_ids job initial_outcomes job.setting.budget) =
+    omega (arith, length_permutation sorted (initial_outcomes ++ map (found job) todo) here, length-append initial_outcomes (map (found job) todo), length-map todo (found job), ap length ids) in
+    let rest : pending job initial_outcomes + length initial_outcomes ≡ total job = pending_rest job initial_outcomes (rising_apart initial_outcomes start.rising) (all_below_total job initial_outcomes start.fit) in
+    let few : length (run_ids job initial_outcomes job.setting.budget) ≤ pending job initial_outcomes = few_run_ids job initial_outcomes job.setting.budget in
     let most = (run_setting job run).few in
     record {
       full = fullness job.setting.budget (ids ∙ ap (λ os. run_ids job os job.setting.budget) (sym same)) ∙ ap (λ os. full job (draw job.setting.key) os job.setting.budget) same;
@@ -176,31 +176,31 @@ are_all job run opening kept todo sorted same start ids within fullness moved ri
       fit = record {
         few = omega (arith, counted, rest, few, most);
         rising = pairs_rise sorted rising;
-        fit = found_fit job run opening todo sorted start within here;
+        fit = found_fit job run initial_outcomes todo sorted start within here;
       };
       start = start;
     }
 
-module _ (job : Job) (opening outcomes : List Outcome) (all : AreAll job opening outcomes) where
+module _ (job : Job) (initial_outcomes outcomes : List Outcome) (all : AreAll job initial_outcomes outcomes) where
   -- the pending and the initial outcomes add up to the total
-  rest_is : pending job opening + length opening ≡ total job
-  rest_is = pending_rest job opening (rising_apart opening all.start.rising) (all_below_total job opening all.start.fit)
+  rest_is : pending job initial_outcomes + length initial_outcomes ≡ total job
+  rest_is = pending_rest job initial_outcomes (rising_apart initial_outcomes all.start.rising) (all_below_total job initial_outcomes all.start.fit)
 
   -- with fewer outcomes than trajectories, some pending id was not walked
-  pub short_leaves : length outcomes < total job → leaves_work job opening ≡ true
-  short_leaves short = lt-ltb (to_walk job opening) (pending job opening) (omega (arith, short, all.count, rest_is))
+  pub short_leaves : length outcomes < total job → leaves_work job initial_outcomes ≡ true
+  short_leaves short = lt-ltb (to_walk job initial_outcomes) (pending job initial_outcomes) (omega (arith, short, all.count, rest_is))
 
   -- with an outcome for each trajectory, all pending ids were walked
-  pub whole_leaves : total job ≤ length outcomes → leaves_work job opening ≡ false
-  whole_leaves whole = le-ltb (to_walk job opening) (pending job opening) (omega (arith, whole, all.count, rest_is))
+  pub whole_leaves : total job ≤ length outcomes → leaves_work job initial_outcomes ≡ false
+  whole_leaves whole = le-ltb (to_walk job initial_outcomes) (pending job initial_outcomes) (omega (arith, whole, all.count, rest_is))
 
 -- the outcome of an id, initial or found, has this id
-pub kept_id : (job : Job) (opening : List Outcome) (id : ℕ) → (outcome_from job (draw job.setting.key) opening id).id ≡ id
-kept_id job opening id = by (find (λ o. o.id == id) opening) refl
+pub kept_id : (job : Job) (initial_outcomes : List Outcome) (id : ℕ) → (outcome_from job (draw job.setting.key) initial_outcomes id).id ≡ id
+kept_id job initial_outcomes id = by (find (λ o. o.id == id) initial_outcomes) refl
   where
-    by : (o : Option Outcome) → find (λ o. o.id == id) opening ≡ o → (kept_or job (draw job.setting.key) id o).id ≡ id
+    by : (o : Option Outcome) → find (λ o. o.id == id) initial_outcomes ≡ o → (kept_or job (draw job.setting.key) id o).id ≡ id
     by None e = fitting.found_id job (draw job.setting.key) job.setting.shift id
-    by (Some o) e = eqb-true o.id id (find_passes (λ o. o.id == id) opening o e)
+    by (Some o) e = eqb-true o.id id (find_passes (λ o. o.id == id) initial_outcomes o e)
 
 -- if each number passes, the outcomes of those that pass are all outcomes
 all_ids : (n : ℕ) (test : ℕ → Bool) (f : ℕ → Outcome) → ((k : ℕ) → k < n → test k ≡ true) → ((k : ℕ) → (f k).id ≡ k)
@@ -214,16 +214,16 @@ all_ids (suc n) test f each same =
     ∙ ap (λ id. map_below n (λ id. id) ++ id ∷ []) (same n)
 
 -- if nothing is pending, the outcomes have all ids
-full_ids : (job : Job) (opening : List Outcome) → leaves_work job opening ≡ false → map (λ o. o.id) (full_of job opening) ≡ map_below (total job) (λ id. id)
+full_ids : (job : Job) (initial_outcomes : List Outcome) → leaves_work job initial_outcomes ≡ false → map (λ o. o.id) (full_of job initial_outcomes) ≡ map_below (total job) (λ id. id)
 unfolding full
-full_ids job opening none =
-    all_ids (total job) (λ id. has_id opening id || has (run_ids job opening job.setting.budget) id) (outcome_from job (draw job.setting.key) opening)
-    (every_id job opening none) (kept_id job opening)
+full_ids job initial_outcomes none =
+    all_ids (total job) (λ id. has_id initial_outcomes id || has (run_ids job initial_outcomes job.setting.budget) id) (outcome_from job (draw job.setting.key) initial_outcomes)
+    (every_id job initial_outcomes none) (kept_id job initial_outcomes)
 
 -- as many outcomes as trajectories are one outcome of each
-pub whole_outcomes : (job : Job) → job.setting.stop ≡ 0 → (opening outcomes : List Outcome) → AreAll job opening outcomes → total job ≤ length outcomes → AreOutcomesOf job outcomes
-whole_outcomes job plain opening outcomes all whole = record {
-  ids = ap (λ os. map (λ o. o.id) os) all.full ∙ full_ids job opening (whole_leaves job opening outcomes all whole)
+pub whole_outcomes : (job : Job) → job.setting.stop ≡ 0 → (initial_outcomes outcomes : List Outcome) → AreAll job initial_outcomes outcomes → total job ≤ length outcomes → AreOutcomesOf job outcomes
+whole_outcomes job plain initial_outcomes outcomes all whole = record {
+  ids = ap (λ os. map (λ o. o.id) os) all.full ∙ full_ids job initial_outcomes (whole_leaves job initial_outcomes outcomes all whole)
       ∙ ap (λ n. map_below n (λ id. id)) (sym (reports_all job plain));
   fitting = fit_list job outcomes all.fit.fit;
 }

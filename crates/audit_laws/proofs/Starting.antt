@@ -6,7 +6,7 @@ use Rattle.audit_model.specs.Pair.{Pair}
 use Rattle.audit_model.specs.declared.outcome.Outcome.{Outcome}
 use Rattle.audit_model.specs.Job.{Job}
 use Rattle.ckpt_store.specs.Fitting.{AreFit}
-use Rattle.audit_statement.specs.Endings.{IsOpening, StartsFrom, TellsOpening, saves, leaves_work, pending, to_walk, Saw, opening_from}
+use Rattle.audit_statement.specs.Endings.{AreInitialOutcomes, StartsFrom, ObservesInitialOutcomes, saves, leaves_work, pending, to_walk, Saw, initial_outcomes_from}
 use Rattle.audit_laws.specs.Runs.{IsRunJob}
 use Rattle.audit_model.specs.State.{Kept}
 use Rattle.audit_model.specs.Graph.{has}
@@ -46,37 +46,37 @@ saw_any (Some p) P each = record { pair = p; same = refl; holds = each p }
 
 -- initial outcomes by the known slots are those by the slots that were seen
 by_seen : (resumes : Bool) (job : Job) (slots : Option Pair) (observed seen : Option (List Outcome)) → StartsFrom resumes job slots observed
-    → Saw slots (λ p. opening_from resumes job p ≡ seen) → observed ≡ seen
+    → Saw slots (λ p. initial_outcomes_from resumes job p ≡ seen) → observed ≡ seen
 by_seen false job slots observed seen e saw = sym e ∙ saw.holds
 by_seen true job None observed seen e saw = absurd e
-by_seen true job (Some p) observed seen e saw = sym e ∙ subst (λ q. opening_from true job q ≡ seen) saw.same saw.holds
+by_seen true job (Some p) observed seen e saw = sym e ∙ subst (λ q. initial_outcomes_from true job q ≡ seen) saw.same saw.holds
 
 -- the initial outcomes are the known ones
-pub opening_known : (job : Job) (slots : Option Pair) (observed : Option (List Outcome)) (outcomes : List Outcome) → TellsOpening job slots observed → IsOpening job slots outcomes
+pub initial_outcomes_known : (job : Job) (slots : Option Pair) (observed : Option (List Outcome)) (outcomes : List Outcome) → ObservesInitialOutcomes job slots observed → AreInitialOutcomes job slots outcomes
     → observed ≡ Some outcomes
-opening_known job slots observed outcomes e o = by_seen job.setting.resume job slots observed (Some outcomes) e o.seen
+initial_outcomes_known job slots observed outcomes e o = by_seen job.setting.resume job slots observed (Some outcomes) e o.seen
 
 -- slots without valid initial outcomes are known as such
-pub undefined_known : (job : Job) (slots : Option Pair) (observed : Option (List Outcome)) (P : Pair → Type 0) → TellsOpening job slots observed
-    → Saw slots (λ p. (opening_from job.setting.resume job p ≡ None) × P p) → observed ≡ None
+pub undefined_known : (job : Job) (slots : Option Pair) (observed : Option (List Outcome)) (P : Pair → Type 0) → ObservesInitialOutcomes job slots observed
+    → Saw slots (λ p. (initial_outcomes_from job.setting.resume job p ≡ None) × P p) → observed ≡ None
 undefined_known job slots observed P e saw = by_seen job.setting.resume job slots observed None e (record { pair = saw.pair; same = saw.same; holds = saw.holds.0 })
 
 -- if the slots are known, so are the initial outcomes from the slots that were seen
 by_observed : (resumes : Bool) (job : Job) (slots : Option Pair) (p : Pair) (o : Option (List Outcome)) → slots ≡ Some p
-    → Saw slots (λ p. opening_from resumes job p ≡ o) → StartsFrom resumes job slots o
+    → Saw slots (λ p. initial_outcomes_from resumes job p ≡ o) → StartsFrom resumes job slots o
 by_observed false job slots p o was saw = saw.holds
 by_observed true job None p o was saw = cc
-by_observed true job (Some q) p o was saw = subst (λ r. opening_from true job r ≡ o) saw.same saw.holds
+by_observed true job (Some q) p o was saw = subst (λ r. initial_outcomes_from true job r ≡ o) saw.same saw.holds
 
 -- if the slots are known, the initial outcomes are
-pub opening_observed : (job : Job) (slots : Option Pair) (p : Pair) (outcomes : List Outcome) → slots ≡ Some p → IsOpening job slots outcomes
-    → TellsOpening job slots (Some outcomes)
-opening_observed job slots p outcomes was o = by_observed job.setting.resume job slots p (Some outcomes) was o.seen
+pub initial_outcomes_observed : (job : Job) (slots : Option Pair) (p : Pair) (outcomes : List Outcome) → slots ≡ Some p → AreInitialOutcomes job slots outcomes
+    → ObservesInitialOutcomes job slots (Some outcomes)
+initial_outcomes_observed job slots p outcomes was o = by_observed job.setting.resume job slots p (Some outcomes) was o.seen
 
 -- a run that does not resume starts without outcomes
-pub fresh_opening : (job : Job) (slots : Option Pair) → job.setting.resume ≡ false → IsOpening job slots []
-fresh_opening job slots fresh = record {
-  seen = saw_any slots (λ p. opening_from job.setting.resume job p ≡ Some []) (λ p. subst (λ (b : Bool). opening_from b job p ≡ Some []) (sym fresh) refl);
+pub fresh_initial_outcomes : (job : Job) (slots : Option Pair) → job.setting.resume ≡ false → AreInitialOutcomes job slots []
+fresh_initial_outcomes job slots fresh = record {
+  seen = saw_any slots (λ p. initial_outcomes_from job.setting.resume job p ≡ Some []) (λ p. subst (λ (b : Bool). initial_outcomes_from b job p ≡ Some []) (sym fresh) refl);
   apart = tt;
   fitting = refl;
 }

@@ -12,13 +12,13 @@ use Rattle.audit_model.proofs.Results.{err_is_err, ok_is_no_err}
 use Rattle.audit_statement.specs.Note.{Ending, bad_words, too_many_bytes, bad_graph, bad_regions, bad_table, bad_plan, bad_plan_named, no_memory, read_fault, write_fault, load_fault, folder_taken, stopped, damaged, other_job, save_fault}
 use Rattle.audit_statement.specs.Words.{setting_of}
 use Rattle.audit_statement.specs.Accepted.{IsAccepted, IsRefused, judged}
-use Rattle.audit_statement.specs.Causes.{IsObserved, IsTheJob, LeavesWork, MissesOpening, HasCauses}
+use Rattle.audit_statement.specs.Causes.{IsObserved, IsTheJob, LeavesWork, HasNoInitialOutcomes, HasCauses}
 use Rattle.audit_statement.specs.Status.{status_of}
-use Rattle.audit_statement.specs.Endings.{Cause, EndsFor, LeavesUntouched, marks_of, IsDone, IsReadFault, IsWriteFault, IsLoadFault, IsSaveFault, IsStopped, IsPrepared, IsOpening, IsSlotsFault, WritesReport, WritesText, WritesOrStops, TellsOpening, leaves_work, is_walking}
+use Rattle.audit_statement.specs.Endings.{Cause, EndsFor, LeavesUntouched, marks_of, IsDone, IsReadFault, IsWriteFault, IsLoadFault, IsSaveFault, IsStopped, IsPrepared, AreInitialOutcomes, IsSlotsFault, WritesReport, WritesText, WritesOrStops, ObservesInitialOutcomes, leaves_work, is_walking}
 use Rattle.audit_model.specs.State.{LoadFaults, Stream}
 use Rattle.audit_statement.specs.World.{World}
 use Rattle.audit_laws.proofs.Causing.{same_job, not_refused, refused_at, accepted_at}
-use Rattle.audit_laws.proofs.Starting.{opening_known, undefined_known}
+use Rattle.audit_laws.proofs.Starting.{initial_outcomes_known, undefined_known}
 
 -- a refused input has no job
 pub refused_is_err : (words : List (List ℕ)) (before : World) (setting : Setting) (bytes : List ℕ) (ending : Ending)
@@ -171,24 +171,24 @@ module _ (words : List (List ℕ)) (before after : World) where
   report_of whole job other w same t =
       text_report job.setting.command whole job w (subst (λ (j : Job). WritesText j.setting.command whole j before after) same t)
 
-  pub opening_is : (job : Job) (observed : Option (List Outcome)) (outcomes : List Outcome) → TellsOpening job before.keeper.slots observed
-      → IsOpening job before.keeper.slots outcomes → observed ≡ Some outcomes
-  opening_is job observed outcomes e o = opening_known job before.keeper.slots observed outcomes e o
+  pub initial_outcomes_are : (job : Job) (observed : Option (List Outcome)) (outcomes : List Outcome) → ObservesInitialOutcomes job before.keeper.slots observed
+      → AreInitialOutcomes job before.keeper.slots outcomes → observed ≡ Some outcomes
+  initial_outcomes_are job observed outcomes e o = initial_outcomes_known job before.keeper.slots observed outcomes e o
 
   pub report_leaves_none : (whole : Bool) (l : LeavesWork words before) → WritesReport whole l.job before after → ⊥
   report_leaves_none whole l r =
-      let e : Some l.outcomes ≡ Some r.outcomes = opening_is l.job (Some l.outcomes) r.outcomes l.opened r.opened in
+      let e : Some l.outcomes ≡ Some r.outcomes = initial_outcomes_are l.job (Some l.outcomes) r.outcomes l.opened r.opened in
       let left : leaves_work l.job l.outcomes ≡ true = l.left in
       let none : leaves_work l.job r.outcomes ≡ false = r.nothing_left in
       cc
 
-  pub undefined_not : (l : MissesOpening words before) (outcomes : List Outcome) → IsOpening l.job before.keeper.slots outcomes → ⊥
-  undefined_not l outcomes o = let e : None ≡ Some outcomes = opening_is l.job None outcomes l.undefined o in cc
+  pub undefined_not : (l : HasNoInitialOutcomes words before) (outcomes : List Outcome) → AreInitialOutcomes l.job before.keeper.slots outcomes → ⊥
+  undefined_not l outcomes o = let e : None ≡ Some outcomes = initial_outcomes_are l.job None outcomes l.undefined o in cc
 
   pub slots_fault_opens : (job : Job) (outcomes : List Outcome) (found : Job → Pair → Type 0) (s : IsSlotsFault words before after found) → s.job ≡ job
-      → TellsOpening job before.keeper.slots (Some outcomes) → ⊥
+      → ObservesInitialOutcomes job before.keeper.slots (Some outcomes) → ⊥
   slots_fault_opens job outcomes found s same e =
-      let observed : TellsOpening s.job before.keeper.slots (Some outcomes) = subst (λ (j : Job). TellsOpening j before.keeper.slots (Some outcomes)) (sym same) e in
+      let observed : ObservesInitialOutcomes s.job before.keeper.slots (Some outcomes) = subst (λ (j : Job). ObservesInitialOutcomes j before.keeper.slots (Some outcomes)) (sym same) e in
       let none : Some outcomes ≡ None = undefined_known s.job before.keeper.slots (Some outcomes) (found s.job) observed s.seen in
       cc
 
@@ -212,18 +212,18 @@ module _ (words : List (List ℕ)) (before after : World) where
   seven (Some save_fault) c l h3 h4 h6 h9 = absurd (h9 refl)
 
   -- the initial outcomes of a run of this job
-  pub opening_at : (job other : Job) (outcomes : List Outcome) → other ≡ job → IsOpening other before.keeper.slots outcomes → IsOpening job before.keeper.slots outcomes
-  opening_at job other outcomes same o = subst (λ (j : Job). IsOpening j before.keeper.slots outcomes) same o
+  pub initial_outcomes_at : (job other : Job) (outcomes : List Outcome) → other ≡ job → AreInitialOutcomes other before.keeper.slots outcomes → AreInitialOutcomes job before.keeper.slots outcomes
+  initial_outcomes_at job other outcomes same o = subst (λ (j : Job). AreInitialOutcomes j before.keeper.slots outcomes) same o
 
-  pub saved_opening : (whole : Bool) (l : MissesOpening words before) (other : Job) → other ≡ l.job → WritesOrStops whole other before after → ⊥
-  saved_opening true l other same w = undefined_not l w.outcomes (opening_at l.job other w.outcomes same w.opened)
-  saved_opening false l other same w = undefined_not l w.outcomes (opening_at l.job other w.outcomes same w.opened)
+  pub saved_initial_outcomes : (whole : Bool) (l : HasNoInitialOutcomes words before) (other : Job) → other ≡ l.job → WritesOrStops whole other before after → ⊥
+  saved_initial_outcomes true l other same w = undefined_not l w.outcomes (initial_outcomes_at l.job other w.outcomes same w.opened)
+  saved_initial_outcomes false l other same w = undefined_not l w.outcomes (initial_outcomes_at l.job other w.outcomes same w.opened)
 
-  pub report_opening : (whole : Bool) (l : MissesOpening words before) → WritesReport whole l.job before after → ⊥
-  report_opening whole l w = undefined_not l w.outcomes w.opened
+  pub report_initial_outcomes : (whole : Bool) (l : HasNoInitialOutcomes words before) → WritesReport whole l.job before after → ⊥
+  report_initial_outcomes whole l w = undefined_not l w.outcomes w.opened
 
-  pub eight : (r : Option Ending) → Cause words before after r → MissesOpening words before → status_of r ≢ 3 → status_of r ≢ 4 → status_of r ≢ 6 → status_of r ≡ 8
-  eight None c l h3 h4 h6 = absurd (report_opening true l (report_of true l.job c.job l.walking (job_is l.job c.job l.the_job c.prepared) c.written))
+  pub eight : (r : Option Ending) → Cause words before after r → HasNoInitialOutcomes words before → status_of r ≢ 3 → status_of r ≢ 4 → status_of r ≢ 6 → status_of r ≡ 8
+  eight None c l h3 h4 h6 = absurd (report_initial_outcomes true l (report_of true l.job c.job l.walking (job_is l.job c.job l.the_job c.prepared) c.written))
   eight (Some (bad_words f)) c l h3 h4 h6 = absurd (words_not l.job f l.the_job c)
   eight (Some too_many_bytes) c l h3 h4 h6 = absurd (refused_not l.job _ l.the_job c.refused)
   eight (Some (bad_graph f)) c l h3 h4 h6 = absurd (refused_not l.job _ l.the_job c)
@@ -233,13 +233,13 @@ module _ (words : List (List ℕ)) (before after : World) where
   eight (Some (bad_plan f)) c l h3 h4 h6 = absurd (refused_not l.job _ l.the_job c)
   eight (Some no_memory) c l h3 h4 h6 = absurd (h3 refl)
   eight (Some read_fault) c l h3 h4 h6 = absurd (h4 refl)
-  eight (Some write_fault) c l h3 h4 h6 = absurd (report_opening false l (report_of false l.job c.job l.walking (job_is l.job c.job l.the_job c.prepared) c.written))
+  eight (Some write_fault) c l h3 h4 h6 = absurd (report_initial_outcomes false l (report_of false l.job c.job l.walking (job_is l.job c.job l.the_job c.prepared) c.written))
   eight (Some load_fault) c l h3 h4 h6 = absurd (h6 refl)
   eight (Some folder_taken) c l h3 h4 h6 = absurd (h6 refl)
-  eight (Some (stopped done all)) c l h3 h4 h6 = absurd (undefined_not l c.stopped.outcomes (opening_at l.job c.job c.stopped.outcomes (job_is l.job c.job l.the_job c.prepared) c.stopped.opened))
+  eight (Some (stopped done all)) c l h3 h4 h6 = absurd (undefined_not l c.stopped.outcomes (initial_outcomes_at l.job c.job c.stopped.outcomes (job_is l.job c.job l.the_job c.prepared) c.stopped.opened))
   eight (Some (damaged a b)) c l h3 h4 h6 = refl
   eight (Some (other_job a b)) c l h3 h4 h6 = refl
-  eight (Some save_fault) c l h3 h4 h6 = absurd (saved_opening c.whole l c.job (job_is l.job c.job l.the_job c.prepared) c.written)
+  eight (Some save_fault) c l h3 h4 h6 = absurd (saved_initial_outcomes c.whole l c.job (job_is l.job c.job l.the_job c.prepared) c.written)
 
   pub causes_at : (r : Option Ending) → Cause words before after r → LeavesUntouched words before after (marks_of r) → HasCauses words before after (status_of r)
   causes_at r c u = record {

@@ -8,7 +8,7 @@ use Rattle.audit_model.specs.Attempts.{Try, try_of}
 use Rattle.audit_model.specs.declared.outcome.Outcome.{Outcome}
 use Rattle.audit_model.specs.Job.{Job}
 use Rattle.audit_statement.specs.Checkpoint.{IsCheckpoint, checkpoint, job_digest}
-use Rattle.audit_statement.specs.Slots.{newest, opening_of, slot_of, IsNotOurs}
+use Rattle.audit_statement.specs.Slots.{newest, outcomes_of_newest, slot_of, IsNotOurs}
 use Rattle.audit_statement.specs.Histories.{IsCarriedOut}
 use Rattle.audit_statement.specs.Chain.{AreConsistentOf}
 use Rattle.audit_statement.specs.Rerun.{AllHaveWritten, Event, IsChain, IsEvent, slots_after}
@@ -19,7 +19,7 @@ use Rattle.outcome_book.specs.Union.{IsUnion}
 -- the newest of these slots holds these outcomes of the job, and none if both are empty
 abbrev pub Hold : Job → Pair → List Outcome → Type 0
 Hold job p outcomes =
-    opening_of (slot_of job (job_digest job) p.zero_slot) (slot_of job (job_digest job) p.one_slot)
+    outcomes_of_newest (slot_of job (job_digest job) p.zero_slot) (slot_of job (job_digest job) p.one_slot)
     (newest (slot_of job (job_digest job) p.zero_slot) (slot_of job (job_digest job) p.one_slot)) ≡ Some outcomes
 
 -- One save of these outcomes over the first slots, to either of them, left the second ones. If it succeeded, it left
@@ -41,7 +41,7 @@ mutual
 
   -- outcomes held by reached slots, or unions of such outcomes
   pub data AreGathered (job : Job) : List Outcome → Type 0 where
-    held : (p : Pair) (outcomes : List Outcome) → AreReached job p → Hold job p outcomes → AreGathered job outcomes
+    kept_outcomes : (p : Pair) (outcomes : List Outcome) → AreReached job p → Hold job p outcomes → AreGathered job outcomes
     united : (some others both : List Outcome) → AreGathered job some → AreGathered job others → IsUnion some others both → AreGathered job both
 
 -- Over any number of machines, folders, halts, kills and gatherings, reached slots are consistent. Each run of any

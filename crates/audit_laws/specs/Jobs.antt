@@ -10,7 +10,7 @@ use Rattle.audit_model.specs.declared.setting.Command.TheVariants.{Run}
 use Rattle.audit_model.specs.declared.setting.Setting.{Setting}
 use Rattle.audit_model.specs.Graph.{Graph}
 use Rattle.audit_model.specs.Job.{Job}
-use Rattle.audit_model.specs.Trajectory.{no_bins}
+use Rattle.audit_model.specs.Trajectory.{empty_histogram}
 
 -- the setting of a run with these numbers
 abbrev pub run_of : ℕ → ℕ → ℕ → ℕ → ℕ → List Ask → Setting
@@ -201,4 +201,4 @@ square_with_diagonal = record { units = 4; neighbours = (1 ∷ 2 ∷ 3 ∷ []) �
 
 -- the outcome of some trajectory, without a histogram
 abbrev pub found_once : Outcome
-found_once = record { id = 0; moved = 3; values = pos 4 ∷ pos 8 ∷ pos 0 ∷ pos 0 ∷ []; bins = no_bins }
+found_once = record { id = 0; moved = 3; values = pos 4 ∷ pos 8 ∷ pos 0 ∷ pos 0 ∷ []; bins = empty_histogram }

@@ -9,7 +9,7 @@ use Rattle.audit_model.specs.JobOf.{IsJob}
 use Rattle.audit_statement.specs.Checkpoint.{IsCheckpoint, job_digest}
 use Rattle.audit_statement.specs.Histories.{AreCarriedOut, IsNotValid, KeepsNewest, newest_bytes, stopped_in}
 use Rattle.audit_statement.specs.Chain.{AttemptsOver}
-use Rattle.audit_statement.specs.Endings.{opening_from}
+use Rattle.audit_statement.specs.Endings.{initial_outcomes_from}
 use Rattle.audit_statement.specs.Rerun.{AreAttemptsSoFar}
 use Rattle.audit_statement.specs.World.{World}
 use Rattle.audit_laws.specs.Gathered.{Hold}
@@ -23,7 +23,7 @@ pub record HoldsAll (job : Job) (q : Pair) (outcomes : List Outcome) : Type 0 wh
   pub saved : List Outcome
   pub sound : IsCheckpoint bytes 2 (job_digest job) generation saved
   pub given : Hold job q saved
-  pub held : All (Contains saved) outcomes
+  pub kept_outcomes : All (Contains saved) outcomes
 
 -- the save is a checkpoint of the job, and the newest slot holds each of its outcomes
 pub record IsKeptIn (job : Job) (q : Pair) (save : Try) : Type 0 where
@@ -33,14 +33,14 @@ pub record IsKeptIn (job : Job) (q : Pair) (save : Try) : Type 0 where
   pub kept : HoldsAll job q outcomes
 
 -- the newest slot is the one from which the run started, or contains each initial outcome
-abbrev pub KeepsOpening : Job → Pair → Pair → List Outcome → Type 0
-KeepsOpening job p q opening = (newest_bytes job (job_digest job) q ≡ newest_bytes job (job_digest job) p) ⊎ HoldsAll job q opening
+abbrev pub KeepsInitialOutcomes : Job → Pair → Pair → List Outcome → Type 0
+KeepsInitialOutcomes job p q initial_outcomes = (newest_bytes job (job_digest job) q ≡ newest_bytes job (job_digest job) p) ⊎ HoldsAll job q initial_outcomes
 
 -- These save attempts led from the first slots to the second ones. The newest slot now holds all that each attempt
 -- saved that succeeded, and all outcomes with which the run started.
 pub record LosesNothing (job : Job) (p q : Pair) (attempts : List Try) : Type 0 where
   pub saved : All (λ save. save.succeeded ≡ true → IsKeptIn job q save) attempts
-  pub opened : (outcomes : List Outcome) → opening_from job.setting.resume job p ≡ Some outcomes → KeepsOpening job p q outcomes
+  pub opened : (outcomes : List Outcome) → initial_outcomes_from job.setting.resume job p ≡ Some outcomes → KeepsInitialOutcomes job p q outcomes
 
 -- At any moment of a run, the save attempts so far have kept the newest slot of before or have left a newer one: the
 -- last save that succeeded, or a later one that failed and had left all its bytes. The last attempt may have been cut
@@ -59,4 +59,4 @@ StopsLoseNothing = (job : Job) (p q : Pair) (attempts : List Try) → IsJob job 
 -- what holds of these also holds of runs that returned.
 abbrev pub EndsAreStops : Type 0
 EndsAreStops = (job : Job) (before after : World) (p : Pair) (status : ℕ) (observed now : List Try) (t : AttemptsOver job before after p status observed now) (outcomes : List Outcome)
-    → before.keeper.slots ≡ Some p → opening_from job.setting.resume job p ≡ Some outcomes → (n : ℕ) → AreAttemptsSoFar job p (stopped_in n t.attempts)
+    → before.keeper.slots ≡ Some p → initial_outcomes_from job.setting.resume job p ≡ Some outcomes → (n : ℕ) → AreAttemptsSoFar job p (stopped_in n t.attempts)

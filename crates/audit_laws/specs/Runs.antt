@@ -27,12 +27,12 @@ pub record IsRunJob (job : Job) : Type 0 where
   pub even : IsTrue job.setting.serial → IsTrue (is_power_of_two (job.setting.steps + 1))
 
 -- the initial outcomes and those of the walked ids, by rising id, each plausible for the job
-pub record AreAll (job : Job) (opening outcomes : List Outcome) : Type 0 where
-  pub full : outcomes ≡ full_of job opening
-  pub count : length outcomes ≡ length opening + length (run_ids job opening job.setting.budget)
+pub record AreAll (job : Job) (initial_outcomes outcomes : List Outcome) : Type 0 where
+  pub full : outcomes ≡ full_of job initial_outcomes
+  pub count : length outcomes ≡ length initial_outcomes + length (run_ids job initial_outcomes job.setting.budget)
   pub few : length outcomes ≤ total job
   pub fit : AreFit job outcomes
-  pub start : AreFit job opening
+  pub start : AreFit job initial_outcomes
 
 -- the law that each job of accepted arguments that is walked is a run
 abbrev pub AcceptedJobsAreRuns : Type 0

@@ -6,7 +6,7 @@ ghost use Rattle.audit_laws.specs.Gathered.{CutGatheringsReach, GatheredRunsWrit
 ghost use Rattle.audit_statement.specs.Along.{TracesEndAsFound};
 ghost use Rattle.audit_statement.specs.Rerun.{ChainsWriteOneReport, RerunsAreAlike};
 
-use audit_model::laws::bare_outcomes_fit;
+use audit_model::laws::outcomes_fit_without_histogram;
 use ckpt_store::gathered_laws::consistent_slots_give_consistent_outcomes;
 use ckpt_store::laws::{
     a_stop_in_a_save_leaves_consistent_slots, checkpoints_are_ours, consistent_slots_open_right,
@@ -38,7 +38,7 @@ pub fn stops_keep_the_newest()
     ensures { StopsKeepTheNewest }
 {
     saves_keep_the_newest();
-    bare_outcomes_fit();
+    outcomes_fit_without_histogram();
 }
 
 /// States that nothing that was saved is lost. A run may be stopped at any moment, also within a save, at any byte,
@@ -50,7 +50,7 @@ pub fn stops_lose_nothing()
 {
     saves_keep_the_newest();
     checkpoints_are_ours();
-    bare_outcomes_fit();
+    outcomes_fit_without_histogram();
 }
 
 /// States that the saves of a run that returned, cut off anywhere or not at all, are among those of which

@@ -3,7 +3,7 @@ use Rattle.std.proofs.Common.{◌≡◌, ℕ, zero, suc, ◌+◌, ◌≤◌, Boo
 use Rattle.std.specs.Prelude.{◌==◌, sum}
 use Rattle.audit_model.specs.Below.{count_below}
 use Rattle.audit_model.specs.Job.{Job}
-use Rattle.audit_model.specs.Trajectory.{bin_of, bins_by, plan_seats, visit}
+use Rattle.audit_model.specs.Trajectory.{bin_of, histogram_by, plan_seats, visit}
 
 -- 1 for true, 0 for false
 one : Bool → ℕ
@@ -43,12 +43,12 @@ module _ (f : ℕ → ℕ) (few : (i : ℕ) → f i ≤ 8) where
       more ∙ (let before = counted n in omega (arith, before, next))
 
 -- the bin of a plan is at most 8
-pub few_bins : (a b : ℕ) → bin_of a b ≤ 8
-few_bins a b = omega arith
+pub bin_is_small : (a b : ℕ) → bin_of a b ≤ 8
+bin_is_small a b = omega arith
 
 -- the histogram of a walk adds up to the number of its visits, the start plan included
-pub bins_add_up : (job : Job) (draws : ℕ → ℕ) → sum (bins_by true job draws) ≡ job.setting.steps + 1
+pub histogram_adds_up : (job : Job) (draws : ℕ → ℕ) → sum (histogram_by true job draws) ≡ job.setting.steps + 1
 unfolding nine
-bins_add_up job draws =
+histogram_adds_up job draws =
     counted (λ i. bin_of (plan_seats job (visit job draws job.start i)) (plan_seats job job.start))
-    (λ i. few_bins (plan_seats job (visit job draws job.start i)) (plan_seats job job.start)) (job.setting.steps + 1)
+    (λ i. bin_is_small (plan_seats job (visit job draws job.start i)) (plan_seats job job.start)) (job.setting.steps + 1)

@@ -207,29 +207,29 @@ module _ (g : Graph) (inside : ℕ → Bool) where
     -- ---- no path needs more steps than there are units
 
     -- one more step finds nothing new
-    IsSettled : ℕ → Type 0
-    IsSettled steps = (v : ℕ) → has (within_steps g inside x (suc steps)) v ≡ true → has (within_steps g inside x steps) v ≡ true
+    IsSaturated : ℕ → Type 0
+    IsSaturated steps = (v : ℕ) → has (within_steps g inside x (suc steps)) v ≡ true → has (within_steps g inside x steps) v ≡ true
 
-    settled_next : (steps : ℕ) → IsSettled steps → IsSettled (suc steps)
-    unfolding IsSettled
-    settled_next steps settled v h = one_step_more (within_steps g inside x (suc steps)) (within_steps g inside x steps) settled v h
+    saturated_next : (steps : ℕ) → IsSaturated steps → IsSaturated (suc steps)
+    unfolding IsSaturated
+    saturated_next steps saturated v h = one_step_more (within_steps g inside x (suc steps)) (within_steps g inside x steps) saturated v h
 
     -- equal numbers of steps find equal units
     steps_same : (j k v : ℕ) → j ≡ k → has (within_steps g inside x j) v ≡ true → has (within_steps g inside x k) v ≡ true
     steps_same j k v e h = subst (λ i. has (within_steps g inside x i) v ≡ true) e h
 
-    settled_same : (j k : ℕ) → j ≡ k → IsSettled j → IsSettled k
-    settled_same j k e h = subst IsSettled e h
+    saturated_same : (j k : ℕ) → j ≡ k → IsSaturated j → IsSaturated k
+    saturated_same j k e h = subst IsSaturated e h
 
-    settled_on : (steps more : ℕ) → IsSettled steps → IsSettled (more + steps)
-    settled_on steps zero settled = settled_same steps (zero + steps) (omega arith) settled
-    settled_on steps (suc more) settled = settled_same (suc (more + steps)) (suc more + steps) (omega arith) (settled_next (more + steps) (settled_on steps more settled))
+    saturated_on : (steps more : ℕ) → IsSaturated steps → IsSaturated (more + steps)
+    saturated_on steps zero saturated = saturated_same steps (zero + steps) (omega arith) saturated
+    saturated_on steps (suc more) saturated = saturated_same (suc (more + steps)) (suc more + steps) (omega arith) (saturated_next (more + steps) (saturated_on steps more saturated))
 
-    found_early : (steps more v : ℕ) → IsSettled steps → has (within_steps g inside x (more + steps)) v ≡ true → has (within_steps g inside x steps) v ≡ true
-    unfolding IsSettled
-    found_early steps zero v settled h = steps_same (zero + steps) steps v (omega arith) h
-    found_early steps (suc more) v settled h =
-        found_early steps more v settled (settled_on steps more settled v (steps_same (suc more + steps) (suc (more + steps)) v (omega arith) h))
+    found_early : (steps more v : ℕ) → IsSaturated steps → has (within_steps g inside x (more + steps)) v ≡ true → has (within_steps g inside x steps) v ≡ true
+    unfolding IsSaturated
+    found_early steps zero v saturated h = steps_same (zero + steps) steps v (omega arith) h
+    found_early steps (suc more) v saturated h =
+        found_early steps more v saturated (saturated_on steps more saturated v (steps_same (suc more + steps) (suc (more + steps)) v (omega arith) h))
 
     found_later : (steps more v : ℕ) → has (within_steps g inside x steps) v ≡ true → has (within_steps g inside x (more + steps)) v ≡ true
     found_later steps zero v h = steps_same steps (zero + steps) v (omega arith) h
@@ -252,10 +252,10 @@ module _ (g : Graph) (inside : ℕ → Bool) where
     passes_found steps v l h = subst (λ l. has l v ≡ true) (sym (found_by_test steps)) (filter_below-has g.units (test_at steps) v l h)
 
     -- either fewer steps find all, or at least as many units are found as steps were taken
-    settles_or_grows : (steps : ℕ) → ((k : ℕ) × (k < steps) × IsSettled k) ⊎ (steps ≤ count_below g.units (test_at steps))
-    unfolding IsSettled
-    settles_or_grows zero = inr (omega arith)
-    settles_or_grows (suc steps) = elim (settles_or_grows steps) [
+    saturates_or_grows : (steps : ℕ) → ((k : ℕ) × (k < steps) × IsSaturated k) ⊎ (steps ≤ count_below g.units (test_at steps))
+    unfolding IsSaturated
+    saturates_or_grows zero = inr (omega arith)
+    saturates_or_grows (suc steps) = elim (saturates_or_grows steps) [
       | inl s ↦ inl (s.0, omega (arith, s.1), s.2)
       | inr grown ↦ elim (grows g.units (test_at steps) (test_at (suc steps))
           (λ v l h. found_passes (suc steps) v (found_more steps v (passes_found steps v l h)))) [
@@ -269,8 +269,8 @@ module _ (g : Graph) (inside : ℕ → Bool) where
           ]
     ]
 
-    settles : (k : ℕ) × (k ≤ g.units) × IsSettled k
-    settles = elim (settles_or_grows (suc g.units)) [
+    saturates : (k : ℕ) × (k ≤ g.units) × IsSaturated k
+    saturates = elim (saturates_or_grows (suc g.units)) [
       | inl s ↦ (s.0, omega (arith, s.1), s.2)
       | inr grown ↦ absurd (omega (arith, count_below_le g.units (test_at (suc g.units))))
     ]
@@ -278,7 +278,7 @@ module _ (g : Graph) (inside : ℕ → Bool) where
     -- units found after any number of steps are found after as many steps as there are units
     found_reached : (steps v : ℕ) → has (within_steps g inside x steps) v ≡ true → has (reached g inside x) v ≡ true
     found_reached steps v h =
-        let s = settles in
+        let s = saturates in
         let early : has (within_steps g inside x s.0) v ≡ true = found_early s.0 steps v s.2
         (steps_same (s.0 + steps) (steps + s.0) v (omega arith) (found_later steps s.0 v h)) in
         steps_same (g.units - s.0 + s.0) g.units v (omega (arith, s.1)) (found_later s.0 (g.units - s.0) v early)

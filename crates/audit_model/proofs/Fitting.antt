@@ -10,10 +10,10 @@ use Rattle.audit_model.specs.declared.setting.Tail.{Tail}
 use Rattle.audit_model.specs.declared.setting.Tail.TheVariants.{Low, High}
 use Rattle.audit_model.specs.Below.{all_below, count_below}
 use Rattle.audit_model.specs.Job.{Job}
-use Rattle.audit_model.specs.Run.{total, steps_of, bins_fit, fits, is_bare}
-use Rattle.audit_model.specs.Trajectory.{Draws, visit, plan_value, in_tail, visits_in_tail, four_values, value_at, walk_outcome, end_outcome, outcome_by, outcome_with, bins_by, outcome}
+use Rattle.audit_model.specs.Run.{total, steps_of, histogram_fits, fits, has_no_histogram}
+use Rattle.audit_model.specs.Trajectory.{Draws, visit, plan_value, in_tail, visits_in_tail, four_values, value_at, walk_outcome, end_outcome, outcome_by, outcome_with, histogram_by, outcome}
 use Rattle.audit_model.proofs.Below.{all_below_from, count_below_le}
-use Rattle.audit_model.proofs.BinSums.{bins_add_up}
+use Rattle.audit_model.proofs.BinSums.{histogram_adds_up}
 
 -- ---- counts
 
@@ -64,13 +64,13 @@ each_value (suc n) test f (a ∷ asks) zeros (suc k) each few l = each_value n t
 fitting : (job : Job) (o : Outcome) (walks : Bool) → nat_lt o.id job.setting.walks ≡ walks → o.id < total job → o.moved ≤ steps_of walks job
     → list_all (λ v. int_eq v (pos 0)) (drop (length job.setting.asks) o.values) ≡ true
     → (walks ≡ true → all_below (length job.setting.asks) (λ k. int_le (pos 1) (value_at o k) && int_le (value_at o k) (pos (job.setting.steps + 1))) ≡ true)
-    → bins_fit walks job o ≡ true → fits job o ≡ true
+    → histogram_fits walks job o ≡ true → fits job o ≡ true
 fitting job o walks e below few zeros counts bins =
     let moved : nat_le o.moved (steps_of (nat_lt o.id job.setting.walks) job) ≡ true = ap (λ (b : Bool). nat_le o.moved (steps_of b job)) e ∙ le-leb _ _ few in
     let each : Bool = all_below (length job.setting.asks) (λ k. int_le (pos 1) (value_at o k) && int_le (value_at o k) (pos (job.setting.steps + 1))) in
     and_from _ _ (and_from _ _ (and_from _ _ (and_from _ _ (lt-ltb _ _ below) moved) zeros)
     (ap (λ (b : Bool). not b || each) e ∙ by walks each counts))
-    (ap (λ (b : Bool). bins_fit b job o) e ∙ bins)
+    (ap (λ (b : Bool). histogram_fits b job o) e ∙ bins)
   where
     by : (b each : Bool) → (b ≡ true → each ≡ true) → (not b || each) ≡ true
     by true each f = f refl
@@ -92,22 +92,22 @@ module _ (job : Job) (draws : Draws) where
       (le-leb (visits_in_tail job stream job.setting.steps ask) (job.setting.steps + 1) (count_below_le (job.setting.steps + 1) _))
 
   -- with its histogram or without, the outcome of a trajectory is plausible
-  pub found_fits : (with_bins : Bool) → length job.setting.asks ≤ 4 → (id : ℕ) → id < total job → fits job (outcome_with with_bins job draws id) ≡ true
-  found_fits with_bins few id below = by (nat_lt id job.setting.walks) with_bins refl
+  pub found_fits : (with_histogram : Bool) → length job.setting.asks ≤ 4 → (id : ℕ) → id < total job → fits job (outcome_with with_histogram job draws id) ≡ true
+  found_fits with_histogram few id below = by (nat_lt id job.setting.walks) with_histogram refl
     where
-      walk_bins : (b : Bool) → bins_fit true job (walk_outcome b job draws id) ≡ true
-      walk_bins false = refl
-      walk_bins true = or_right (is_bare (walk_outcome true job draws id)) (sum (bins_by true job (draws (2 * id))) == job.setting.steps + 1)
-          (eq-eqb (sum (bins_by true job (draws (2 * id)))) (job.setting.steps + 1) (bins_add_up job (draws (2 * id))))
+      walk_histogram_fits : (b : Bool) → histogram_fits true job (walk_outcome b job draws id) ≡ true
+      walk_histogram_fits false = refl
+      walk_histogram_fits true = or_right (has_no_histogram (walk_outcome true job draws id)) (sum (histogram_by true job (draws (2 * id))) == job.setting.steps + 1)
+          (eq-eqb (sum (histogram_by true job (draws (2 * id)))) (job.setting.steps + 1) (histogram_adds_up job (draws (2 * id))))
 
       by : (walks b : Bool) → nat_lt id job.setting.walks ≡ walks → fits job (outcome_by walks b job draws id) ≡ true
       by true b e = fitting job (walk_outcome b job draws id) true e below (count_below_le _ _) (zeros_after _ job.setting.asks)
           (λ _. all_below_from (length job.setting.asks) _
-          (λ k l. each_value 4 (λ v. int_le (pos 1) v && int_le v (pos (job.setting.steps + 1))) _ job.setting.asks _ k (count_fits _) few l)) (walk_bins b)
+          (λ k l. each_value 4 (λ v. int_le (pos 1) v && int_le v (pos (job.setting.steps + 1))) _ job.setting.asks _ k (count_fits _) few l)) (walk_histogram_fits b)
       by false b e = fitting job (end_outcome job draws id) false e below (count_below_le _ _) (zeros_after _ job.setting.asks) (λ h. cc) refl
 
-  pub found_id : (with_bins : Bool) (id : ℕ) → (outcome_with with_bins job draws id).id ≡ id
-  found_id with_bins id = by (nat_lt id job.setting.walks) with_bins
+  pub found_id : (with_histogram : Bool) (id : ℕ) → (outcome_with with_histogram job draws id).id ≡ id
+  found_id with_histogram id = by (nat_lt id job.setting.walks) with_histogram
     where
       by : (walks b : Bool) → (outcome_by walks b job draws id).id ≡ id
       by true b = refl

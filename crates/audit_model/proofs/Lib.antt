@@ -1,7 +1,7 @@
 pub mod Accepted
 pub mod Below
 pub mod BinSums
-pub mod Bins
+pub mod Histogram
 pub mod Bools
 pub mod ColumnFacts
 pub mod Connected

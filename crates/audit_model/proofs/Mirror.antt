@@ -62,12 +62,12 @@ module _ (job : Job) where
   cases_next : (plan : List ℕ) (draw : ℕ) → (next job plan draw ≡ plan) ⊎ Move plan draw
   unfolding unit_of district_of
   cases_next plan draw = elim (cases_Bool (nat_lt draw (counted_draws job.graph.units job.districts))) [
-    | inr held ↦ inl (next_at plan draw None (proposal_none _ _ draw held) ∙ both_same (is_legal job plan))
+    | inr rejected ↦ inl (next_at plan draw None (proposal_none _ _ draw rejected) ∙ both_same (is_legal job plan))
     | inl counted ↦
         let below = ltb-true draw (counted_draws job.graph.units job.districts) counted in
         let at = next_at plan draw (Some (unit_of draw, district_of draw)) (proposal_some _ _ draw below) in
         elim (cases_Bool (is_legal job (set plan (unit_of draw) (district_of draw)))) [
-          | inr held ↦ inl (at ∙ cond-false _ _ _ held)
+          | inr rejected ↦ inl (at ∙ cond-false _ _ _ rejected)
           | inl legal ↦ inr (record { counted = below; legal = legal; after = at ∙ cond-true _ _ _ legal })
         ]
   ]

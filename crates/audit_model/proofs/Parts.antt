@@ -20,14 +20,14 @@ use Rattle.audit_model.proofs.Running.{apart-filter_below, apart-take}
 enough : (n : ℕ) (test : ℕ → Bool) (id : ℕ) → has (take n (filter_below n test)) id ≡ has (filter_below n test) id
 enough n test id = ap (λ xs. has xs id) (take_all n (filter_below n test) (length-filter_below n test))
 
-module _ (parts part : ℕ) (job : Job) (opening : List Outcome) where
+module _ (parts part : ℕ) (job : Job) (initial_outcomes : List Outcome) where
   lacks : ℕ → Bool
-  lacks id = not (has_id opening id)
+  lacks id = not (has_id initial_outcomes id)
 
   lies : ℕ → Bool
   lies id = lacks id && (id % parts == part)
 
-  pub each_in_its_part : (id : ℕ) → has (part_ids parts part job opening (total job)) id ≡ (has (pending_ids job opening) id && is_in_part parts part id)
+  pub each_in_its_part : (id : ℕ) → has (part_ids parts part job initial_outcomes (total job)) id ≡ (has (pending_ids job initial_outcomes) id && is_in_part parts part id)
   unfolding lies lacks
   each_in_its_part id =
       enough (total job) lies id
@@ -41,20 +41,20 @@ module _ (parts part : ℕ) (job : Job) (opening : List Outcome) where
       let found = has-filter_below (total job) lacks id both.0 in
       filter_below-has (total job) lies id found.0 (and_from (lacks id) (id % parts == part) found.1 both.1))
 
-  pub within_its_part : (budget id : ℕ) → has (part_ids parts part job opening budget) id ≡ true
-      → (id < total job) × ((has_id opening id ≡ false) × (id % parts ≡ part))
+  pub within_its_part : (budget id : ℕ) → has (part_ids parts part job initial_outcomes budget) id ≡ true
+      → (id < total job) × ((has_id initial_outcomes id ≡ false) × (id % parts ≡ part))
   unfolding lies lacks
   within_its_part budget id h =
       let found = has-filter_below (total job) lies id (has-take budget (filter_below (total job) lies) id h) in
       let both = and_parts (lacks id) (id % parts == part) found.1 in
-      (found.0, (not-true (has_id opening id) both.0, eqb-true (id % parts) part both.1))
+      (found.0, (not-true (has_id initial_outcomes id) both.0, eqb-true (id % parts) part both.1))
 
-  pub once_in_its_part : (budget : ℕ) → AllApart (part_ids parts part job opening budget)
+  pub once_in_its_part : (budget : ℕ) → AllApart (part_ids parts part job initial_outcomes budget)
   unfolding lies lacks
   once_in_its_part budget = apart-take budget (filter_below (total job) lies) (apart-filter_below (total job) lies)
 
 -- the single part of an undivided run has all missing ids
-pub only_part : (job : Job) (opening : List Outcome) (budget : ℕ) → part_ids 1 0 job opening budget ≡ take budget (pending_ids job opening)
-only_part job opening budget =
-    ap (take budget) (filter_below_same (total job) (λ id. not (has_id opening id) && (id % 1 == 0)) (λ id. not (has_id opening id))
-    (λ k l. and_true (not (has_id opening k)) (k % 1 == 0) (eq-eqb (k % 1) 0 (mod-one k))))
+pub only_part : (job : Job) (initial_outcomes : List Outcome) (budget : ℕ) → part_ids 1 0 job initial_outcomes budget ≡ take budget (pending_ids job initial_outcomes)
+only_part job initial_outcomes budget =
+    ap (take budget) (filter_below_same (total job) (λ id. not (has_id initial_outcomes id) && (id % 1 == 0)) (λ id. not (has_id initial_outcomes id))
+    (λ k l. and_true (not (has_id initial_outcomes k)) (k % 1 == 0) (eq-eqb (k % 1) 0 (mod-one k))))

@@ -97,7 +97,7 @@ module _ (m : Machine) where
 
 module _ (m : Machine) (run : IsRun m) where
   -- a claim of the next id
-  module _ (w id : ℕ) (free : slice_get m.held w ≡ Some None) (at : IsAt m m.next id) where
+  module _ (w id : ℕ) (free : slice_get m.open_ids w ≡ Some None) (at : IsAt m m.next id) where
     after_claim : Machine
     after_claim = (claimed m w (Some id)).0
 
@@ -107,9 +107,9 @@ module _ (m : Machine) (run : IsRun m) where
       | inl e ↦ inl (
         e,
         same_Some x id (same_Some (Some x) (Some id)
-            (sym h ∙ ap (slice_get (slice_set m.held w (Some id))) e ∙ get_set_same m.held w None (Some id) free)),
+            (sym h ∙ ap (slice_get (slice_set m.open_ids w (Some id))) e ∙ get_set_same m.open_ids w None (Some id) free)),
       )
-      | inr off ↦ inr (sym (get_set_other m.held v w (Some id) off) ∙ h)
+      | inr off ↦ inr (sym (get_set_other m.open_ids v w (Some id) off) ∙ h)
     ]
 
     -- the id was not open before
@@ -129,13 +129,13 @@ module _ (m : Machine) (run : IsRun m) where
       claimed = λ k x l h. elim (cases_eq k m.next) [
         | inl e ↦
             let same : x ≡ id = same_Some x id (sym h ∙ ap (slice_get (todo m)) e ∙ at) in
-            inr (w, get_set_same m.held w None (Some id) free ∙ ap (λ y. Some (Some y)) (sym same))
+            inr (w, get_set_same m.open_ids w None (Some id) free ∙ ap (λ y. Some (Some y)) (sym same))
         | inr off ↦ elim (run.claimed k x (omega (arith, l)) h) [
           | inl done ↦ inl done
           | inr holder ↦ inr (
             holder.0,
-            get_set_other m.held holder.0 w (Some id)
-                (λ e. none-some x (same_Some None (Some x) (sym free ∙ ap (slice_get m.held) (sym e) ∙ holder.1))) ∙ holder.1,
+            get_set_other m.open_ids holder.0 w (Some id)
+                (λ e. none-some x (same_Some None (Some x) (sym free ∙ ap (slice_get m.open_ids) (sym e) ∙ holder.1))) ∙ holder.1,
           )
         ]
       ];
@@ -169,8 +169,8 @@ module _ (m : Machine) (run : IsRun m) where
     unfolding after_post
     open_after_post v x h = elim (cases_eq v w) [
       | inl e ↦ absurd (none-some x (same_Some None (Some x)
-          (sym (get_set_same m.held w (Some id) None open_id) ∙ ap (slice_get (slice_set m.held w None)) (sym e) ∙ h)))
-      | inr off ↦ (off, sym (get_set_other m.held v w None off) ∙ h)
+          (sym (get_set_same m.open_ids w (Some id) None open_id) ∙ ap (slice_get (slice_set m.open_ids w None)) (sym e) ∙ h)))
+      | inr off ↦ (off, sym (get_set_other m.open_ids v w None off) ∙ h)
     ]
 
     front_more : (front : List ℕ) → IsFront front m.done → IsFront front (m.done ++ id ∷ [])
@@ -192,9 +192,9 @@ module _ (m : Machine) (run : IsRun m) where
         | inl done ↦ inl (has-append_left m.done (id ∷ []) x done)
         | inr holder ↦ elim (cases_eq holder.0 w) [
           | inl e ↦
-              let same : id ≡ x = same_Some id x (same_Some (Some id) (Some x) (sym open_id ∙ ap (slice_get m.held) (sym e) ∙ holder.1)) in
+              let same : id ≡ x = same_Some id x (same_Some (Some id) (Some x) (sym open_id ∙ ap (slice_get m.open_ids) (sym e) ∙ holder.1)) in
               inl (has-append_right m.done (id ∷ []) x (or_left (id == x) false (eq-eqb id x same)))
-          | inr off ↦ inr (holder.0, get_set_other m.held holder.0 w None off ∙ holder.1)
+          | inr off ↦ inr (holder.0, get_set_other m.open_ids holder.0 w None off ∙ holder.1)
         ]
       ];
       opened = λ v x h. run.opened v x (open_after_post v x h).1;
@@ -234,28 +234,28 @@ module _ (m : Machine) (run : IsRun m) where
     start_front = ([], sym (append-nil m.saved));
     saved_front = ([], sym (append-nil m.saved));
     claimed = λ k id l h. absurd (omega (arith, l));
-    opened = λ w id h. absurd (get-replicate (length m.held) w id h);
-    not_both = λ w id h. absurd (get-replicate (length m.held) w id h);
-    one_worker = λ v w id h g. absurd (get-replicate (length m.held) v id h);
+    opened = λ w id h. absurd (get-replicate (length m.open_ids) w id h);
+    not_both = λ w id h. absurd (get-replicate (length m.open_ids) w id h);
+    one_worker = λ v w id h g. absurd (get-replicate (length m.open_ids) v id h);
     ahead = λ k id l h. (at_is_new (step m Halt).0 k id h).1;
   }
 
 -- each event keeps the invariant
 pub step_keeps : (m : Machine) (event : Event) → IsRun m → IsRun (step m event).0
 unfolding after_claim after_post
-step_keeps m (Claim w) run = by (slice_get m.held w) refl
+step_keeps m (Claim w) run = by (slice_get m.open_ids w) refl
   where
-    take : (o : Option ℕ) → slice_get m.held w ≡ Some None → slice_get (todo m) m.next ≡ o → IsRun (claimed m w o).0
+    take : (o : Option ℕ) → slice_get m.open_ids w ≡ Some None → slice_get (todo m) m.next ≡ o → IsRun (claimed m w o).0
     take None free at = run
     take (Some id) free at = claim_keeps m run w id free at
 
-    by : (o : Option (Option ℕ)) → slice_get m.held w ≡ o → IsRun (claim m w o).0
+    by : (o : Option (Option ℕ)) → slice_get m.open_ids w ≡ o → IsRun (claim m w o).0
     by None e = run
     by (Some (Some id)) e = run
     by (Some None) e = take (slice_get (todo m) m.next) e refl
-step_keeps m (Post w) run = by (slice_get m.held w) refl
+step_keeps m (Post w) run = by (slice_get m.open_ids w) refl
   where
-    by : (o : Option (Option ℕ)) → slice_get m.held w ≡ o → IsRun (post m w o).0
+    by : (o : Option (Option ℕ)) → slice_get m.open_ids w ≡ o → IsRun (post m w o).0
     by None e = run
     by (Some None) e = run
     by (Some (Some id)) e = post_keeps m run w id e

@@ -102,7 +102,7 @@ module _ (tail : Tail) (start : ℤ) (values later : List ℤ) (enough : ℕ) (h
       (first_below_same (length values + 1) whole_test front_test same ∙ front_found.1))
 
   -- once enough values are in the tail, later values do not change the stop
-  pub stop_is_settled : stop tail start (values ++ later) enough ≡ stop tail start values enough
+  pub stop_is_decided : stop tail start (values ++ later) enough ≡ stop tail start values enough
   unfolding front_test whole_test
-  stop_is_settled =
+  stop_is_decided =
       ap (stopped_at enough tail start (values ++ later)) whole_found ∙ sym (ap (stopped_at enough tail start values) front_found.1)

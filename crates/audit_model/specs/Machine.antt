@@ -21,7 +21,7 @@ pub record Machine : Type 0 where
   pub saved : List ℕ
   pub done : List ℕ
   pub next : ℕ
-  pub held : List (Option ℕ)
+  pub open_ids : List (Option ℕ)
 
 -- the ids that the run has to do, in rising order
 abbrev pub todo : Machine → List ℕ
@@ -30,9 +30,9 @@ todo m = take m.budget (filter_below m.total (λ id. not (has m.start id) && is_
 -- the worker claims the id, if there is one
 abbrev pub claimed : Machine → ℕ → Option ℕ → Machine × Did
 claimed m worker None = (m, Empty)
-claimed m worker (Some id) = (record m { next = m.next + 1; held = slice_set m.held worker (Some id) }, Claimed id)
+claimed m worker (Some id) = (record m { next = m.next + 1; open_ids = slice_set m.open_ids worker (Some id) }, Claimed id)
 
--- an event by the worker's entry in `held`: no such worker, an open id, or none
+-- an event by the worker's entry in `open_ids`: no such worker, an open id, or none
 abbrev pub claim : Machine → ℕ → Option (Option ℕ) → Machine × Did
 claim m worker None = (m, Idle)
 claim m worker (Some (Some id)) = (m, Idle)
@@ -41,14 +41,14 @@ claim m worker (Some None) = claimed m worker (slice_get (todo m) m.next)
 abbrev pub post : Machine → ℕ → Option (Option ℕ) → Machine × Did
 post m worker None = (m, Idle)
 post m worker (Some None) = (m, Idle)
-post m worker (Some (Some id)) = (record m { done = m.done ++ id ∷ []; held = slice_set m.held worker None }, Posted id)
+post m worker (Some (Some id)) = (record m { done = m.done ++ id ∷ []; open_ids = slice_set m.open_ids worker None }, Posted id)
 
 -- one event
 abbrev pub step : Machine → Event → Machine × Did
-step m (Claim worker) = claim m worker (slice_get m.held worker)
-step m (Post worker) = post m worker (slice_get m.held worker)
+step m (Claim worker) = claim m worker (slice_get m.open_ids worker)
+step m (Post worker) = post m worker (slice_get m.open_ids worker)
 step m Save = (record m { saved = m.done }, Saved (length m.done))
-step m Halt = (record m { start = m.saved; done = m.saved; next = 0; held = replicate (length m.held) None }, Halted)
+step m Halt = (record m { start = m.saved; done = m.saved; next = 0; open_ids = replicate (length m.open_ids) None }, Halted)
 
 -- a run of one part that starts with these ids done and saved
 abbrev pub started_part : ℕ → ℕ → ℕ → ℕ → ℕ → List ℕ → Machine
@@ -61,7 +61,7 @@ started_part parts part total budget workers ids = record {
   saved = ids;
   done = ids;
   next = 0;
-  held = replicate workers None;
+  open_ids = replicate workers None;
 }
 
 -- a run of all ids that starts with these ids done and saved
@@ -89,7 +89,7 @@ IsFront front whole = (rest : List ℕ) × (whole ≡ front ++ rest)
 
 -- the worker has the id open
 abbrev pub IsOpen : Machine → ℕ → ℕ → Type 0
-IsOpen m worker id = slice_get m.held worker ≡ Some (Some id)
+IsOpen m worker id = slice_get m.open_ids worker ≡ Some (Some id)
 
 -- the id is at this position of those to do
 abbrev pub IsAt : Machine → ℕ → ℕ → Type 0

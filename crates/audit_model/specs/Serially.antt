@@ -6,7 +6,7 @@ use Rattle.audit_model.specs.declared.outcome.Serial.{Serial}
 use Rattle.audit_model.specs.declared.setting.Ask.{Ask}
 use Rattle.audit_model.specs.Below.{count_below}
 use Rattle.audit_model.specs.Job.{Job}
-use Rattle.audit_model.specs.Trajectory.{Draws, four_values, in_tail, moves, no_bins, plan_value, visit, visits_in_tail}
+use Rattle.audit_model.specs.Trajectory.{Draws, four_values, in_tail, moves, empty_histogram, plan_value, visit, visits_in_tail}
 
 -- the outcome of a walk of this many steps from the start plan along a stream
 abbrev pub run_outcome : Job → Draws → ℕ → ℕ → Outcome
@@ -14,7 +14,7 @@ run_outcome job draws stream steps = record {
   id = 0;
   moved = moves job (draws stream) job.start steps;
   values = four_values (map (λ ask. pos (visits_in_tail job (draws stream) steps ask)) job.setting.asks);
-  bins = no_bins;
+  bins = empty_histogram;
 }
 
 -- the number of plans visited after the start plan that are in the ask's tail

@@ -70,11 +70,11 @@ some_if true s = Some s
 some_if false s = None
 
 -- the stop, if enough of these values are in the tail or no endpoint is missing
-abbrev pub settled_by : Job → ℕ × Ask → ℕ → List ℤ → Option Stop
-settled_by job ask enough values = some_if
+abbrev pub stop_of_known_by : Job → ℕ × Ask → ℕ → List ℤ → Option Stop
+stop_of_known_by job ask enough values = some_if
     (nat_le enough (count_in_tail ask.1.tail (plan_value job job.start ask.1.score) values) || (length values == job.setting.ends))
     (stop_of job ask values enough)
 
 -- the stop that the outcomes decide for an ask and its place
-abbrev pub settled : Job → ℕ × Ask → ℕ → List Outcome → Option Stop
-settled job ask enough outcomes = settled_by job ask enough (known_values job ask.0 outcomes)
+abbrev pub stop_of_known : Job → ℕ × Ask → ℕ → List Outcome → Option Stop
+stop_of_known job ask enough outcomes = stop_of_known_by job ask enough (known_values job ask.0 outcomes)

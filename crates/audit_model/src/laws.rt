@@ -21,7 +21,7 @@ ghost use Rattle.audit_model.specs.Step.{next, ways, mirrored};
 ghost use Rattle.audit_model.specs.declared.setting.Tail.{Tail};
 ghost use Rattle.audit_model.specs.Stopping.{count_in_tail, stop};
 ghost use Rattle.audit_model.specs.Test.{bound, p_value};
-ghost use Rattle.audit_model.specs.Trajectory.{Draws, bare, outcome_with, sequence, visit, whole};
+ghost use Rattle.audit_model.specs.Trajectory.{Draws, without_histogram, outcome_with, sequence, visit, whole};
 
 /// Shows that the test of connectedness decides if any two units of the set have a path.
 pub fn is_connected_decides()
@@ -78,8 +78,8 @@ pub fn visits_stay_legal()
 {}
 
 /// Shows that an outcome without its histogram is the one that is found if none is asked for.
-pub fn bare_outcomes_have_no_bins()
-    ensures { (job : Job) (draws : Draws) (id : ℕ) → bare (whole job draws id) ≡ outcome_with false job draws id }
+pub fn outcomes_without_histogram_match()
+    ensures { (job : Job) (draws : Draws) (id : ℕ) → without_histogram (whole job draws id) ≡ outcome_with false job draws id }
 {}
 
 /// Shows that a run resumes rightly: from outcomes of the job's trajectories, with their histograms
@@ -92,13 +92,13 @@ pub fn consistent_runs_go_on_rightly()
 /// Shows that the outcome of each trajectory is plausible for its job, with its histogram or
 /// without.
 pub fn what_is_found_fits()
-    ensures { (with_bins : Bool) (job : Job) (draws : Draws) (id : ℕ) → length job.setting.asks ≤ 4 → id < total job →
-        IsTrue (fits job (outcome_with with_bins job draws id)) }
+    ensures { (with_histogram : Bool) (job : Job) (draws : Draws) (id : ℕ) → length job.setting.asks ≤ 4 → id < total job →
+        IsTrue (fits job (outcome_with with_histogram job draws id)) }
 {}
 
 /// Shows that a plausible outcome is plausible without its histogram.
-pub fn bare_outcomes_fit()
-    ensures { (job : Job) (o : Outcome) → IsTrue (fits job o) → IsTrue (fits job (bare o)) }
+pub fn outcomes_fit_without_histogram()
+    ensures { (job : Job) (o : Outcome) → IsTrue (fits job o) → IsTrue (fits job (without_histogram o)) }
 {}
 
 /// Shows that the default rules allow every plan: no regions, no group majority, no frozen unit, and
@@ -143,9 +143,9 @@ pub fn local_units_may_leave()
 /// Shows that a run from right outcomes that takes every missing id leaves the outcomes of one
 /// thread.
 pub fn resumed_runs_add_up()
-    ensures { (job : Job) (draws : Draws) (opening : List Outcome) (budget : ℕ) → IsRight job draws opening →
-        ((id : ℕ) → id < total job → IsTrue (has_id opening id || has (run_ids job opening budget) id)) →
-        full job draws opening budget ≡ sequence job draws }
+    ensures { (job : Job) (draws : Draws) (initial_outcomes : List Outcome) (budget : ℕ) → IsRight job draws initial_outcomes →
+        ((id : ℕ) → id < total job → IsTrue (has_id initial_outcomes id || has (run_ids job initial_outcomes budget) id)) →
+        full job draws initial_outcomes budget ≡ sequence job draws }
 {}
 
 /// Shows that the parts of a job cover it.
@@ -153,17 +153,17 @@ pub fn resumed_runs_add_up()
 /// With enough budget, a part takes each missing id with its remainder, once; the single part of
 /// one takes all. Each id has one remainder, so all parts together take each id once.
 pub fn parts_make_the_whole()
-    ensures each { (parts part : ℕ) (job : Job) (opening : List Outcome) (id : ℕ) →
-        has (part_ids parts part job opening (total job)) id ≡ (has (pending_ids job opening) id && is_in_part parts part id) }
-    ensures within { (parts part : ℕ) (job : Job) (opening : List Outcome) (budget id : ℕ) → IsTrue (has (part_ids parts part job opening budget) id) →
-        (id < total job) × (IsFalse (has_id opening id) × (id % parts ≡ part)) }
-    ensures once { (parts part : ℕ) (job : Job) (opening : List Outcome) (budget : ℕ) → AllApart (part_ids parts part job opening budget) }
-    ensures one { (job : Job) (opening : List Outcome) (budget : ℕ) → part_ids 1 0 job opening budget ≡ take budget (pending_ids job opening) }
+    ensures each { (parts part : ℕ) (job : Job) (initial_outcomes : List Outcome) (id : ℕ) →
+        has (part_ids parts part job initial_outcomes (total job)) id ≡ (has (pending_ids job initial_outcomes) id && is_in_part parts part id) }
+    ensures within { (parts part : ℕ) (job : Job) (initial_outcomes : List Outcome) (budget id : ℕ) → IsTrue (has (part_ids parts part job initial_outcomes budget) id) →
+        (id < total job) × (IsFalse (has_id initial_outcomes id) × (id % parts ≡ part)) }
+    ensures once { (parts part : ℕ) (job : Job) (initial_outcomes : List Outcome) (budget : ℕ) → AllApart (part_ids parts part job initial_outcomes budget) }
+    ensures one { (job : Job) (initial_outcomes : List Outcome) (budget : ℕ) → part_ids 1 0 job initial_outcomes budget ≡ take budget (pending_ids job initial_outcomes) }
 {}
 
 /// Shows that once enough values are in the tail, later values do not change where an
 /// early-stopping test stops.
-pub fn stops_are_settled()
+pub fn stops_are_decided()
     ensures { (tail : Tail) (start : ℤ) (values later : List ℤ) (enough : ℕ) → enough ≤ count_in_tail tail start values →
         stop tail start (values ++ later) enough ≡ stop tail start values enough }
 {}

@@ -24,7 +24,7 @@ pub use fault::{
     WordFault,
 };
 pub use laws::{
-    bare_outcomes_have_no_bins, consistent_runs_go_on_rightly, visits_stay_legal,
+    consistent_runs_go_on_rightly, outcomes_without_histogram_match, visits_stay_legal,
     ways_are_symmetric,
 };
 pub use lists::{AskList, LabelList, NumList, UnitList};

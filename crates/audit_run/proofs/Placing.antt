@@ -3,12 +3,12 @@ use Rattle.std.proofs.Common.{◌≡◌, ◌≤◌, List, [], Bool, true, false,
 use Rattle.audit_model.specs.Pair.{Pair}
 use Rattle.audit_model.specs.Job.{Job}
 use Rattle.audit_model.specs.declared.outcome.Outcome.{Outcome}
-use Rattle.audit_statement.specs.Endings.{IsOpening, opening_from}
+use Rattle.audit_statement.specs.Endings.{AreInitialOutcomes, initial_outcomes_from}
 use Rattle.audit_laws.specs.Runs.{IsRunJob}
 use Rattle.report.specs.declared.ended.Ended.{Ended}
-use Rattle.audit_start.specs.declared.opening.Target.{Target}
-use Rattle.audit_start.specs.declared.opening.Opening.{Opening}
-use Rattle.audit_start.specs.Opening.{IsOpened, IsTargetFor, IsTarget}
+use Rattle.audit_start.specs.declared.resume_state.Target.{Target}
+use Rattle.audit_start.specs.declared.resume_state.ResumeState.{ResumeState}
+use Rattle.audit_start.specs.ResumeState.{IsOpened, IsTargetFor, IsTarget}
 use Rattle.plan_runs.specs.RunBuffers.{IsStartOf}
 use Rattle.audit_laws.specs.Calls.{Finishes}
 use Rattle.audit_model.specs.State.{Kept, Stream}
@@ -30,13 +30,13 @@ pub goes_on : (job : Job) (out later : Stream) (k l m : Kept) (why : Ended) → 
 goes_on job out later k l m why same f = subst (λ (x : Kept). Finishes job out later x m why) same f
 
 -- a run whose tests stop early does not resume, so it starts without outcomes
-opens_with_none : (job : Job) → IsRunJob job → 1 ≤ job.setting.stop → (slots : Option Pair) (outcomes : List Outcome) → IsOpening job slots outcomes → outcomes ≡ []
+opens_with_none : (job : Job) → IsRunJob job → 1 ≤ job.setting.stop → (slots : Option Pair) (outcomes : List Outcome) → AreInitialOutcomes job slots outcomes → outcomes ≡ []
 opens_with_none job run early slots outcomes opened =
-    none_of outcomes (subst (λ b. opening_from b job opened.seen.pair ≡ Some outcomes) (run.alone early).fresh opened.seen.holds)
+    none_of outcomes (subst (λ b. initial_outcomes_from b job opened.seen.pair ≡ Some outcomes) (run.alone early).fresh opened.seen.holds)
   where
     none_of : (os : List Outcome) → ◌≡◌ {A = Option (List Outcome)} (Some []) (Some os) → os ≡ []
     none_of os e = cc
 
 -- the initial outcomes that were found are valid ones
-pub starts_so : (job : Job) (slots : Option Pair) (o : Opening) → IsOpened job slots o → IsStartOf job o.outcomes.items
+pub starts_so : (job : Job) (slots : Option Pair) (o : ResumeState) → IsOpened job slots o → IsStartOf job o.outcomes.items
 starts_so job slots o is = record { run = is.run; fit = is.fit; fresh = λ early. opens_with_none job is.run early slots o.outcomes.items is.opened }

@@ -28,7 +28,7 @@ use Rattle.audit_statement.specs.Status.{line_of, status_of}
 use Rattle.audit_model.specs.State.{Kept, Stream}
 use Rattle.audit_model.specs.Observed.{IfObserved}
 use Rattle.audit_statement.specs.World.{World, world}
-use Rattle.audit_run.specs.Stages.{AreReadyFor, ArePlansReady, IsRefusedSo, PlansRefused, PlansRunTo, plans_ended, read_ended}
+use Rattle.audit_run.specs.Stages.{ArePreparedFor, ArePlansPrepared, IsRefusedSo, PlansRefused, PlansRunTo, plans_ended, read_ended}
 use Rattle.plan_runs.specs.Plans.{ReportsPlans}
 use Rattle.audit_run.proofs.Visiting.{visit_legally}
 
@@ -45,8 +45,8 @@ unfolding plans_judged
 judged_many setting bytes many = rw (lt-ltb most_bytes (length bytes) many) refl
 
 module _ (setting : Setting) (before after : Stream) (bytes : List ℕ) (given : IfObserved before.bytes (λ left. left ≡ bytes)) (few : length bytes ≤ most_bytes) (faults : after.faults ≡ before.faults) where
-  pub jobs_ready : (named : List Named) → IsAtEnd after.bytes → AreShared setting named → jobs_reading setting bytes ≡ Ok (jobs_of named) → AreReadyFor setting before after named
-  jobs_ready named ended shared e = record {
+  pub jobs_prepared : (named : List Named) → IsAtEnd after.bytes → AreShared setting named → jobs_reading setting bytes ≡ Ok (jobs_of named) → ArePreparedFor setting before after named
+  jobs_prepared named ended shared e = record {
     bytes = bytes;
     given = given;
     judged_so = judged_few setting bytes (Ok (jobs_of named)) few e;
@@ -79,8 +79,8 @@ read_refused setting before after read.Memory r = r
 
 -- the source was read to its end
 pub at_its_end : {A : Type 0} (setting : Setting) (before after : Stream) (r : Result (Vec Named A) Ended) → IsAtEnd after.bytes
-    → MatchResult r (λ plans. IsAtEnd after.bytes → AreReadyFor setting before after plans.items) (λ why. PlansRefused setting before after why)
-    → MatchResult r (λ plans. AreReadyFor setting before after plans.items) (λ why. PlansRefused setting before after why)
+    → MatchResult r (λ plans. IsAtEnd after.bytes → ArePreparedFor setting before after plans.items) (λ why. PlansRefused setting before after why)
+    → MatchResult r (λ plans. ArePreparedFor setting before after plans.items) (λ why. PlansRefused setting before after why)
 at_its_end setting before after (Ok plans) ended h = h ended
 at_its_end setting before after (Err why) ended h = h
 
@@ -102,8 +102,8 @@ words_run words source f out keeper (inr e) = record {
 }
 
 module _ (words : List (List ℕ)) (setting : Setting) (accepted : setting_of words ≡ Ok setting) (before after : Stream) where
-  pub ready : (named : List Named) → AreReadyFor setting before after named → ArePlansReady words before after named
-  ready named r = record {
+  pub plans_prepared : (named : List Named) → ArePreparedFor setting before after named → ArePlansPrepared words before after named
+  plans_prepared named r = record {
     setting = setting;
     prepared = record {
       bytes = r.bytes;
@@ -149,13 +149,13 @@ module _ (words : List (List ℕ)) (setting : Setting) (accepted : setting_of wo
     refused_run _ r = absurd r
 
   -- the call goes on or ends
-  pub prepared : {A : Type 0} (r : Result (Vec Named A) Ended) → MatchResult r (λ plans. AreReadyFor setting before after plans.items) (λ why. PlansRefused setting before after why)
-      → MatchResult r (λ plans. ArePlansReady words before after plans.items) (λ why. (out : Stream) (keeper : Kept) → PlansRunTo words (world before out keeper) (world after out keeper) why)
-  prepared (Ok plans) h = ready plans.items h
+  pub prepared : {A : Type 0} (r : Result (Vec Named A) Ended) → MatchResult r (λ plans. ArePreparedFor setting before after plans.items) (λ why. PlansRefused setting before after why)
+      → MatchResult r (λ plans. ArePlansPrepared words before after plans.items) (λ why. (out : Stream) (keeper : Kept) → PlansRunTo words (world before out keeper) (world after out keeper) why)
+  prepared (Ok plans) h = plans_prepared plans.items h
   prepared (Err why) h = λ out keeper. refused_run out keeper why h
 
 -- the reports were written, in full or in part, or memory ran out
-pub reported_run : (words : List (List ℕ)) (before after : Stream) (named : List Named) (by : ArePlansReady words before after named) (out out' : Stream) (keeper : Kept) (why : Ended)
+pub reported_run : (words : List (List ℕ)) (before after : Stream) (named : List Named) (by : ArePlansPrepared words before after named) (out out' : Stream) (keeper : Kept) (why : Ended)
     → ReportsPlans by.setting.key (jobs_of named) out out' why → PlansRunTo words (world before out keeper) (world after out' keeper) why
 reported_run words before after named by out out' keeper ended.Done r = record {
   cause = record { setting = by.setting; jobs = jobs_of named; prepared = by.prepared; written = r.0; legal = visit_legally by.setting by.shared.regions by.shared.group by.shared.frozen named by.shared.each };

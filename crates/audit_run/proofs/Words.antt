@@ -15,7 +15,7 @@ use Rattle.audit_statement.specs.Several.{names_plans}
 use Rattle.audit_model.specs.State.{Stream}
 use Rattle.audit_words.proofs.Unnamed.{plans_lack, resume_is, save_is}
 use Rattle.audit_laws.specs.Runs.{AcceptedJobsAreRuns}
-use Rattle.audit_run.specs.Stages.{ArePlansReady}
+use Rattle.audit_run.specs.Stages.{ArePlansPrepared}
 use Rattle.plan_runs.specs.Plans.{RunsAlone}
 
 -- the command is the one on several plans, and nothing is saved or resumed
@@ -52,7 +52,7 @@ plans_setting (word ∷ rest) setting named e =
     with_fault (pairs rest) (fault_of Plans (pairs rest)) setting refl (sym (ap (of_command word (pairs rest)) spelled) ∙ e)
 
 -- each of the jobs is a run that saves nothing and does not resume
-pub run_alone : AcceptedJobsAreRuns → (words : List (List ℕ)) (before after : Stream) (named : List Named) → names_plans words ≡ true → ArePlansReady words before after named
+pub run_alone : AcceptedJobsAreRuns → (words : List (List ℕ)) (before after : Stream) (named : List Named) → names_plans words ≡ true → ArePlansPrepared words before after named
     → All (λ (n : Named). RunsAlone n.job) named
 run_alone accepted_jobs_are_runs words before after named spoken by = λ k d inside.
     let accepted = by.prepared.input.words_are in
@@ -67,6 +67,6 @@ run_alone accepted_jobs_are_runs words before after named spoken by = λ k d ins
     }
 
 -- all plans have one key
-pub same_key : (words : List (List ℕ)) (before after : Stream) (named : List Named) (by : ArePlansReady words before after named)
+pub same_key : (words : List (List ℕ)) (before after : Stream) (named : List Named) (by : ArePlansPrepared words before after named)
     → All (λ (n : Named). n.job.setting.key ≡ by.setting.key) named
 same_key words before after named by = λ k d inside. ap (λ (s : Setting). s.key) (by.shared.each k d inside).set

@@ -38,7 +38,7 @@ read_ended read.TooMany = ended.TooManyBytes
 read_ended read.Memory = ended.NoMemory
 
 -- all bytes were read and accepted as the jobs of these plans
-pub record AreReadyFor (setting : Setting) (before after : Stream) (named : List Named) : Type 0 where
+pub record ArePreparedFor (setting : Setting) (before after : Stream) (named : List Named) : Type 0 where
   pub bytes : List ℕ
   pub given : IfObserved before.bytes (λ left. left ≡ bytes)
   pub judged_so : plans_judged setting bytes ≡ Ok (jobs_of named)
@@ -72,7 +72,7 @@ pub record PlansRunTo (words : List (List ℕ)) (before after : World) (why : En
   pub line_is : line_of (columns_of words) (ending_of why) ≡ line_of (columns_kept why) (ending_of why)
 
 -- the jobs were made from the arguments and the source
-pub record ArePlansReady (words : List (List ℕ)) (before after : Stream) (named : List Named) : Type 0 where
+pub record ArePlansPrepared (words : List (List ℕ)) (before after : Stream) (named : List Named) : Type 0 where
   pub setting : Setting
   pub prepared : ArePrepared words before after setting (jobs_of named)
   pub shared : AreShared setting named

@@ -14,8 +14,8 @@ use audit_io::gate::Gate;
 use audit_io::keeper::Keeper;
 use audit_io::sink::Sink;
 use audit_io::source::Source;
-use claim_counter::runtime::Runtime;
 use audit_words::{Build, answer, question_of};
+use claim_counter::runtime::Runtime;
 use std::sync::Wait;
 use std::thread::Threads;
 

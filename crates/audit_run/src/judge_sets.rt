@@ -8,9 +8,9 @@ ghost use Rattle.audit_run.specs.JudgeSets.{AreCutJudgeSets, AreRuledJudgeSets, 
 use audit_model::memory::Memory;
 use audit_model::outcome::SumsView;
 use audit_model::rules::Rules;
-use plan_runs::judges::guards;
 use flip_guard::guard::Guard;
 use plan_csv::named::Named;
+use plan_runs::judges::guards;
 use region_guard::guard::RegionGuard;
 use region_guard::judges::region_guards;
 use std::alloc::Global;

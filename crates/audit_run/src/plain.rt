@@ -14,9 +14,9 @@ use audit_io::keeper::Keeper;
 use audit_io::sink::Sink;
 use audit_io::source::Source;
 use audit_laws::plain_laws::{promised_calls_audit_plainly, promised_calls_end_plainly};
-use claim_counter::runtime::Runtime;
 use audit_words::Build;
 use audit_words::laws::questions_were_refused;
+use claim_counter::runtime::Runtime;
 use std::sync::Wait;
 use std::thread::Threads;
 

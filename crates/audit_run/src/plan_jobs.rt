@@ -3,19 +3,19 @@
 ghost use Rattle.std.specs.Prelude.{◌≡◌, ◌≤◌, MatchResult, length};
 ghost use Rattle.std.specs.Io.KnownBytes.{IsAtEnd};
 ghost use Rattle.audit_model.specs.Limits.{IsSetting};
-ghost use Rattle.audit_run.specs.Stages.{AreReadyFor, ArePlansReady, PlansRefused, PlansRunTo, plans_ended, read_ended};
+ghost use Rattle.audit_run.specs.Stages.{ArePreparedFor, ArePlansPrepared, PlansRefused, PlansRunTo, plans_ended, read_ended};
 ghost use Rattle.audit_statement.specs.Accepted.{most_bytes};
 ghost use Rattle.audit_model.specs.State.{Kept, Stream};
 ghost use Rattle.audit_model.specs.Observed.{IfObserved};
 ghost use Rattle.audit_statement.specs.World.{world};
 ghost use Rattle.audit_words.specs.Spoken.{spoken};
 
-use audit_start::prepare::word_end;
-use audit_start::reading::{ReadEnd, read_source};
 use audit_io::source::Source;
 use audit_model::fault::PlansFault;
 use audit_model::setting::{Columns, Setting};
 use audit_model::text::Text;
+use audit_start::prepare::word_end;
+use audit_start::reading::{ReadEnd, read_source};
 use audit_words::read;
 use plan_csv::named::Named;
 use plan_csv::read_jobs;
@@ -75,7 +75,7 @@ fn judge_plans(alloc: Global, setting: Setting, bytes: &[u8]) -> Result<Vec<Name
     requires few { length bytes.now ≤ most_bytes }
     requires within { IsSetting setting }
     ensures { (before after : Stream) → IfObserved before.bytes (λ left. left ≡ bytes.now) → after.faults ≡ before.faults
-        → MatchResult result (λ plans. IsAtEnd after.bytes → AreReadyFor setting before after plans.items) (λ why. PlansRefused setting before after why) }
+        → MatchResult result (λ plans. IsAtEnd after.bytes → ArePreparedFor setting before after plans.items) (λ why. PlansRefused setting before after why) }
 {
     match read_jobs(alloc, &setting, bytes) {
         Ok(plans) => {
@@ -93,7 +93,7 @@ fn prepare_jobs<S: Source>(
     source: &mut S,
 ) -> Result<Vec<Named>, Ended>
     requires { IsSetting setting }
-    ensures { MatchResult result (λ plans. AreReadyFor setting (S.state source.old) (S.state source.new) plans.items)
+    ensures { MatchResult result (λ plans. ArePreparedFor setting (S.state source.old) (S.state source.new) plans.items)
         (λ why. PlansRefused setting (S.state source.old) (S.state source.new) why) }
 {
     match read_source(alloc, source) {
@@ -111,7 +111,7 @@ pub fn prepare_plans<S: Source>(
     words: &[String],
     source: &mut S,
 ) -> Result<Vec<Named>, Ended>
-    ensures { MatchResult result (λ plans. ArePlansReady (spoken words.now) (S.state source.old) (S.state source.new) plans.items)
+    ensures { MatchResult result (λ plans. ArePlansPrepared (spoken words.now) (S.state source.old) (S.state source.new) plans.items)
         (λ why. (out : Stream) (keeper : Kept) → PlansRunTo (spoken words.now) (world (S.state source.old) out keeper) (world (S.state source.new) out keeper) why) }
 {
     match read(alloc, words) {

@@ -2,26 +2,26 @@
 
 ghost use Rattle.std.specs.Prelude.{◌≡◌, [], false};
 ghost use Rattle.audit_model.specs.State.{Kept};
-ghost use Rattle.audit_statement.specs.Endings.{IsOpening, saves};
+ghost use Rattle.audit_statement.specs.Endings.{AreInitialOutcomes, saves};
 ghost use Rattle.audit_statement.specs.Due.{LetsSavesOf};
 ghost use Rattle.audit_laws.specs.Calls.{Finishes};
 ghost use Rattle.audit_laws.specs.Runs.{IsRunJob};
-ghost use Rattle.audit_start.specs.Opening.{IsOpened};
+ghost use Rattle.audit_start.specs.ResumeState.{IsOpened};
 ghost use Rattle.plan_runs.specs.Resources.{IsJudgeSet};
 ghost use Rattle.plan_runs.specs.RunBuffers.{IsStartOf};
 
-use audit_start::opening::{Opening, open};
 use audit_io::gate::Gate;
 use audit_io::keeper::Keeper;
 use audit_io::sink::Sink;
 use audit_model::outcome::{Outcome, SumsView};
-use plan_runs::saving::{finish_saved, make_saved_resources};
-use plan_runs::judges::guards;
-use plan_runs::resources::make_resources;
-use plan_runs::walking::finish_unsaved;
+use audit_start::resume_state::{ResumeState, open};
 use claim_counter::runtime::Runtime;
 use flip_guard::judge::Judge;
 use plan_core::job::Job;
+use plan_runs::judges::guards;
+use plan_runs::resources::make_resources;
+use plan_runs::saving::{finish_saved, make_saved_resources};
+use plan_runs::walking::finish_unsaved;
 use region_guard::judges::region_guards;
 use report::ended::Ended;
 use std::sync::Wait;
@@ -38,7 +38,7 @@ fn run_unsaved<R: Threads + Sync, K: Sink, J: Judge + Send, G: Gate + Sync>(
     requires start { IsStartOf job.now outcomes.now }
     requires unsaved { saves job.now.setting ≡ false }
     requires judges { IsJudgeSet J.judging job.now judges }
-    ensures { (k : Kept) → IsOpening job.now k.slots outcomes.now → Finishes job.now (K.state out.old) (K.state out.new) k k result }
+    ensures { (k : Kept) → AreInitialOutcomes job.now k.slots outcomes.now → Finishes job.now (K.state out.old) (K.state out.new) k k result }
 {
     match make_resources(rt.alloc, job, outcomes, judges) {
         Ok(resources) => finish_unsaved(rt, job, resources, out).ended(),
@@ -56,18 +56,18 @@ fn finish_judged<
 >(
     rt: &Runtime<'_, R, G>,
     job: &Job,
-    opening: Opening,
+    resume_state: ResumeState,
     judges: Vec<J>,
     out: &mut K,
     keeper: C,
 ) -> (Ended, C)
-    requires opened { IsOpened job.now (C.state keeper).slots opening }
+    requires opened { IsOpened job.now (C.state keeper).slots resume_state }
     requires judges { IsJudgeSet J.judging job.now judges }
     requires lets { LetsSavesOf C.lets job.now (C.state keeper) }
     ensures { Finishes job.now (K.state out.old) (K.state out.new)
         (C.state keeper) (C.state result.1) result.0 }
 {
-    let Opening { outcomes, target } = opening;
+    let ResumeState { outcomes, target } = resume_state;
     match target {
         None => (
             run_unsaved(rt, job, outcomes.as_slice(), judges, out),
@@ -90,11 +90,11 @@ fn finish_judged<
 fn finish_cut<R: Threads + Wait + Sync, K: Sink, C: Keeper + Send, G: Gate + Sync>(
     rt: &Runtime<'_, R, G>,
     job: &Job,
-    opening: Opening,
+    resume_state: ResumeState,
     out: &mut K,
     keeper: C,
 ) -> (Ended, C)
-    requires opened { IsOpened job.now (C.state keeper).slots opening }
+    requires opened { IsOpened job.now (C.state keeper).slots resume_state }
     requires no_regions { job.now.regions ≡ [] }
     requires no_group { job.now.setting.group_districts ≡ 0 }
     requires no_frozen { job.now.frozen ≡ [] }
@@ -111,7 +111,7 @@ fn finish_cut<R: Threads + Wait + Sync, K: Sink, C: Keeper + Send, G: Gate + Syn
         rules,
         workers + 1,
     ) {
-        Ok(judges) => finish_judged(rt, job, opening, judges, out, keeper),
+        Ok(judges) => finish_judged(rt, job, resume_state, judges, out, keeper),
         Err(_) => (Ended::NoMemory, keeper),
     }
 }
@@ -120,11 +120,11 @@ fn finish_cut<R: Threads + Wait + Sync, K: Sink, C: Keeper + Send, G: Gate + Syn
 fn finish_ruled<R: Threads + Wait + Sync, K: Sink, C: Keeper + Send, G: Gate + Sync>(
     rt: &Runtime<'_, R, G>,
     job: &Job,
-    opening: Opening,
+    resume_state: ResumeState,
     out: &mut K,
     keeper: C,
 ) -> (Ended, C)
-    requires opened { IsOpened job.now (C.state keeper).slots opening }
+    requires opened { IsOpened job.now (C.state keeper).slots resume_state }
     requires lets { LetsSavesOf C.lets job.now (C.state keeper) }
     ensures { Finishes job.now (K.state out.old) (K.state out.new)
         (C.state keeper) (C.state result.1) result.0 }
@@ -141,7 +141,7 @@ fn finish_ruled<R: Threads + Wait + Sync, K: Sink, C: Keeper + Send, G: Gate + S
         job.districts(),
         workers + 1,
     ) {
-        Ok(judges) => finish_judged(rt, job, opening, judges, out, keeper),
+        Ok(judges) => finish_judged(rt, job, resume_state, judges, out, keeper),
         Err(_) => (Ended::NoMemory, keeper),
     }
 }
@@ -159,16 +159,16 @@ pub fn finish_run<R: Threads + Wait + Sync, K: Sink, C: Keeper + Send, G: Gate +
     ensures { Finishes job.now (K.state out.old) (K.state out.new)
         (C.state keeper) (C.state result.1) result.0 }
 {
-    let opening = match open(rt.alloc, job, &mut keeper) {
-        Ok(opening) => opening,
+    let resume_state = match open(rt.alloc, job, &mut keeper) {
+        Ok(resume_state) => resume_state,
         Err(why) => return (why, keeper),
     };
     if job.rules().regions.len() == 0
         && job.rules().group_districts == 0
         && job.rules().frozen.len() == 0
     {
-        finish_cut(rt, job, opening, out, keeper)
+        finish_cut(rt, job, resume_state, out, keeper)
     } else {
-        finish_ruled(rt, job, opening, out, keeper)
+        finish_ruled(rt, job, resume_state, out, keeper)
     }
 }

@@ -13,7 +13,6 @@ ghost use Rattle.audit_words.specs.Spoken.{spoken};
 
 use crate::run::finish_run;
 use crate::trace::finish_trace;
-use audit_start::prepare::prepare;
 use audit_io::gate::Gate;
 use audit_io::keeper::Keeper;
 use audit_io::sink::Sink;
@@ -22,6 +21,7 @@ use audit_laws::laws::ended_calls_keep_their_promise;
 use audit_laws::step_laws::accepted_jobs_are_runs;
 use audit_model::buffers::Bytes;
 use audit_model::setting::Command;
+use audit_start::prepare::prepare;
 use claim_counter::runtime::Runtime;
 use plan_core::job::Job;
 use report::check::check_text;

@@ -9,9 +9,9 @@ use audit_io::gate::Gate;
 use audit_io::sink::Sink;
 use audit_io::sure::{SureSink, SureSource};
 use audit_io::sure_keeper::SureKeeper;
-use claim_counter::runtime::Runtime;
 use audit_words::Build;
 use audit_words::laws::questions_were_refused;
+use claim_counter::runtime::Runtime;
 use std::sync::Wait;
 use std::thread::Threads;
 

@@ -9,8 +9,8 @@ ghost use Rattle.plan_runs.specs.Tracers.{TracesJob};
 
 use audit_io::sink::Sink;
 use audit_model::outcome::SumsView;
-use plan_runs::judges::guards;
 use plan_core::job::Job;
+use plan_runs::judges::guards;
 use plan_runs::{TraceRange, trace};
 use region_guard::judges::region_guards;
 use report::ended::Ended;

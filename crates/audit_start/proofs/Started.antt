@@ -11,11 +11,11 @@ use Rattle.audit_model.specs.Pair.{Pair}
 use Rattle.audit_model.specs.declared.outcome.Outcome.{Outcome}
 use Rattle.audit_model.specs.declared.setting.Setting.{Setting}
 use Rattle.audit_model.specs.Job.{Job}
-use Rattle.audit_model.specs.Run.{fits, is_bare, taken_up}
-use Rattle.audit_model.specs.Trajectory.{bare}
-use Rattle.audit_model.proofs.Bins.{bare_fits}
+use Rattle.audit_model.specs.Run.{fits, has_no_histogram, taken_up}
+use Rattle.audit_model.specs.Trajectory.{without_histogram}
+use Rattle.audit_model.proofs.Histogram.{fits_without_histogram}
 use Rattle.audit_statement.specs.Checkpoint.{AreRising, job_digest}
-use Rattle.audit_statement.specs.Slots.{Slot, newest, opening, other, slot_at, slot_of}
+use Rattle.audit_statement.specs.Slots.{Slot, newest, initial_outcomes, other, slot_at, slot_of}
 use Rattle.ckpt_store.specs.declared.slots.Slot.{Slot as Looked}
 use Rattle.ckpt_store.specs.declared.slots.Slot.TheVariants as looked
 use Rattle.ckpt_store.specs.declared.slots.Slots.{Slots}
@@ -24,13 +24,13 @@ use Rattle.ckpt_store.specs.declared.slots.StoreFault.TheVariants.{Damaged, Othe
 use Rattle.ckpt_store.specs.Fitting.{AreFit}
 use Rattle.ckpt_store.specs.Looked.{AreSlots, SawSlots}
 use Rattle.ckpt_format.specs.declared.decode.Checkpoint.{Checkpoint}
-use Rattle.ckpt_store.specs.View.{answer_at, held_seen, newest_answer, newest_seen, opened, slot_view}
+use Rattle.ckpt_store.specs.View.{answer_at, newest_outcomes_seen, newest_answer, newest_seen, opened, slot_view}
 use Rattle.report.specs.declared.ended.Ended.{Ended}
 use Rattle.report.specs.declared.ended.Ended.TheVariants as ended
-use Rattle.audit_start.specs.declared.opening.Opening.{Opening}
-use Rattle.audit_start.specs.declared.opening.Target.{Target}
-use Rattle.audit_statement.specs.Endings.{IsOpening, Saw, opening_from, saves}
-use Rattle.audit_start.specs.Opening.{IsOtherSeen, IsTarget, Opens, OpensWith, RefusesSlots, refused_by}
+use Rattle.audit_start.specs.declared.resume_state.ResumeState.{ResumeState}
+use Rattle.audit_start.specs.declared.resume_state.Target.{Target}
+use Rattle.audit_statement.specs.Endings.{AreInitialOutcomes, Saw, initial_outcomes_from, saves}
+use Rattle.audit_start.specs.ResumeState.{IsOtherSeen, IsTarget, Opens, OpensWith, RefusesSlots, refused_by}
 use Rattle.audit_laws.specs.Runs.{IsRunJob}
 use Rattle.audit_laws.proofs.Starting.{saves_not}
 use Rattle.audit_laws.proofs.Running.{fit_list, rising_above, rising_once, rising_rest}
@@ -38,8 +38,8 @@ use Rattle.audit_laws.proofs.Running.{fit_list, rising_above, rising_once, risin
 -- ---- the slots that were looked at, in terms of the known slots
 
 -- the initial outcomes of a run that resumes, if it may start
-abbrev pub opening_seen : Setting → Slots → Option (List Outcome)
-opening_seen setting slots = opening true setting (slot_view slots.zero) (slot_view slots.one)
+abbrev pub initial_outcomes_seen : Setting → Slots → Option (List Outcome)
+initial_outcomes_seen setting slots = initial_outcomes true setting (slot_view slots.zero) (slot_view slots.one)
 
 module _ (job : Job) (digest : List ℕ) (p : Pair) (slots : Slots) (is : digest ≡ job_digest job) (seen : AreSlots job digest p slots) where
   pub zero_observed : slot_view slots.zero ≡ slot_of job (job_digest job) p.zero_slot
@@ -51,8 +51,8 @@ module _ (job : Job) (digest : List ℕ) (p : Pair) (slots : Slots) (is : digest
   both_observed : {A : Type 0} (f : Slot → Slot → A) → f (slot_view slots.zero) (slot_view slots.one) ≡ f (slot_of job (job_digest job) p.zero_slot) (slot_of job (job_digest job) p.one_slot)
   both_observed f = ap (λ s. f s (slot_view slots.one)) zero_observed ∙ ap (λ s. f (slot_of job (job_digest job) p.zero_slot) s) one_observed
 
-  pub opening_observed : opening_seen job.setting slots ≡ opening true job.setting (slot_of job (job_digest job) p.zero_slot) (slot_of job (job_digest job) p.one_slot)
-  opening_observed = both_observed (opening true job.setting)
+  pub initial_outcomes_observed : initial_outcomes_seen job.setting slots ≡ initial_outcomes true job.setting (slot_of job (job_digest job) p.zero_slot) (slot_of job (job_digest job) p.one_slot)
+  initial_outcomes_observed = both_observed (initial_outcomes true job.setting)
 
   pub newest_observed : newest_seen slots ≡ newest (slot_of job (job_digest job) p.zero_slot) (slot_of job (job_digest job) p.one_slot)
   newest_observed = both_observed newest
@@ -78,35 +78,35 @@ no_target job slots none = subst (λ b. IsTarget b job slots None) (sym (saves_n
 -- ---- the initial outcomes
 
 -- a run that resumes starts with the outcomes of the newest slot that was seen
-pub resumed_opening : (job : Job) (digest : List ℕ) (observed : Option Pair) (slots : Slots) (outcomes : List Outcome) → digest ≡ job_digest job → job.setting.resume ≡ true
-    → SawSlots job digest observed slots → opening_seen job.setting slots ≡ Some outcomes → AreFit job outcomes → IsOpening job observed outcomes
-resumed_opening job digest observed slots outcomes is resumes saw found fit = record {
-  seen = saw_pair job digest observed slots (λ p. opening_from job.setting.resume job p ≡ Some outcomes) saw
-      (subst (λ (b : Bool). opening_from b job saw.pair ≡ Some outcomes) (sym resumes) (sym (opening_observed job digest saw.pair slots is saw.are) ∙ found));
+pub resumed_initial_outcomes : (job : Job) (digest : List ℕ) (observed : Option Pair) (slots : Slots) (outcomes : List Outcome) → digest ≡ job_digest job → job.setting.resume ≡ true
+    → SawSlots job digest observed slots → initial_outcomes_seen job.setting slots ≡ Some outcomes → AreFit job outcomes → AreInitialOutcomes job observed outcomes
+resumed_initial_outcomes job digest observed slots outcomes is resumes saw found fit = record {
+  seen = saw_pair job digest observed slots (λ p. initial_outcomes_from job.setting.resume job p ≡ Some outcomes) saw
+      (subst (λ (b : Bool). initial_outcomes_from b job saw.pair ≡ Some outcomes) (sym resumes) (sym (initial_outcomes_observed job digest saw.pair slots is saw.are) ∙ found));
   apart = rising_once (map (λ o. o.id) outcomes) fit.rising;
   fitting = fit_list job outcomes fit.fit;
 }
 
 -- the outcomes that it resumes from, given those of the newest slot
-pub taken_some : (job : Job) (slots : Slots) (held : List Outcome) → held_seen slots ≡ Some held
-    → opening_seen job.setting slots ≡ Some (taken_up job.setting.shift job.setting.walks held)
-taken_some job slots held e = ap (λ (o : Option (List Outcome)). option_map (taken_up job.setting.shift job.setting.walks) o) e
+pub taken_some : (job : Job) (slots : Slots) (saved_outcomes : List Outcome) → newest_outcomes_seen slots ≡ Some saved_outcomes
+    → initial_outcomes_seen job.setting slots ≡ Some (taken_up job.setting.shift job.setting.walks saved_outcomes)
+taken_some job slots saved_outcomes e = ap (λ (o : Option (List Outcome)). option_map (taken_up job.setting.shift job.setting.walks) o) e
 
 -- if nothing can be taken from the slots, there are no initial outcomes
-pub taken_none : (job : Job) (slots : Slots) → held_seen slots ≡ None → opening_seen job.setting slots ≡ None
+pub taken_none : (job : Job) (slots : Slots) → newest_outcomes_seen slots ≡ None → initial_outcomes_seen job.setting slots ≡ None
 taken_none job slots e = ap (λ (o : Option (List Outcome)). option_map (taken_up job.setting.shift job.setting.walks) o) e
 
 -- an outcome without its histogram has the same id
-same_ids : (outcomes : List Outcome) → map (λ o. o.id) (map bare outcomes) ≡ map (λ o. o.id) outcomes
+same_ids : (outcomes : List Outcome) → map (λ o. o.id) (map without_histogram outcomes) ≡ map (λ o. o.id) outcomes
 same_ids [] = refl
 same_ids (x ∷ xs) = ap (λ (ids : List ℕ). x.id ∷ ids) (same_ids xs)
 
 -- outcomes without their histograms are still plausible
-bare_fit : (job : Job) (outcomes : List Outcome) → AreFit job outcomes → AreFit job (map bare outcomes)
-bare_fit job outcomes fit = record {
-  few = omega (arith, fit.few, length-map outcomes bare);
+fit_without_histogram : (job : Job) (outcomes : List Outcome) → AreFit job outcomes → AreFit job (map without_histogram outcomes)
+fit_without_histogram job outcomes fit = record {
+  few = omega (arith, fit.few, length-map outcomes without_histogram);
   rising = subst AreRising (sym (same_ids outcomes)) fit.rising;
-  fit = All-map (λ (o : Outcome). IsTrue (fits job o)) bare outcomes (λ k d inside. bare_fits job (get_or outcomes k d) (fit.fit k d inside));
+  fit = All-map (λ (o : Outcome). IsTrue (fits job o)) without_histogram outcomes (λ k d inside. fits_without_histogram job (get_or outcomes k d) (fit.fit k d inside));
 }
 
 -- an id below all others may stand before them
@@ -148,26 +148,26 @@ pub taken_fit : (job : Job) (outcomes : List Outcome) → AreFit job outcomes �
 taken_fit job outcomes fit = by job.setting.shift
   where
     by : (shift : Bool) → AreFit job (taken_up shift job.setting.walks outcomes)
-    by true = kept_fit job (λ o. not (nat_lt o.id job.setting.walks && is_bare o)) outcomes fit
-    by false = bare_fit job outcomes fit
+    by true = kept_fit job (λ o. not (nat_lt o.id job.setting.walks && has_no_histogram o)) outcomes fit
+    by false = fit_without_histogram job outcomes fit
 
 -- the run starts with the part of the newest slot's outcomes that it resumes from
-pub opens_taken : (job : Job) → IsRunJob job → (digest : List ℕ) (k : Kept) (slots : Slots) (held outcomes : List Outcome) (target : Option Target)
-    → digest ≡ job_digest job → job.setting.resume ≡ true → SawSlots job digest k.slots slots → held_seen slots ≡ Some held → AreFit job held
-    → outcomes ≡ taken_up job.setting.shift job.setting.walks held → (o : Opening) → o.outcomes.items ≡ outcomes → o.target ≡ target
+pub opens_taken : (job : Job) → IsRunJob job → (digest : List ℕ) (k : Kept) (slots : Slots) (saved_outcomes outcomes : List Outcome) (target : Option Target)
+    → digest ≡ job_digest job → job.setting.resume ≡ true → SawSlots job digest k.slots slots → newest_outcomes_seen slots ≡ Some saved_outcomes → AreFit job saved_outcomes
+    → outcomes ≡ taken_up job.setting.shift job.setting.walks saved_outcomes → (o : ResumeState) → o.outcomes.items ≡ outcomes → o.target ≡ target
     → IsTarget (saves job.setting) job k.slots target → OpensWith job k k o
-opens_taken job run digest k slots held outcomes target is resumes observed seen fit taken o items at placed = record {
+opens_taken job run digest k slots saved_outcomes outcomes target is resumes observed seen fit taken o items at placed = record {
   same = refl;
   opened = record {
     run = run;
-    opened = subst (λ (os : List Outcome). IsOpening job k.slots os) (sym here)
-        (resumed_opening job digest k.slots slots (taken_up job.setting.shift job.setting.walks held) is resumes observed (taken_some job slots held seen) (taken_fit job held fit));
-    fit = subst (λ (os : List Outcome). AreFit job os) (sym here) (taken_fit job held fit);
+    opened = subst (λ (os : List Outcome). AreInitialOutcomes job k.slots os) (sym here)
+        (resumed_initial_outcomes job digest k.slots slots (taken_up job.setting.shift job.setting.walks saved_outcomes) is resumes observed (taken_some job slots saved_outcomes seen) (taken_fit job saved_outcomes fit));
+    fit = subst (λ (os : List Outcome). AreFit job os) (sym here) (taken_fit job saved_outcomes fit);
     target = subst (λ (t : Option Target). IsTarget (saves job.setting) job k.slots t) (sym at) placed;
   };
 }
   where
-    here : o.outcomes.items ≡ taken_up job.setting.shift job.setting.walks held
+    here : o.outcomes.items ≡ taken_up job.setting.shift job.setting.walks saved_outcomes
     here = items ∙ taken
 
 -- ---- the reason why it does not start
@@ -232,5 +232,5 @@ refused_seen slots wanted (OtherJob found digest) e = other_seen slots wanted fo
 -- ---- the keeper is unchanged
 
 -- after a look that changed nothing, the run starts or ends as from the keeper before
-pub opens_later : (job : Job) (k l : Kept) (result : Result Opening Ended) → l ≡ k → Opens job k k result → Opens job k l result
+pub opens_later : (job : Job) (k l : Kept) (result : Result ResumeState Ended) → l ≡ k → Opens job k k result → Opens job k l result
 opens_later job k l result same o = subst (λ (x : Kept). Opens job k x result) (sym same) o

@@ -6,7 +6,7 @@ use Rattle.audit_model.specs.Job.{Job}
 use Rattle.audit_statement.specs.Words.{setting_of}
 use Rattle.audit_model.specs.Faults.{Rose}
 use Rattle.audit_statement.specs.Accepted.{judged, input_of}
-use Rattle.audit_statement.specs.Endings.{is_walking, TellsOpening, leaves_work, IsDone, IsReadFault, IsWriteFault, IsLoadFault, IsSaveFault, IsSlotsFault, IsStopped}
+use Rattle.audit_statement.specs.Endings.{is_walking, ObservesInitialOutcomes, leaves_work, IsDone, IsReadFault, IsWriteFault, IsLoadFault, IsSaveFault, IsSlotsFault, IsStopped}
 use Rattle.audit_statement.specs.World.{World}
 
 -- the arguments are accepted, and the bytes of the graph are observable
@@ -17,7 +17,7 @@ pub record IsObserved (words : List (List ℕ)) (before : World) (setting : Sett
 -- a walking command finds initial outcomes, and has the budget for all missing ids
 abbrev pub HasBudget : Bool → Job → World → Type 0
 HasBudget false job before = ⊤
-HasBudget true job before = (o : List Outcome) × TellsOpening job before.keeper.slots (Some o) × IsFalse (leaves_work job o)
+HasBudget true job before = (o : List Outcome) × ObservesInitialOutcomes job before.keeper.slots (Some o) × IsFalse (leaves_work job o)
 
 -- nothing stands in the way: all is accepted, no work is left for another run, and no call failed
 pub record MayEndWell (words : List (List ℕ)) (before after : World) : Type 0 where
@@ -47,15 +47,15 @@ pub record LeavesWork (words : List (List ℕ)) (before : World) : Type 0 where
   pub the_job : IsTheJob words before job
   pub walking : IsTrue (is_walking job.setting.command)
   pub outcomes : List Outcome
-  pub opened : TellsOpening job before.keeper.slots (Some outcomes)
+  pub opened : ObservesInitialOutcomes job before.keeper.slots (Some outcomes)
   pub left : IsTrue (leaves_work job outcomes)
 
 -- a walking command is asked to resume, and the slots do not say how
-pub record MissesOpening (words : List (List ℕ)) (before : World) : Type 0 where
+pub record HasNoInitialOutcomes (words : List (List ℕ)) (before : World) : Type 0 where
   pub job : Job
   pub the_job : IsTheJob words before job
   pub walking : IsTrue (is_walking job.setting.command)
-  pub undefined : TellsOpening job before.keeper.slots None
+  pub undefined : ObservesInitialOutcomes job before.keeper.slots None
 
 -- each refusal comes when it must, unless memory ran out, and no failed call is ignored
 pub record HasCauses (words : List (List ℕ)) (before after : World) (status : ℕ) : Type 0 where
@@ -76,4 +76,4 @@ pub record HasCauses (words : List (List ℕ)) (before after : World) (status : 
   pub seven_only : status ≡ 7 → (done : ℕ) × ((all : ℕ) × IsStopped words before after done all)
   pub seven : LeavesWork words before → status ≢ 3 → status ≢ 4 → status ≢ 6 → status ≢ 9 → status ≡ 7
   pub eight_only : status ≡ 8 → IsSlotsFault words before after (λ job p. ⊤)
-  pub eight : MissesOpening words before → status ≢ 3 → status ≢ 4 → status ≢ 6 → status ≡ 8
+  pub eight : HasNoInitialOutcomes words before → status ≢ 3 → status ≢ 4 → status ≢ 6 → status ≡ 8

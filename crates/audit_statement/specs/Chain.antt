@@ -13,7 +13,7 @@ use Rattle.audit_statement.specs.InOrder.{failed_of}
 use Rattle.audit_statement.specs.Draw.{draw}
 use Rattle.audit_statement.specs.Causes.{IsTheJob}
 use Rattle.audit_model.specs.Observed.{IfBothObserved, IfObserved}
-use Rattle.audit_statement.specs.Endings.{AreRunSaves, IsTryOf, NoSaveFailed, TellsOpening, count_of_saves, place_of, saves}
+use Rattle.audit_statement.specs.Endings.{AreRunSaves, IsTryOf, NoSaveFailed, ObservesInitialOutcomes, count_of_saves, place_of, saves}
 use Rattle.audit_statement.specs.Headline.{StartsWith, WritesOneThreads}
 use Rattle.audit_statement.specs.World.{World}
 
@@ -26,14 +26,14 @@ abbrev pub ResumesHonestly : Job → World → Type 0
 ResumesHonestly job before = IsTrue job.setting.resume → IfObserved before.keeper.slots (AreConsistentOf job)
 
 -- the later save holds each outcome of the earlier one, and more if that one succeeded
-pub record IsHeldBy (job : Job) (earlier later : Try) : Type 0 where
+pub record IsContainedIn (job : Job) (earlier later : Try) : Type 0 where
   pub first : List Outcome
   pub first_generation : ℕ
   pub first_is : IsCheckpoint earlier.bytes 2 (job_digest job) first_generation first
   pub second : List Outcome
   pub second_generation : ℕ
   pub second_is : IsCheckpoint later.bytes 2 (job_digest job) second_generation second
-  pub held : All (Contains second) first
+  pub kept_outcomes : All (Contains second) first
   pub more : earlier.succeeded ≡ true → length first < length second
 
 -- the statuses of a call that has walked: all done, a failed write or save, or work left
@@ -53,12 +53,12 @@ AreSavesWhere false job outcomes p attempts = attempts ≡ []
 pub record AttemptsOver (job : Job) (before after : World) (p : Pair) (status : ℕ) (observed now : List Try) : Type 0 where
   pub attempts : List Try
   pub appended : now ≡ observed ++ attempts
-  pub exactly : (outcomes : List Outcome) → TellsOpening job before.keeper.slots (Some outcomes)
+  pub exactly : (outcomes : List Outcome) → ObservesInitialOutcomes job before.keeper.slots (Some outcomes)
       → AreSavesWhere (saves job.setting && has_walked status) job outcomes p attempts
   pub in_turn : AreInTurn job (job_digest job) (place_of job p).0 (place_of job p).1 attempts
-  pub each : (outcomes : List Outcome) → TellsOpening job before.keeper.slots (Some outcomes) → All (IsTryOf job outcomes) attempts
-  pub growing : AllPairs (IsHeldBy job) attempts
-  pub counted : (outcomes : List Outcome) → TellsOpening job before.keeper.slots (Some outcomes) → IsTrue (saves job.setting && has_walked status)
+  pub each : (outcomes : List Outcome) → ObservesInitialOutcomes job before.keeper.slots (Some outcomes) → All (IsTryOf job outcomes) attempts
+  pub growing : AllPairs (IsContainedIn job) attempts
+  pub counted : (outcomes : List Outcome) → ObservesInitialOutcomes job before.keeper.slots (Some outcomes) → IsTrue (saves job.setting && has_walked status)
       → All (λ t. t.succeeded ≡ true) attempts → length attempts ≡ count_of_saves job outcomes
   pub covered : min (before.keeper.save_faults + failed_of attempts) (2 ^ 64 - 1) ≤ after.keeper.save_faults
   pub right : ResumesHonestly job before → All (λ t. IsRightSave job (draw job.setting.key) (job_digest job) t.bytes) attempts

@@ -17,14 +17,14 @@ use Rattle.audit_model.specs.Below.{filter_below, map_below}
 use Rattle.audit_model.specs.First.{first_some, first_below}
 use Rattle.audit_model.specs.Graph.{Graph, adjacent, count_edges}
 use Rattle.audit_model.specs.Job.{Job, rules}
-use Rattle.audit_model.specs.Trajectory.{no_bins}
+use Rattle.audit_model.specs.Trajectory.{empty_histogram}
 use Rattle.audit_model.specs.Limits.{most_trajectories, most_edges, most_regions, most_splits}
 
 -- ---- writing
 
 -- version 2 of the format holds histograms
-abbrev pub has_bins : ℕ → Bool
-has_bins version = version == 2
+abbrev pub has_histogram : ℕ → Bool
+has_histogram version = version == 2
 
 -- the histogram, if the version has one
 abbrev pub bin_bytes : Bool → List ℕ → List ℕ
@@ -34,7 +34,7 @@ bin_bytes false bins = []
 -- an outcome: its id, its moves and its values, and in version 2 its histogram
 abbrev pub outcome_bytes : ℕ → Outcome → List ℕ
 outcome_bytes version o =
-    to_be_bytes w32 o.id ++ to_be_bytes w64 o.moved ++ flat_map (λ v. to_be_bytes w64 (cast_unsigned w64 v)) o.values ++ bin_bytes (has_bins version) o.bins
+    to_be_bytes w32 o.id ++ to_be_bytes w64 o.moved ++ flat_map (λ v. to_be_bytes w64 (cast_unsigned w64 v)) o.values ++ bin_bytes (has_histogram version) o.bins
 
 -- all but the last 32 bytes
 abbrev pub checkpoint_body : ℕ → List ℕ → ℕ → List Outcome → List ℕ
@@ -63,12 +63,12 @@ pub record IsOutcome (o : Outcome) : Type 0 where
   pub bins : AllByRecursion (λ n. n < 2 ^ 32) o.bins
 
 -- version 2 holds any histograms, version 1 none
-abbrev pub HoldsBins : ℕ → List Outcome → Type 0
-HoldsBins version outcomes = (version ≡ 2) ⊎ ((version ≡ 1) × AllByRecursion (λ o. o.bins ≡ no_bins) outcomes)
+abbrev pub AreHistogramsStorable : ℕ → List Outcome → Type 0
+AreHistogramsStorable version outcomes = (version ≡ 2) ⊎ ((version ≡ 1) × AllByRecursion (λ o. o.bins ≡ empty_histogram) outcomes)
 
 -- the bytes are the checkpoint of this version, digest, generation and outcomes
 pub record IsCheckpoint (bytes : List ℕ) (version : ℕ) (digest : List ℕ) (generation : ℕ) (outcomes : List Outcome) : Type 0 where
-  pub bins_held : HoldsBins version outcomes
+  pub storable_histograms : AreHistogramsStorable version outcomes
   pub digest_length : length digest ≡ 32
   pub digest_bytes : AllByRecursion (λ b. b < 256) digest
   pub generation_below : generation < 3
@@ -104,8 +104,8 @@ abbrev pub outcomes_place : ℕ
 outcomes_place = 52
 
 -- the number of bytes besides the outcomes: the parts before them, and the checksum
-abbrev pub bare_length : ℕ
-bare_length = 84
+abbrev pub empty_length : ℕ
+empty_length = 84
 
 -- the version that the bytes state
 abbrev pub stated_version : List ℕ → ℕ
@@ -113,7 +113,7 @@ stated_version bytes = number_at w32 version_place bytes
 
 -- the number of bytes of an outcome
 abbrev pub outcome_size : ℕ → ℕ
-outcome_size version = cond (has_bins version) 80 44
+outcome_size version = cond (has_histogram version) 80 44
 
 -- the offset of the outcome at a place
 abbrev pub outcome_start : List ℕ → ℕ → ℕ
@@ -130,11 +130,11 @@ stated_id bytes place = number_at w32 (outcome_start bytes place) bytes
 -- the first reason why bytes are no checkpoint
 unfoldable pub checkpoint_fault : List ℕ → Option CkptFault
 checkpoint_fault bytes = first_some (
-    cond (nat_lt (length bytes) bare_length) (Some (TooShort (length bytes))) None
+    cond (nat_lt (length bytes) empty_length) (Some (TooShort (length bytes))) None
     ∷ cond (bytes_eq (take version_place bytes) (codes "DISTCKPT")) None (Some BadMagic)
     ∷ cond ((stated_version bytes == 1) || (stated_version bytes == 2)) None (Some (BadVersion (stated_version bytes)))
     ∷ cond (nat_lt 2 (number_at w32 generation_place bytes)) (Some (BadGeneration (number_at w32 generation_place bytes))) None
-    ∷ cond (nat_lt most_trajectories (stated_count bytes) || not (length bytes == bare_length + outcome_size (stated_version bytes) * stated_count bytes)) (Some (BadCount (stated_count bytes) (length bytes))) None
+    ∷ cond (nat_lt most_trajectories (stated_count bytes) || not (length bytes == empty_length + outcome_size (stated_version bytes) * stated_count bytes)) (Some (BadCount (stated_count bytes) (length bytes))) None
     ∷ option_map BadOrder (first_below (stated_count bytes) (λ place. nat_lt 0 place && nat_le (stated_id bytes place) (stated_id bytes (place - 1))))
     ∷ cond (bytes_eq (drop (length bytes - 32) bytes) (sha256 (take (length bytes - 32) bytes))) None
     (Some (BadDigest (drop (length bytes - 32) bytes) (sha256 (take (length bytes - 32) bytes))))

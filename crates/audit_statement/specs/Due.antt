@@ -12,7 +12,7 @@ use Rattle.audit_model.specs.Job.{Job}
 use Rattle.audit_model.specs.Run.{run_ids}
 use Rattle.audit_statement.specs.Accepted.{IsAccepted}
 use Rattle.audit_statement.specs.Checkpoint.{IsCheckpoint, checkpoint}
-use Rattle.audit_statement.specs.Endings.{IsOpening, first_place, saves}
+use Rattle.audit_statement.specs.Endings.{AreInitialOutcomes, first_place, saves}
 use Rattle.audit_statement.specs.InOrder.{AreSavesSoFar}
 use Rattle.audit_statement.specs.World.{World}
 
@@ -28,8 +28,8 @@ LetsCheckpoint lets k digest slot generation outcomes =
 -- In a run over these ids, the keeper permits each save that is due next. `told` are the save attempts before the run.
 -- A save is due next if the attempts since, followed by it, are saves so far.
 abbrev pub LetsRun : Lets → Option (List Try) → Job → List Outcome → ℕ → Place → List ℕ → Type 0
-LetsRun lets observed job opening every place ids =
-    (k : Kept) (attempts : List Try) (t : Try) → k.attempted ≡ attempted_all observed attempts → AreSavesSoFar job opening every place ids (attempts ++ t ∷ []) → lets k t.slot t.bytes
+LetsRun lets observed job initial_outcomes every place ids =
+    (k : Kept) (attempts : List Try) (t : Try) → k.attempted ≡ attempted_all observed attempts → AreSavesSoFar job initial_outcomes every place ids (attempts ++ t ∷ []) → lets k t.slot t.bytes
 
 -- the place of a run's first save, if the slots that it finds are observable
 pub record IsFirstPlace (job : Job) (slots : Option Pair) (place : Place) : Type 0 where
@@ -39,8 +39,8 @@ pub record IsFirstPlace (job : Job) (slots : Option Pair) (place : Place) : Type
 
 -- for a run of the job that finds the keeper in this state, it permits the run's saves
 abbrev pub LetsSavesOf : Lets → Job → Kept → Type 0
-LetsSavesOf lets job before = (opening : List Outcome) (place : Place) → IsTrue (saves job.setting) → IsOpening job before.slots opening → IsFirstPlace job before.slots place
-    → LetsRun lets before.attempted job opening job.setting.save_every place (run_ids job opening job.setting.budget)
+LetsSavesOf lets job before = (initial_outcomes : List Outcome) (place : Place) → IsTrue (saves job.setting) → AreInitialOutcomes job before.slots initial_outcomes → IsFirstPlace job before.slots place
+    → LetsRun lets before.attempted job initial_outcomes job.setting.save_every place (run_ids job initial_outcomes job.setting.budget)
 
 -- The keeper permits the due saves of the run that the arguments and the source give, one after another. The slots at
 -- its start determine its initial outcomes and the first place. Each save is the checkpoint of the initial outcomes and

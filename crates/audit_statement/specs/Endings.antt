@@ -21,7 +21,7 @@ use Rattle.audit_statement.specs.Draw.{draw}
 use Rattle.audit_statement.specs.Note.{Ending, bad_words, too_many_bytes, bad_graph, bad_regions, bad_table, bad_plan, bad_plan_named, no_memory, read_fault, write_fault, load_fault, folder_taken, stopped, damaged, other_job, save_fault, note}
 use Rattle.audit_statement.specs.Report.{full_report, check_text}
 use Rattle.audit_statement.specs.Trace.{trace_text}
-use Rattle.audit_statement.specs.Slots.{Slot, other, ours, slot_of, opening, newest, save_place, slot_at}
+use Rattle.audit_statement.specs.Slots.{Slot, other, ours, slot_of, initial_outcomes, newest, save_place, slot_at}
 use Rattle.audit_statement.specs.Words.{setting_of}
 use Rattle.audit_model.specs.Faults.{Rose}
 use Rattle.audit_model.specs.Pair.{Pair, stored}
@@ -72,23 +72,23 @@ pub record Saw (slots : Option Pair) (P : Pair → Type 0) : Type 0 where
   pub holds : P pair
 
 -- the initial outcomes of a run that finds these slots, if it may start; none unless it resumes
-abbrev pub opening_from : Bool → Job → Pair → Option (List Outcome)
-opening_from false job p = Some []
-opening_from true job p = opening true job.setting (slot_of job (job_digest job) p.zero_slot) (slot_of job (job_digest job) p.one_slot)
+abbrev pub initial_outcomes_from : Bool → Job → Pair → Option (List Outcome)
+initial_outcomes_from false job p = Some []
+initial_outcomes_from true job p = initial_outcomes true job.setting (slot_of job (job_digest job) p.zero_slot) (slot_of job (job_digest job) p.one_slot)
 
 -- the keeper's slots determine the initial outcomes of a run; one that resumes needs an observable keeper
 abbrev pub StartsFrom : Bool → Job → Option Pair → Option (List Outcome) → Type 0
 StartsFrom false job slots o = Some [] ≡ o
 StartsFrom true job None o = ⊥
-StartsFrom true job (Some p) o = opening_from true job p ≡ o
+StartsFrom true job (Some p) o = initial_outcomes_from true job p ≡ o
 
 -- the keeper's slots say that a run of the job starts with this
-abbrev pub TellsOpening : Job → Option Pair → Option (List Outcome) → Type 0
-TellsOpening job slots o = StartsFrom job.setting.resume job slots o
+abbrev pub ObservesInitialOutcomes : Job → Option Pair → Option (List Outcome) → Type 0
+ObservesInitialOutcomes job slots o = StartsFrom job.setting.resume job slots o
 
 -- the initial outcomes of a run that finds the slots that were seen
-pub record IsOpening (job : Job) (slots : Option Pair) (outcomes : List Outcome) : Type 0 where
-  pub seen : Saw slots (λ p. opening_from job.setting.resume job p ≡ Some outcomes)
+pub record AreInitialOutcomes (job : Job) (slots : Option Pair) (outcomes : List Outcome) : Type 0 where
+  pub seen : Saw slots (λ p. initial_outcomes_from job.setting.resume job p ≡ Some outcomes)
   pub apart : AllApart (map (λ o. o.id) outcomes)
   pub fitting : IsTrue (list_all (fits job) outcomes)
 
@@ -135,7 +135,7 @@ Writes false before after text = AppendsPart before after text
 -- no work is left, and the report on all outcomes was written
 pub record WritesReport (whole : Bool) (job : Job) (before after : World) : Type 0 where
   pub outcomes : List Outcome
-  pub opened : IsOpening job before.keeper.slots outcomes
+  pub opened : AreInitialOutcomes job before.keeper.slots outcomes
   pub nothing_left : IsFalse (leaves_work job outcomes)
   pub written : Writes whole before.out.bytes after.out.bytes (full_report job (draw job.setting.key) (full_of job outcomes))
 
@@ -151,7 +151,7 @@ WritesText Trace whole job before after =
 -- work is left, and nothing was written
 pub record StopsEarly (job : Job) (before after : World) : Type 0 where
   pub outcomes : List Outcome
-  pub opened : IsOpening job before.keeper.slots outcomes
+  pub opened : AreInitialOutcomes job before.keeper.slots outcomes
   pub work_left : IsTrue (leaves_work job outcomes)
   pub unwritten : after.out.bytes ≡ before.out.bytes
 
@@ -164,15 +164,15 @@ IsNewest job outcomes p =
     × ((g : ℕ) × (g < 3) × (stored p n ≡ Some (checkpoint 2 (job_digest job) g outcomes)))
 
 -- an initial outcome, or the trajectory's outcome of a missing id that the run walks
-abbrev pub IsOpeningOrFound : Job → List Outcome → Outcome → Type 0
-IsOpeningOrFound job outcomes o =
+abbrev pub IsInitialOrFound : Job → List Outcome → Outcome → Type 0
+IsInitialOrFound job outcomes o =
     Contains outcomes o
     ⊎ (IsFalse (has_id outcomes o.id) × (o.id < total job) × Contains (run_ids job outcomes job.setting.budget) o.id × (o ≡ outcome job (draw job.setting.key) o.id))
 
 -- all initial outcomes, and this many outcomes of missing ids
 pub record HoldsPart (job : Job) (outcomes : List Outcome) (count : ℕ) (saved : List Outcome) : Type 0 where
-  pub each : All (IsOpeningOrFound job outcomes) saved
-  pub opening_kept : All (Contains saved) outcomes
+  pub each : All (IsInitialOrFound job outcomes) saved
+  pub initial_kept : All (Contains saved) outcomes
   pub counted : length saved ≡ length outcomes + count
 
 -- the slot is a checkpoint of the job with this generation, of the initial outcomes and this many missing ids, and is
@@ -259,7 +259,7 @@ AttemptsObserved job outcomes before after = IfObserved before.slots (λ p. IfBo
 -- newest slot is the checkpoint of the initial outcomes and of all that was walked.
 pub record SavesAll (made : Type 0) (job : Job) (before after : World) : Type 0 where
   pub outcomes : List Outcome
-  pub opened : IsOpening job before.keeper.slots outcomes
+  pub opened : AreInitialOutcomes job before.keeper.slots outcomes
   pub kept : IfBothObserved before.keeper.slots after.keeper.slots (KeepsASlot job outcomes)
   pub in_turn : made → IfBothObserved before.keeper.slots after.keeper.slots (SavesInTurn job outcomes)
   pub newest_is : made → IfBothObserved before.keeper.slots after.keeper.slots (λ p q. IsNewest job (full_of job outcomes) q)
@@ -340,7 +340,7 @@ pub record IsSlotsFault (words : List (List ℕ)) (before after : World) (found 
   pub job : Job
   pub prepared : IsPrepared words before.source after.source job
   pub resuming : IsTrue (is_walking job.setting.command && job.setting.resume)
-  pub seen : Saw before.keeper.slots (λ p. (opening_from job.setting.resume job p ≡ None) × found job p)
+  pub seen : Saw before.keeper.slots (λ p. (initial_outcomes_from job.setting.resume job p ≡ None) × found job p)
 
 -- both slots as they are, with neither valid
 pub record AreDamaged (zero one : Slot) (job : Job) (p : Pair) : Type 0 where
@@ -369,7 +369,7 @@ pub record IsSaveFault (words : List (List ℕ)) (before after : World) : Type 0
   pub whole : Bool
   pub written : WritesOrStops whole job before after
   pub outcomes : List Outcome
-  pub opened : IsOpening job before.keeper.slots outcomes
+  pub opened : AreInitialOutcomes job before.keeper.slots outcomes
   pub kept : IfBothObserved before.keeper.slots after.keeper.slots (KeepsASlot job outcomes)
   pub attempted : AttemptsObserved job outcomes before.keeper after.keeper
   pub rose : Rose before.keeper.save_faults after.keeper.save_faults

@@ -9,7 +9,7 @@ use Rattle.audit_statement.specs.Draw.{draw}
 use Rattle.audit_statement.specs.Report.{full_report, thread_report, check_text}
 use Rattle.audit_statement.specs.Trace.{trace_text}
 use Rattle.audit_statement.specs.Causes.{IsTheJob}
-use Rattle.audit_statement.specs.Endings.{is_walking, TellsOpening, leaves_work, full_of}
+use Rattle.audit_statement.specs.Endings.{is_walking, ObservesInitialOutcomes, leaves_work, full_of}
 use Rattle.audit_statement.specs.World.{World}
 
 -- the report of one thread that walks each trajectory once
@@ -20,7 +20,7 @@ WritesOneThreads job before after = Appends before.out.bytes after.out.bytes (th
 pub record StartsWith (words : List (List ℕ)) (before : World) (job : Job) (outcomes : List Outcome) : Type 0 where
   pub the_job : IsTheJob words before job
   pub walking : IsTrue (is_walking job.setting.command)
-  pub opened : TellsOpening job before.keeper.slots (Some outcomes)
+  pub opened : ObservesInitialOutcomes job before.keeper.slots (Some outcomes)
 
 -- With status 0, a check writes its text, a trace the text of its range, and a run the report on the initial outcomes
 -- and the missing ids. If the initial outcomes are right, that is the report of one thread. A failed save does not

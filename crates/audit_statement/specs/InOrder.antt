@@ -28,14 +28,14 @@ failed_of attempts = count_by (λ t. not t.succeeded) attempts
 
 -- the initial outcomes and those of the trajectories of these ids, by rising id
 abbrev pub taken_in : Job → List Outcome → List ℕ → List Outcome
-taken_in job opening ids = by_id (total job) (opening ++ map (outcome job (draw job.setting.key)) ids)
+taken_in job initial_outcomes ids = by_id (total job) (initial_outcomes ++ map (outcome job (draw job.setting.key)) ids)
 
 -- the save went to this place, with the checkpoint of the initial outcomes and of these ids, each once
-pub record IsSaveOfIds (job : Job) (opening : List Outcome) (place : Place) (ids : List ℕ) (t : Try) : Type 0 where
+pub record IsSaveOfIds (job : Job) (initial_outcomes : List Outcome) (place : Place) (ids : List ℕ) (t : Try) : Type 0 where
   pub slot : t.slot ≡ place.slot
-  pub bytes : t.bytes ≡ checkpoint 2 (job_digest job) place.generation (taken_in job opening ids)
-  pub sound : IsCheckpoint t.bytes 2 (job_digest job) place.generation (taken_in job opening ids)
-  pub all : IsPermutation (opening ++ map (outcome job (draw job.setting.key)) ids) (taken_in job opening ids)
+  pub bytes : t.bytes ≡ checkpoint 2 (job_digest job) place.generation (taken_in job initial_outcomes ids)
+  pub sound : IsCheckpoint t.bytes 2 (job_digest job) place.generation (taken_in job initial_outcomes ids)
+  pub all : IsPermutation (initial_outcomes ++ map (outcome job (draw job.setting.key)) ids) (taken_in job initial_outcomes ids)
 
 -- a success moves the place to the other slot and the next generation; a failure leaves it
 abbrev pub place_after : Place → Try → Place
@@ -44,10 +44,10 @@ place_after place t = cond t.succeeded (next_place place) place
 -- The first of these saves is of the first n * every ids, or of all if there are fewer; each later one is of `every`
 -- more. Each goes to the place after the last success.
 abbrev pub AreSavesFrom : Job → List Outcome → ℕ → List ℕ → ℕ → Place → List Try → Type 0
-AreSavesFrom job opening every walked n place [] = ⊤
-AreSavesFrom job opening every walked n place (t ∷ rest) =
-    IsSaveOfIds job opening place (take (n * every) walked) t
-    × AreSavesFrom job opening every walked (suc n) (place_after place t) rest
+AreSavesFrom job initial_outcomes every walked n place [] = ⊤
+AreSavesFrom job initial_outcomes every walked n place (t ∷ rest) =
+    IsSaveOfIds job initial_outcomes place (take (n * every) walked) t
+    × AreSavesFrom job initial_outcomes every walked (suc n) (place_after place t) rest
 
 -- the last of the attempts succeeded
 abbrev pub last_succeeded_from : Bool → List Try → Bool
@@ -66,17 +66,17 @@ count_of_attempts every ids attempts =
 
 -- exactly the save attempts of a run that started with these outcomes and this place and took in these ids in this
 -- order
-pub record AreSavesOf (job : Job) (opening : List Outcome) (every : ℕ) (place : Place) (walked : List ℕ) (attempts : List Try) : Type 0 where
-  pub each : AreSavesFrom job opening every walked 1 place attempts
+pub record AreSavesOf (job : Job) (initial_outcomes : List Outcome) (every : ℕ) (place : Place) (walked : List ℕ) (attempts : List Try) : Type 0 where
+  pub each : AreSavesFrom job initial_outcomes every walked 1 place attempts
   pub counted : length attempts ≡ count_of_attempts every (length walked) attempts
 
 -- the first of these attempts, or all of them
-pub record AreFirstSavesOf (job : Job) (opening : List Outcome) (every : ℕ) (place : Place) (walked : List ℕ) (attempts : List Try) : Type 0 where
-  pub each : AreSavesFrom job opening every walked 1 place attempts
+pub record AreFirstSavesOf (job : Job) (initial_outcomes : List Outcome) (every : ℕ) (place : Place) (walked : List ℕ) (attempts : List Try) : Type 0 where
+  pub each : AreSavesFrom job initial_outcomes every walked 1 place attempts
   pub few : length attempts ≤ count_of_attempts every (length walked) attempts
 
 -- the save attempts so far of a run that takes in these ids, each once, in any order
-pub record AreSavesSoFar (job : Job) (opening : List Outcome) (every : ℕ) (place : Place) (ids : List ℕ) (attempts : List Try) : Type 0 where
+pub record AreSavesSoFar (job : Job) (initial_outcomes : List Outcome) (every : ℕ) (place : Place) (ids : List ℕ) (attempts : List Try) : Type 0 where
   pub walked : List ℕ
   pub all_walked : IsPermutation walked ids
-  pub first : AreFirstSavesOf job opening every place walked attempts
+  pub first : AreFirstSavesOf job initial_outcomes every place walked attempts

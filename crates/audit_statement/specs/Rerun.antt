@@ -19,7 +19,7 @@ use Rattle.audit_statement.specs.Draw.{draw}
 use Rattle.audit_statement.specs.Report.{report, thread_report}
 use Rattle.audit_statement.specs.Causes.{IsTheJob}
 use Rattle.audit_statement.specs.Chain.{AreConsistentOf, AttemptedRightly, AttemptsOver}
-use Rattle.audit_statement.specs.Endings.{first_place, is_walking, leaves_work, opening_from}
+use Rattle.audit_statement.specs.Endings.{first_place, is_walking, leaves_work, initial_outcomes_from}
 use Rattle.audit_statement.specs.InOrder.{AreSavesSoFar}
 use Rattle.audit_statement.specs.Headline.{StartsWith}
 use Rattle.audit_statement.specs.Promise.{KeepsItsPromise}
@@ -130,7 +130,7 @@ pub record IsLink (job : Job) (p : Pair) (l : Link) : Type 0 where
 -- these slots
 abbrev pub AreAttemptsSoFar : Job → Pair → List Try → Type 0
 AreAttemptsSoFar job p attempts =
-    (attempts ≡ []) ⊎ ((outcomes : List Outcome) × (opening_from job.setting.resume job p ≡ Some outcomes)
+    (attempts ≡ []) ⊎ ((outcomes : List Outcome) × (initial_outcomes_from job.setting.resume job p ≡ Some outcomes)
     × AreSavesSoFar job outcomes job.setting.save_every (first_place job p) (run_ids job outcomes job.setting.budget) attempts)
 
 -- The run was stopped, or never ended. It had attempted these saves, the last of them perhaps interrupted, and they

@@ -10,8 +10,8 @@ use Rattle.audit_model.specs.Below.{map_below}
 use Rattle.audit_model.specs.First.{first_below}
 use Rattle.audit_model.specs.Job.{Job}
 use Rattle.audit_model.specs.Run.{IsConsistent, fits, taken_up}
-use Rattle.audit_model.specs.Trajectory.{Draws, no_bins}
-use Rattle.audit_statement.specs.Checkpoint.{number_at, has_bins, outcome_start, stated_version, stated_count, checkpoint_fault, generation_place, digest_place}
+use Rattle.audit_model.specs.Trajectory.{Draws, empty_histogram}
+use Rattle.audit_statement.specs.Checkpoint.{number_at, has_histogram, outcome_start, stated_version, stated_count, checkpoint_fault, generation_place, digest_place}
 use Rattle.audit_model.specs.Limits.{most_saved_bytes}
 use Rattle.audit_model.specs.Pair.{Pair}
 
@@ -27,9 +27,9 @@ pub data Slot : Type 0 where
   ours : ℕ → List Outcome → Slot
 
 -- the histogram at an offset, if the version has one
-abbrev pub bins_at : Bool → List ℕ → ℕ → List ℕ
-bins_at true bytes at = map_below 9 (λ k. number_at w32 (at + 4 * k) bytes)
-bins_at false bytes at = no_bins
+abbrev pub histogram_at : Bool → List ℕ → ℕ → List ℕ
+histogram_at true bytes at = map_below 9 (λ k. number_at w32 (at + 4 * k) bytes)
+histogram_at false bytes at = empty_histogram
 
 -- the outcome at an offset
 abbrev pub outcome_at : List ℕ → ℕ → Outcome
@@ -39,7 +39,7 @@ outcome_at bytes at = record {
   values =
       cast_signed w64 (number_at w64 (at + 12) bytes) ∷ cast_signed w64 (number_at w64 (at + 20) bytes)
       ∷ cast_signed w64 (number_at w64 (at + 28) bytes) ∷ cast_signed w64 (number_at w64 (at + 36) bytes) ∷ [];
-  bins = bins_at (has_bins (stated_version bytes)) bytes (at + 44);
+  bins = histogram_at (has_histogram (stated_version bytes)) bytes (at + 44);
 }
 
 -- the outcome at a place of a checkpoint, from 0
@@ -121,16 +121,16 @@ outcomes_of_slot (other digest generation) = None
 outcomes_of_slot (ours generation outcomes) = Some outcomes
 
 -- the outcomes of the slot with this number; without one, none if both slots are absent
-abbrev pub opening_of : Slot → Slot → Option ℕ → Option (List Outcome)
-opening_of first second (Some n) = outcomes_of_slot (slot_at first second n)
-opening_of absent absent None = Some []
-opening_of absent second None = None
-opening_of first second None = None
+abbrev pub outcomes_of_newest : Slot → Slot → Option ℕ → Option (List Outcome)
+outcomes_of_newest first second (Some n) = outcomes_of_slot (slot_at first second n)
+outcomes_of_newest absent absent None = Some []
+outcomes_of_newest absent second None = None
+outcomes_of_newest first second None = None
 
 -- the initial outcomes of a run, if it may start
-abbrev pub opening : Bool → Setting → Slot → Slot → Option (List Outcome)
-opening false setting first second = Some []
-opening true setting first second = option_map (taken_up setting.shift setting.walks) (opening_of first second (newest first second))
+abbrev pub initial_outcomes : Bool → Setting → Slot → Slot → Option (List Outcome)
+initial_outcomes false setting first second = Some []
+initial_outcomes true setting first second = option_map (taken_up setting.shift setting.walks) (outcomes_of_newest first second (newest first second))
 
 -- the outcomes of the job in the slot were found by its trajectories, with histograms or without
 abbrev pub IsConsistentSlot : Job → Draws → Slot → Type 0

@@ -7,7 +7,7 @@
 
 use crate::run_setup::{Given, GraphSource, Watched};
 use crate::said::Said;
-use crate::slot_setup::{Held, saves_failing};
+use crate::slot_setup::{SlotContents, saves_failing};
 use crate::streams::{number, word};
 use std::str::SplitWhitespace;
 use std::test::Fail;
@@ -61,7 +61,7 @@ fn input_of_run<'a>(setup: &Setup<'a>, run: u64) -> Given<'a> {
 /// Returns the setup of the run with this number.
 pub fn setup_in<'a>(setup: &Setup<'a>, run: u64) -> Said<'a> {
     Said {
-        held: Held {
+        slot_contents: SlotContents {
             zero: setup.zero,
             one: setup.one,
             failing_load: failing_call(setup, "loads", run),

@@ -24,7 +24,7 @@ pub fn parse_setup<'a>(parts: &mut SplitWhitespace<'a>, watched: Watched) -> Sai
         watched,
     };
     Said {
-        held: ABSENT,
+        slot_contents: ABSENT,
         saves: UNSTOPPED,
         given,
         is_observed: false,

@@ -30,7 +30,7 @@ pub fn parse_setup(line: &str) -> Said<'_> {
         watched: Watched::Noted(0),
     };
     Said {
-        held: ABSENT,
+        slot_contents: ABSENT,
         saves: UNSTOPPED,
         given,
         is_observed: false,

@@ -13,7 +13,7 @@
 
 use crate::run_setup::{Given, GraphSource, READ, WRITE, Watched};
 use crate::said::Said;
-use crate::slot_setup::{Held, Saves, saves_failing};
+use crate::slot_setup::{Saves, SlotContents, saves_failing};
 use crate::streams::{number, word};
 use std::num::ParseIntError;
 use std::str::SplitWhitespace;
@@ -40,11 +40,11 @@ fn saves_of(said: &str) -> Result<Saves, ParseIntError> {
     }
 }
 
-fn parse_held<'a>(parts: &mut SplitWhitespace<'a>) -> Result<Held<'a>, Fail> {
+fn parse_held<'a>(parts: &mut SplitWhitespace<'a>) -> Result<SlotContents<'a>, Fail> {
     let zero = word(parts);
     let one = word(parts);
     let failing_load = number(parts)?;
-    Ok(Held {
+    Ok(SlotContents {
         zero,
         one,
         failing_load,
@@ -53,7 +53,7 @@ fn parse_held<'a>(parts: &mut SplitWhitespace<'a>) -> Result<Held<'a>, Fail> {
 
 /// Parses the part of a line before the arguments.
 pub fn parse_setup<'a>(parts: &mut SplitWhitespace<'a>) -> Result<Said<'a>, Fail> {
-    let held = parse_held(parts)?;
+    let slot_contents = parse_held(parts)?;
     let saves = saves_of(word(parts))?;
     let room = number(parts)? as usize;
     let given = Given {
@@ -66,7 +66,7 @@ pub fn parse_setup<'a>(parts: &mut SplitWhitespace<'a>) -> Result<Said<'a>, Fail
         watched: Watched::Noted(0),
     };
     Ok(Said {
-        held,
+        slot_contents,
         saves,
         given,
         is_observed: true,

@@ -66,7 +66,7 @@ fn run_case<A: Fn(&mut Case, RunKeeper) -> (u8, RunKeeper)>(
     requires { A.IsAlwaysCallable audit.now }
 {
     let before = [left.slot(0), left.slot(1)];
-    let keeper = keeper_of(rt, &said.held, &said.saves, before, &case.gate)?;
+    let keeper = keeper_of(rt, &said.slot_contents, &said.saves, before, &case.gate)?;
     let (status, keeper) = audit(case, keeper);
     let saves = keeper.saves();
     drop(replace(left, keeper.into_inner().into_inner()));

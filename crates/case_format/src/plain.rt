@@ -26,7 +26,7 @@ pub fn parse_setup<'a>(parts: &mut SplitWhitespace<'a>) -> Result<Said<'a>, Fail
         watched: Watched::Noted(wanted),
     };
     Ok(Said {
-        held: ABSENT,
+        slot_contents: ABSENT,
         saves: UNSTOPPED,
         given,
         is_observed: false,

@@ -12,7 +12,7 @@ use std::test::Fail;
 
 /// The contents of both slots, and the number of the load that fails, or 0.
 #[derive(Clone, Copy)]
-pub struct Held<'a> {
+pub struct SlotContents<'a> {
     pub zero: &'a str,
     pub one: &'a str,
     pub failing_load: u64,
@@ -28,7 +28,7 @@ pub struct Saves {
 }
 
 /// Two empty slots and no failing load.
-pub const ABSENT: Held<'static> = Held {
+pub const ABSENT: SlotContents<'static> = SlotContents {
     zero: "absent",
     one: "absent",
     failing_load: 0,
@@ -53,13 +53,19 @@ pub fn saves_failing(failing: u64) -> Saves {
 /// Makes the keeper of a run at this gate. `same` stands for the contents that the run before left.
 pub fn keeper_of(
     rt: &HostRuntime,
-    held: &Held<'_>,
+    slot_contents: &SlotContents<'_>,
     saves: &Saves,
     before: [Option<&[u8]>; 2],
     gate: &CountingGate,
 ) -> Result<RunKeeper, Fail> {
-    let (zero, one) = slots_of(rt, held, before)?;
-    let keeper = keeper_over(rt.alloc(), zero, one, held.failing_load, saves.failing)?;
+    let (zero, one) = slots_of(rt, slot_contents, before)?;
+    let keeper = keeper_over(
+        rt.alloc(),
+        zero,
+        one,
+        slot_contents.failing_load,
+        saves.failing,
+    )?;
     let stopping = StopKeeper::new(keeper, saves.stop_at.max(1), saves.kept);
     let keeper = gate.keeper(stopping)?;
     Ok(keeper)
@@ -67,11 +73,11 @@ pub fn keeper_of(
 
 fn slots_of(
     rt: &HostRuntime,
-    held: &Held<'_>,
+    slot_contents: &SlotContents<'_>,
     before: [Option<&[u8]>; 2],
 ) -> Result<(Option<Bytes>, Option<Bytes>), Fail> {
-    let zero = slot_of(rt, held.zero, before[0])?;
-    let one = slot_of(rt, held.one, before[1])?;
+    let zero = slot_of(rt, slot_contents.zero, before[0])?;
+    let one = slot_of(rt, slot_contents.one, before[1])?;
     Ok((zero, one))
 }
 

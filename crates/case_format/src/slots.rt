@@ -23,8 +23,8 @@ pub fn slot_of(rt: &HostRuntime, said: &str, before: Option<&[u8]>) -> Result<Op
         "absent" => Ok(None),
         "same" => copy_of_stored(alloc, before),
         "spoilt" => stored_spoilt(alloc, before),
-        "long" => held_zeros(alloc),
-        file => held_file(rt, file),
+        "long" => stored_zeros(alloc),
+        file => stored_file(rt, file),
     }
 }
 
@@ -42,11 +42,11 @@ fn stored_spoilt(alloc: Global, before: Option<&[u8]>) -> Result<Option<Bytes>, 
     }
 }
 
-fn held_zeros(alloc: Global) -> Result<Option<Bytes>, Fail> {
+fn stored_zeros(alloc: Global) -> Result<Option<Bytes>, Fail> {
     Ok(Some(zeros(alloc, TOO_LONG)?))
 }
 
-fn held_file(rt: &HostRuntime, file: &str) -> Result<Option<Bytes>, Fail> {
+fn stored_file(rt: &HostRuntime, file: &str) -> Result<Option<Bytes>, Fail> {
     Ok(Some(read_hex(rt, file)?))
 }
 
@@ -83,8 +83,8 @@ pub fn show_slots(rt: &HostRuntime, keeper: &MemKeeper) -> io::Result<()> {
     show_slot(rt, 1, keeper.slot(1))
 }
 
-fn show_slot(rt: &HostRuntime, slot: u8, held: Option<&[u8]>) -> io::Result<()> {
-    match held {
+fn show_slot(rt: &HostRuntime, slot: u8, slot_contents: Option<&[u8]>) -> io::Result<()> {
+    match slot_contents {
         None => println!(rt; "slot {slot} absent"),
         Some(bytes) => show_bytes(rt, slot, bytes),
     }

@@ -14,7 +14,7 @@ ghost use Rattle.tally_desk.specs.Founded.{parts_of};
 ghost use Rattle.tally_desk.specs.Parts.{IsPlaceFor, MayFound};
 ghost use Rattle.tally_desk.specs.Passes.{IsFirstPass};
 
-use crate::settling::job_with;
+use crate::test_stops::job_with;
 use audit_io::keeper::Keeper;
 use audit_model::buffers::Bytes;
 use audit_model::fault::PlanFault;

@@ -17,13 +17,13 @@ mod jobs;
 mod noted;
 mod saves;
 mod searches;
-mod settling;
 mod shown;
+mod test_stops;
 
 use crate::calls::show_calls;
 use crate::claims::show_claims;
 use crate::desks::show_desks;
-use crate::settling::show_ends;
+use crate::test_stops::show_ends;
 use audit_io::sure_keeper::SureKeeper;
 use audit_run::Runtime;
 use audit_run::audit::audit;

@@ -13,7 +13,7 @@ use Rattle.ckpt_format.specs.Hashed.{Hashes, ask_bytes, counts_bytes, setting_by
 
 -- nothing was hashed
 pub hashes_none : (a : Sha256) → Hashes a a []
-hashes_none a = record { taken = λ before held. subst (Holds256 a) (sym (append-nil before)) held }
+hashes_none a = record { taken = λ before hashed. subst (Holds256 a) (sym (append-nil before)) hashed }
 
 -- the hashed bytes may be replaced by an equal list
 pub hashes_same : (a b : Sha256) (xs ys : List ℕ) → xs ≡ ys → Hashes a b xs → Hashes a b ys
@@ -22,7 +22,7 @@ hashes_same a b xs ys same one = subst (Hashes a b) same one
 -- one part is hashed after the other
 pub hashes_then : (a b c : Sha256) (xs ys : List ℕ) → Hashes a b xs → Hashes b c ys → Hashes a c (xs ++ ys)
 hashes_then a b c xs ys first second = record {
-  taken = λ before held. subst (Holds256 c) (append_assoc before xs ys) (second.taken (before ++ xs) (first.taken before held));
+  taken = λ before hashed. subst (Holds256 c) (append_assoc before xs ys) (second.taken (before ++ xs) (first.taken before hashed));
 }
 
 -- one more piece is hashed for each item of a list

@@ -9,15 +9,15 @@ use Rattle.sha2.specs.Sha256.{sha256}
 use Rattle.audit_model.specs.Below.{map_below}
 use Rattle.audit_model.specs.declared.outcome.Outcome.{Outcome}
 use Rattle.std.proofs.lemmas.List.Elements.{All-from_recursion}
-use Rattle.audit_model.specs.Trajectory.{no_bins}
+use Rattle.audit_model.specs.Trajectory.{empty_histogram}
 use Rattle.audit_model.proofs.Below.{length-map_below, get_or-map_below}
 use Rattle.audit_model.proofs.First.{none_first_below}
-use Rattle.audit_statement.specs.Checkpoint.{AreRising, HoldsBins, IsCheckpoint, IsOutcome, checkpoint, checkpoint_body, checkpoint_fault, has_bins, number_at, outcome_bytes, outcome_size, stated_count, stated_id, stated_version}
+use Rattle.audit_statement.specs.Checkpoint.{AreRising, AreHistogramsStorable, IsCheckpoint, IsOutcome, checkpoint, checkpoint_body, checkpoint_fault, has_histogram, number_at, outcome_bytes, outcome_size, stated_count, stated_id, stated_version}
 use Rattle.audit_statement.specs.Slots.{outcome_in, outcomes_in}
 use Rattle.ckpt_format.specs.Faults.{is_unordered}
 use Rattle.ckpt_format.specs.Laws.{StandsIn}
 use Rattle.ckpt_format.proofs.Cutting.{part-mid}
-use Rattle.ckpt_format.proofs.Numbers.{AreHeld, outcome_by, reread_32, reread_outcome}
+use Rattle.ckpt_format.proofs.Numbers.{AreStorable, outcome_by, reread_32, reread_outcome}
 use Rattle.ckpt_format.proofs.Pieces.{piece_apart}
 use Rattle.ckpt_format.proofs.Sizes.{each_sized, length-checkpoint, length-checkpoint_body}
 use Rattle.ckpt_format.proofs.Whole.{id_in, rising_at}
@@ -52,30 +52,30 @@ magic_apart m v d g c o s = simp append_assoc
 -- ---- the outcomes
 
 -- a histogram that is not written is 0
-held_at : (version : ℕ) (outcomes : List Outcome) (k : ℕ) (d : Outcome) → HoldsBins version outcomes → k < length outcomes → AreHeld (has_bins version) (get_or outcomes k d).bins
-held_at version outcomes k d (inl two) l = subst (λ v. AreHeld (has_bins v) (get_or outcomes k d).bins) (sym two) tt
-held_at version outcomes k d (inr (one, each)) l =
-    subst (λ v. AreHeld (has_bins v) (get_or outcomes k d).bins) (sym one) (All-from_recursion (λ o. o.bins ≡ no_bins) outcomes each k d l)
+storable_at : (version : ℕ) (outcomes : List Outcome) (k : ℕ) (d : Outcome) → AreHistogramsStorable version outcomes → k < length outcomes → AreStorable (has_histogram version) (get_or outcomes k d).bins
+storable_at version outcomes k d (inl two) l = subst (λ v. AreStorable (has_histogram v) (get_or outcomes k d).bins) (sym two) tt
+storable_at version outcomes k d (inr (one, each)) l =
+    subst (λ v. AreStorable (has_histogram v) (get_or outcomes k d).bins) (sym one) (All-from_recursion (λ o. o.bins ≡ empty_histogram) outcomes each k d l)
 
 -- a version that fits the outcomes fits four bytes
-version_below : (version : ℕ) (outcomes : List Outcome) → HoldsBins version outcomes → version < 2 ^ 32
+version_below : (version : ℕ) (outcomes : List Outcome) → AreHistogramsStorable version outcomes → version < 2 ^ 32
 version_below version outcomes (inl two) = omega (arith, two)
 version_below version outcomes (inr (one, each)) = omega (arith, one)
 
 -- written outcomes are read back
 outcomes_reread : (bytes p q : List ℕ) (version : ℕ) (outcomes : List Outcome) → bytes ≡ p ++ (flat_map (outcome_bytes version) outcomes ++ q) → length p ≡ 52
-    → stated_version bytes ≡ version → HoldsBins version outcomes → AllByRecursion IsOutcome outcomes → map_below (length outcomes) (outcome_in bytes) ≡ outcomes
-outcomes_reread bytes p q version outcomes is e states held each =
-    let with_bins = has_bins version in
+    → stated_version bytes ≡ version → AreHistogramsStorable version outcomes → AllByRecursion IsOutcome outcomes → map_below (length outcomes) (outcome_in bytes) ≡ outcomes
+outcomes_reread bytes p q version outcomes is e states storable each =
+    let with_histogram = has_histogram version in
     let many = length-map_below (length outcomes) (outcome_in bytes) in
     same_lists (map_below (length outcomes) (outcome_in bytes)) outcomes many (λ k d l.
     let inside : k < length outcomes = omega (arith, many) in
     let at = 52 + outcome_size version * k in
-    let apart = piece_apart (outcome_bytes version) (outcome_size version) p q outcomes 52 k d (each_sized with_bins outcomes each) e inside in
+    let apart = piece_apart (outcome_bytes version) (outcome_size version) p q outcomes 52 k d (each_sized with_histogram outcomes each) e inside in
     get_or-map_below (length outcomes) (outcome_in bytes) k d inside
-    ∙ ap (λ v. outcome_by (has_bins v) bytes (52 + outcome_size v * k)) states
-    ∙ ap (λ (ys : List ℕ). outcome_by with_bins ys at) (is ∙ apart.spelled)
-    ∙ reread_outcome with_bins apart.front apart.back (get_or outcomes k d) at (All-from_recursion IsOutcome outcomes each k d inside) (held_at version outcomes k d held inside) apart.size)
+    ∙ ap (λ v. outcome_by (has_histogram v) bytes (52 + outcome_size v * k)) states
+    ∙ ap (λ (ys : List ℕ). outcome_by with_histogram ys at) (is ∙ apart.spelled)
+    ∙ reread_outcome with_histogram apart.front apart.back (get_or outcomes k d) at (All-from_recursion IsOutcome outcomes each k d inside) (storable_at version outcomes k d storable inside) apart.size)
 
 -- ---- the whole checkpoint
 
@@ -112,7 +112,7 @@ IsMade-from_checkpoint bytes version digest generation outcomes is =
     let to_generation : length (m ++ v ++ digest ++ g) ≡ 48 = length-append (m ++ v ++ digest) g ∙ ap (λ n. n + 4) to_digest in
     let to_count : length (m ++ v ++ digest ++ g ++ c) ≡ 52 = length-append (m ++ v ++ digest ++ g) c ∙ ap (λ n. n + 4) to_generation in
     let states : stated_version bytes ≡ version =
-    ap (number_at w32 8) (whole ∙ version_apart m v digest g c o s) ∙ reread_32 m (digest ++ g ++ c ++ o ++ s) version 8 (version_below version outcomes is.bins_held) refl in
+    ap (number_at w32 8) (whole ∙ version_apart m v digest g c o s) ∙ reread_32 m (digest ++ g ++ c ++ o ++ s) version 8 (version_below version outcomes is.storable_histograms) refl in
     let counted : stated_count bytes ≡ length outcomes =
     ap (number_at w32 48) (whole ∙ count_apart m v digest g c o s) ∙ reread_32 (m ++ v ++ digest ++ g) (o ++ s) (length outcomes) 48 (omega (arith, is.few)) to_generation in
     let first_part : take (length bytes - 32) bytes ≡ body = ap (take (length bytes - 32)) whole ∙ take_at body s (length bytes - 32) front in
@@ -126,7 +126,7 @@ IsMade-from_checkpoint bytes version digest generation outcomes is =
         digest_at = ap (λ (ys : List ℕ). slice_range ys 12 44) (whole ∙ digest_apart m v digest g c o s) ∙ part-mid (m ++ v) digest (g ++ c ++ o ++ s) 12 44 refl (ap (λ n. 12 + n) is.digest_length);
         generation_at = ap (number_at w32 44) (whole ∙ generation_apart m v digest g c o s) ∙ reread_32 (m ++ v ++ digest) (c ++ o ++ s) generation 44 (omega (arith, is.generation_below)) to_digest;
         outcomes_at = ap (λ n. map_below n (outcome_in bytes)) counted
-            ∙ outcomes_reread bytes (m ++ v ++ digest ++ g ++ c) s version outcomes (whole ∙ outcomes_apart m v digest g c o s) to_count states is.bins_held is.each;
+            ∙ outcomes_reread bytes (m ++ v ++ digest ++ g ++ c) s version outcomes (whole ∙ outcomes_apart m v digest g c o s) to_count states is.storable_histograms is.each;
       };
       last = last_part ∙ ap sha256 (sym first_part);
     }
@@ -145,7 +145,7 @@ in_order bytes ids (suc k) rising many each l =
     and_right (nat_lt 0 (suc k)) (nat_le (stated_id bytes (suc k)) (stated_id bytes (suc k - 1))) (lt-leb (stated_id bytes (suc k)) (stated_id bytes (suc k - 1)) above)
 
 -- the version is 1 or 2
-known : (stated version : ℕ) (outcomes : List Outcome) → stated ≡ version → HoldsBins version outcomes → (stated ≡ 1) ⊎ (stated ≡ 2)
+known : (stated version : ℕ) (outcomes : List Outcome) → stated ≡ version → AreHistogramsStorable version outcomes → (stated ≡ 1) ⊎ (stated ≡ 2)
 known stated version outcomes is (inl two) = inr (is ∙ two)
 known stated version outcomes is (inr (one, each)) = inl (is ∙ one)
 
@@ -161,7 +161,7 @@ none-from_checkpoint bytes version digest generation outcomes is =
     none-from_IsFaultless bytes (record {
       head = record {
         magic = made.magic;
-        version = known (stated_version bytes) version outcomes made.stands.version_at is.bins_held;
+        version = known (stated_version bytes) version outcomes made.stands.version_at is.storable_histograms;
         generation = subst (λ n. n < 3) (sym made.stands.generation_at) is.generation_below;
         few = subst (λ n. n ≤ 100000) (sym made.count) is.few;
         size = made.size ∙ ap (λ n. 84 + outcome_size version * n) (sym made.count) ∙ ap (λ v. 84 + outcome_size v * stated_count bytes) (sym made.stands.version_at);

@@ -10,10 +10,10 @@ use Rattle.std.proofs.lemmas.List.{same_lists}
 use Rattle.std.proofs.lemmas.List.Elements.{All-from_get_or, All-from_recursion, recursion_from_All}
 use Rattle.audit_model.specs.Below.{map_below}
 use Rattle.audit_model.specs.declared.outcome.Outcome.{Outcome}
-use Rattle.audit_model.specs.Trajectory.{no_bins}
+use Rattle.audit_model.specs.Trajectory.{empty_histogram}
 use Rattle.audit_model.proofs.Below.{length-map_below, get_or-map_below}
 use Rattle.audit_statement.specs.Checkpoint.{IsOutcome, bin_bytes, number_at}
-use Rattle.audit_statement.specs.Slots.{bins_at}
+use Rattle.audit_statement.specs.Slots.{histogram_at}
 use Rattle.ckpt_format.specs.Written.{bytes_by, size_by}
 use Rattle.ckpt_format.proofs.Cutting.{AreBytes, join-parts, length-part, part-bytes, part-mid}
 use Rattle.ckpt_format.proofs.Pieces.{piece_apart, pieces_joined}
@@ -21,13 +21,13 @@ use Rattle.ckpt_format.proofs.Sizes.{few_bytes, length-even_pieces}
 
 -- the outcome at an offset, with or without a histogram
 abbrev pub outcome_by : Bool → List ℕ → ℕ → Outcome
-outcome_by with_bins bytes at = record {
+outcome_by with_histogram bytes at = record {
   id = number_at w32 at bytes;
   moved = number_at w64 (at + 4) bytes;
   values =
       cast_signed w64 (number_at w64 (at + 12) bytes) ∷ cast_signed w64 (number_at w64 (at + 20) bytes)
       ∷ cast_signed w64 (number_at w64 (at + 28) bytes) ∷ cast_signed w64 (number_at w64 (at + 36) bytes) ∷ [];
-  bins = bins_at with_bins bytes (at + 44);
+  bins = histogram_at with_histogram bytes (at + 44);
 }
 
 -- ---- bytes that are read and written again
@@ -81,19 +81,19 @@ values_of_four : (f : ℤ → List ℕ) (v w x y : ℤ) (a b c d : List ℕ) →
 values_of_four f v w x y a b c d p q r s = rw (p, q, r, s)
 
 -- a histogram that is read is written as the same bytes
-rewritten_bins : (with_bins : Bool) (bytes : List ℕ) (a b : ℕ) → AreBytes bytes → a + 44 ≡ b → a + size_by with_bins ≤ length bytes
-    → bin_bytes with_bins (bins_at with_bins bytes b) ≡ slice_range bytes b (a + size_by with_bins)
-rewritten_bins true bytes a b each e l =
+rewritten_histogram : (with_histogram : Bool) (bytes : List ℕ) (a b : ℕ) → AreBytes bytes → a + 44 ≡ b → a + size_by with_histogram ≤ length bytes
+    → bin_bytes with_histogram (histogram_at with_histogram bytes b) ≡ slice_range bytes b (a + size_by with_histogram)
+rewritten_histogram true bytes a b each e l =
     let number = λ (k : ℕ). number_at w32 (b + 4 * k) bytes in
     let joined = pieces_joined (to_be_bytes w32) number 4 b 9 bytes
     (λ k m. rewritten_32 bytes (b + 4 * k) (b + 4 * (k + 1)) each (omega arith) (omega arith) ∙ ap (λ c. slice_range bytes (b + 4 * k) (b + 4 * c)) (add-one k)) (omega arith) in
     joined ∙ ap (slice_range bytes b) (omega arith)
-rewritten_bins false bytes a b each e l = let none : 0 ≡ a + 44 - b = omega arith in ap (λ m. take m (drop b bytes)) none
+rewritten_histogram false bytes a b each e l = let none : 0 ≡ a + 44 - b = omega arith in ap (λ m. take m (drop b bytes)) none
 
 -- an outcome without its histogram is written as the same bytes
-rewritten_bare : (bytes : List ℕ) (a b : ℕ) → AreBytes bytes → a + 44 ≡ b → b ≤ length bytes
+rewritten_without_histogram : (bytes : List ℕ) (a b : ℕ) → AreBytes bytes → a + 44 ≡ b → b ≤ length bytes
     → (let o = outcome_by false bytes a in to_be_bytes w32 o.id ++ to_be_bytes w64 o.moved ++ flat_map (λ v. to_be_bytes w64 (cast_unsigned w64 v)) o.values) ≡ slice_range bytes a b
-rewritten_bare bytes a b each e l =
+rewritten_without_histogram bytes a b each e l =
     let value = λ (k : ℕ). cast_signed w64 (number_at w64 k bytes) in
     let spelled = λ (v : ℤ). to_be_bytes w64 (cast_unsigned w64 v) in
     let values : flat_map spelled (value (a + 12) ∷ value (a + 20) ∷ value (a + 28) ∷ value (a + 36) ∷ []) ≡ slice_range bytes (a + 12) b =
@@ -111,36 +111,36 @@ rewritten_bare bytes a b each e l =
     joined x y z p q r i m v = rw (i, m, v)
 
 -- an outcome that is read is written as the same bytes
-pub rewritten_outcome : (with_bins : Bool) (bytes : List ℕ) (a b : ℕ) → AreBytes bytes → a + size_by with_bins ≡ b → b ≤ length bytes
-    → bytes_by with_bins (outcome_by with_bins bytes a) ≡ slice_range bytes a b
-rewritten_outcome with_bins bytes a b each e l =
-    let few = few_bytes with_bins in
-    let o = outcome_by with_bins bytes a in
-    let bins = bin_bytes with_bins o.bins in
-    ap (λ (ys : List ℕ). ys ++ bins) (rewritten_bare bytes a (a + 44) each refl (omega (arith, few.0)))
-    ∙ ap (λ (ys : List ℕ). slice_range bytes a (a + 44) ++ ys) (rewritten_bins with_bins bytes a (a + 44) each refl (omega arith))
-    ∙ join-parts bytes a (a + 44) (a + size_by with_bins) (omega arith) (omega (arith, few.0)) (omega arith)
+pub rewritten_outcome : (with_histogram : Bool) (bytes : List ℕ) (a b : ℕ) → AreBytes bytes → a + size_by with_histogram ≡ b → b ≤ length bytes
+    → bytes_by with_histogram (outcome_by with_histogram bytes a) ≡ slice_range bytes a b
+rewritten_outcome with_histogram bytes a b each e l =
+    let few = few_bytes with_histogram in
+    let o = outcome_by with_histogram bytes a in
+    let bins = bin_bytes with_histogram o.bins in
+    ap (λ (ys : List ℕ). ys ++ bins) (rewritten_without_histogram bytes a (a + 44) each refl (omega (arith, few.0)))
+    ∙ ap (λ (ys : List ℕ). slice_range bytes a (a + 44) ++ ys) (rewritten_histogram with_histogram bytes a (a + 44) each refl (omega arith))
+    ∙ join-parts bytes a (a + 44) (a + size_by with_histogram) (omega arith) (omega (arith, few.0)) (omega arith)
     ∙ ap (slice_range bytes a) e
 
 -- an outcome that is read has fields within their bounds
-pub outcome_by-IsOutcome : (with_bins : Bool) (bytes : List ℕ) (a : ℕ) → AreBytes bytes → IsOutcome (outcome_by with_bins bytes a)
-outcome_by-IsOutcome with_bins bytes a each = record {
+pub outcome_by-IsOutcome : (with_histogram : Bool) (bytes : List ℕ) (a : ℕ) → AreBytes bytes → IsOutcome (outcome_by with_histogram bytes a)
+outcome_by-IsOutcome with_histogram bytes a each = record {
   id = number_at-below_32 bytes a each;
   moved = number_at-below_64 bytes (a + 4) each;
   four = refl;
   values = (fits (a + 12), (fits (a + 20), (fits (a + 28), (fits (a + 36), tt))));
-  nine = nine with_bins;
-  bins = below with_bins;
+  nine = nine with_histogram;
+  bins = below with_histogram;
 }
   where
     fits : (k : ℕ) → FitsSigned w64 (cast_signed w64 (number_at w64 k bytes))
     fits k = sfits_to_z {w = w64} {n = number_at w64 k bytes} (record { fits = number_at-below_64 bytes k each })
 
-    nine : (b : Bool) → length (bins_at b bytes (a + 44)) ≡ 9
+    nine : (b : Bool) → length (histogram_at b bytes (a + 44)) ≡ 9
     nine true = refl
     nine false = refl
 
-    below : (b : Bool) → AllByRecursion (λ n. n < 2 ^ 32) (bins_at b bytes (a + 44))
+    below : (b : Bool) → AllByRecursion (λ n. n < 2 ^ 32) (histogram_at b bytes (a + 44))
     below true =
         let number = λ (i : ℕ). number_at w32 (a + 44 + 4 * i) bytes in
         let each_below : (k : ℕ) → k < 9 → get_or (map_below 9 number) k 0 < 2 ^ 32 =
@@ -232,16 +232,16 @@ reread_numbers p q ns a each e =
     all_four (n ∷ ns) = (refl, all_four ns)
 
 -- a histogram that is not written is 0
-abbrev pub AreHeld : Bool → List ℕ → Type 0
-AreHeld true bins = ⊤
-AreHeld false bins = bins ≡ no_bins
+abbrev pub AreStorable : Bool → List ℕ → Type 0
+AreStorable true bins = ⊤
+AreStorable false bins = bins ≡ empty_histogram
 
 -- a written histogram is read back, and one that is not written is 0
-reread_bins : (with_bins : Bool) (p q bins : List ℕ) (a : ℕ) → length bins ≡ 9 → AllByRecursion (λ n. n < 2 ^ 32) bins → AreHeld with_bins bins → length p ≡ a
-    → bins_at with_bins (p ++ (bin_bytes with_bins bins ++ q)) a ≡ bins
-reread_bins true p q bins a nine each held e =
+reread_histogram : (with_histogram : Bool) (p q bins : List ℕ) (a : ℕ) → length bins ≡ 9 → AllByRecursion (λ n. n < 2 ^ 32) bins → AreStorable with_histogram bins → length p ≡ a
+    → histogram_at with_histogram (p ++ (bin_bytes with_histogram bins ++ q)) a ≡ bins
+reread_histogram true p q bins a nine each storable e =
     ap (λ n. map_below n (λ k. number_at w32 (a + 4 * k) (p ++ (flat_map (to_be_bytes w32) bins ++ q)))) (sym nine) ∙ reread_numbers p q bins a each e
-reread_bins false p q bins a nine each held e = sym held
+reread_histogram false p q bins a nine each storable e = sym storable
 
 -- the id of an outcome, split from the rest
 outcome_apart : (p i m v b q : List ℕ) → p ++ (i ++ m ++ v ++ b ++ q) ≡ p ++ (i ++ (m ++ (v ++ (b ++ q))))
@@ -256,8 +256,8 @@ values_apart : (p i m v b q : List ℕ) → p ++ (i ++ m ++ v ++ b ++ q) ≡ (p 
 values_apart p i m v b q = simp append_assoc
 
 -- the histogram of an outcome, split from the rest
-bins_apart : (p i m v b q : List ℕ) → p ++ (i ++ m ++ v ++ b ++ q) ≡ (p ++ i ++ m ++ v) ++ (b ++ q)
-bins_apart p i m v b q = simp append_assoc
+histogram_apart : (p i m v b q : List ℕ) → p ++ (i ++ m ++ v ++ b ++ q) ≡ (p ++ i ++ m ++ v) ++ (b ++ q)
+histogram_apart p i m v b q = simp append_assoc
 
 -- outcomes with equal parts are equal
 same_outcome : (i j m n : ℕ) (v w : List ℤ) (b c : List ℕ) → i ≡ j → m ≡ n → v ≡ w → b ≡ c
@@ -265,13 +265,13 @@ same_outcome : (i j m n : ℕ) (v w : List ℤ) (b c : List ℕ) → i ≡ j →
 same_outcome i j m n v w b c e f g h = rw (e, f, g, h)
 
 -- a written outcome is read back
-pub reread_outcome : (with_bins : Bool) (p q : List ℕ) (o : Outcome) (a : ℕ) → IsOutcome o → AreHeld with_bins o.bins → length p ≡ a
-    → outcome_by with_bins (p ++ (bytes_by with_bins o ++ q)) a ≡ o
-reread_outcome with_bins p q o a is held e =
+pub reread_outcome : (with_histogram : Bool) (p q : List ℕ) (o : Outcome) (a : ℕ) → IsOutcome o → AreStorable with_histogram o.bins → length p ≡ a
+    → outcome_by with_histogram (p ++ (bytes_by with_histogram o ++ q)) a ≡ o
+reread_outcome with_histogram p q o a is storable e =
     let i = to_be_bytes w32 o.id in
     let m = to_be_bytes w64 o.moved in
     let v = flat_map spelled o.values in
-    let b = bin_bytes with_bins o.bins in
+    let b = bin_bytes with_histogram o.bins in
     let four : length (p ++ i) ≡ a + 4 = length-append p i ∙ ap (λ n. n + 4) e in
     let twelve : length (p ++ i ++ m) ≡ a + 12 = length-append (p ++ i) m ∙ ap (λ n. n + 8) four ∙ omega arith in
     let all : length (p ++ i ++ m ++ v) ≡ a + 44 = omega (arith, length-append (p ++ i ++ m) v, twelve, length-even_pieces spelled 8 o.values (λ n. refl), is.four) in
@@ -279,5 +279,5 @@ reread_outcome with_bins p q o a is held e =
     let moved = ap (number_at w64 (a + 4)) (moved_apart p i m v b q) ∙ reread_64 (p ++ i) (v ++ (b ++ q)) o.moved (a + 4) is.moved four in
     let values = ap (λ (bytes : List ℕ). value_at (a + 12) bytes ∷ value_at (a + 20) bytes ∷ value_at (a + 28) bytes ∷ value_at (a + 36) bytes ∷ []) (values_apart p i m v b q)
     ∙ reread_values (p ++ i ++ m) (b ++ q) o.values (a + 12) (a + 20) (a + 28) (a + 36) is.four is.values twelve (omega arith) (omega arith) (omega arith) in
-    let bins = ap (λ (bytes : List ℕ). bins_at with_bins bytes (a + 44)) (bins_apart p i m v b q) ∙ reread_bins with_bins (p ++ i ++ m ++ v) q o.bins (a + 44) is.nine is.bins held all in
+    let bins = ap (λ (bytes : List ℕ). histogram_at with_histogram bytes (a + 44)) (histogram_apart p i m v b q) ∙ reread_histogram with_histogram (p ++ i ++ m ++ v) q o.bins (a + 44) is.nine is.bins storable all in
     same_outcome _ _ _ _ _ _ _ _ id moved values bins

@@ -8,7 +8,7 @@ use Rattle.sha2.specs.Sha256.{sha256}
 use Rattle.sha2.proofs.Facts256.{length-sha256}
 use Rattle.audit_model.specs.Room.{RoomyBytes}
 use Rattle.audit_model.specs.declared.outcome.Outcome.{Outcome}
-use Rattle.audit_statement.specs.Checkpoint.{IsOutcome, bin_bytes, checkpoint, checkpoint_body, has_bins, outcome_bytes, outcome_size}
+use Rattle.audit_statement.specs.Checkpoint.{IsOutcome, bin_bytes, checkpoint, checkpoint_body, has_histogram, outcome_bytes, outcome_size}
 use Rattle.ckpt_format.specs.Written.{AppendsBytes, bytes_by, head_bytes, size_by}
 
 -- the length of joined pieces of equal length
@@ -37,44 +37,44 @@ room_for_next f n xs i a b l even room done =
     omega (arith, used, next, mul-add n i 1, done.spare)
 
 -- the length of an outcome without its histogram
-pub length-bare_bytes : (o : Outcome) → length o.values ≡ 4
+pub length-bytes_without_histogram : (o : Outcome) → length o.values ≡ 4
     → length (to_be_bytes w32 o.id ++ to_be_bytes w64 o.moved ++ flat_map (λ v. to_be_bytes w64 (cast_unsigned w64 v)) o.values) ≡ 44
-length-bare_bytes o four =
+length-bytes_without_histogram o four =
     let values = length-even_pieces (λ v. to_be_bytes w64 (cast_unsigned w64 v)) 8 o.values (λ v. refl) in
     let head : length (to_be_bytes w32 o.id ++ to_be_bytes w64 o.moved) ≡ 12 = refl in
     omega (arith, four, values, head, length-append (to_be_bytes w32 o.id ++ to_be_bytes w64 o.moved) (flat_map (λ v. to_be_bytes w64 (cast_unsigned w64 v)) o.values))
 
 -- the length of a histogram, with the rest of an outcome
-length-bin_bytes : (with_bins : Bool) (bins : List ℕ) → length bins ≡ 9 → 44 + length (bin_bytes with_bins bins) ≡ size_by with_bins
+length-bin_bytes : (with_histogram : Bool) (bins : List ℕ) → length bins ≡ 9 → 44 + length (bin_bytes with_histogram bins) ≡ size_by with_histogram
 length-bin_bytes true bins nine = let numbers = length-even_pieces (to_be_bytes w32) 4 bins (λ n. refl) in omega (arith, nine, numbers)
 length-bin_bytes false bins nine = refl
 
 -- the length of an outcome of four values and nine histogram counts
-pub length-bytes_of : (with_bins : Bool) (o : Outcome) → length o.values ≡ 4 → length o.bins ≡ 9 → length (bytes_by with_bins o) ≡ size_by with_bins
-length-bytes_of with_bins o four nine =
-    let bare = length-bare_bytes o four in
-    let bins = length-bin_bytes with_bins o.bins nine in
-    omega (arith, bare, bins, length-append (to_be_bytes w32 o.id ++ to_be_bytes w64 o.moved ++ flat_map (λ v. to_be_bytes w64 (cast_unsigned w64 v)) o.values) (bin_bytes with_bins o.bins))
+pub length-bytes_of : (with_histogram : Bool) (o : Outcome) → length o.values ≡ 4 → length o.bins ≡ 9 → length (bytes_by with_histogram o) ≡ size_by with_histogram
+length-bytes_of with_histogram o four nine =
+    let without_histogram = length-bytes_without_histogram o four in
+    let bins = length-bin_bytes with_histogram o.bins nine in
+    omega (arith, without_histogram, bins, length-append (to_be_bytes w32 o.id ++ to_be_bytes w64 o.moved ++ flat_map (λ v. to_be_bytes w64 (cast_unsigned w64 v)) o.values) (bin_bytes with_histogram o.bins))
 
 -- the length of an outcome
-pub length-bytes_by : (with_bins : Bool) (o : Outcome) → IsOutcome o → length (bytes_by with_bins o) ≡ size_by with_bins
-length-bytes_by with_bins o is = length-bytes_of with_bins o is.four is.nine
+pub length-bytes_by : (with_histogram : Bool) (o : Outcome) → IsOutcome o → length (bytes_by with_histogram o) ≡ size_by with_histogram
+length-bytes_by with_histogram o is = length-bytes_of with_histogram o is.four is.nine
 
 -- an outcome has 44 to 80 bytes
-pub few_bytes : (with_bins : Bool) → (44 ≤ size_by with_bins) × (size_by with_bins ≤ 80)
+pub few_bytes : (with_histogram : Bool) → (44 ≤ size_by with_histogram) × (size_by with_histogram ≤ 80)
 few_bytes true = (omega arith, omega arith)
 few_bytes false = (omega arith, omega arith)
 
 -- the lengths of several outcomes
-pub each_sized : (with_bins : Bool) (outcomes : List Outcome) → AllByRecursion IsOutcome outcomes → AllByRecursion (λ o. length (bytes_by with_bins o) ≡ size_by with_bins) outcomes
-each_sized with_bins [] each = tt
-each_sized with_bins (o ∷ os) each = (length-bytes_by with_bins o each.0, each_sized with_bins os each.1)
+pub each_sized : (with_histogram : Bool) (outcomes : List Outcome) → AllByRecursion IsOutcome outcomes → AllByRecursion (λ o. length (bytes_by with_histogram o) ≡ size_by with_histogram) outcomes
+each_sized with_histogram [] each = tt
+each_sized with_histogram (o ∷ os) each = (length-bytes_by with_histogram o each.0, each_sized with_histogram os each.1)
 
 -- the length of all outcomes
 pub length-outcomes : (version : ℕ) (outcomes : List Outcome) → AllByRecursion IsOutcome outcomes
     → length (flat_map (outcome_bytes version) outcomes) ≡ outcome_size version * length outcomes
 length-outcomes version outcomes each =
-    length-pieces (outcome_bytes version) (outcome_size version) outcomes (each_sized (has_bins version) outcomes each)
+    length-pieces (outcome_bytes version) (outcome_size version) outcomes (each_sized (has_histogram version) outcomes each)
 
 -- the length of the head
 pub length-head_bytes : (version : ℕ) (digest : List ℕ) (generation count : ℕ) → length digest ≡ 32 → length (head_bytes version digest generation count) ≡ 52

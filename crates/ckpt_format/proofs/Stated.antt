@@ -7,7 +7,7 @@ use Rattle.std.proofs.lemmas.Bool.{cases_lt}
 use Rattle.std.proofs.lemmas.List.{get_or-map, get_or_past, length-map}
 use Rattle.audit_model.specs.declared.outcome.Outcome.{Outcome}
 use Rattle.std.proofs.Math.Nat.{mul-le-mul_left}
-use Rattle.audit_statement.specs.Checkpoint.{has_bins, number_at, outcome_size, stated_version}
+use Rattle.audit_statement.specs.Checkpoint.{has_histogram, number_at, outcome_size, stated_version}
 use Rattle.audit_statement.specs.Slots.{outcome_at, outcomes_in}
 use Rattle.ckpt_format.specs.Laws.{FaultlessAreCheckpoints, CheckpointsAreRead, CheckpointsAreDetermined, CheckpointsHaveLength, RisingPairsRise}
 use Rattle.ckpt_format.proofs.Cutting.{AreBytes}
@@ -47,7 +47,7 @@ checkpoints_are_determined bytes version version' digest digest' generation gene
 pub checkpoints_have_length : CheckpointsHaveLength
 checkpoints_have_length bytes version digest generation outcomes is =
     let size = (IsMade-from_checkpoint bytes version digest generation outcomes is).size in
-    let few = few_bytes (has_bins version) in
+    let few = few_bytes (has_histogram version) in
     let most : outcome_size version * length outcomes ≤ outcome_size version * 100000 = mul-le-mul_left (outcome_size version) is.few in
     (size, omega (arith, few.1, most))
 

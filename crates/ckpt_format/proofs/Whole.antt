@@ -12,11 +12,11 @@ use Rattle.sha2.specs.Sha256.{sha256}
 use Rattle.audit_model.specs.Below.{map_below}
 use Rattle.audit_model.specs.First.{first_below}
 use Rattle.audit_model.specs.declared.outcome.Outcome.{Outcome}
-use Rattle.audit_model.specs.Trajectory.{no_bins}
+use Rattle.audit_model.specs.Trajectory.{empty_histogram}
 use Rattle.audit_model.proofs.Below.{length-map_below, get_or-map_below}
 use Rattle.audit_model.proofs.First.{first_below_none}
-use Rattle.audit_statement.specs.Checkpoint.{AreRising, HoldsBins, IsCheckpoint, IsOutcome, checkpoint, checkpoint_body, has_bins, number_at, outcome_bytes, outcome_size, outcome_start, stated_count, stated_id, stated_version}
-use Rattle.audit_statement.specs.Slots.{bins_at, outcome_in, outcomes_in}
+use Rattle.audit_statement.specs.Checkpoint.{AreRising, AreHistogramsStorable, IsCheckpoint, IsOutcome, checkpoint, checkpoint_body, has_histogram, number_at, outcome_bytes, outcome_size, outcome_start, stated_count, stated_id, stated_version}
+use Rattle.audit_statement.specs.Slots.{histogram_at, outcome_in, outcomes_in}
 use Rattle.ckpt_format.specs.Faults.{is_unordered}
 use Rattle.ckpt_format.proofs.Cutting.{AreBytes, join-parts, part-bytes, length-part}
 use Rattle.ckpt_format.proofs.Faulting.{HasHead}
@@ -48,7 +48,7 @@ outcomes_rewritten bytes count each l =
     let size = outcome_size version in
     pieces_joined (outcome_bytes version) (outcome_in bytes) size 52 count bytes (λ k m.
     let next : size * suc k ≤ size * count = mul-le-mul_left size m in
-    rewritten_outcome (has_bins version) bytes (52 + size * k) (52 + size * suc k) each (omega arith) (omega (arith, next))) l
+    rewritten_outcome (has_histogram version) bytes (52 + size * k) (52 + size * suc k) each (omega arith) (omega (arith, next))) l
 
 -- six slices in a row join
 join_six : (xs m v d g c o : List ℕ) (end : ℕ) → 52 ≤ end → end ≤ length xs → m ≡ slice_range xs 0 8 → v ≡ slice_range xs 8 12 → d ≡ slice_range xs 12 44
@@ -125,21 +125,21 @@ outcomes_in-IsOutcome bytes each =
     let outcome = outcome_in bytes in
     recursion_from_All IsOutcome (outcomes_in bytes) (All-from_get_or IsOutcome (outcomes_in bytes) (outcome 0) (λ k l.
     subst IsOutcome (sym (get_or-map_below (stated_count bytes) outcome k (outcome 0) (omega (arith, length-map_below (stated_count bytes) outcome))))
-    (outcome_by-IsOutcome (has_bins (stated_version bytes)) bytes (outcome_start bytes k) each)))
+    (outcome_by-IsOutcome (has_histogram (stated_version bytes)) bytes (outcome_start bytes k) each)))
 
 -- in the first version no histogram is read
-outcomes_in-bare : (bytes : List ℕ) → stated_version bytes ≡ 1 → AllByRecursion (λ o. o.bins ≡ no_bins) (outcomes_in bytes)
-outcomes_in-bare bytes one =
+outcomes_in-without_histogram : (bytes : List ℕ) → stated_version bytes ≡ 1 → AllByRecursion (λ o. o.bins ≡ empty_histogram) (outcomes_in bytes)
+outcomes_in-without_histogram bytes one =
     let outcome = outcome_in bytes in
     let count = stated_count bytes in
-    recursion_from_All (λ o. o.bins ≡ no_bins) (outcomes_in bytes) (All-from_get_or (λ o. o.bins ≡ no_bins) (outcomes_in bytes) (outcome 0) (λ k l.
+    recursion_from_All (λ o. o.bins ≡ empty_histogram) (outcomes_in bytes) (All-from_get_or (λ o. o.bins ≡ empty_histogram) (outcomes_in bytes) (outcome 0) (λ k l.
     ap (λ (o : Outcome). o.bins) (get_or-map_below count outcome k (outcome 0) (omega (arith, length-map_below count outcome)))
-    ∙ ap (λ v. bins_at (has_bins v) bytes (outcome_start bytes k + 44)) one))
+    ∙ ap (λ v. histogram_at (has_histogram v) bytes (outcome_start bytes k + 44)) one))
 
 -- the outcomes read have histograms in the second version and none in the first
-bins_held : (bytes : List ℕ) → (stated_version bytes ≡ 1) ⊎ (stated_version bytes ≡ 2) → HoldsBins (stated_version bytes) (outcomes_in bytes)
-bins_held bytes (inl one) = inr (one, outcomes_in-bare bytes one)
-bins_held bytes (inr two) = inl two
+storable_histograms : (bytes : List ℕ) → (stated_version bytes ≡ 1) ⊎ (stated_version bytes ≡ 2) → AreHistogramsStorable (stated_version bytes) (outcomes_in bytes)
+storable_histograms bytes (inl one) = inr (one, outcomes_in-without_histogram bytes one)
+storable_histograms bytes (inr two) = inl two
 
 -- bytes without a fault are the checkpoint of the parts read from them
 pub read_as_checkpoint : (bytes : List ℕ) → AreBytes bytes → HasHead bytes → first_below (stated_count bytes) (is_unordered bytes) ≡ None
@@ -148,7 +148,7 @@ pub read_as_checkpoint : (bytes : List ℕ) → AreBytes bytes → HasHead bytes
 read_as_checkpoint bytes each head ordered last =
     let size = head.size in
     let many = length-map_below (stated_count bytes) (outcome_in bytes) in record {
-      bins_held = bins_held bytes head.version;
+      storable_histograms = storable_histograms bytes head.version;
       digest_length = length-part bytes 12 44 (omega arith) (omega arith);
       digest_bytes = recursion_from_All (λ b. b < 256) (slice_range bytes 12 44) (All-from_get_or (λ b. b < 256) (slice_range bytes 12 44) 0 (λ k l. part-bytes bytes 12 44 each k));
       generation_below = head.generation;

@@ -6,8 +6,8 @@ use Rattle.std.proofs.lemmas.Bool.{and_parts, eqb-true}
 use Rattle.sha2.specs.Sha256.{sha256}
 use Rattle.audit_model.specs.Room.{RoomyBytes}
 use Rattle.audit_model.specs.declared.outcome.Outcome.{Outcome}
-use Rattle.audit_model.specs.Run.{is_bare}
-use Rattle.audit_model.specs.Trajectory.{no_bins}
+use Rattle.audit_model.specs.Run.{has_no_histogram}
+use Rattle.audit_model.specs.Trajectory.{empty_histogram}
 use Rattle.audit_statement.specs.Checkpoint.{IsOutcome, checkpoint, checkpoint_body, outcome_bytes}
 use Rattle.ckpt_format.specs.Written.{AppendsBytes, head_bytes}
 
@@ -31,8 +31,8 @@ zeros (n ∷ ns) all =
     ap₂ (λ m ms. m ∷ ms) (eqb-true n 0 parts.0) (zeros ns parts.1)
 
 -- outcomes whose histograms are all 0
-pub all_bare : (outcomes : List Outcome) → AllByRecursion IsOutcome outcomes → IsTrue (list_all is_bare outcomes) → AllByRecursion (λ o. o.bins ≡ no_bins) outcomes
-all_bare [] each bare = tt
-all_bare (o ∷ os) each bare =
-    let parts = and_parts (is_bare o) (list_all is_bare os) bare in
-    (zeros o.bins parts.0 ∙ ap (λ n. replicate n 0) each.0.nine, all_bare os each.1 parts.1)
+pub all_without_histogram : (outcomes : List Outcome) → AllByRecursion IsOutcome outcomes → IsTrue (list_all has_no_histogram outcomes) → AllByRecursion (λ o. o.bins ≡ empty_histogram) outcomes
+all_without_histogram [] each without_histogram = tt
+all_without_histogram (o ∷ os) each without_histogram =
+    let parts = and_parts (has_no_histogram o) (list_all has_no_histogram os) without_histogram in
+    (zeros o.bins parts.0 ∙ ap (λ n. replicate n 0) each.0.nine, all_without_histogram os each.1 parts.1)

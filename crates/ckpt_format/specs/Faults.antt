@@ -5,11 +5,11 @@ use Rattle.sha2.specs.Sha256.{sha256}
 use Rattle.audit_model.specs.declared.fault.CkptFault.{CkptFault}
 use Rattle.audit_model.specs.declared.fault.CkptFault.TheVariants.{TooShort, BadMagic, BadVersion, BadGeneration, BadCount, BadOrder, BadDigest}
 use Rattle.audit_model.specs.First.{first_some, first_below}
-use Rattle.audit_statement.specs.Checkpoint.{number_at, outcome_size, stated_count, stated_id, stated_version, bare_length, version_place, generation_place}
+use Rattle.audit_statement.specs.Checkpoint.{number_at, outcome_size, stated_count, stated_id, stated_version, empty_length, version_place, generation_place}
 use Rattle.audit_model.specs.Limits.{most_trajectories}
 
 abbrev pub length_fault : List ℕ → Option CkptFault
-length_fault bytes = cond (nat_lt (length bytes) bare_length) (Some (TooShort (length bytes))) None
+length_fault bytes = cond (nat_lt (length bytes) empty_length) (Some (TooShort (length bytes))) None
 
 abbrev pub magic_fault : List ℕ → Option CkptFault
 magic_fault bytes = cond (bytes_eq (take version_place bytes) (codes "DISTCKPT")) None (Some BadMagic)
@@ -21,7 +21,7 @@ abbrev pub generation_fault : ℕ → Option CkptFault
 generation_fault generation = cond (nat_lt 2 generation) (Some (BadGeneration generation)) None
 
 abbrev pub outcome_count_fault : ℕ → ℕ → ℕ → Option CkptFault
-outcome_count_fault version count size = cond (nat_lt most_trajectories count || not (size == bare_length + outcome_size version * count)) (Some (BadCount count size)) None
+outcome_count_fault version count size = cond (nat_lt most_trajectories count || not (size == empty_length + outcome_size version * count)) (Some (BadCount count size)) None
 
 -- the id of the outcome at a place is not above the one before it
 abbrev pub is_unordered : List ℕ → ℕ → Bool

@@ -3,7 +3,7 @@ use Rattle.std.specs.Prelude.{◌≡◌, ℕ, ◌+◌, ◌*◌, ◌<◌, ◌≤�
 use Rattle.std.specs.Int.{w32}
 use Rattle.std.specs.List.{All, AllPairs}
 use Rattle.audit_model.specs.declared.outcome.Outcome.{Outcome}
-use Rattle.audit_statement.specs.Checkpoint.{AreRising, IsCheckpoint, checkpoint_fault, number_at, outcome_size, stated_version, digest_place, generation_place, bare_length}
+use Rattle.audit_statement.specs.Checkpoint.{AreRising, IsCheckpoint, checkpoint_fault, number_at, outcome_size, stated_version, digest_place, generation_place, empty_length}
 use Rattle.audit_statement.specs.Slots.{outcomes_in, checkpoint_limit}
 
 -- the bytes are the checkpoint of some version, digest, generation and outcomes
@@ -38,7 +38,7 @@ CheckpointsAreDetermined =
 abbrev pub CheckpointsHaveLength : Type 0
 CheckpointsHaveLength = (bytes : List ℕ) (version : ℕ) (digest : List ℕ) (generation : ℕ) (outcomes : List Outcome)
     → IsCheckpoint bytes version digest generation outcomes
-    → (length bytes ≡ bare_length + outcome_size version * length outcomes) × (length bytes ≤ checkpoint_limit)
+    → (length bytes ≡ empty_length + outcome_size version * length outcomes) × (length bytes ≤ checkpoint_limit)
 
 -- ids each below all later ones rise
 abbrev pub RisingPairsRise : Type 0

@@ -17,8 +17,8 @@ head_bytes version digest generation count =
 
 -- the bytes of an outcome, and their number, with or without its histogram
 abbrev pub bytes_by : Bool → Outcome → List ℕ
-bytes_by with_bins o =
-    to_be_bytes w32 o.id ++ to_be_bytes w64 o.moved ++ flat_map (λ v. to_be_bytes w64 (cast_unsigned w64 v)) o.values ++ bin_bytes with_bins o.bins
+bytes_by with_histogram o =
+    to_be_bytes w32 o.id ++ to_be_bytes w64 o.moved ++ flat_map (λ v. to_be_bytes w64 (cast_unsigned w64 v)) o.values ++ bin_bytes with_histogram o.bins
 
 abbrev pub size_by : Bool → ℕ
-size_by with_bins = cond with_bins 80 44
+size_by with_histogram = cond with_histogram 80 44

@@ -4,8 +4,8 @@ ghost use Rattle.std.specs.Prelude.{◌≡◌, ◌+◌, ◌*◌, ◌^◌, ◌<�
 ghost use Rattle.std.specs.List.{AllByRecursion, list_all};
 ghost use Rattle.std.specs.Int.{w32, w64, to_be_bytes, cast_unsigned};
 ghost use Rattle.sha2.specs.Sha256.{sha256};
-ghost use Rattle.audit_model.specs.Run.{is_bare};
-ghost use Rattle.audit_statement.specs.Checkpoint.{AreRising, HoldsBins, IsCheckpoint, IsOutcome, bin_bytes, checkpoint, outcome_bytes, outcome_size, bare_length, outcomes_place};
+ghost use Rattle.audit_model.specs.Run.{has_no_histogram};
+ghost use Rattle.audit_statement.specs.Checkpoint.{AreRising, AreHistogramsStorable, IsCheckpoint, IsOutcome, bin_bytes, checkpoint, outcome_bytes, outcome_size, empty_length, outcomes_place};
 ghost use Rattle.ckpt_format.specs.Written.{AppendsBytes, bytes_by, head_bytes, size_by};
 ghost use Rattle.audit_model.specs.Limits.{most_trajectories};
 
@@ -24,9 +24,9 @@ pub fn encode(digest: &[u8; 32], generation: u8, outcomes: &[Outcome], out: &mut
     requires generation { generation < 3 }
     requires few { length outcomes.now ≤ most_trajectories }
     requires rising { AreRising (map (λ o. o.id) outcomes.now) }
-    requires room { bare_length + 80 * length outcomes.now ≤ length out.old.items + out.old.spare }
+    requires room { empty_length + 80 * length outcomes.now ≤ length out.old.items + out.old.spare }
     ensures bytes { out.new.items ≡ checkpoint 2 digest.now generation outcomes.now }
-    ensures length { length out.new.items ≡ bare_length + 80 * length outcomes.now }
+    ensures length { length out.new.items ≡ empty_length + 80 * length outcomes.now }
     ensures room { length out.new.items + out.new.spare ≡ length out.old.items + out.old.spare }
     ensures sound { IsCheckpoint out.new.items 2 digest.now generation outcomes.now }
 {
@@ -44,9 +44,9 @@ pub fn encode_with(
     requires generation { generation < 3 }
     requires few { length outcomes.now ≤ most_trajectories }
     requires rising { AreRising (map (λ o. o.id) outcomes.now) }
-    requires room { bare_length + 80 * length outcomes.now ≤ length out.old.items + out.old.spare }
+    requires room { empty_length + 80 * length outcomes.now ≤ length out.old.items + out.old.spare }
     ensures bytes { out.new.items ≡ checkpoint 2 digest.now generation outcomes.now }
-    ensures length { length out.new.items ≡ bare_length + 80 * length outcomes.now }
+    ensures length { length out.new.items ≡ empty_length + 80 * length outcomes.now }
     ensures room { length out.new.items + out.new.spare ≡ length out.old.items + out.old.spare }
     ensures sound { IsCheckpoint out.new.items 2 digest.now generation outcomes.now }
 {
@@ -59,10 +59,10 @@ pub fn encode_old(digest: &[u8; 32], generation: u8, outcomes: &[Outcome], out: 
     requires generation { generation < 3 }
     requires few { length outcomes.now ≤ most_trajectories }
     requires rising { AreRising (map (λ o. o.id) outcomes.now) }
-    requires bare { IsTrue (list_all is_bare outcomes.now) }
-    requires room { bare_length + 44 * length outcomes.now ≤ length out.old.items + out.old.spare }
+    requires without_histogram { IsTrue (list_all has_no_histogram outcomes.now) }
+    requires room { empty_length + 44 * length outcomes.now ≤ length out.old.items + out.old.spare }
     ensures bytes { out.new.items ≡ checkpoint 1 digest.now generation outcomes.now }
-    ensures length { length out.new.items ≡ bare_length + 44 * length outcomes.now }
+    ensures length { length out.new.items ≡ empty_length + 44 * length outcomes.now }
     ensures room { length out.new.items + out.new.spare ≡ length out.old.items + out.old.spare }
     ensures sound { IsCheckpoint out.new.items 1 digest.now generation outcomes.now }
 {
@@ -81,12 +81,12 @@ fn encode_as(
     requires generation { generation < 3 }
     requires few { length outcomes.now ≤ most_trajectories }
     requires rising { AreRising (map (λ o. o.id) outcomes.now) }
-    requires room { bare_length + outcome_size version * length outcomes.now ≤ length out.old.items + out.old.spare }
+    requires room { empty_length + outcome_size version * length outcomes.now ≤ length out.old.items + out.old.spare }
     ensures bytes { out.new.items ≡ checkpoint version digest.now generation outcomes.now }
-    ensures length { length out.new.items ≡ bare_length + outcome_size version * length outcomes.now }
+    ensures length { length out.new.items ≡ empty_length + outcome_size version * length outcomes.now }
     ensures room { length out.new.items + out.new.spare ≡ length out.old.items + out.old.spare }
     ensures each { AllByRecursion IsOutcome outcomes.now }
-    ensures sound { HoldsBins version outcomes.now → IsCheckpoint out.new.items version digest.now generation outcomes.now }
+    ensures sound { AreHistogramsStorable version outcomes.now → IsCheckpoint out.new.items version digest.now generation outcomes.now }
 {
     out.clear();
     append_head(out, version, digest, generation, outcomes.len() as u32);
@@ -125,25 +125,25 @@ fn append_outcomes(out: &mut Bytes, version: u32, outcomes: &[Outcome])
 }
 
 /// Appends an outcome: its id, its moves, its values, and its histogram if the version has one.
-pub(crate) fn append_outcome(out: &mut Bytes, with_bins: bool, outcome: &Outcome)
-    requires { size_by with_bins ≤ out.old.spare }
-    ensures bytes { AppendsBytes out.old out.new (bytes_by with_bins outcome.now) }
+pub(crate) fn append_outcome(out: &mut Bytes, with_histogram: bool, outcome: &Outcome)
+    requires { size_by with_histogram ≤ out.old.spare }
+    ensures bytes { AppendsBytes out.old out.new (bytes_by with_histogram outcome.now) }
     ensures sound { IsOutcome outcome.now }
 {
     let mut piece = OutcomeBytes::new();
     append_u32(&mut piece, outcome.id);
     append_u64(&mut piece, outcome.moved);
     append_values(&mut piece, &outcome.values);
-    append_bins(&mut piece, with_bins, &outcome.bins);
+    append_histogram(&mut piece, with_histogram, &outcome.bins);
     append(out, piece.as_slice());
 }
 
-fn append_bins(piece: &mut OutcomeBytes, with_bins: bool, bins: &[u32; 9])
-    requires { IsTrue with_bins → 36 ≤ piece.old.spare }
-    ensures bytes { AppendsBytes piece.old piece.new (bin_bytes with_bins bins.now) }
+fn append_histogram(piece: &mut OutcomeBytes, with_histogram: bool, bins: &[u32; 9])
+    requires { IsTrue with_histogram → 36 ≤ piece.old.spare }
+    ensures bytes { AppendsBytes piece.old piece.new (bin_bytes with_histogram bins.now) }
     ensures sound { AllByRecursion (λ n. n < 2 ^ 32) bins.now }
 {
-    if with_bins {
+    if with_histogram {
         append_numbers(piece, bins);
     }
 }

@@ -2,7 +2,7 @@
 
 ghost use Rattle.std.specs.Prelude.{◌≡◌, ◌+◌, ◌≤◌, length};
 ghost use Rattle.audit_model.specs.First.{first_below};
-ghost use Rattle.audit_statement.specs.Checkpoint.{checkpoint_fault, outcome_start, stated_id, bare_length};
+ghost use Rattle.audit_statement.specs.Checkpoint.{checkpoint_fault, outcome_start, stated_id, empty_length};
 ghost use Rattle.ckpt_format.specs.Faults.{outcome_count_fault, order_fault, digest_fault, head_fault, is_unordered};
 
 use crate::encode::MAGIC;
@@ -28,7 +28,7 @@ pub(crate) fn fault_of(bytes: &[u8]) -> Option<CkptFault>
 
 /// Returns the first fault of the head, which stands before the outcomes.
 fn head_fault(bytes: &[u8]) -> Option<CkptFault>
-    requires { bare_length ≤ length bytes.now }
+    requires { empty_length ≤ length bytes.now }
     ensures { result ≡ head_fault bytes.now }
 {
     if array_at(bytes, 0) != MAGIC {

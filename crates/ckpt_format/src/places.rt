@@ -4,7 +4,7 @@ ghost use Rattle.std.specs.Prelude.{◌≡◌, ◌+◌, ◌*◌, ◌≤◌, IsTr
 ghost use Rattle.std.specs.Int.{w32, w64, cast_signed};
 ghost use Rattle.audit_model.specs.Below.{map_below};
 ghost use Rattle.audit_statement.specs.Checkpoint.{number_at, outcome_size, outcome_start, stated_version, digest_place};
-ghost use Rattle.audit_statement.specs.Slots.{bins_at, outcome_at, outcome_in};
+ghost use Rattle.audit_statement.specs.Slots.{histogram_at, outcome_at, outcome_in};
 
 use audit_model::outcome::Outcome;
 
@@ -95,20 +95,24 @@ fn outcome_at(bytes: &[u8], at: usize) -> Outcome
             i64_at(bytes, at + 28),
             i64_at(bytes, at + 36),
         ],
-        bins: bins_of(bytes, u32_at(bytes, VERSION) == 2, at + 44),
+        bins: histogram_of(bytes, u32_at(bytes, VERSION) == 2, at + 44),
     }
 }
 
 /// Returns the histogram at an offset, or zeros if the version has none.
-fn bins_of(bytes: &[u8], present: bool, at: usize) -> [u32; 9]
+fn histogram_of(bytes: &[u8], present: bool, at: usize) -> [u32; 9]
     requires { IsTrue present → at + 36 ≤ length bytes.now }
-    ensures { result ≡ bins_at present bytes.now at }
+    ensures { result ≡ histogram_at present bytes.now at }
 {
-    if present { bins_at(bytes, at) } else { [0; 9] }
+    if present {
+        histogram_at(bytes, at)
+    } else {
+        [0; 9]
+    }
 }
 
 /// Returns the nine numbers of four bytes at an offset.
-fn bins_at(bytes: &[u8], at: usize) -> [u32; 9]
+fn histogram_at(bytes: &[u8], at: usize) -> [u32; 9]
     requires { at + 36 ≤ length bytes.now }
     ensures { result ≡ map_below 9 (λ k. number_at w32 (at + 4 * k) bytes.now) }
 {

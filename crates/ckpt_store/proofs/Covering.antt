@@ -8,7 +8,7 @@ use Rattle.std.proofs.lemmas.Bool.{cases_eq, eq-eqb, ne_eqb}
 use Rattle.std.proofs.lemmas.Option.{none-some, same_Some}
 use Rattle.audit_model.specs.declared.outcome.Outcome.{Outcome}
 use Rattle.audit_model.specs.Run.{with_id}
-use Rattle.audit_model.specs.Trajectory.{no_bins}
+use Rattle.audit_model.specs.Trajectory.{empty_histogram}
 use Rattle.outcome_book.specs.Union.{Agree, AgreeIf, AgreesWith, AreById, IsFirstDifference, IsUnion, fuller_if}
 use Rattle.ckpt_store.specs.Collected.{Collected, IsCovered, IsFirstOther, passed_over}
 use Rattle.ckpt_store.specs.Findings.{IsLeftOut}
@@ -22,7 +22,7 @@ covered_passed c covered o all = covered o (λ k l. subst (λ (os : List Outcome
 joined_agrees : (a b : Option Outcome) (o : Outcome) → AgreeIf a (Some o) → AgreeIf b (Some o) → AgreeIf (fuller_if a b) (Some o)
 joined_agrees None b o ha hb = hb
 joined_agrees (Some a) None o ha hb = ha
-joined_agrees (Some a) (Some b) o ha hb = by (bytes_eq a.bins no_bins)
+joined_agrees (Some a) (Some b) o ha hb = by (bytes_eq a.bins empty_histogram)
   where
     by : (t : Bool) → Agree (cond t b a) o
     by true = hb

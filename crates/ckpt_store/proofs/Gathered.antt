@@ -6,7 +6,7 @@ use Rattle.audit_model.specs.Pair.{stored}
 use Rattle.audit_model.specs.Job.{Job}
 use Rattle.audit_model.specs.Run.{IsConsistent}
 use Rattle.audit_model.specs.Trajectory.{Draws}
-use Rattle.audit_statement.specs.Slots.{IsConsistentSlot, Slot, absent, broken, other, ours, newest, opening_of, outcomes_of_slot, slot_of}
+use Rattle.audit_statement.specs.Slots.{IsConsistentSlot, Slot, absent, broken, other, ours, newest, outcomes_of_newest, outcomes_of_slot, slot_of}
 use Rattle.ckpt_store.specs.Laws.{CheckpointsAreOurs, StopsLeaveConsistentSlots}
 use Rattle.outcome_book.specs.Laws.{UnionsAreConsistent}
 use Rattle.ckpt_store.specs.GatheredLaws.{GatheredSlotsAreConsistent, ConsistentSlotsGiveConsistentOutcomes}
@@ -28,7 +28,7 @@ of_slot job draws (ours generation kept) outcomes consistent e = subst (IsConsis
 
 -- the outcomes of the newest of two consistent slots are consistent
 of_newest : (job : Job) (draws : Draws) (first second : Slot) (n : Option ℕ) (outcomes : List Outcome)
-    → IsConsistentSlot job draws first → IsConsistentSlot job draws second → opening_of first second n ≡ Some outcomes → IsConsistent job draws outcomes
+    → IsConsistentSlot job draws first → IsConsistentSlot job draws second → outcomes_of_newest first second n ≡ Some outcomes → IsConsistent job draws outcomes
 of_newest job draws first second (Some zero) outcomes h k e = of_slot job draws first outcomes h e
 of_newest job draws first second (Some (suc n)) outcomes h k e = of_slot job draws second outcomes k e
 of_newest job draws absent absent None outcomes h k e = subst (IsConsistent job draws) (same_Some [] outcomes e) (none_consistent job draws)
@@ -45,8 +45,8 @@ consistent_slots_give_consistent_outcomes job draws first second outcomes h k e 
 
 -- the law on saving the union
 pub gathered_slots_are_consistent : StopsLeaveConsistentSlots → CheckpointsAreOurs → UnionsAreConsistent → GatheredSlotsAreConsistent
-gathered_slots_are_consistent stops reads unions job draws digest gathered held both before after number generation hg hh is consistent =
+gathered_slots_are_consistent stops reads unions job draws digest gathered content both before after number generation hg hh is consistent =
     let slot : slot_of job digest (stored after number) ≡ ours generation both =
     ap (slot_of job digest) is.bytes ∙ reads job _ 2 digest generation both is.sound is.fit in
     stops job draws digest before after number is.beside
-    (inr (inr (subst (IsConsistentSlot job draws) (sym slot) (unions job draws gathered held both hg hh is.union)))) consistent
+    (inr (inr (subst (IsConsistentSlot job draws) (sym slot) (unions job draws gathered content both hg hh is.union)))) consistent

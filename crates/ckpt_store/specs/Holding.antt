@@ -8,7 +8,7 @@ use Rattle.audit_statement.specs.Checkpoint.{IsCheckpoint, checkpoint_fault}
 use Rattle.audit_statement.specs.Slots.{checkpoint_limit, newest_of}
 use Rattle.audit_model.specs.declared.fault.CkptFault.{CkptFault}
 use Rattle.ckpt_store.specs.declared.slot_content.SlotContent.{SlotContent}
-use Rattle.ckpt_store.specs.declared.slot_content.SlotContent.TheVariants as held
+use Rattle.ckpt_store.specs.declared.slot_content.SlotContent.TheVariants as content
 use Rattle.ckpt_store.specs.declared.slot_content.Loaded.{Loaded}
 use Rattle.ckpt_store.specs.declared.slot_content.Loaded.TheVariants as loaded
 
@@ -18,13 +18,13 @@ IsFault bytes fault = ((checkpoint_limit < length bytes) × (fault ≡ TooLong c
 
 -- the contents of a slot with these bytes
 abbrev pub Holds : List ℕ → SlotContent → Type 0
-Holds bytes held.Absent = ⊥
-Holds bytes (held.Broken fault) = IsFault bytes fault
-Holds bytes (held.Whole c) = (length bytes ≤ checkpoint_limit) × IsCheckpoint bytes c.version c.digest c.generation c.outcomes.items
+Holds bytes content.Absent = ⊥
+Holds bytes (content.Broken fault) = IsFault bytes fault
+Holds bytes (content.Whole c) = (length bytes ≤ checkpoint_limit) × IsCheckpoint bytes c.version c.digest c.generation c.outcomes.items
 
 -- the contents of a slot, whose file may not exist
 abbrev pub HoldsStored : Option (List ℕ) → SlotContent → Type 0
-HoldsStored None h = h ≡ held.Absent
+HoldsStored None h = h ≡ content.Absent
 HoldsStored (Some bytes) h = Holds bytes h
 
 -- the result of loading a slot with these contents. Of too many bytes only their excess is known.
@@ -41,9 +41,9 @@ pub record HasLoaded (observed : Option Pair) (number : ℕ) (what : Loaded) : T
 
 -- the generation of a valid slot
 abbrev pub generation_in : SlotContent → Option ℕ
-generation_in held.Absent = None
-generation_in (held.Broken fault) = None
-generation_in (held.Whole c) = Some c.generation
+generation_in content.Absent = None
+generation_in (content.Broken fault) = None
+generation_in (content.Whole c) = Some c.generation
 
 -- the number of the newest of both slots
 abbrev pub newest_in : SlotContent → SlotContent → Option ℕ

@@ -7,7 +7,7 @@ use Rattle.audit_model.specs.Job.{Job}
 use Rattle.audit_model.specs.Run.{IsConsistent, IsRight, fits}
 use Rattle.audit_model.specs.Trajectory.{Draws}
 use Rattle.audit_statement.specs.Checkpoint.{IsCheckpoint, checkpoint}
-use Rattle.audit_statement.specs.Slots.{IsAfterStop, IsConsistentSlot, Slot, absent, broken, generation_of, newest, opening, other, ours, save_place, slot_of, AreConsistent, IsNotOurs, newest_for, place_for}
+use Rattle.audit_statement.specs.Slots.{IsAfterStop, IsConsistentSlot, Slot, absent, broken, generation_of, newest, initial_outcomes, other, ours, save_place, slot_of, AreConsistent, IsNotOurs, newest_for, place_for}
 use Rattle.audit_statement.specs.Histories.{AreCarriedOut, AreInTurn, IsNotValid, IsRightSave, KeepsNewest, stopped_in}
 use Rattle.audit_model.specs.Attempts.{Try}
 
@@ -82,7 +82,7 @@ RightIsConsistent = (job : Job) (draws : Draws) (outcomes : List Outcome) → Is
 -- outcomes from consistent slots with which a run may start are those of the job's trajectories
 abbrev pub ConsistentSlotsOpenRight : Type 0
 ConsistentSlotsOpenRight = (job : Job) (draws : Draws) (first second : Slot) (outcomes : List Outcome)
-    → IsConsistentSlot job draws first → IsConsistentSlot job draws second → opening true job.setting first second ≡ Some outcomes
+    → IsConsistentSlot job draws first → IsConsistentSlot job draws second → initial_outcomes true job.setting first second ≡ Some outcomes
     → IsRight job draws outcomes
 
 -- a stop within a save leaves consistent slots if its slot is unchanged, does not belong to the job, or is consistent

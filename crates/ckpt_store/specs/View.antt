@@ -23,12 +23,12 @@ abbrev pub place_seen : Slots → ℕ × ℕ
 place_seen slots = definition.save_place (slot_view slots.zero) (slot_view slots.one)
 
 -- the outcomes of the newest slot if they may be taken, and none if both slots are empty
-abbrev pub held_seen : Slots → Option (List Outcome)
-held_seen slots = definition.opening_of (slot_view slots.zero) (slot_view slots.one) (newest_seen slots)
+abbrev pub newest_outcomes_seen : Slots → Option (List Outcome)
+newest_outcomes_seen slots = definition.outcomes_of_newest (slot_view slots.zero) (slot_view slots.one) (newest_seen slots)
 
-abbrev pub outcomes_held : Option Checkpoint → List Outcome
-outcomes_held None = []
-outcomes_held (Some checkpoint) = checkpoint.outcomes.items
+abbrev pub outcomes_if_any : Option Checkpoint → List Outcome
+outcomes_if_any None = []
+outcomes_if_any (Some checkpoint) = checkpoint.outcomes.items
 
 abbrev pub is_absent : Slot → Bool
 is_absent slot.Absent = true

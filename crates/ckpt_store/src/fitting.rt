@@ -5,7 +5,7 @@ ghost use Rattle.std.specs.List.{list_all};
 ghost use Rattle.std.specs.Ordering.{int_eq};
 ghost use Rattle.audit_model.specs.Below.{all_below};
 ghost use Rattle.audit_model.specs.First.{first_below};
-ghost use Rattle.audit_model.specs.Run.{bins_fit, fits, is_bare, steps_of, total};
+ghost use Rattle.audit_model.specs.Run.{histogram_fits, fits, has_no_histogram, steps_of, total};
 ghost use Rattle.audit_model.specs.Trajectory.{value_at};
 ghost use Rattle.ckpt_store.specs.Fitting.{is_unfit};
 ghost use Rattle.audit_model.specs.Limits.{most_trajectories};
@@ -33,7 +33,7 @@ fn fits(job: &Job, outcome: &Outcome) -> bool
     is_within(job, outcome)
         && ends_in_zeros(job, outcome)
         && counts_visits(job, outcome)
-        && has_fit_bins(job, outcome)
+        && has_fitting_histogram(job, outcome)
 }
 
 /// Returns true if the job has the id, and the moves do not exceed the steps of its trajectory.
@@ -106,16 +106,16 @@ fn is_visit(value: i64, steps: u32) -> bool
 
 /// Returns true if the histogram is all 0, or if the outcome is a walk's and the histogram adds up
 /// to the number of plans that the walk visits.
-fn has_fit_bins(job: &Job, outcome: &Outcome) -> bool
-    ensures { result ≡ bins_fit (nat_lt outcome.now.id job.now.setting.walks) job.now outcome.now }
+fn has_fitting_histogram(job: &Job, outcome: &Outcome) -> bool
+    ensures { result ≡ histogram_fits (nat_lt outcome.now.id job.now.setting.walks) job.now outcome.now }
 {
     let setting = job.setting();
-    is_bare(outcome)
+    has_no_histogram(outcome)
         || outcome.id < setting.walks && sum_of(&outcome.bins) == u64::from(setting.steps) + 1
 }
 
-fn is_bare(outcome: &Outcome) -> bool
-    ensures { result ≡ is_bare outcome.now }
+fn has_no_histogram(outcome: &Outcome) -> bool
+    ensures { result ≡ has_no_histogram outcome.now }
 {
     outcome.bins.iter().all(|bin| *bin == 0)
 }

@@ -2,7 +2,7 @@
 
 ghost use Rattle.ckpt_store.specs.Laws.{SavesKeepTheNewest, SavesLeaveConsistentSlots, CheckpointsAreOurs, ConsistentSlotsOpenRight, RightIsConsistent, SavedSlotsAreNewest, SlotsAreWhatTheyAre, StopsLeaveConsistentSlots, WrittenSlotsAreNewest};
 
-use audit_model::laws::{bare_outcomes_have_no_bins, consistent_runs_go_on_rightly};
+use audit_model::laws::{consistent_runs_go_on_rightly, outcomes_without_histogram_match};
 use ckpt_format::laws::{checkpoints_are_read, faultless_bytes_are_checkpoints};
 
 /// Shows that a checkpoint belongs to the job if it has the job's digest and its outcomes are all plausible for the
@@ -37,7 +37,7 @@ pub fn saved_slots_are_newest()
 pub fn right_outcomes_are_consistent()
     ensures { RightIsConsistent }
 {
-    bare_outcomes_have_no_bins();
+    outcomes_without_histogram_match();
 }
 
 /// Shows that if slots are consistent and a run may start with their outcomes, these outcomes are those of the job's

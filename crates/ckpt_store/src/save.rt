@@ -5,7 +5,7 @@ ghost use Rattle.audit_model.specs.Faults.{HasCause};
 ghost use Rattle.audit_model.specs.Observed.{IfObserved};
 ghost use Rattle.audit_model.specs.Pair.{HoldsBytes, KeepsOther};
 ghost use Rattle.audit_model.specs.Attempts.{attempted_too};
-ghost use Rattle.audit_statement.specs.Checkpoint.{AreRising, IsCheckpoint, checkpoint, bare_length};
+ghost use Rattle.audit_statement.specs.Checkpoint.{AreRising, IsCheckpoint, checkpoint, empty_length};
 ghost use Rattle.audit_statement.specs.Due.{LetsCheckpoint};
 ghost use Rattle.ckpt_store.specs.Laws.{IsNewestForFitJobs};
 ghost use Rattle.audit_model.specs.Limits.{most_trajectories};
@@ -37,7 +37,7 @@ pub fn save<C: Keeper>(
     requires generation { place.old.generation < 3 }
     requires few { length outcomes.now ≤ most_trajectories }
     requires rising { AreRising (map (λ o. o.id) outcomes.now) }
-    requires room { bare_length + 80 * length outcomes.now ≤ length room.old.items + room.old.spare }
+    requires room { empty_length + 80 * length outcomes.now ≤ length room.old.items + room.old.spare }
     requires lets { LetsCheckpoint C.lets (C.state keeper.old) digest.now place.old.slot place.old.generation outcomes.now }
     ensures saved { OnOk result (HoldsBytes (C.state keeper.new).slots place.old.slot (checkpoint 2 digest.now place.old.generation outcomes.now)) }
     ensures sound { IsCheckpoint (checkpoint 2 digest.now place.old.generation outcomes.now) 2 digest.now place.old.generation outcomes.now }
@@ -70,7 +70,7 @@ pub fn save_with<C: Keeper>(
     requires generation { place.old.generation < 3 }
     requires few { length outcomes.now ≤ most_trajectories }
     requires rising { AreRising (map (λ o. o.id) outcomes.now) }
-    requires room { bare_length + 80 * length outcomes.now ≤ length room.old.items + room.old.spare }
+    requires room { empty_length + 80 * length outcomes.now ≤ length room.old.items + room.old.spare }
     requires lets { LetsCheckpoint C.lets (C.state keeper.old) digest.now place.old.slot place.old.generation outcomes.now }
     ensures saved { OnOk result (HoldsBytes (C.state keeper.new).slots place.old.slot (checkpoint 2 digest.now place.old.generation outcomes.now)) }
     ensures sound { IsCheckpoint (checkpoint 2 digest.now place.old.generation outcomes.now) 2 digest.now place.old.generation outcomes.now }

@@ -2,7 +2,7 @@
 
 ghost use Rattle.std.specs.Prelude.{◌≡◌, ◌<◌, Some, None, MatchResult};
 ghost use Rattle.audit_statement.specs.Slots as definition;
-ghost use Rattle.ckpt_store.specs.View.{held_seen, newest_answer, newest_seen, is_absent, opened, outcomes_held, place_seen, slot_view, without_valid};
+ghost use Rattle.ckpt_store.specs.View.{newest_outcomes_seen, newest_answer, newest_seen, is_absent, opened, outcomes_if_any, place_seen, slot_view, without_valid};
 
 use audit_model::fault::CkptFault;
 use audit_model::place::Place;
@@ -120,7 +120,7 @@ impl Slots {
     /// - `OtherJob`: the newest slot holds a checkpoint of another job.
     pub fn newest(self, wanted: &[u8; 32]) -> Result<Option<Checkpoint>, StoreFault>
         ensures answer { result ≡ newest_answer self wanted.now }
-        ensures held { MatchResult result (λ c. held_seen self ≡ Some (outcomes_held c)) (λ _. held_seen self ≡ None) }
+        ensures content { MatchResult result (λ c. newest_outcomes_seen self ≡ Some (outcomes_if_any c)) (λ _. newest_outcomes_seen self ≡ None) }
     {
         match self.newest_number() {
             None => self.without_valid(),

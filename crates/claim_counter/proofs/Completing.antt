@@ -33,15 +33,15 @@ not_there (x ∷ os) id none = by (x.id == id) (has_id os id) (find (λ o. o.id 
     by false rest r e rec = rec e
 
 -- every outcome of a run is an initial outcome, or the outcome of its trajectory
-all_from : (job : Job) (opening : List Outcome) (todo : List ℕ) → AreApart opening → All (λ id. IsFalse (has_id opening id)) todo
-    → All (λ o. o ≡ outcome_from job (draw job.setting.key) opening o.id) (opening ++ map (found job) todo)
+all_from : (job : Job) (initial_outcomes : List Outcome) (todo : List ℕ) → AreApart initial_outcomes → All (λ id. IsFalse (has_id initial_outcomes id)) todo
+    → All (λ o. o ≡ outcome_from job (draw job.setting.key) initial_outcomes o.id) (initial_outcomes ++ map (found job) todo)
 unfolding found
-all_from job opening todo apart absent = All-append (λ (o : Outcome). o ≡ outcome_from job (draw job.setting.key) opening o.id) opening (map (found job) todo)
-    (λ k d inside. ap (kept_or job (draw job.setting.key) (get_or opening k d).id) (sym (found_at_place opening apart k d inside)))
-    (All-map (λ (o : Outcome). o ≡ outcome_from job (draw job.setting.key) opening o.id) (found job) todo (λ k d inside.
+all_from job initial_outcomes todo apart absent = All-append (λ (o : Outcome). o ≡ outcome_from job (draw job.setting.key) initial_outcomes o.id) initial_outcomes (map (found job) todo)
+    (λ k d inside. ap (kept_or job (draw job.setting.key) (get_or initial_outcomes k d).id) (sym (found_at_place initial_outcomes apart k d inside)))
+    (All-map (λ (o : Outcome). o ≡ outcome_from job (draw job.setting.key) initial_outcomes o.id) (found job) todo (λ k d inside.
     let id = get_or todo k d in
-    ap (kept_or job (draw job.setting.key) id) (sym (not_there opening id (absent k d inside)))
-    ∙ ap (outcome_from job (draw job.setting.key) opening) (sym (found_id job id))))
+    ap (kept_or job (draw job.setting.key) id) (sym (not_there initial_outcomes id (absent k d inside)))
+    ∙ ap (outcome_from job (draw job.setting.key) initial_outcomes) (sym (found_id job id))))
 
 -- the outcomes of ids have exactly these ids
 has_id-found : (job : Job) (todo : List ℕ) (id : ℕ) → has_id (map (found job) todo) id ≡ has todo id
@@ -54,15 +54,15 @@ AreMapped = (n : ℕ) (os : List Outcome) (test : ℕ → Bool) (f : ℕ → Out
     → by_id n os ≡ map f (filter_below n test)
 
 -- the initial outcomes and those of the ids to do are, by rising id, all outcomes that the run shall have
-pub by_id-full : AreMapped → (job : Job) (opening outcomes : List Outcome) (todo : List ℕ) (budget : ℕ) → AreApart opening → All (λ id. IsFalse (has_id opening id)) todo
-    → todo ≡ run_ids job opening budget → IsPermutation outcomes (opening ++ map (found job) todo)
-    → by_id (total job) outcomes ≡ full job (draw job.setting.key) opening budget
+pub by_id-full : AreMapped → (job : Job) (initial_outcomes outcomes : List Outcome) (todo : List ℕ) (budget : ℕ) → AreApart initial_outcomes → All (λ id. IsFalse (has_id initial_outcomes id)) todo
+    → todo ≡ run_ids job initial_outcomes budget → IsPermutation outcomes (initial_outcomes ++ map (found job) todo)
+    → by_id (total job) outcomes ≡ full job (draw job.setting.key) initial_outcomes budget
 unfolding full
-by_id-full law job opening outcomes todo budget apart absent ids moved =
-    law (total job) outcomes (λ id. has_id opening id || has (run_ids job opening budget) id) (outcome_from job (draw job.setting.key) opening)
-    (All-permutation (λ (o : Outcome). o ≡ outcome_from job (draw job.setting.key) opening o.id) (opening ++ map (found job) todo) outcomes
-    (IsPermutation-sym outcomes (opening ++ map (found job) todo) moved) (all_from job opening todo apart absent))
+by_id-full law job initial_outcomes outcomes todo budget apart absent ids moved =
+    law (total job) outcomes (λ id. has_id initial_outcomes id || has (run_ids job initial_outcomes budget) id) (outcome_from job (draw job.setting.key) initial_outcomes)
+    (All-permutation (λ (o : Outcome). o ≡ outcome_from job (draw job.setting.key) initial_outcomes o.id) (initial_outcomes ++ map (found job) todo) outcomes
+    (IsPermutation-sym outcomes (initial_outcomes ++ map (found job) todo) moved) (all_from job initial_outcomes todo apart absent))
     (λ id inside.
-    list_any-IsPermutation (λ (o : Outcome). o.id == id) outcomes (opening ++ map (found job) todo) moved
-    ∙ list_any-append (λ (o : Outcome). o.id == id) opening (map (found job) todo)
-    ∙ ap (λ b. has_id opening id || b) (has_id-found job todo id ∙ ap (λ xs. has xs id) ids))
+    list_any-IsPermutation (λ (o : Outcome). o.id == id) outcomes (initial_outcomes ++ map (found job) todo) moved
+    ∙ list_any-append (λ (o : Outcome). o.id == id) initial_outcomes (map (found job) todo)
+    ∙ ap (λ b. has_id initial_outcomes id || b) (has_id-found job todo id ∙ ap (λ xs. has xs id) ids))

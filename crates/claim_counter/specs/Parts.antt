@@ -6,13 +6,13 @@ use Rattle.audit_model.specs.Run.{total}
 use Rattle.claim_counter.specs.declared.claims.Claims.{Claims}
 use Rattle.claim_counter.specs.Records.{fresh}
 use Rattle.claim_counter.specs.Passes.{own, size_of, BelongsTo}
-use Rattle.claim_counter.specs.Workers.{IsWorkerDone, IsReady}
+use Rattle.claim_counter.specs.Workers.{IsWorkerDone, IsUnstarted}
 use Rattle.claim_counter.specs.declared.parts.IdleWorker.{IdleWorker}
 use Rattle.claim_counter.specs.declared.parts.PartCounter.{PartCounter}
 use Rattle.claim_counter.specs.declared.parts.PartWorkers.{PartWorkers}
 use Rattle.claim_counter.specs.declared.worker.Worker.{Worker}
 use Rattle.audit_model.specs.Room.{RoomyOutcomes}
-use Rattle.flip_kernel.specs.Held.{Held}
+use Rattle.flip_kernel.specs.ChainState.{ChainState}
 
 -- a counter of `count` places, none drawn, and a pass that can be split for `workers` workers
 pub record IsFreshPart (count workers : ℕ) (p : PartCounter) : Type 0 where
@@ -22,7 +22,7 @@ pub record IsFreshPart (count workers : ℕ) (p : PartCounter) : Type 0 where
   pub fresh : own p.pass ≡ fresh (workers - 1)
 
 -- a worker that can rest after a part: its list has capacity for the outcomes of all trajectories
-pub record MayRest (job : Job) (walker : Held) (share : RoomyOutcomes) : Type 0 where
+pub record MayRest (job : Job) (walker : ChainState) (share : RoomyOutcomes) : Type 0 where
   pub made : walker.job ≡ job
   pub share_room : total job ≤ length share.items + share.spare
 
@@ -35,7 +35,7 @@ module _ {J : Type 0} where
 
   -- a worker before a part
   pub record IsLent (job : Job) (c : Claims) (w : Worker J) : Type 0 where
-    pub ready : IsReady job c w
+    pub unstarted : IsUnstarted job c w
     pub room : total job ≤ w.share.spare
 
   -- a worker after a part

@@ -4,7 +4,7 @@ use Rattle.audit_model.specs.Job.{Job}
 use Rattle.claim_counter.specs.declared.pool.WorkerPool.{WorkerPool}
 use Rattle.claim_counter.specs.Parts.{HasNoHub, IsFreshPart, IsPartWorkers}
 
--- `workers` workers, ready to walk `count` trajectories of the job
+-- `workers` workers, prepared to walk `count` trajectories of the job
 pub record IsPool {J : Type 0} (job : Job) (count workers : ℕ) (c : WorkerPool J) : Type 0 where
   pub part : IsFreshPart count workers c.part
   pub part_workers : IsPartWorkers job workers c.part_workers

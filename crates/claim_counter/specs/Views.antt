@@ -25,8 +25,8 @@ pub record IsCounterState (size : Size) (s : State (Unit {0}) View) : Type 0 whe
   pub counted : AreCounted size.limit size.seats (slice_index s.words 0) (map record_of s.views)
   pub sizes : (i : ℕ) (v : View) → get_elem? s.views i ≡ some v → 0 < v.own.weight → v.size ≡ size
 
-abbrev pub opening_view : Size → View
-opening_view size = view size (fresh (size.seats - 1))
+abbrev pub initial_view : Size → View
+initial_view size = view size (fresh (size.seats - 1))
 
 abbrev pub no_size : Size
 no_size = record { limit = 0; seats = 0 }

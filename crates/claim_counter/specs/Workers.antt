@@ -6,7 +6,7 @@ use Rattle.claim_counter.specs.Records.{fresh, AreDifferentBelow}
 use Rattle.claim_counter.specs.Passes.{own, size_of, BelongsTo}
 use Rattle.audit_model.specs.Job.{Job}
 use Rattle.audit_model.specs.Room.{RoomyOutcomes}
-use Rattle.flip_kernel.specs.Held.{Held}
+use Rattle.flip_kernel.specs.ChainState.{ChainState}
 use Rattle.claim_counter.specs.declared.worker.Worker.{Worker}
 use Rattle.claim_counter.specs.Walks.{found_at, IsWithin, ServesEnds}
 
@@ -18,7 +18,7 @@ pub record IsShared (job : Job) (todo units : List ℕ) (c : Claims) : Type 0 wh
   pub hub : ServesEnds job todo units
 
 -- a worker that has drawn nothing and has capacity for all outcomes
-pub record IsReady {J : Type 0} (job : Job) (c : Claims) (w : Worker J) : Type 0 where
+pub record IsUnstarted {J : Type 0} (job : Job) (c : Claims) (w : Worker J) : Type 0 where
   pub made : w.walker.job ≡ job
   pub pass : BelongsTo c w.pass
   pub fresh : own w.pass ≡ fresh 0
@@ -26,7 +26,7 @@ pub record IsReady {J : Type 0} (job : Job) (c : Claims) (w : Worker J) : Type 0
   pub room : (size_of c).limit ≤ w.share.spare
 
 -- a worker between two draws: its outcomes are those of the places drawn
-pub record IsAtWork (job : Job) (todo : List ℕ) (c : Claims) (w : Held) (p : Pass) (share : RoomyOutcomes) : Type 0 where
+pub record IsAtWork (job : Job) (todo : List ℕ) (c : Claims) (w : ChainState) (p : Pass) (share : RoomyOutcomes) : Type 0 where
   pub made : w.job ≡ job
   pub pass : BelongsTo c p
   pub going : (own p).ended ≡ false

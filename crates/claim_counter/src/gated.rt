@@ -45,9 +45,9 @@ pub struct GatedWalker<J: Judge> {
 }
 
 impl<J: Judge> Model for GatedWalker<J> {
-    ghost use Rattle.flip_kernel.specs.Held.{Held};
+    ghost use Rattle.flip_kernel.specs.ChainState.{ChainState};
 
-    ghost Value = { Held };
+    ghost Value = { ChainState };
 
     ghost view = { λ w. w.walker };
 }

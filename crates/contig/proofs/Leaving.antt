@@ -64,7 +64,7 @@ module _ (g : Graph) (plan : List ℕ) (u : ℕ) (graph : IsGraph g) where
         let path = connected.joined u y u_in (in_district_of y i) in
         elim (from_mate path.0 u y path.1 (is_other y i)) [
           | inr found ↦ found
-          | inl bare ↦ absurd (starts bare.0 bare.1)
+          | inl direct ↦ absurd (starts direct.0 direct.1)
         ]
       where
         starts : (units : List ℕ) → IsPath g (stays_behind plan u) units u y → ⊥

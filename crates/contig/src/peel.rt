@@ -25,7 +25,7 @@ pub struct Sides {
     counts: Vec<u32>,
     sums: Vec<usize>,
     /// Sides that had a single ring when they were last seen.
-    ready: Vec<usize>,
+    singles: Vec<usize>,
 }
 
 impl Sides {
@@ -54,7 +54,7 @@ impl Sides {
         self.begins[low as usize].wrapping_add(place)
     }
 
-    /// Adds one ring to a side, or removes one. A side left with a single ring becomes ready.
+    /// Adds one ring to a side, or removes one. A side left with a single ring is listed.
     fn count(&mut self, side: usize, number: usize, more: bool) -> Result<(), Memory> {
         if side >= self.counts.len() || side >= self.sums.len() {
             return Ok(());
@@ -68,7 +68,7 @@ impl Sides {
         self.counts[side] = after;
         self.sums[side] ^= number;
         if !more && after == 1 {
-            self.ready.push(side)?;
+            self.singles.push(side)?;
         }
         Ok(())
     }
@@ -101,7 +101,7 @@ impl Sides {
             begins,
             counts: vec![in alloc; 0; all]?,
             sums: vec![in alloc; 0; all]?,
-            ready: Vec::new(alloc),
+            singles: Vec::new(alloc),
         };
         for number in 0..rings.len() {
             sides.count_all(graph, rings[number], number, true)?;
@@ -112,18 +112,18 @@ impl Sides {
         Ok(sides)
     }
 
-    /// Makes a side ready if it has a single ring.
+    /// Lists a side if it has a single ring.
     fn see(&mut self, side: usize) -> Result<(), Memory> {
         if side < self.counts.len() && self.counts[side] == 1 {
-            self.ready.push(side)?;
+            self.singles.push(side)?;
         }
         Ok(())
     }
 
-    /// Takes a ready side that still has a single ring. Returns the side and the index of the ring.
+    /// Takes a listed side that still has a single ring. Returns the side and the index of the ring.
     fn next(&mut self) -> Option<(usize, usize)> {
         for _ in 0..u64::MAX {
-            match self.ready.pop() {
+            match self.singles.pop() {
                 None => return None,
                 Some(side) => {
                     if side < self.counts.len()
@@ -175,7 +175,7 @@ pub fn order_by_peeling(alloc: Global, graph: &Graph, rings: &[Face]) -> Result<
     let mut counts = sides.counts.clone()?;
     let mut left: Vec<bool> = vec![in alloc; true; rings.len()]?;
     let mut kept = Vec::new(alloc);
-    keep_ready(graph, rings, &mut sides, &mut left, &mut kept)?;
+    keep_singles(graph, rings, &mut sides, &mut left, &mut kept)?;
     if kept.len() < rings.len() {
         // The classes go by all rings, those among them that are taken off already.
         swap(&mut sides.counts, &mut counts);
@@ -183,7 +183,7 @@ pub fn order_by_peeling(alloc: Global, graph: &Graph, rings: &[Face]) -> Result<
         swap(&mut sides.counts, &mut counts);
         for number in order {
             take_off(graph, rings, &mut sides, &mut left, number)?;
-            keep_ready(graph, rings, &mut sides, &mut left, &mut kept)?;
+            keep_singles(graph, rings, &mut sides, &mut left, &mut kept)?;
         }
     }
     kept.reverse();
@@ -305,7 +305,7 @@ fn take_off(
 }
 
 /// Takes off and keeps rings that alone have some side, until there are none.
-fn keep_ready(
+fn keep_singles(
     graph: &Graph,
     rings: &[Face],
     sides: &mut Sides,

@@ -8,7 +8,7 @@ use Rattle.audit_model.specs.Graph.{Graph, IsGraph, has, adjacent}
 use Rattle.audit_model.specs.District.{in_district}
 use Rattle.audit_model.proofs.ListFacts.{has_at}
 use Rattle.audit_model.proofs.Every.{some_from_any}
-use Rattle.flip_kernel.specs.Openings.{is_open}
+use Rattle.flip_kernel.specs.OpenPairs.{is_open}
 
 -- tests that agree on the items of a list agree on it
 any_same : (p q : ℕ → Bool) (xs : List ℕ) → ((v : ℕ) → has xs v ≡ true → p v ≡ q v) → list_any p xs ≡ list_any q xs

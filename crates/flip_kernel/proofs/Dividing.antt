@@ -78,13 +78,13 @@ module _ (draw size last place : ℕ) (some : 0 < size) (whole : last + size ≡
   place_whole : draw - place ≤ last → Some place ≡ place_in size draw
   place_whole within = ap (λ (n : ℕ). Some n) is ∙ sym (cond-true _ _ _ (lt-ltb draw (2 ^ 64 / size * size) (counted within)))
 
-  place_held : last < draw - place → None ≡ place_in size draw
-  place_held beyond = sym (cond-false _ _ _ (false_from_ne_true (nat_lt draw (2 ^ 64 / size * size))
+  place_rejected : last < draw - place → None ≡ place_in size draw
+  place_rejected beyond = sym (cond-false _ _ _ (false_from_ne_true (nat_lt draw (2 ^ 64 / size * size))
       (λ l. let below = ends_below (ltb-true draw (2 ^ 64 / size * size) l) in omega (arith, below, beyond))))
 
   -- the place of a draw, by the beginning of its block
   pub place_by : place_in size draw ≡ cond {A = Option ℕ} (nat_lt last (draw - place)) None (Some place)
   place_by = elim (cases_lt last (draw - place)) [
-    | inl beyond ↦ sym (place_held beyond) ∙ sym (cond-true _ _ _ (lt-ltb last (draw - place) beyond))
+    | inl beyond ↦ sym (place_rejected beyond) ∙ sym (cond-true _ _ _ (lt-ltb last (draw - place) beyond))
     | inr within ↦ sym (place_whole within) ∙ sym (cond-false _ _ _ (le-ltb last (draw - place) within))
   ]

@@ -11,7 +11,7 @@ use Rattle.audit_model.specs.Plan.{is_legal}
 use Rattle.audit_model.specs.Proposal.{counted_draws, proposal}
 use Rattle.audit_model.specs.Step.{changed, next, turned_back, mirrored}
 use Rattle.audit_model.proofs.Legal.{legal_passes, passes_legal}
-use Rattle.flip_kernel.specs.Held.{Held, IsMove}
+use Rattle.flip_kernel.specs.ChainState.{ChainState, IsMove}
 
 -- a choice between two equal plans
 both_same : (b : Bool) (plan : List ℕ) → cond b plan plan ≡ plan
@@ -31,7 +31,7 @@ is_place units districts draw unit district is = elim (cases_Bool (nat_lt draw (
       sym (cond-true _ _ _ counted) ∙ is in
       let same : ◌≡◌ {A = ℕ × ℕ} (draw % (units * districts) / districts, draw % (units * districts) % districts) (unit, district) = cc in
       record { same_unit = ap (λ (p : ℕ × ℕ). p.0) same; same_district = ap (λ (p : ℕ × ℕ). p.1) same }
-  | inr held ↦ let other : ◌≡◌ {A = Option (ℕ × ℕ)} None (Some (unit, district)) = sym (cond-false _ _ _ held) ∙ is in absurd (cc)
+  | inr unchanged ↦ let other : ◌≡◌ {A = Option (ℕ × ℕ)} None (Some (unit, district)) = sym (cond-false _ _ _ unchanged) ∙ is in absurd (cc)
 ]
 
 -- the pair's place is the draw's place in its block
@@ -49,8 +49,8 @@ module _ (job : Job) (plan : List ℕ) (draw : ℕ) where
   next_at o is = ap (λ p. cond (is_legal job (changed plan p)) (changed plan p) plan) is
 
   -- without a proposal, the plan stays
-  pub next_held : proposal job.graph.units job.districts draw ≡ None → next job plan draw ≡ plan
-  next_held is = next_at None is ∙ both_same (is_legal job plan) plan
+  pub next_rejected : proposal job.graph.units job.districts draw ≡ None → next job plan draw ≡ plan
+  next_rejected is = next_at None is ∙ both_same (is_legal job plan) plan
 
   -- a proposed move changes the plan
   pub next_moved : (unit district : ℕ) → proposal job.graph.units job.districts draw ≡ Some (unit, district) → IsMove job plan unit district
@@ -91,24 +91,24 @@ module _ (job : Job) (plan : List ℕ) (draw : ℕ) where
       omega (arith, mirrored_moved unit district is differs, place, mod-le draw (job.graph.units * job.districts))
 
 -- the result of a flip that is made exactly if it is a move
-module _ (job : Job) (old new : Held) (draw unit district : ℕ) (result : Bool)
+module _ (job : Job) (old new : ChainState) (draw unit district : ℕ) (result : Bool)
     (is : proposal job.graph.units job.districts draw ≡ Some (unit, district)) (inside : unit < length old.plan)
     (moves : IsTrue result ↔ IsMove job old.plan unit district)
-    (moved : IsTrue result → new ≡ record { job = old.job; plan = set old.plan unit district }) (held : IsFalse result → new ≡ old) where
+    (moved : IsTrue result → new ≡ record { job = old.job; plan = set old.plan unit district }) (unchanged : IsFalse result → new ≡ old) where
   pub flip_next : new ≡ record { job = old.job; plan = next job old.plan draw }
   flip_next = elim (cases_Bool result) [
     | inl yes-moved ↦
         moved yes-moved
-        ∙ ap (λ (p : List ℕ). (let h : Held = record { job = old.job; plan = p } in h)) (sym (next_moved job old.plan draw unit district is (moves.0 yes-moved)))
+        ∙ ap (λ (p : List ℕ). (let h : ChainState = record { job = old.job; plan = p } in h)) (sym (next_moved job old.plan draw unit district is (moves.0 yes-moved)))
     | inr not-moved ↦
-        held not-moved
-        ∙ ap (λ (p : List ℕ). (let h : Held = record { job = old.job; plan = p } in h))
+        unchanged not-moved
+        ∙ ap (λ (p : List ℕ). (let h : ChainState = record { job = old.job; plan = p } in h))
         (sym (next_stays job old.plan draw unit district is (λ move. both_ways result not-moved (moves.1 move))))
   ]
 
-  pub flip_held : IsFalse result ↔ (new.plan ≡ old.plan)
-  flip_held = (
-    λ not-moved. ap (λ (h : Held). h.plan) (held not-moved),
+  pub flip_rejected : IsFalse result ↔ (new.plan ≡ old.plan)
+  flip_rejected = (
+    λ not-moved. ap (λ (h : ChainState). h.plan) (unchanged not-moved),
     λ same. false_from_ne_true result (λ yes-moved. move_differs job old.plan draw unit district inside (moves.0 yes-moved)
-        (sym (ap (λ (h : Held). h.plan) (moved yes-moved)) ∙ same)),
+        (sym (ap (λ (h : ChainState). h.plan) (moved yes-moved)) ∙ same)),
   )

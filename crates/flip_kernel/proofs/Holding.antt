@@ -15,22 +15,22 @@ use Rattle.plan_core.proofs.Bounded.{sum_small}
 use Rattle.contig.specs.Counts.{Counted}
 use Rattle.contig.specs.Table.{Faced}
 use Rattle.flip_kernel.specs.declared.proposal.Pairs.{Pairs}
-use Rattle.flip_kernel.specs.Held.{IsHeld, KeepsBounds}
+use Rattle.flip_kernel.specs.ChainState.{IsUpToDate, KeepsBounds}
 
 -- the invariant, for equal jobs and plans
-pub held_for : (j job : Job) (p plan : List ℕ) (sums : Following) (marks : ℕ) (table : List Bool) (pairs : Pairs) (low high : ℕ) (faced : Faced) (counted : Counted) → j ≡ job → p ≡ plan
-    → IsHeld j p sums marks table pairs low high faced counted → IsHeld job plan sums marks table pairs low high faced counted
-held_for j job p plan sums marks table pairs low high faced counted made at held =
-    subst (λ (x : Job). IsHeld x plan sums marks table pairs low high faced counted) made (subst (λ (x : List ℕ). IsHeld j x sums marks table pairs low high faced counted) at held)
+pub up_to_date_for : (j job : Job) (p plan : List ℕ) (sums : Following) (marks : ℕ) (table : List Bool) (pairs : Pairs) (low high : ℕ) (faced : Faced) (counted : Counted) → j ≡ job → p ≡ plan
+    → IsUpToDate j p sums marks table pairs low high faced counted → IsUpToDate job plan sums marks table pairs low high faced counted
+up_to_date_for j job p plan sums marks table pairs low high faced counted made at current =
+    subst (λ (x : Job). IsUpToDate x plan sums marks table pairs low high faced counted) made (subst (λ (x : List ℕ). IsUpToDate j x sums marks table pairs low high faced counted) at current)
 
 module _ (job : Job) (plan : List ℕ) (sums : Following) (marks : ℕ) (table : List Bool) (pairs : Pairs) (low high : ℕ) (faced : Faced) (counted : Counted)
-    (held : IsHeld job plan sums marks table pairs low high faced counted) where
+    (current : IsUpToDate job plan sums marks table pairs low high faced counted) where
   -- the population of a district
   pub population_at : (view : SumsView) (populations : List ℕ) (e : ℕ) → view ≡ sums.view → populations ≡ view.population → e < job.districts
       → get_or populations e 0 ≡ district_sum job.counts.population plan e
   population_at view populations e seen is l =
-      ap (λ (xs : List ℕ). get_or xs e 0) (is ∙ ap (λ (v : SumsView). v.population) seen ∙ ap (λ (v : SumsView). v.population) held.summed.stands.view)
-      ∙ get_or-map_below (districts_in sums) (district_sum job.counts.population plan) e 0 (omega (arith, l, held.summed.places))
+      ap (λ (xs : List ℕ). get_or xs e 0) (is ∙ ap (λ (v : SumsView). v.population) seen ∙ ap (λ (v : SumsView). v.population) current.summed.stands.view)
+      ∙ get_or-map_below (districts_in sums) (district_sum job.counts.population plan) e 0 (omega (arith, l, current.summed.places))
 
 -- kept bounds, for equal numbers
 pub keeps_same : (result : Bool) (low high people from to a b c d e : ℕ) → low ≡ a → high ≡ b → people ≡ c → from ≡ d → to ≡ e

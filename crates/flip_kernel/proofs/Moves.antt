@@ -18,8 +18,8 @@ use Rattle.audit_model.proofs.Bools.{and_true}
 use Rattle.audit_model.proofs.Meeting.{meets_passes, passes_meets}
 use Rattle.audit_model.proofs.Paths.{path_one, path_before, path_after, path_joined, path_within, first_in}
 use Rattle.district_sums.proofs.Shifted.{shifted_sum}
-use Rattle.flip_kernel.specs.Held.{IsMove, KeepsBounds, allows}
-use Rattle.flip_kernel.specs.Openings.{is_open}
+use Rattle.flip_kernel.specs.ChainState.{IsMove, KeepsBounds, allows}
+use Rattle.flip_kernel.specs.OpenPairs.{is_open}
 use Rattle.flip_kernel.proofs.Beside.{open_from, open_neighbour, in_other}
 use Rattle.flip_kernel.proofs.Holding.{put_back}
 

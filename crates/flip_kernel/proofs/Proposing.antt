@@ -11,15 +11,15 @@ use Rattle.contig.specs.Counts.{Counted}
 use Rattle.contig.specs.Table.{Faced}
 use Rattle.flip_kernel.specs.declared.proposal.Pairs.{Pairs}
 use Rattle.flip_kernel.specs.Blocks.{place_in}
-use Rattle.flip_kernel.specs.Held.{IsHeld, ProposesOpen}
-use Rattle.flip_kernel.specs.Openings.{is_open}
-use Rattle.flip_kernel.proofs.Flipping.{next_held, next_stays}
+use Rattle.flip_kernel.specs.ChainState.{IsUpToDate, ProposesOpen}
+use Rattle.flip_kernel.specs.OpenPairs.{is_open}
+use Rattle.flip_kernel.proofs.Flipping.{next_rejected, next_stays}
 use Rattle.flip_kernel.proofs.Moves.{move_is_open}
 
 -- a draw without a place proposes nothing
 proposed_none : (units districts size draw : ℕ) → size ≡ units * districts → None ≡ place_in size draw → proposal units districts draw ≡ None
-proposed_none units districts size draw is held = elim (cases_Bool (nat_lt draw (2 ^ 64 / size * size))) [
-  | inl yes-counted ↦ let other : ◌≡◌ {A = Option ℕ} None (Some (draw % size)) = held ∙ cond-true _ _ _ yes-counted in absurd (cc)
+proposed_none units districts size draw is rejected = elim (cases_Bool (nat_lt draw (2 ^ 64 / size * size))) [
+  | inl yes-counted ↦ let other : ◌≡◌ {A = Option ℕ} None (Some (draw % size)) = rejected ∙ cond-true _ _ _ yes-counted in absurd (cc)
   | inr not-counted ↦ cond-false _ _ _ (ap (λ (n : ℕ). nat_lt draw (2 ^ 64 / n * n)) (sym is) ∙ not-counted)
 ]
 
@@ -46,19 +46,19 @@ proposed_some units districts size draw found is of =
     ∙ ap (λ (n : ℕ). Some (n / districts, n % districts)) (sym of.place)
 
 module _ (job : Job) (plan : List ℕ) (sums : Following) (marks : ℕ) (table : List Bool) (pairs : Pairs) (low high : ℕ) (faced : Faced) (counted : Counted)
-    (held : IsHeld job plan sums marks table pairs low high faced counted) (draw : ℕ) where
+    (current : IsUpToDate job plan sums marks table pairs low high faced counted) (draw : ℕ) where
   -- a draw after the last whole block changes nothing
-  pub still_held : None ≡ place_in pairs.count draw → next job plan draw ≡ plan
-  still_held is = next_held job plan draw (proposed_none job.graph.units job.districts pairs.count draw held.numbers.count is)
+  pub still_rejected : None ≡ place_in pairs.count draw → next job plan draw ≡ plan
+  still_rejected is = next_rejected job plan draw (proposed_none job.graph.units job.districts pairs.count draw current.numbers.count is)
 
   module _ (found : ℕ) (is : Some found ≡ place_in pairs.count draw) where
     found_below : found < job.graph.units * job.districts
     found_below =
         let place = (is_place_of pairs.count draw found is).place in
-        omega (arith, place, mod_below draw pairs.count held.numbers.blocks.some, held.numbers.count)
+        omega (arith, place, mod_below draw pairs.count current.numbers.blocks.some, current.numbers.count)
 
     some_district : 0 < job.districts
-    some_district = omega (arith, held.numbers.sound.within.input.two)
+    some_district = omega (arith, current.numbers.sound.within.input.two)
 
     unit_below : found / job.districts < job.graph.units
     unit_below = div_below found job.districts job.graph.units some_district found_below
@@ -69,26 +69,26 @@ module _ (job : Job) (plan : List ℕ) (sums : Following) (marks : ℕ) (table :
     flag_is : get_or table found false ≡ is_open job.graph plan (found / job.districts) (found % job.districts)
     flag_is =
         ap (λ (k : ℕ). get_or table k false) (sym (div-add-mod' found job.districts))
-        ∙ held.opened.each (found / job.districts) (found % job.districts) unit_below district_below
+        ∙ current.opened.each (found / job.districts) (found % job.districts) unit_below district_below
 
     proposal_is : proposal job.graph.units job.districts draw ≡ Some (found / job.districts, found % job.districts)
-    proposal_is = proposed_some job.graph.units job.districts pairs.count draw found held.numbers.count (is_place_of pairs.count draw found is)
+    proposal_is = proposed_some job.graph.units job.districts pairs.count draw found current.numbers.count (is_place_of pairs.count draw found is)
 
     -- if the pair is not open, the plan stays
     still_closed : get_or table found false ≡ false → next job plan draw ≡ plan
     still_closed closed = next_stays job plan draw (found / job.districts) (found % job.districts) proposal_is
         (λ move. both_ways (is_open job.graph plan (found / job.districts) (found % job.districts)) (sym flag_is ∙ closed)
-        (move_is_open job plan (found / job.districts) (found % job.districts) held.numbers.sound held.summed.legal unit_below district_below move.elsewhere move))
+        (move_is_open job plan (found / job.districts) (found % job.districts) current.numbers.sound current.summed.legal unit_below district_below move.elsewhere move))
 
     -- if the pair is open, it is the proposed one
     pub is_proposed : (districts : ℕ) → districts ≡ job.districts → get_or table found false ≡ true → ProposesOpen job plan draw (found / districts) (found % districts)
     is_proposed districts same set1 =
         subst (λ (n : ℕ). ProposesOpen job plan draw (found / n) (found % n)) (sym same)
-        (record { proposed = proposal_is; unit_below = unit_below; inside = omega (arith, unit_below, held.summed.legal.complete); district_below = district_below; beside = sym flag_is ∙ set1 })
+        (record { proposed = proposal_is; unit_below = unit_below; inside = omega (arith, unit_below, current.summed.legal.complete); district_below = district_below; beside = sym flag_is ∙ set1 })
 
   -- if the pair at a draw's remainder is not open, the plan stays
   pub closed_stays : (rest : ℕ) → rest ≡ draw % pairs.count → get_or table rest false ≡ false → next job plan draw ≡ plan
   closed_stays rest is closed = elim (cases_Bool (nat_lt draw (2 ^ 64 / pairs.count * pairs.count))) [
     | inl yes-counted ↦ still_closed rest (ap (λ (n : ℕ). Some n) is ∙ sym (cond-true _ _ _ yes-counted)) closed
-    | inr not-counted ↦ still_held (sym (cond-false _ _ _ not-counted))
+    | inr not-counted ↦ still_rejected (sym (cond-false _ _ _ not-counted))
   ]

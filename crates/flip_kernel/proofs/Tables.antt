@@ -11,7 +11,7 @@ use Rattle.audit_model.specs.Graph.{Graph, IsGraph, has, adjacent}
 use Rattle.audit_model.specs.District.{in_district}
 use Rattle.audit_model.proofs.Bools.{and_true}
 use Rattle.audit_model.proofs.ListFacts.{has_at}
-use Rattle.flip_kernel.specs.Openings.{is_open, flag_of, TellsOpen, HasOpened}
+use Rattle.flip_kernel.specs.OpenPairs.{is_open, flag_of, TellsOpen, HasOpened}
 use Rattle.flip_kernel.proofs.Beside.{not_open, open_other, open_far}
 
 -- ---- one pair
@@ -39,11 +39,11 @@ or_without true c h = refl
 or_without false c h = h
 
 -- opening one more neighbor's district
-pub opening_more : (plan : List ℕ) (districts unit : ℕ) (row : List ℕ) (i : ℕ) (old new : List Bool) → i < length row → get_or plan (get_or row i 0) 0 < districts
+pub opens_more : (plan : List ℕ) (districts unit : ℕ) (row : List ℕ) (i : ℕ) (old new : List Bool) → i < length row → get_or plan (get_or row i 0) 0 < districts
     → unit * districts + get_or plan (get_or row i 0) 0 < length new → HasOpened plan districts unit (take i row) old new
     → HasOpened plan districts unit (take (i + 1) row) old
     (set new (unit * districts + get_or plan (get_or row i 0) 0) (not (get_or plan unit 0 == get_or plan (get_or row i 0) 0)))
-opening_more plan districts unit row i old new l there inside before = record {
+opens_more plan districts unit row i old new l there inside before = record {
   width = length-set new (unit * districts + e) flag ∙ before.width;
   own = own;
   others = λ u d off ld. flag_other new districts u d unit e flag ld there (λ same _. off same) ∙ before.others u d off ld;

@@ -1,5 +1,5 @@
 pub mod Blocks
 pub mod Flags
-pub mod Held
+pub mod ChainState
 pub mod Judged
-pub mod Openings
+pub mod OpenPairs

@@ -10,12 +10,12 @@ ghost use Rattle.audit_model.specs.District.{district_sum};
 ghost use Rattle.audit_model.specs.Plan.{IsLegal, cut_edges, least_population, greatest_population};
 ghost use Rattle.audit_model.specs.Step.{next};
 ghost use Rattle.district_sums.specs.Following.{StandsFor, districts_in};
-ghost use Rattle.flip_kernel.specs.Held.{IsMove, IsSummed, KeepsBounds, KeepsBoundsIn, ProposesOpen, allows, sums_in};
+ghost use Rattle.flip_kernel.specs.ChainState.{IsMove, IsSummed, KeepsBounds, KeepsBoundsIn, ProposesOpen, allows, sums_in};
 ghost use Rattle.flip_kernel.specs.Judged.{IsSeated};
-ghost use Rattle.flip_kernel.specs.Openings.{is_open};
+ghost use Rattle.flip_kernel.specs.OpenPairs.{is_open};
 
 use crate::moving::Flip;
-use crate::openings::Openings;
+use crate::open_pairs::OpenPairs;
 use crate::proposal::Pairs;
 use audit_model::lists::UnitList;
 use audit_model::memory::Memory;
@@ -46,7 +46,7 @@ pub struct Board {
     marks: Marks,
     faces: FaceTable,
     counts: FaceCounts,
-    openings: Openings,
+    open_pairs: OpenPairs,
     pairs: Pairs,
     low: u64,
     high: u64,
@@ -62,7 +62,7 @@ impl Drop for Board {
             marks: _marks,
             faces: _faces,
             counts: _counts,
-            openings: _openings,
+            open_pairs: _open_pairs,
             pairs: _pairs,
             low: _,
             high: _,
@@ -71,13 +71,13 @@ impl Drop for Board {
 }
 
 impl Model for Board {
-    ghost use Rattle.flip_kernel.specs.Held.{Held, IsHeld};
+    ghost use Rattle.flip_kernel.specs.ChainState.{ChainState, IsUpToDate};
 
-    ghost Value = { Held };
+    ghost Value = { ChainState };
 
     ghost view = { λ s. record { job = s.job.value; plan = s.plan } };
 
-    ghost invariant = { λ s. IsHeld s.job.value s.plan s.sums s.marks.units s.openings s.pairs s.low s.high s.faces s.counts };
+    ghost invariant = { λ s. IsUpToDate s.job.value s.plan s.sums s.marks.units s.open_pairs s.pairs s.low s.high s.faces s.counts };
 }
 
 impl Board {
@@ -91,8 +91,8 @@ impl Board {
         let plan = job.start().copy()?;
         let sums = Sums::of(alloc, job.graph(), job.counts(), districts, plan.as_slice())?;
         let marks = Marks::new(alloc, units)?;
-        let mut openings = Openings::none(alloc, units, districts)?;
-        openings.refill(job.graph(), plan.as_slice(), districts);
+        let mut open_pairs = OpenPairs::none(alloc, units, districts)?;
+        open_pairs.refill(job.graph(), plan.as_slice(), districts);
         let faces = FaceTable::of(alloc, job.graph())?;
         let counts = FaceCounts::new(alloc, job.graph(), &faces, districts, plan.as_slice())?;
         let (low, high) = job.limits();
@@ -103,7 +103,7 @@ impl Board {
             marks,
             faces,
             counts,
-            openings,
+            open_pairs,
             pairs: Pairs::of(units, districts),
             low,
             high,
@@ -118,7 +118,7 @@ impl Board {
     {
         self.plan.as_mut_slice().copy_from_slice(plan);
         self.sums.refill(job.graph(), job.counts(), plan);
-        self.openings
+        self.open_pairs
             .refill(job.graph(), plan, self.pairs.districts);
         self.counts.reset(job.graph(), &self.faces, plan);
     }
@@ -149,7 +149,7 @@ impl Board {
             (λ pair. ProposesOpen self.now.job self.now.plan draw pair.0 pair.1) }
     {
         let place = self.pairs.rest(draw);
-        if !self.openings.has(place as usize) || self.pairs.is_past(draw, place) {
+        if !self.open_pairs.has(place as usize) || self.pairs.is_past(draw, place) {
             return None;
         }
         Some(self.pairs.at(place))
@@ -370,7 +370,7 @@ impl Board {
         };
         self.counts.follow(&self.faces, leaving, flip.district);
         shift(flip, &mut self.sums, &mut self.plan);
-        self.openings.update(
+        self.open_pairs.update(
             graph,
             self.plan.as_slice(),
             self.pairs.districts,

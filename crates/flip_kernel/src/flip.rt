@@ -27,7 +27,7 @@ pub fn try_flip<J: Judge, L: Ledger>(
 ) -> bool
     requires made { state.old.job ≡ job.now }
     ensures next { state.new ≡ record state.old { plan = next job.now state.old.plan draw } }
-    ensures held { IsFalse result ↔ (state.new.plan ≡ state.old.plan) }
+    ensures unchanged { IsFalse result ↔ (state.new.plan ≡ state.old.plan) }
 
     ensures searches { (steps.old ≤ steps.new) × (steps.new ≤ steps.old + 1) }
     ensures local { (unit district : ℕ) → proposal job.now.graph.units job.now.districts draw ≡ Some (unit, district) →
@@ -57,7 +57,7 @@ pub fn mirror<J: Judge>(job: &Job, state: &mut State<J>, draw: u64) -> u64
     ensures value { result ≡ mirrored job.now state.old.plan draw }
     ensures same { state.new ≡ state.old }
 
-    ensures held { next job.now state.old.plan draw ≡ state.old.plan → result ≡ draw }
+    ensures unchanged { next job.now state.old.plan draw ≡ state.old.plan → result ≡ draw }
     ensures moved { (unit district : ℕ) → proposal job.now.graph.units job.now.districts draw ≡ Some (unit, district) →
         ¬ (next job.now state.old.plan draw ≡ state.old.plan) →
         result ≡ draw - draw % (job.now.graph.units * job.now.districts) + (unit * job.now.districts + slice_index state.old.plan unit) }

@@ -5,7 +5,7 @@ mod board;
 pub mod flip;
 pub mod laws;
 mod moving;
-mod openings;
+mod open_pairs;
 pub mod proposal;
 pub mod state;
 

@@ -5,9 +5,9 @@ ghost use Rattle.audit_model.specs.JobOf.{IsJob};
 ghost use Rattle.audit_model.specs.Local.{IsLocal};
 ghost use Rattle.audit_model.specs.Plan.{IsLegal};
 ghost use Rattle.audit_model.specs.Step.{next};
-ghost use Rattle.flip_kernel.specs.Held.{IsMove, KeepsBoundsIn, ProposesOpen, sums_in};
+ghost use Rattle.flip_kernel.specs.ChainState.{IsMove, KeepsBoundsIn, ProposesOpen, sums_in};
 ghost use Rattle.flip_kernel.specs.Judged.{IsJudgeFor};
-ghost use Rattle.flip_kernel.specs.Openings.{is_open};
+ghost use Rattle.flip_kernel.specs.OpenPairs.{is_open};
 
 use crate::board::Board;
 use crate::moving::Flip;
@@ -30,10 +30,10 @@ pub struct State<J: Judge> {
 }
 
 impl<J: Judge> Model for State<J> {
-    ghost use Rattle.flip_kernel.specs.Held.{Held};
+    ghost use Rattle.flip_kernel.specs.ChainState.{ChainState};
     ghost use Rattle.flip_kernel.specs.Judged.{IsSeated};
 
-    ghost Value = { Held };
+    ghost Value = { ChainState };
 
     ghost view = { λ s. s.board };
 
@@ -57,7 +57,7 @@ impl<J: Judge> State<J> {
     pub fn set(&mut self, job: &Job, plan: &[u32])
         requires made { self.old.job ≡ job.now }
         requires legal { IsLegal job.now plan.now }
-        ensures held { self.new ≡ record self.old { plan = plan.now } }
+        ensures unchanged { self.new ≡ record self.old { plan = plan.now } }
     {
         self.board.set(job, plan);
         self.judge.reset(plan);
@@ -128,7 +128,7 @@ impl<J: Judge> State<J> {
     fn make_move(&mut self, flip: Flip)
         requires made { self.old.job ≡ flip.job.now }
         requires allowed { IsMove flip.job.now self.old.plan flip.unit flip.district }
-        ensures held { self.new ≡ record self.old { plan = slice_set self.old.plan flip.entry.unit flip.entry.district } }
+        ensures unchanged { self.new ≡ record self.old { plan = slice_set self.old.plan flip.entry.unit flip.entry.district } }
     {
         let home = self.board.plan().as_slice()[flip.unit as usize];
         self.board.make_move(flip);
@@ -145,7 +145,7 @@ impl<J: Judge> State<J> {
         requires beside { IsTrue (is_open flip.job.now.graph self.old.plan flip.unit flip.district) }
         ensures moves { IsTrue result ↔ IsMove flip.entry.job.now self.old.plan flip.entry.unit flip.entry.district }
         ensures moved { IsTrue result → self.new ≡ record self.old { plan = slice_set self.old.plan flip.entry.unit flip.entry.district } }
-        ensures held { IsFalse result → self.new ≡ self.old }
+        ensures unchanged { IsFalse result → self.new ≡ self.old }
         ensures searches { (steps.old ≤ steps.new) × (steps.new ≤ steps.old + 1) }
         ensures local { IsLocal flip.entry.job.now.graph self.old.plan flip.entry.unit → steps.new ≡ steps.old }
     {
@@ -166,7 +166,7 @@ impl<J: Judge> State<J> {
         requires kept { KeepsBoundsIn flip.job.now self.old.plan flip.unit flip.district }
         ensures moves { IsTrue result ↔ IsMove flip.entry.job.now self.old.plan flip.entry.unit flip.entry.district }
         ensures moved { IsTrue result → self.new ≡ record self.old { plan = slice_set self.old.plan flip.entry.unit flip.entry.district } }
-        ensures held { IsFalse result → self.new ≡ self.old }
+        ensures unchanged { IsFalse result → self.new ≡ self.old }
         ensures searches { (steps.old ≤ steps.new) × (steps.new ≤ steps.old + 1) }
         ensures local { IsLocal flip.entry.job.now.graph self.old.plan flip.entry.unit → steps.new ≡ steps.old }
     {

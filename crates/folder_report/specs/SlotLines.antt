@@ -13,21 +13,21 @@ use Rattle.hex.specs.Hex.{encode_lower}
 use Rattle.ckpt_store.specs.Holding.{HoldsStored, newest_in}
 use Rattle.ckpt_store.specs.Progress as definition
 use Rattle.ckpt_store.specs.declared.slot_content.SlotContent.{SlotContent}
-use Rattle.ckpt_store.specs.declared.slot_content.SlotContent.TheVariants as held
+use Rattle.ckpt_store.specs.declared.slot_content.SlotContent.TheVariants as content
 use Rattle.ckpt_store.specs.declared.progress.Progress.{Progress}
 use Rattle.ckpt_store.specs.declared.progress.Progress.TheVariants as progress
 use Rattle.folder_report.specs.Gatherings.{IsCutOff, IsNoted, IsWhole, Outputs}
 
 -- the text after the number of a slot
-abbrev pub held_texts : SlotContent → List (List ℕ)
-held_texts held.Absent = codes ": absent" ∷ []
-held_texts (held.Broken fault) = codes ": " ∷ fault_name fault ∷ []
-held_texts (held.Whole c) =
+abbrev pub content_texts : SlotContent → List (List ℕ)
+content_texts content.Absent = codes ": absent" ∷ []
+content_texts (content.Broken fault) = codes ": " ∷ fault_name fault ∷ []
+content_texts (content.Whole c) =
     codes ": version " ∷ decimal c.version ∷ codes " generation " ∷ decimal c.generation ∷ codes " outcomes " ∷ decimal (length c.outcomes.items) ∷ codes " digest "
     ∷ encode_lower c.digest ∷ []
 
 abbrev pub slot_line : ℕ → SlotContent → List ℕ
-slot_line slot what = as_line (codes "slot " ∷ decimal slot ∷ held_texts what)
+slot_line slot what = as_line (codes "slot " ∷ decimal slot ∷ content_texts what)
 
 abbrev pub newest_texts : Option ℕ → List (List ℕ)
 newest_texts None = codes "newest: none" ∷ []

@@ -58,10 +58,15 @@ fn add_whole_line<N: Sink>(out: &mut N, going: bool, slot: u8, checkpoint: &Chec
 }
 
 /// Writes the line of a slot, unless an earlier write failed. Returns true if nothing failed.
-pub(crate) fn add_slot_line<N: Sink>(out: &mut N, going: bool, slot: u8, held: &SlotContent) -> bool
-    ensures { AddsText (N.state out.old) (N.state out.new) going (slot_line slot held.now) result }
+pub(crate) fn add_slot_line<N: Sink>(
+    out: &mut N,
+    going: bool,
+    slot: u8,
+    content: &SlotContent,
+) -> bool
+    ensures { AddsText (N.state out.old) (N.state out.new) going (slot_line slot content.now) result }
 {
-    match held {
+    match content {
         SlotContent::Absent => {
             let number = Number(u64::from(slot));
             add_line(out, going, &[Text("slot "), number], &[Text(": absent")])

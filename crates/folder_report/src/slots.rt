@@ -16,7 +16,7 @@ use audit_io::sink::Sink;
 use audit_model::memory::Memory;
 use ckpt_store::look::LookFault;
 use ckpt_store::progress::{Progress, progress_of};
-use ckpt_store::slot_content::{Loaded, SlotContent, held_of, load_slot, newest};
+use ckpt_store::slot_content::{Loaded, SlotContent, content_of, load_slot, newest};
 use plan_core::job::Job;
 use report::ended::Ended;
 use report::note::tell;
@@ -78,8 +78,8 @@ fn load_both<C: Keeper>(alloc: Global, keeper: &mut C) -> Result<Both, LookFault
 fn report_on(alloc: Global, job: Option<&Job>, both: &Both) -> Result<SlotsReport, Memory>
     ensures { IfOk result (λ s. (p : Pair) → IsLoadedFrom both.now.zero p.zero_slot → IsLoadedFrom both.now.one p.one_slot → IsShownOf (option_map (λ j. j.now) job.entry) p s) }
 {
-    let first = held_of(alloc, &both.zero)?;
-    let second = held_of(alloc, &both.one)?;
+    let first = content_of(alloc, &both.zero)?;
+    let second = content_of(alloc, &both.one)?;
     match job {
         None => Ok(SlotsReport {
             first,

@@ -9,7 +9,7 @@ use Rattle.std.proofs.lemmas.List.Folds.{find-append}
 use Rattle.std.proofs.lemmas.List.Sums.{count_by_more_no, count_by_more_yes}
 use Rattle.std.proofs.lemmas.Option.{none-some, same_Some}
 use Rattle.audit_model.specs.declared.outcome.Outcome.{Outcome}
-use Rattle.audit_model.specs.Trajectory.{no_bins}
+use Rattle.audit_model.specs.Trajectory.{empty_histogram}
 use Rattle.audit_model.specs.Run.{with_id}
 use Rattle.outcome_book.proofs.ById.{not_found}
 use Rattle.outcome_book.proofs.Indexed.{absent_of_share}
@@ -23,10 +23,10 @@ joined_none None = refl
 joined_none (Some o) = refl
 
 -- the combination keeps the id
-pub kept_id : (held : Option Outcome) (o kept : Outcome) → ((x : Outcome) → held ≡ Some x → x.id ≡ o.id) → Some kept ≡ fuller_if held (Some o) → kept.id ≡ o.id
+pub kept_id : (existing : Option Outcome) (o kept : Outcome) → ((x : Outcome) → existing ≡ Some x → x.id ≡ o.id) → Some kept ≡ fuller_if existing (Some o) → kept.id ≡ o.id
 kept_id None o kept same e = ap (λ (x : Outcome). x.id) (same_Some kept o e)
 kept_id (Some h) o kept same e =
-    ap (λ (x : Outcome). x.id) (same_Some kept (fuller h o) e) ∙ by (bytes_eq h.bins no_bins) (same h refl)
+    ap (λ (x : Outcome). x.id) (same_Some kept (fuller h o) e) ∙ by (bytes_eq h.bins empty_histogram) (same h refl)
   where
     by : (b : Bool) → h.id ≡ o.id → (cond b o h).id ≡ o.id
     by true s = refl

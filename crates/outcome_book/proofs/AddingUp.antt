@@ -8,9 +8,9 @@ use Rattle.audit_model.specs.declared.outcome.Outcome.{Outcome}
 use Rattle.audit_model.specs.Below.{count_below, map_below}
 use Rattle.audit_model.specs.Job.{Job}
 use Rattle.audit_model.specs.JobOf.{IsJob}
-use Rattle.audit_model.specs.Run.{bins_fit, fits, is_bare}
+use Rattle.audit_model.specs.Run.{histogram_fits, fits, has_no_histogram}
 use Rattle.audit_model.specs.Trajectory.{Draws, bin_of, outcome_by, outcome, plan_seats, visit, whole}
-use Rattle.audit_model.proofs.BinSums.{few_bins}
+use Rattle.audit_model.proofs.BinSums.{bin_is_small}
 use Rattle.audit_model.proofs.Limits.{few_steps}
 use Rattle.outcome_book.specs.Booked.{HasFewVisits}
 
@@ -67,7 +67,7 @@ walks_add_up : (job : Job) (draws : Draws) (id : ℕ) → sum (outcome_by true t
 unfolding count_in
 walks_add_up job draws id =
     let bin : ℕ → ℕ = λ i. bin_of (plan_seats job (visit job (draws (2 * id)) job.start i)) (plan_seats job job.start) in
-    counts_add_up (job.setting.steps + 1) bin (λ i. few_bins (plan_seats job (visit job (draws (2 * id)) job.start i)) (plan_seats job job.start))
+    counts_add_up (job.setting.steps + 1) bin (λ i. bin_is_small (plan_seats job (visit job (draws (2 * id)) job.start i)) (plan_seats job job.start))
 
 -- the histogram of a walk's outcome adds up to its steps plus one
 pub whole_adds_up : (job : Job) (draws : Draws) (id : ℕ) → id < job.setting.walks → sum (whole job draws id).bins ≡ job.setting.steps + 1
@@ -86,21 +86,21 @@ pub found_has_few : (job : Job) (draws : Draws) (id : ℕ) → IsJob job → Has
 found_has_few job draws id sound = few_by (nat_lt id job.setting.walks) job.setting.shift job draws id (few_steps job sound)
 
 -- an empty histogram adds up to 0
-bare_has_none : (o : Outcome) → is_bare o ≡ true → sum o.bins ≡ 0
-bare_has_none o bare = eqb-true (sum o.bins) 0 (sum_by-zero (λ (n : ℕ). n) o.bins ∙ bare)
+zero_histogram_sum : (o : Outcome) → has_no_histogram o ≡ true → sum o.bins ≡ 0
+zero_histogram_sum o without_histogram = eqb-true (sum o.bins) 0 (sum_by-zero (λ (n : ℕ). n) o.bins ∙ without_histogram)
 
 -- a histogram that is empty or adds up to a walk's visits has few visits
-few_or : (job : Job) (o : Outcome) (bare : Bool) → is_bare o ≡ bare → (bare || eqb (sum o.bins) (job.setting.steps + 1)) ≡ true → job.setting.steps ≤ 10 ^ 9
+few_or : (job : Job) (o : Outcome) (without_histogram : Bool) → has_no_histogram o ≡ without_histogram → (without_histogram || eqb (sum o.bins) (job.setting.steps + 1)) ≡ true → job.setting.steps ≤ 10 ^ 9
     → HasFewVisits o
-few_or job o true is h few = omega (arith, bare_has_none o is)
+few_or job o true is h few = omega (arith, zero_histogram_sum o is)
 few_or job o false is h few = omega (arith, eqb-true (sum o.bins) (job.setting.steps + 1) h, few)
 
 -- a plausible histogram has few visits
-few_fits : (walks : Bool) (job : Job) (o : Outcome) → bins_fit walks job o ≡ true → job.setting.steps ≤ 10 ^ 9 → HasFewVisits o
-few_fits true job o h few = few_or job o (is_bare o) refl h few
-few_fits false job o h few = omega (arith, bare_has_none o h)
+few_fits : (walks : Bool) (job : Job) (o : Outcome) → histogram_fits walks job o ≡ true → job.setting.steps ≤ 10 ^ 9 → HasFewVisits o
+few_fits true job o h few = few_or job o (has_no_histogram o) refl h few
+few_fits false job o h few = omega (arith, zero_histogram_sum o h)
 
 -- a plausible outcome has few visits
 pub fitting_has_few : (job : Job) (o : Outcome) → IsJob job → fits job o ≡ true → HasFewVisits o
 fitting_has_few job o sound h =
-    few_fits (nat_lt o.id job.setting.walks) job o (and_parts _ (bins_fit (nat_lt o.id job.setting.walks) job o) h).1 (few_steps job sound)
+    few_fits (nat_lt o.id job.setting.walks) job o (and_parts _ (histogram_fits (nat_lt o.id job.setting.walks) job o) h).1 (few_steps job sound)

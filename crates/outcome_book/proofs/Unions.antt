@@ -6,7 +6,7 @@ use Rattle.std.proofs.lemmas.Option.{none-some, same_Some}
 use Rattle.std.proofs.lemmas.Slice.Eq.{bytes_eq-Decides}
 use Rattle.audit_model.specs.declared.outcome.Outcome.{Outcome}
 use Rattle.audit_model.specs.Run.{fits, total, with_id}
-use Rattle.audit_model.specs.Trajectory.{bare, no_bins, outcome, whole}
+use Rattle.audit_model.specs.Trajectory.{without_histogram, empty_histogram, outcome, whole}
 use Rattle.outcome_book.specs.Booked.{AreApart}
 use Rattle.outcome_book.proofs.ById.{found_in}
 use Rattle.outcome_book.specs.Laws.{GroupingDoesNotMatter, ConsistentOutcomesAgree, OrderDoesNotMatter, TwiceChangesNothing, UnionsAreConsistent, UnionsAreOne, UnionsAreRight, UnionsFit}
@@ -40,7 +40,7 @@ of_found P xs id o all e = (found_in P xs id o all e).0
 
 -- a property of two outcomes holds of their combination
 one_of : (P : Outcome → Type 0) (a b : Outcome) → P a → P b → P (fuller a b)
-one_of P a b pa pb = by (bytes_eq a.bins no_bins)
+one_of P a b pa pb = by (bytes_eq a.bins empty_histogram)
   where
     by : (t : Bool) → P (cond t b a)
     by true = pb
@@ -67,7 +67,7 @@ pub unions_are_consistent : UnionsAreConsistent
 unions_are_consistent job draws xs ys both hx hy u = record {
   apart = apart_of both u.rising;
   below = unions_add_nothing (λ o. o.id < total job) xs ys both hx.below hy.below u;
-  found = unions_add_nothing (λ o. (o ≡ whole job draws o.id) ⊎ (o ≡ bare (whole job draws o.id))) xs ys both hx.found hy.found u;
+  found = unions_add_nothing (λ o. (o ≡ whole job draws o.id) ⊎ (o ≡ without_histogram (whole job draws o.id))) xs ys both hx.found hy.found u;
 }
 
 -- the union of outcomes of a job's trajectories is of its trajectories too
@@ -84,33 +84,33 @@ unions_are_right job draws xs ys both hx hy u = record {
 pub consistent_outcomes_agree : ConsistentOutcomesAgree
 consistent_outcomes_agree job draws xs ys hx hy = λ k d l. with_one (get_or ys k d) (hy.found k d l) (with_id xs (get_or ys k d).id) refl
   where
-    both : (a o w : Outcome) → ((a ≡ w) ⊎ (a ≡ bare w)) → ((o ≡ w) ⊎ (o ≡ bare w)) → Agree a o
+    both : (a o w : Outcome) → ((a ≡ w) ⊎ (a ≡ without_histogram w)) → ((o ≡ w) ⊎ (o ≡ without_histogram w)) → Agree a o
     both a o w (inl e) (inl f) = inl (e ∙ sym f)
-    both a o w (inl e) (inr f) = inr (inr (f ∙ ap bare (sym e)))
-    both a o w (inr e) (inl f) = inr (inl (e ∙ ap bare (sym f)))
+    both a o w (inl e) (inr f) = inr (inr (f ∙ ap without_histogram (sym e)))
+    both a o w (inr e) (inl f) = inr (inl (e ∙ ap without_histogram (sym f)))
     both a o w (inr e) (inr f) = inl (e ∙ sym f)
 
-    with_one : (o : Outcome) → ((o ≡ whole job draws o.id) ⊎ (o ≡ bare (whole job draws o.id))) → (x : Option Outcome) → with_id xs o.id ≡ x → AgreeIf x (Some o)
+    with_one : (o : Outcome) → ((o ≡ whole job draws o.id) ⊎ (o ≡ without_histogram (whole job draws o.id))) → (x : Option Outcome) → with_id xs o.id ≡ x → AgreeIf x (Some o)
     with_one o ho None e = tt
     with_one o ho (Some a) e =
-        let found = found_in (λ (p : Outcome). (p ≡ whole job draws p.id) ⊎ (p ≡ bare (whole job draws p.id))) xs o.id a hx.found e in
+        let found = found_in (λ (p : Outcome). (p ≡ whole job draws p.id) ⊎ (p ≡ without_histogram (whole job draws p.id))) xs o.id a hx.found e in
         both a o (whole job draws o.id)
-        (subst (λ i. (a ≡ whole job draws i) ⊎ (a ≡ bare (whole job draws i))) found.1 found.0) ho
+        (subst (λ i. (a ≡ whole job draws i) ⊎ (a ≡ without_histogram (whole job draws i))) found.1 found.0) ho
 
 -- an outcome and itself without its histogram combine to the first, in either order
-joined_bare : (a b : Outcome) → a ≡ bare b → (fuller a b ≡ b) × (fuller b a ≡ b)
-joined_bare a b e = (first, by (bytes_eq b.bins no_bins) refl)
+joined_without_histogram : (a b : Outcome) → a ≡ without_histogram b → (fuller a b ≡ b) × (fuller b a ≡ b)
+joined_without_histogram a b e = (first, by (bytes_eq b.bins empty_histogram) refl)
   where
     first : fuller a b ≡ b
-    first = ap (λ t. cond t b a) ((bytes_eq-Decides a.bins no_bins).1 (ap (λ (o : Outcome). o.bins) e))
+    first = ap (λ t. cond t b a) ((bytes_eq-Decides a.bins empty_histogram).1 (ap (λ (o : Outcome). o.bins) e))
 
-    by : (t : Bool) → bytes_eq b.bins no_bins ≡ t → cond t a b ≡ b
+    by : (t : Bool) → bytes_eq b.bins empty_histogram ≡ t → cond t a b ≡ b
     by false f = refl
-    by true f = e ∙ sym (ap (λ x. record b { bins = x }) ((bytes_eq-Decides b.bins no_bins).0 f))
+    by true f = e ∙ sym (ap (λ x. record b { bins = x }) ((bytes_eq-Decides b.bins empty_histogram).0 f))
 
 -- combining an outcome with itself changes nothing
 joined_own : (a : Outcome) → fuller a a ≡ a
-joined_own a = by (bytes_eq a.bins no_bins)
+joined_own a = by (bytes_eq a.bins empty_histogram)
   where
     by : (t : Bool) → cond t a a ≡ a
     by true = refl
@@ -119,8 +119,8 @@ joined_own a = by (bytes_eq a.bins no_bins)
 -- combining outcomes that agree is commutative
 joined_either : (a b : Outcome) → Agree a b → fuller a b ≡ fuller b a
 joined_either a b (inl e) = subst (λ x. fuller a x ≡ fuller x a) e refl
-joined_either a b (inr (inl e)) = let h = joined_bare a b e in h.0 ∙ sym h.1
-joined_either a b (inr (inr e)) = let h = joined_bare b a e in h.1 ∙ sym h.0
+joined_either a b (inr (inl e)) = let h = joined_without_histogram a b e in h.0 ∙ sym h.1
+joined_either a b (inr (inr e)) = let h = joined_without_histogram b a e in h.1 ∙ sym h.0
 
 -- combining optional outcomes is commutative
 joined_if_either : (x y : Option Outcome) → AgreeIf x y → fuller_if x y ≡ fuller_if y x
@@ -152,9 +152,9 @@ order_does_not_matter xs ys both agreed u = record {
 
 -- combining outcomes is associative
 joined_thrice : (a b c : Outcome) → fuller (fuller a b) c ≡ fuller a (fuller b c)
-joined_thrice a b c = by (bytes_eq a.bins no_bins) refl
+joined_thrice a b c = by (bytes_eq a.bins empty_histogram) refl
   where
-    by : (t : Bool) → bytes_eq a.bins no_bins ≡ t → fuller (cond t b a) c ≡ cond t (fuller b c) a
+    by : (t : Bool) → bytes_eq a.bins empty_histogram ≡ t → fuller (cond t b a) c ≡ cond t (fuller b c) a
     by true e = refl
     by false e = ap (λ t. cond t c a) e
 

@@ -2,16 +2,16 @@
 use Rattle.std.specs.Prelude.{◌≡◌, ◌⊎◌, ℕ, ◌<◌, cond, List, ⊤, Option, Some, None, bytes_eq}
 use Rattle.std.specs.List.{All, AllPairs, Contains}
 use Rattle.audit_model.specs.declared.outcome.Outcome.{Outcome}
-use Rattle.audit_model.specs.Trajectory.{bare, no_bins}
+use Rattle.audit_model.specs.Trajectory.{without_histogram, empty_histogram}
 use Rattle.audit_model.specs.Run.{with_id}
 
 -- the outcomes are equal, or would be if one did not have its histogram
 abbrev pub Agree : Outcome → Outcome → Type 0
-Agree one other = (one ≡ other) ⊎ ((one ≡ bare other) ⊎ (other ≡ bare one))
+Agree one other = (one ≡ other) ⊎ ((one ≡ without_histogram other) ⊎ (other ≡ without_histogram one))
 
 -- of two outcomes that agree, the one with a histogram if one has it
 abbrev pub fuller : Outcome → Outcome → Outcome
-fuller one other = cond (bytes_eq one.bins no_bins) other one
+fuller one other = cond (bytes_eq one.bins empty_histogram) other one
 
 -- the combination of two optional outcomes of one id
 abbrev pub fuller_if : Option Outcome → Option Outcome → Option Outcome

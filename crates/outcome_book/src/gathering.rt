@@ -4,7 +4,7 @@ ghost use Rattle.std.specs.Prelude.{◌≡◌, ◌∷◌, [], ◌≤◌, ◌+◌
 ghost use Rattle.std.specs.Bool.{Decides};
 ghost use Rattle.audit_model.specs.Limits.{most_trajectories};
 ghost use Rattle.audit_model.specs.Run.{has_id};
-ghost use Rattle.audit_model.specs.Trajectory.{bare};
+ghost use Rattle.audit_model.specs.Trajectory.{without_histogram};
 ghost use Rattle.outcome_book.specs.Placed.{those_there};
 ghost use Rattle.outcome_book.specs.Union.{Agree, AgreeIf, AgreesWith, AreAgreed, AreById, HoldsBoth, IsFirstDifference, IsUnion, MayBeAdded, fuller, fuller_if};
 
@@ -67,7 +67,7 @@ impl Gathering {
         ensures { Decides result (AgreesWith self.now.outcomes outcome.now) }
     {
         match &self.places[outcome.id as usize] {
-            Some(held) => agree(held, outcome),
+            Some(existing) => agree(existing, outcome),
             None => true,
         }
     }
@@ -172,8 +172,8 @@ impl Gathering {
 }
 
 // Returns the outcome without its histogram.
-fn bare(outcome: &Outcome) -> Outcome
-    ensures { result ≡ bare outcome.now }
+fn without_histogram(outcome: &Outcome) -> Outcome
+    ensures { result ≡ without_histogram outcome.now }
 {
     Outcome {
         bins: [0; 9],
@@ -188,10 +188,10 @@ fn is_same(one: &Outcome, other: &Outcome) -> bool
 }
 
 // Returns true if the first outcome is the second without its histogram.
-fn is_bare_of(outcome: &Outcome, other: &Outcome) -> bool
-    ensures { Decides result (outcome.now ≡ bare other.now) }
+fn is_without_histogram_of(outcome: &Outcome, other: &Outcome) -> bool
+    ensures { Decides result (outcome.now ≡ without_histogram other.now) }
 {
-    is_same(outcome, &bare(other))
+    is_same(outcome, &without_histogram(other))
 }
 
 /// Returns true if both outcomes are equal, or would be if one did not have its histogram.
@@ -201,10 +201,10 @@ pub fn agree(one: &Outcome, other: &Outcome) -> bool
     if is_same(one, other) {
         return true;
     }
-    if is_bare_of(one, other) {
+    if is_without_histogram_of(one, other) {
         return true;
     }
-    is_bare_of(other, one)
+    is_without_histogram_of(other, one)
 }
 
 // Returns the outcome with a histogram, if one of two has it.
@@ -215,11 +215,11 @@ fn fuller(one: &Outcome, other: &Outcome) -> Outcome
 }
 
 // Combines the outcome present for an id, if any, with one more.
-fn combine(held: &Option<Outcome>, outcome: &Outcome) -> Outcome
-    ensures { Some result ≡ fuller_if held.now (Some outcome.now) }
+fn combine(existing: &Option<Outcome>, outcome: &Outcome) -> Outcome
+    ensures { Some result ≡ fuller_if existing.now (Some outcome.now) }
 {
-    match held {
-        Some(held) => fuller(held, outcome),
+    match existing {
+        Some(existing) => fuller(existing, outcome),
         None => *outcome,
     }
 }

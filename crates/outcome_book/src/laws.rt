@@ -24,6 +24,6 @@ pub fn outcomes_have_few_visits()
 {}
 
 /// Shows that each plan a walk visits is in exactly one bin of its histogram.
-pub fn bins_of_walks_add_up()
+pub fn histograms_of_walks_add_up()
     ensures { (job : Job) (draws : Draws) (id : ℕ) → id < job.setting.walks → sum (whole job draws id).bins ≡ job.setting.steps + 1 }
 {}

@@ -35,7 +35,7 @@ use Rattle.tally_desk.specs.Parts.{IsPlan, Parts}
 use Rattle.tally_desk.proofs.Booking.{booked_fit, by_id_fit}
 use Rattle.tally_desk.proofs.Todo.{todo_lacked, todo_within}
 use Rattle.tally_desk.proofs.Slotting.{moved_generation}
-use Rattle.audit_statement.specs.Endings.{HoldsPart, IsNewest, IsOpeningOrFound, IsPartly, IsTryOf, KeepsASlot, SavesInTurn, SavesInTurnAt, AttemptsOf, AttemptsObserved, count_of_saves, first_place, full_of, last_place, place_of}
+use Rattle.audit_statement.specs.Endings.{HoldsPart, IsNewest, IsInitialOrFound, IsPartly, IsTryOf, KeepsASlot, SavesInTurn, SavesInTurnAt, AttemptsOf, AttemptsObserved, count_of_saves, first_place, full_of, last_place, place_of}
 use Rattle.audit_laws.specs.Runs.{AreAll, IsRunJob}
 use Rattle.plan_runs.specs.Ending.{SavesLast}
 use Rattle.claim_counter.proofs.Completing.{AreMapped, by_id-full}
@@ -65,13 +65,13 @@ contains_at x xs some_here =
     let cut = cut_at x xs some_here in
     subst (λ (ys : List ℕ). Contains ys x) (sym cut.2) (Contains-append_right cut.0 (x ∷ cut.1) x (Contains-get_or (x ∷ cut.1) 0 x (omega arith)))
 
-module _ (parts : Parts) (plan : IsPlan parts) (todo_is : parts.todo ≡ run_ids parts.job parts.opening parts.job.setting.budget) (every_is : parts.save_every ≡ parts.job.setting.save_every)
+module _ (parts : Parts) (plan : IsPlan parts) (todo_is : parts.todo ≡ run_ids parts.job parts.initial_outcomes parts.job.setting.budget) (every_is : parts.save_every ≡ parts.job.setting.save_every)
     (ours_law : CheckpointsAreOurs) (hold : pool.SavesHoldParts) where
   abbrev job : Job
   job = parts.job
 
-  abbrev opening : List Outcome
-  opening = parts.opening
+  abbrev initial_outcomes : List Outcome
+  initial_outcomes = parts.initial_outcomes
 
   abbrev saved_of : List Entry → List Outcome
   saved_of part = by_id (total job) (booked parts part)
@@ -82,7 +82,7 @@ module _ (parts : Parts) (plan : IsPlan parts) (todo_is : parts.todo ≡ run_ids
 
   -- ---- the contents of a save
 
-  of_desk : (o : Outcome) → Contains opening o ⊎ ((0 < times o.id parts.todo) × (o ≡ found job o.id)) → IsOpeningOrFound job opening o
+  of_desk : (o : Outcome) → Contains initial_outcomes o ⊎ ((0 < times o.id parts.todo) × (o ≡ found job o.id)) → IsInitialOrFound job initial_outcomes o
   of_desk o (inl has) = inl has
   of_desk o (inr (to_do, is)) = inr (
     todo_lacked parts plan o.id to_do,
@@ -91,8 +91,8 @@ module _ (parts : Parts) (plan : IsPlan parts) (todo_is : parts.todo ≡ run_ids
     is_found o is,
   )
 
-  holds_part : (count : ℕ) (saved : List Outcome) → pool.HoldsOpeningAndPart parts count saved → HoldsPart job opening count saved
-  holds_part count saved h = record { each = λ k d inside. of_desk _ (h.each k d inside); opening_kept = h.opening_kept; counted = h.counted }
+  holds_part : (count : ℕ) (saved : List Outcome) → pool.ContainsInitialAndPart parts count saved → HoldsPart job initial_outcomes count saved
+  holds_part count saved h = record { each = λ k d inside. of_desk _ (h.each k d inside); initial_kept = h.initial_kept; counted = h.counted }
 
   part_fits : (part : List Entry) → ((id : ℕ) → times id (ids_of part) ≤ times id parts.todo) → IsTrue (list_all (fits job) (saved_of part))
   part_fits part of_todo = by_id_fit (fits job) (total job) (booked parts part) (booked_fit parts plan part of_todo)
@@ -103,13 +103,13 @@ module _ (parts : Parts) (plan : IsPlan parts) (todo_is : parts.todo ≡ run_ids
       ap (slot_of job (job_digest job)) s.bytes
       ∙ ours_law job (checkpoint 2 (job_digest job) generation (saved_of part)) 2 (job_digest job) generation (saved_of part) s.sound (part_fits part of_todo)
 
-  partly : (generation count : ℕ) (slot : Stored) → IsPartSave parts generation count slot → IsPartly job opening count generation slot
+  partly : (generation count : ℕ) (slot : Stored) → IsPartSave parts generation count slot → IsPartly job initial_outcomes count generation slot
   partly generation count slot s = record {
     saved = saved_of s.part;
     bytes_are = s.saved.bytes;
     sound = s.saved.sound;
     slot_is = read_as generation s.part slot s.of_todo s.saved;
-    holds = holds_part count (saved_of s.part) (subst (λ (n : ℕ). pool.HoldsOpeningAndPart parts n (saved_of s.part)) s.counted (hold parts s.part plan s.of_todo));
+    holds = holds_part count (saved_of s.part) (subst (λ (n : ℕ). pool.ContainsInitialAndPart parts n (saved_of s.part)) s.counted (hold parts s.part plan s.of_todo));
   }
 
   -- ---- a slot is unchanged
@@ -121,7 +121,7 @@ module _ (parts : Parts) (plan : IsPlan parts) (todo_is : parts.todo ≡ run_ids
   back n (inl e) = omega (arith, e)
   back n (inr e) = omega (arith, e)
 
-  keeps_a_slot : (p q : Pair) → IsAt p → KeepsSome parts p q → KeepsASlot job opening p q
+  keeps_a_slot : (p q : Pair) → IsAt p → KeepsSome parts p q → KeepsASlot job initial_outcomes p q
   keeps_a_slot p q at (inl same) n e =
       let first = slot_of job (job_digest job) p.zero_slot in
       let second = slot_of job (job_digest job) p.one_slot in
@@ -132,44 +132,44 @@ module _ (parts : Parts) (plan : IsPlan parts) (todo_is : parts.todo ≡ run_ids
 
   -- ---- saves follow each other
 
-  module _ (posted : List Entry) (all : IsPermutation (ids_of posted) parts.todo) (whole : saved_of posted ≡ full_of job opening) where
+  module _ (posted : List Entry) (all : IsPermutation (ids_of posted) parts.todo) (whole : saved_of posted ≡ full_of job initial_outcomes) where
     of_todo : (id : ℕ) → times id (ids_of posted) ≤ times id parts.todo
     of_todo id = let same = sum_by-IsPermutation (λ (y : ℕ). cond (y == id) 1 0) (ids_of posted) parts.todo all in omega (arith, same)
 
-    count_is : length posted ≡ length (run_ids job opening job.setting.budget)
+    count_is : length posted ≡ length (run_ids job initial_outcomes job.setting.budget)
     count_is = sym (length-map posted posted_id) ∙ sym (length_permutation (ids_of posted) parts.todo all) ∙ ap length todo_is
 
-    in_turn_at : (p q : Pair) (at : Place) (count : ℕ) → desk.RunSavesInTurnAt parts p q posted at count → SavesInTurnAt job opening p q at count
+    in_turn_at : (p q : Pair) (at : Place) (count : ℕ) → desk.RunSavesInTurnAt parts p q posted at count → SavesInTurnAt job initial_outcomes p q at count
     in_turn_at p q at count s = record {
       last = s.last.bytes ∙ ap (λ (os : List Outcome). Some (checkpoint 2 (job_digest job) at.generation os)) whole;
       last_is = read_as at.generation posted (stored q at.slot) of_todo s.last ∙ ap (ours at.generation) whole;
       newest_is = s.newest;
       only = s.only;
       before_last = λ more.
-          subst (λ (v : ℕ). IsPartly job opening ((count - 1) * v) ((at.generation + 2) % 3) (stored q (1 - at.slot))) every_is
+          subst (λ (v : ℕ). IsPartly job initial_outcomes ((count - 1) * v) ((at.generation + 2) % 3) (stored q (1 - at.slot))) every_is
           (partly ((at.generation + 2) % 3) ((count - 1) * parts.save_every) (stored q (1 - at.slot)) (s.before_last more));
     }
 
-    saves_are : saves_of (length posted) parts.save_every ≡ count_of_saves job opening
+    saves_are : saves_of (length posted) parts.save_every ≡ count_of_saves job initial_outcomes
     saves_are i = saves_of (count_is i) (every_is i)
 
-    place_is : (p : Pair) → IsAt p → desk.last_save_place parts posted ≡ last_place job opening p
+    place_is : (p : Pair) → IsAt p → desk.last_save_place parts posted ≡ last_place job initial_outcomes p
     place_is p at i = moved (saves_are i - 1) (record { slot = (at i).0; generation = (at i).1 })
 
-    in_turn : (p q : Pair) → IsAt p → desk.RunSavesInTurn parts p q posted → SavesInTurn job opening p q
+    in_turn : (p q : Pair) → IsAt p → desk.RunSavesInTurn parts p q posted → SavesInTurn job initial_outcomes p q
     in_turn p q at s =
-        subst (λ (x : Place × ℕ). SavesInTurnAt job opening p q x.0 x.1) (λ i. (place_is p at i, saves_are i))
+        subst (λ (x : Place × ℕ). SavesInTurnAt job initial_outcomes p q x.0 x.1) (λ i. (place_is p at i, saves_are i))
         (in_turn_at p q (desk.last_save_place parts posted) (saves_of (length posted) parts.save_every) s)
 
-  newest_in : (p q : Pair) → IsAt p → SavesInTurn job opening p q → IsNewest job (full_of job opening) q
+  newest_in : (p q : Pair) → IsAt p → SavesInTurn job initial_outcomes p q → IsNewest job (full_of job initial_outcomes) q
   newest_in p q at s =
       let first : (place_of job p).1 < 3 = subst (λ (x : ℕ × ℕ). x.1 < 3) at plan.generation in
-      let last = last_place job opening p in
-      (last.slot, s.newest_is, (last.generation, moved_generation (count_of_saves job opening - 1) (record { slot = (place_of job p).0; generation = (place_of job p).1 }) first, s.last))
+      let last = last_place job initial_outcomes p in
+      (last.slot, s.newest_is, (last.generation, moved_generation (count_of_saves job initial_outcomes - 1) (record { slot = (place_of job p).0; generation = (place_of job p).1 }) first, s.last))
 
   -- ---- the save attempts
 
-  of_try : (t : Try) → IsRunTry parts t → IsTryOf job opening t
+  of_try : (t : Try) → IsRunTry parts t → IsTryOf job initial_outcomes t
   of_try t s = record {
     generation = s.generation;
     count = length s.part;
@@ -179,13 +179,13 @@ module _ (parts : Parts) (plan : IsPlan parts) (todo_is : parts.todo ≡ run_ids
   }
 
   module _ (right : pool.RunAttemptsAreRight) (attempts : List Try) (turn : AreInTurn job (job_digest job) parts.place.slot parts.place.generation attempts) (each : All (IsRunTry parts) attempts)
-      (posted : List Entry) (all : IsPermutation (ids_of posted) parts.todo) (in_order : AreSavesOf job opening parts.save_every parts.place (ids_of posted) attempts)
+      (posted : List Entry) (all : IsPermutation (ids_of posted) parts.todo) (in_order : AreSavesOf job initial_outcomes parts.save_every parts.place (ids_of posted) attempts)
       (faults_now : ℕ) (covered : min (parts.keeper.save_faults + failed_of attempts) (2 ^ 64 - 1) ≤ faults_now) where
-    exactly : (p : Pair) → IsAt p → AreSavesOf job opening job.setting.save_every (first_place job p) (ids_of posted) attempts
+    exactly : (p : Pair) → IsAt p → AreSavesOf job initial_outcomes job.setting.save_every (first_place job p) (ids_of posted) attempts
     exactly p at =
-        subst (λ (x : ℕ × Place). AreSavesOf job opening x.0 x.1 (ids_of posted) attempts) (λ i. (every_is i, record { slot = (at i).0; generation = (at i).1 })) in_order
+        subst (λ (x : ℕ × Place). AreSavesOf job initial_outcomes x.0 x.1 (ids_of posted) attempts) (λ i. (every_is i, record { slot = (at i).0; generation = (at i).1 })) in_order
 
-    attempts_of : (p : Pair) → IsAt p → (observed now : List Try) → now ≡ observed ++ attempts → AttemptsOf job opening p parts.keeper.save_faults faults_now observed now
+    attempts_of : (p : Pair) → IsAt p → (observed now : List Try) → now ≡ observed ++ attempts → AttemptsOf job initial_outcomes p parts.keeper.save_faults faults_now observed now
     attempts_of p at observed now is = record {
       attempts = attempts;
       appended = is;
@@ -193,10 +193,10 @@ module _ (parts : Parts) (plan : IsPlan parts) (todo_is : parts.todo ≡ run_ids
       each = λ k d inside. of_try _ (each k d inside);
       exact = record { walked = ids_of posted; all_walked = subst (IsPermutation (ids_of posted)) todo_is all; exactly = exactly p at };
       covered = covered;
-      right = λ opening_right k d inside. right parts _ plan opening_right (each k d inside);
+      right = λ initial_outcomes_right k d inside. right parts _ plan initial_outcomes_right (each k d inside);
     }
 
-    attempts_by : (p : Pair) → IsAt p → (a b : Option (List Try)) → b ≡ attempted_all a attempts → IfBothObserved a b (AttemptsOf job opening p parts.keeper.save_faults faults_now)
+    attempts_by : (p : Pair) → IsAt p → (a b : Option (List Try)) → b ≡ attempted_all a attempts → IfBothObserved a b (AttemptsOf job initial_outcomes p parts.keeper.save_faults faults_now)
     attempts_by p at None b is = tt
     attempts_by p at (Some observed) None is = none_not (sym (attempted_some observed attempts) ∙ sym is)
       where
@@ -208,7 +208,7 @@ module _ (parts : Parts) (plan : IsPlan parts) (todo_is : parts.todo ≡ run_ids
         same_list h = cc
 
     attempts_observed : (slots slots_now : Option Pair) (a b : Option (List Try)) (loads loads_now : LoadFaults) → IfObserved slots IsAt → b ≡ attempted_all a attempts
-        → AttemptsObserved job opening (record { slots = slots; attempted = a; load_faults = loads; save_faults = parts.keeper.save_faults })
+        → AttemptsObserved job initial_outcomes (record { slots = slots; attempted = a; load_faults = loads; save_faults = parts.keeper.save_faults })
         (record { slots = slots_now; attempted = b; load_faults = loads_now; save_faults = faults_now })
     attempts_observed None slots_now a b loads loads_now at is = tt
     attempts_observed (Some p) slots_now a b loads loads_now at is = attempts_by p at a b is
@@ -216,34 +216,34 @@ module _ (parts : Parts) (plan : IsPlan parts) (todo_is : parts.todo ≡ run_ids
 -- ---- the whole result
 
 module _ (parts : Parts) (keeper_now : Kept) (sorted : List Outcome) (result : Result (Unit {0}) Failed)
-    (h : HasRun parts keeper_now sorted result) (todo_is : parts.todo ≡ run_ids parts.job parts.opening parts.job.setting.budget) where
+    (h : HasRun parts keeper_now sorted result) (todo_is : parts.todo ≡ run_ids parts.job parts.initial_outcomes parts.job.setting.budget) where
   abbrev the_job : Job
   the_job = parts.job
 
-  moved_all : IsPermutation (booked parts h.posted) (parts.opening ++ map (found parts.job) parts.todo)
+  moved_all : IsPermutation (booked parts h.posted) (parts.initial_outcomes ++ map (found parts.job) parts.todo)
   moved_all =
-      IsPermutation-append_right parts.opening (map (found parts.job) (ids_of h.posted)) (map (found parts.job) parts.todo)
+      IsPermutation-append_right parts.initial_outcomes (map (found parts.job) (ids_of h.posted)) (map (found parts.job) parts.todo)
       (IsPermutation-map (found parts.job) (ids_of h.posted) parts.todo h.all)
 
-  pub all_outcomes : AreMapped → IsRunJob parts.job → AreFit parts.job parts.opening → All (λ id. id < total parts.job) parts.todo → All (λ id. IsFalse (has_id parts.opening id)) parts.todo
-      → AreAll parts.job parts.opening sorted
+  pub all_outcomes : AreMapped → IsRunJob parts.job → AreFit parts.job parts.initial_outcomes → All (λ id. id < total parts.job) parts.todo → All (λ id. IsFalse (has_id parts.initial_outcomes id)) parts.todo
+      → AreAll parts.job parts.initial_outcomes sorted
   unfolding found
   all_outcomes mapped run fit within absent =
-      are_all parts.job run parts.opening parts.opening parts.todo sorted refl fit todo_is within
+      are_all parts.job run parts.initial_outcomes parts.initial_outcomes parts.todo sorted refl fit todo_is within
       (λ budget ids.
       h.sorted_is
-      ∙ by_id-full mapped parts.job parts.opening (booked parts h.posted) parts.todo budget (rising_apart parts.opening fit.rising) absent ids moved_all)
+      ∙ by_id-full mapped parts.job parts.initial_outcomes (booked parts h.posted) parts.todo budget (rising_apart parts.initial_outcomes fit.rising) absent ids moved_all)
       (IsPermutation-trans sorted (booked parts h.posted) _ (IsPermutation-sym (booked parts h.posted) sorted h.sorted_all) moved_all) h.rising
 
   pub saves_last : CheckpointsAreOurs → pool.SavesHoldParts → pool.RunAttemptsAreRight → parts.save_every ≡ parts.job.setting.save_every
-      → IfObserved parts.keeper.slots (λ p. (parts.place.slot, parts.place.generation) ≡ place_of parts.job p) → sorted ≡ full_of parts.job parts.opening
-      → SavesLast parts.job parts.opening parts.keeper keeper_now result
+      → IfObserved parts.keeper.slots (λ p. (parts.place.slot, parts.place.generation) ≡ place_of parts.job p) → sorted ≡ full_of parts.job parts.initial_outcomes
+      → SavesLast parts.job parts.initial_outcomes parts.keeper keeper_now result
   saves_last ours_law hold right every_is placed whole =
       let turns = on_ok result
-      (known_map parts.keeper.slots keeper_now.slots (IsAt parts h.plan todo_is every_is ours_law hold) (λ p q. desk.RunSavesInTurn parts p q h.posted) (SavesInTurn parts.job parts.opening) placed
+      (known_map parts.keeper.slots keeper_now.slots (IsAt parts h.plan todo_is every_is ours_law hold) (λ p q. desk.RunSavesInTurn parts p q h.posted) (SavesInTurn parts.job parts.initial_outcomes) placed
       (in_turn parts h.plan todo_is every_is ours_law hold h.posted h.all (sym h.sorted_is ∙ whole))) h.in_turn in
       record {
-        kept = known_map parts.keeper.slots keeper_now.slots (IsAt parts h.plan todo_is every_is ours_law hold) (KeepsSome parts) (KeepsASlot parts.job parts.opening) placed
+        kept = known_map parts.keeper.slots keeper_now.slots (IsAt parts h.plan todo_is every_is ours_law hold) (KeepsSome parts) (KeepsASlot parts.job parts.initial_outcomes) placed
             (keeps_a_slot parts h.plan todo_is every_is ours_law hold) h.keeps;
         in_turn = turns;
         newest_is = on_ok result (newest_known parts.keeper.slots keeper_now.slots placed) turns;
@@ -253,8 +253,8 @@ module _ (parts : Parts) (keeper_now : Kept) (sorted : List Outcome) (result : R
             parts.keeper.slots keeper_now.slots parts.keeper.attempted keeper_now.attempted parts.keeper.load_faults keeper_now.load_faults placed h.attempted;
       }
     where
-      newest_known : (a b : Option Pair) → IfObserved a (λ p. (parts.place.slot, parts.place.generation) ≡ place_of parts.job p) → IfBothObserved a b (SavesInTurn parts.job parts.opening)
-          → IfBothObserved a b (λ p q. IsNewest parts.job (full_of parts.job parts.opening) q)
+      newest_known : (a b : Option Pair) → IfObserved a (λ p. (parts.place.slot, parts.place.generation) ≡ place_of parts.job p) → IfBothObserved a b (SavesInTurn parts.job parts.initial_outcomes)
+          → IfBothObserved a b (λ p q. IsNewest parts.job (full_of parts.job parts.initial_outcomes) q)
       newest_known None b at s = tt
       newest_known (Some p) None at s = s
       newest_known (Some p) (Some q) at s = newest_in parts h.plan todo_is every_is ours_law hold p q at s

@@ -79,15 +79,15 @@ module _ (job : Job) (draws : Draws) where
   walks_kept : (n : ℕ) → job.setting.walks ≤ n → filter (λ o. nat_lt o.id job.setting.walks) (map_below n f) ≡ map_below job.setting.walks f
   walks_kept n enough = kept_walks n ∙ ap (λ k. map_below k f) (let e : min n job.setting.walks ≡ job.setting.walks = omega (arith, enough) in e)
 
-  no_bins_of_ends : (id bin : ℕ) → job.setting.walks ≤ id → slice_index (f id).bins bin ≡ 0
-  no_bins_of_ends id bin past = ap (λ b. slice_index (outcome_by b job.setting.shift job draws id).bins bin) (le-ltb id job.setting.walks past) ∙ zeros 9 bin
+  no_histogram_of_ends : (id bin : ℕ) → job.setting.walks ≤ id → slice_index (f id).bins bin ≡ 0
+  no_histogram_of_ends id bin past = ap (λ b. slice_index (outcome_by b job.setting.shift job draws id).bins bin) (le-ltb id job.setting.walks past) ∙ zeros 9 bin
 
   bin_of_walks : (bin n : ℕ) → sum_by (λ o. slice_index o.bins bin) (map_below (job.setting.walks + n) f) ≡ sum_by (λ o. slice_index o.bins bin) (map_below job.setting.walks f)
   bin_of_walks bin zero = ap (λ k. sum_by (λ o. slice_index o.bins bin) (map_below k f)) (let e : job.setting.walks + zero ≡ job.setting.walks = omega arith in e)
   bin_of_walks bin (suc n) =
       ap (λ k. sum_by (λ o. slice_index o.bins bin) (map_below k f)) (let e : job.setting.walks + suc n ≡ suc (job.setting.walks + n) = omega arith in e)
       ∙ sum_by-append (λ (o : Outcome). slice_index o.bins bin) (map_below (job.setting.walks + n) f) (f (job.setting.walks + n) ∷ [])
-      ∙ (let none = no_bins_of_ends (job.setting.walks + n) bin (omega arith) in
+      ∙ (let none = no_histogram_of_ends (job.setting.walks + n) bin (omega arith) in
       let before = bin_of_walks bin n in
       omega (arith, none, before))
 

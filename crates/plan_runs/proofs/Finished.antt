@@ -12,7 +12,7 @@ use Rattle.audit_model.specs.Run.{total}
 use Rattle.audit_statement.specs.Draw.{draw}
 use Rattle.audit_statement.specs.Report.{full_report}
 use Rattle.report.specs.declared.ended.Ended.TheVariants as ended
-use Rattle.audit_statement.specs.Endings.{AppendsPart, IsOpening, SameUnless, SavesAll, SavesWhere, NoSaveFailed, StopsEarly, Writes, WritesReport, WritesText, is_walking, saves}
+use Rattle.audit_statement.specs.Endings.{AppendsPart, AreInitialOutcomes, SameUnless, SavesAll, SavesWhere, NoSaveFailed, StopsEarly, Writes, WritesReport, WritesText, is_walking, saves}
 use Rattle.audit_laws.specs.Runs.{AreAll, IsRunJob}
 use Rattle.plan_runs.specs.Ending.{SavedBy, SavesLast, ended_as, ended_by, stopped_by}
 use Rattle.audit_laws.specs.Calls.{Finishes}
@@ -34,13 +34,13 @@ walking_text Make whole job before after w r = r
 walking_text Plans whole job before after w r = r
 walking_text Trace whole job before after w r = cc
 
-module _ (job : Job) (run : IsRunJob job) (opening outcomes : List Outcome) (all : AreAll job opening outcomes) (out out' : Stream) (k l : Kept) (opened : IsOpening job k.slots opening) where
+module _ (job : Job) (run : IsRunJob job) (initial_outcomes outcomes : List Outcome) (all : AreAll job initial_outcomes outcomes) (out out' : Stream) (k l : Kept) (opened : AreInitialOutcomes job k.slots initial_outcomes) where
   report_written : (whole : Bool) (before after : Stream) → total job ≤ length outcomes → Writes whole out.bytes out'.bytes (full_report job (draw job.setting.key) outcomes)
       → WritesReport whole job (world before out k) (world after out' l)
   report_written whole before after none w = record {
-    outcomes = opening;
+    outcomes = initial_outcomes;
     opened = opened;
-    nothing_left = whole_leaves job opening outcomes all none;
+    nothing_left = whole_leaves job initial_outcomes outcomes all none;
     written = subst (λ (os : List Outcome). Writes whole out.bytes out'.bytes (full_report job (draw job.setting.key) os)) all.full w;
   }
 
@@ -50,11 +50,11 @@ module _ (job : Job) (run : IsRunJob job) (opening outcomes : List Outcome) (all
       walking_text job.setting.command whole job (world before out k) (world after out' l) run.walking (report_written whole before after none w)
 
   -- the slots after the last save, in the terms of the definition of endings
-  saves_all : (before after : Stream) (made : Type 0) (result : Result (Unit {0}) Failed) → (made → result ≡ Ok tt) → SavesLast job opening k l result
+  saves_all : (before after : Stream) (made : Type 0) (result : Result (Unit {0}) Failed) → (made → result ≡ Ok tt) → SavesLast job initial_outcomes k l result
       → SavesAll made job (world before out k) (world after out' l)
-  saves_all before after made (Ok done) e s = record { outcomes = opening; opened = opened; kept = s.kept; in_turn = λ _. s.in_turn; newest_is = λ _. s.newest_is; attempted = s.attempted }
+  saves_all before after made (Ok done) e s = record { outcomes = initial_outcomes; opened = opened; kept = s.kept; in_turn = λ _. s.in_turn; newest_is = λ _. s.newest_is; attempted = s.attempted }
   saves_all before after made (Err failed) e s = record {
-    outcomes = opening;
+    outcomes = initial_outcomes;
     opened = opened;
     kept = s.kept;
     in_turn = λ m. absurd (not_made (e m));
@@ -65,44 +65,44 @@ module _ (job : Job) (run : IsRunJob job) (opening outcomes : List Outcome) (all
       not_made : ◌≡◌ {A = Result (Unit {0}) Failed} (Err failed) (Ok tt) → ⊥
       not_made h = cc
 
-  saves_where : (before after : Stream) (made : Type 0) (b : Bool) (result : Result (Unit {0}) Failed) → (made → result ≡ Ok tt) → SavedBy b job opening k l result
+  saves_where : (before after : Stream) (made : Type 0) (b : Bool) (result : Result (Unit {0}) Failed) → (made → result ≡ Ok tt) → SavedBy b job initial_outcomes k l result
       → SavesWhere b made job (world before out k) (world after out' l)
   saves_where before after made false result e s = ap (λ (x : Kept). x.slots) s.0
   saves_where before after made true result e s = saves_all before after made result e s
 
   -- the counts and the slots that a run leaves unchanged
-  slots_left : (b : Bool) (result : Result (Unit {0}) Failed) → SavedBy b job opening k l result → SameUnless b k.slots l.slots
+  slots_left : (b : Bool) (result : Result (Unit {0}) Failed) → SavedBy b job initial_outcomes k l result → SameUnless b k.slots l.slots
   slots_left false result s = ap (λ (x : Kept). x.slots) s.0
   slots_left true result s = tt
 
-  attempted_left : (b : Bool) (result : Result (Unit {0}) Failed) → SavedBy b job opening k l result → SameUnless b k.attempted l.attempted
+  attempted_left : (b : Bool) (result : Result (Unit {0}) Failed) → SavedBy b job initial_outcomes k l result → SameUnless b k.attempted l.attempted
   attempted_left false result s = ap (λ (x : Kept). x.attempted) s.0
   attempted_left true result s = tt
 
-  loads_left : (b : Bool) (result : Result (Unit {0}) Failed) → SavedBy b job opening k l result → l.load_faults ≡ k.load_faults
+  loads_left : (b : Bool) (result : Result (Unit {0}) Failed) → SavedBy b job initial_outcomes k l result → l.load_faults ≡ k.load_faults
   loads_left false result s = ap (λ (x : Kept). x.load_faults) s.0
   loads_left true result s = s.loads
 
-  count_left : (b : Bool) (result : Result (Unit {0}) Failed) → SavedBy b job opening k l result → SameUnless b k.save_faults l.save_faults
+  count_left : (b : Bool) (result : Result (Unit {0}) Failed) → SavedBy b job initial_outcomes k l result → SameUnless b k.save_faults l.save_faults
   count_left false result s = ap (λ (x : Kept). x.save_faults) s.0
   count_left true result s = tt
 
-  passed_count : (b : Bool) → SavedBy b job opening k l (Ok tt) → l.save_faults ≡ k.save_faults
+  passed_count : (b : Bool) → SavedBy b job initial_outcomes k l (Ok tt) → l.save_faults ≡ k.save_faults
   passed_count false s = ap (λ (x : Kept). x.save_faults) s.0
   passed_count true s = s.cause.passed
 
-  made_by : (b : Bool) (result : Result (Unit {0}) Failed) → SavedBy b job opening k l result → (Rose k.save_faults l.save_faults → ⊥) → result ≡ Ok tt
+  made_by : (b : Bool) (result : Result (Unit {0}) Failed) → SavedBy b job initial_outcomes k l result → (Rose k.save_faults l.save_faults → ⊥) → result ≡ Ok tt
   made_by false result s calm = s.1
   made_by true (Ok done) s calm = refl
   made_by true (Err failed) s calm = absurd (calm s.cause.failed)
 
   -- a save can only fail in a run that saves
-  failed_saves : (b : Bool) (f : Failed) → SavedBy b job opening k l (Err f) → b ≡ true
+  failed_saves : (b : Bool) (f : Failed) → SavedBy b job initial_outcomes k l (Err f) → b ≡ true
   failed_saves true f s = refl
   failed_saves false f s = let never : Err f ≡ Ok tt = s.1 in cc
 
   -- the end after the report was written in full
-  done_ends : total job ≤ length outcomes → Appends out.bytes out'.bytes (full_report job (draw job.setting.key) outcomes) → out'.faults ≡ out.faults → SavedBy (saves job.setting) job opening k l (Ok tt)
+  done_ends : total job ≤ length outcomes → Appends out.bytes out'.bytes (full_report job (draw job.setting.key) outcomes) → out'.faults ≡ out.faults → SavedBy (saves job.setting) job initial_outcomes k l (Ok tt)
       → Finishes job out out' k l ended.Done
   done_ends whole w writes s = λ words before after p. record {
     cause = record {
@@ -119,7 +119,7 @@ module _ (job : Job) (run : IsRunJob job) (opening outcomes : List Outcome) (all
 
   -- the end after a part of the report was written
   write_fault_ends : (result : Result (Unit {0}) Failed) → total job ≤ length outcomes → AppendsPart out.bytes out'.bytes (full_report job (draw job.setting.key) outcomes) → Rose out.faults out'.faults
-      → SavedBy (saves job.setting) job opening k l result → Finishes job out out' k l ended.WriteFault
+      → SavedBy (saves job.setting) job initial_outcomes k l result → Finishes job out out' k l ended.WriteFault
   write_fault_ends result whole w writes s = λ words before after p. record {
     cause = record {
       job = job;
@@ -136,10 +136,10 @@ module _ (job : Job) (run : IsRunJob job) (opening outcomes : List Outcome) (all
 
   -- the end after the report was written in full but a save had failed
   save_fault_ends : (f : Failed) → total job ≤ length outcomes → Appends out.bytes out'.bytes (full_report job (draw job.setting.key) outcomes) → out'.faults ≡ out.faults
-      → SavedBy (saves job.setting) job opening k l (Err f) → Finishes job out out' k l ended.SaveFault
+      → SavedBy (saves job.setting) job initial_outcomes k l (Err f) → Finishes job out out' k l ended.SaveFault
   save_fault_ends f whole w writes s = λ words before after p.
       let saving = failed_saves (saves job.setting) f s in
-      let last : SavesLast job opening k l (Err f) = subst (λ b. SavedBy b job opening k l (Err f)) saving s in
+      let last : SavesLast job initial_outcomes k l (Err f) = subst (λ b. SavedBy b job initial_outcomes k l (Err f)) saving s in
       record {
         cause = record {
           job = job;
@@ -147,7 +147,7 @@ module _ (job : Job) (run : IsRunJob job) (opening outcomes : List Outcome) (all
           saving = saving;
           whole = true;
           written = report_written true before after whole w;
-          outcomes = opening;
+          outcomes = initial_outcomes;
           opened = opened;
           kept = last.kept;
           attempted = last.attempted;
@@ -161,7 +161,7 @@ module _ (job : Job) (run : IsRunJob job) (opening outcomes : List Outcome) (all
 
   -- the end of a run that wrote its report, in full or in part
   pub written_ends : (text : List ℕ) (written saved : Result (Unit {0}) Failed) → total job ≤ length outcomes → text ≡ full_report job (draw job.setting.key) outcomes → WritesAllOf out out' text written
-      → SavedBy (saves job.setting) job opening k l saved → Finishes job out out' k l (ended_as (ended_by written saved))
+      → SavedBy (saves job.setting) job initial_outcomes k l saved → Finishes job out out' k l (ended_as (ended_by written saved))
   written_ends text (Ok done) (Ok saved) whole is w s =
       done_ends whole (subst (λ t. Appends out.bytes out'.bytes t) is w.0) w.1 s
   written_ends text (Ok done) (Err failed) whole is w s =
@@ -171,20 +171,20 @@ module _ (job : Job) (run : IsRunJob job) (opening outcomes : List Outcome) (all
 
 -- ---- runs that leave trajectories pending
 
-module _ (job : Job) (run : IsRunJob job) (opening outcomes : List Outcome) (all : AreAll job opening outcomes) (out : Stream) (k l : Kept) (opened : IsOpening job k.slots opening) (short : length outcomes < total job) where
+module _ (job : Job) (run : IsRunJob job) (initial_outcomes outcomes : List Outcome) (all : AreAll job initial_outcomes outcomes) (out : Stream) (k l : Kept) (opened : AreInitialOutcomes job k.slots initial_outcomes) (short : length outcomes < total job) where
   -- only a run that saves leaves trajectories pending
   saving : saves job.setting ≡ true
-  saving = saves_some job run (λ e. true_false (sym (short_leaves job opening outcomes all short) ∙ leaves_none job opening run e))
+  saving = saves_some job run (λ e. true_false (sym (short_leaves job initial_outcomes outcomes all short) ∙ leaves_none job initial_outcomes run e))
     where
       true_false : true ≡ false → ⊥
       true_false e = cc
 
   abbrev stops_early : (before after : Stream) → StopsEarly job (world before out k) (world after out l)
-  stops_early before after = record { outcomes = opening; opened = opened; work_left = short_leaves job opening outcomes all short; unwritten = refl }
+  stops_early before after = record { outcomes = initial_outcomes; opened = opened; work_left = short_leaves job initial_outcomes outcomes all short; unwritten = refl }
 
-  stopped_ends : SavedBy (saves job.setting) job opening k l (Ok tt) → Finishes job out out k l (ended.Stopped (length outcomes) (total job))
+  stopped_ends : SavedBy (saves job.setting) job initial_outcomes k l (Ok tt) → Finishes job out out k l (ended.Stopped (length outcomes) (total job))
   stopped_ends s = λ words before after p.
-      let last : SavesLast job opening k l (Ok tt) = subst (λ b. SavedBy b job opening k l (Ok tt)) saving s in
+      let last : SavesLast job initial_outcomes k l (Ok tt) = subst (λ b. SavedBy b job initial_outcomes k l (Ok tt)) saving s in
       record {
         cause = record {
           job = job;
@@ -193,19 +193,19 @@ module _ (job : Job) (run : IsRunJob job) (opening outcomes : List Outcome) (all
           stopped = stops_early before after;
           done_is = all.count;
           all_is = refl;
-          saved = saves_all job run opening outcomes all out out k l opened before after ⊤ (Ok tt) (λ _. refl) last;
+          saved = saves_all job run initial_outcomes outcomes all out out k l opened before after ⊤ (Ok tt) (λ _. refl) last;
         };
         untouched = left words before after job p out out k l _ refl
-            (saved_left words before after job p _ _ (slots_left job run opening outcomes all out out k l opened (saves job.setting) (Ok tt) s))
-            (saved_left words before after job p _ _ (attempted_left job run opening outcomes all out out k l opened (saves job.setting) (Ok tt) s)) refl refl
-            (loads_left job run opening outcomes all out out k l opened (saves job.setting) (Ok tt) s) (passed_count job run opening outcomes all out out k l opened (saves job.setting) s);
+            (saved_left words before after job p _ _ (slots_left job run initial_outcomes outcomes all out out k l opened (saves job.setting) (Ok tt) s))
+            (saved_left words before after job p _ _ (attempted_left job run initial_outcomes outcomes all out out k l opened (saves job.setting) (Ok tt) s)) refl refl
+            (loads_left job run initial_outcomes outcomes all out out k l opened (saves job.setting) (Ok tt) s) (passed_count job run initial_outcomes outcomes all out out k l opened (saves job.setting) s);
         line_is = refl;
       }
 
-  failed_ends : (f : Failed) → SavedBy (saves job.setting) job opening k l (Err f) → Finishes job out out k l ended.SaveFault
+  failed_ends : (f : Failed) → SavedBy (saves job.setting) job initial_outcomes k l (Err f) → Finishes job out out k l ended.SaveFault
   failed_ends f s = λ words before after p.
-      let saving = failed_saves job run opening outcomes all out out k l opened (saves job.setting) f s in
-      let last : SavesLast job opening k l (Err f) = subst (λ b. SavedBy b job opening k l (Err f)) saving s in
+      let saving = failed_saves job run initial_outcomes outcomes all out out k l opened (saves job.setting) f s in
+      let last : SavesLast job initial_outcomes k l (Err f) = subst (λ b. SavedBy b job initial_outcomes k l (Err f)) saving s in
       record {
         cause = record {
           job = job;
@@ -213,21 +213,21 @@ module _ (job : Job) (run : IsRunJob job) (opening outcomes : List Outcome) (all
           saving = saving;
           whole = false;
           written = stops_early before after;
-          outcomes = opening;
+          outcomes = initial_outcomes;
           opened = opened;
           kept = last.kept;
           attempted = last.attempted;
           rose = last.cause.failed;
         };
         untouched = left words before after job p out out k l _ tt
-            (saved_left words before after job p _ _ (slots_left job run opening outcomes all out out k l opened (saves job.setting) (Err f) s))
-            (saved_left words before after job p _ _ (attempted_left job run opening outcomes all out out k l opened (saves job.setting) (Err f) s)) refl refl
-            (loads_left job run opening outcomes all out out k l opened (saves job.setting) (Err f) s)
-            (saved_left words before after job p _ _ (count_left job run opening outcomes all out out k l opened (saves job.setting) (Err f) s));
+            (saved_left words before after job p _ _ (slots_left job run initial_outcomes outcomes all out out k l opened (saves job.setting) (Err f) s))
+            (saved_left words before after job p _ _ (attempted_left job run initial_outcomes outcomes all out out k l opened (saves job.setting) (Err f) s)) refl refl
+            (loads_left job run initial_outcomes outcomes all out out k l opened (saves job.setting) (Err f) s)
+            (saved_left words before after job p _ _ (count_left job run initial_outcomes outcomes all out out k l opened (saves job.setting) (Err f) s));
         line_is = refl;
       }
 
   -- the end of a run that leaves trajectories pending
-  pub short_ends : (saved : Result (Unit {0}) Failed) → SavedBy (saves job.setting) job opening k l saved → Finishes job out out k l (ended_as (stopped_by (length outcomes) (total job) saved))
+  pub short_ends : (saved : Result (Unit {0}) Failed) → SavedBy (saves job.setting) job initial_outcomes k l saved → Finishes job out out k l (ended_as (stopped_by (length outcomes) (total job) saved))
   short_ends (Ok saved) s = stopped_ends s
   short_ends (Err failed) s = failed_ends failed s

@@ -3,10 +3,10 @@ use Rattle.std.proofs.Common.{◌≡◌, ℕ, zero, suc, ◌≤◌, Bool, true, 
 use Rattle.audit_model.specs.Observed.{IfObserved}
 use Rattle.audit_model.specs.Pair.{Pair}
 use Rattle.audit_model.specs.Job.{Job}
-use Rattle.audit_start.specs.declared.opening.Target.{Target}
+use Rattle.audit_start.specs.declared.resume_state.Target.{Target}
 use Rattle.audit_statement.specs.Endings.{first_place, place_of, saves}
 use Rattle.audit_statement.specs.Due.{IsFirstPlace}
-use Rattle.audit_start.specs.Opening.{IsTargetFor}
+use Rattle.audit_start.specs.ResumeState.{IsTargetFor}
 use Rattle.audit_laws.specs.Runs.{IsRunJob}
 use Rattle.audit_laws.proofs.Starting.{saves_not}
 

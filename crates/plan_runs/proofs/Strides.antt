@@ -94,11 +94,11 @@ module _ (job : Job) (draws : Draws) (id thin : ℕ) where
       subst (λ (t : List ℕ). WritesAllOf before after t (Err other)) (sym whole) (wrote_part before after (first_lines job draws id thin n) front.0 failed other cut)
 
   -- the lines so far, followed by the next one
-  pub lines_then : (before here after : Stream) (place step next : ℕ) (held : List ℕ) (r : Result (Unit {0}) Failed)
-      → step ≡ shown thin (own_steps job id) place → next ≡ shown thin (own_steps job id) (place + 1) → held ≡ plan_after job draws id step
-      → WritesAllOf before here (first_lines job draws id thin (place + 1)) (Ok tt) → WritesAllOf here after (line_at job draws id held next) r
+  pub lines_then : (before here after : Stream) (place step next : ℕ) (current : List ℕ) (r : Result (Unit {0}) Failed)
+      → step ≡ shown thin (own_steps job id) place → next ≡ shown thin (own_steps job id) (place + 1) → current ≡ plan_after job draws id step
+      → WritesAllOf before here (first_lines job draws id thin (place + 1)) (Ok tt) → WritesAllOf here after (line_at job draws id current next) r
       → WritesAllOf before after (first_lines job draws id thin (place + 1 + 1)) r
-  lines_then before here after place step next held r from to is so_far line =
+  lines_then before here after place step next current r from to is so_far line =
       subst (λ (t : List ℕ). WritesAllOf before after t r) (lines_more place step next from to)
       (wrote_then before here after (first_lines job draws id thin (place + 1)) (line_at job draws id (plan_after job draws id step) next) r so_far
       (subst (λ (q : List ℕ). WritesAllOf here after (line_at job draws id q next) r) is line))

@@ -24,12 +24,12 @@ pub length-listed : (f : Found) → f.listed ≤ length f.sorted.items → lengt
 length-listed f enough = omega (arith, length-take f.listed f.sorted.items, enough)
 
 -- a run without early stops has all outcomes, and the report covers each
-pub all_found : (job : Job) → IsRunJob job → job.setting.stop ≡ 0 → (opening : List Outcome) (f : Found) → AreAll job opening f.sorted.items → f.listed ≡ length f.sorted.items
-    → f.observed ≡ 0 → f.text.items ≡ [] → HasReportRoom job f.text.spare → HasFound job opening f
-all_found job run plain opening f all listed observed blank room =
+pub all_found : (job : Job) → IsRunJob job → job.setting.stop ≡ 0 → (initial_outcomes : List Outcome) (f : Found) → AreAll job initial_outcomes f.sorted.items → f.listed ≡ length f.sorted.items
+    → f.observed ≡ 0 → f.text.items ≡ [] → HasReportRoom job f.text.spare → HasFound job initial_outcomes f
+all_found job run plain initial_outcomes f all listed observed blank room =
     let enough : f.listed ≤ length f.sorted.items = omega (arith, listed) in
     let each : listed_in f ≡ f.sorted.items = take_all f.listed f.sorted.items (omega (arith, listed)) in
-    let here : AreAll job opening (listed_in f) = subst (AreAll job opening) (sym each) all in
+    let here : AreAll job initial_outcomes (listed_in f) = subst (AreAll job initial_outcomes) (sym each) all in
     let none : observed_in f ≡ [] = ap (λ n. take n f.stops) observed in
     let long = length-listed f enough in
     let due = reports_all job plain in
@@ -38,7 +38,7 @@ all_found job run plain opening f all listed observed blank room =
         run = run;
         enough = enough;
         enough_stops = omega (arith, observed);
-        outcomes = λ whole. whole_outcomes job plain opening (listed_in f) here (omega (arith, whole, long, due));
+        outcomes = λ whole. whole_outcomes job plain initial_outcomes (listed_in f) here (omega (arith, whole, long, due));
         stops = subst (AreStopsOf job) (sym none) (no_stops job plain);
         blank = blank;
         report_room = room;
@@ -54,10 +54,10 @@ all_found job run plain opening f all listed observed blank room =
     }
 
 -- a run with early stops has the outlier walks and all stops
-pub early_found : (job : Job) → IsRunJob job → 1 ≤ job.setting.stop → (opening : List Outcome) → opening ≡ [] → (f : Found) → StopsInTime job f.sorted.items → f.listed ≡ job.setting.walks
+pub early_found : (job : Job) → IsRunJob job → 1 ≤ job.setting.stop → (initial_outcomes : List Outcome) → initial_outcomes ≡ [] → (f : Found) → StopsInTime job f.sorted.items → f.listed ≡ job.setting.walks
     → f.observed ≡ length job.setting.asks → take (length job.setting.asks) f.stops ≡ stops_of job (sequence job (draw job.setting.key))
-    → AreParts job.setting.ends (length job.setting.asks) f.stops → length f.stops ≡ 4 → f.text.items ≡ [] → HasReportRoom job f.text.spare → HasFound job opening f
-early_found job run some opening fresh f in_time listed observed stops parts four blank room =
+    → AreParts job.setting.ends (length job.setting.asks) f.stops → length f.stops ≡ 4 → f.text.items ≡ [] → HasReportRoom job f.text.spare → HasFound job initial_outcomes f
+early_found job run some initial_outcomes fresh f in_time listed observed stops parts four blank room =
     let first = walks_first job run some f.sorted.items in_time in
     let walks : listed_in f ≡ map_below job.setting.walks (outcome job (draw job.setting.key)) = ap (λ n. take n f.sorted.items) listed ∙ first.1 in
     let these : observed_in f ≡ take (length job.setting.asks) f.stops = ap (λ n. take n f.stops) observed in

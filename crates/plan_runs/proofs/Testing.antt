@@ -5,10 +5,10 @@ use Rattle.audit_model.specs.Job.{Job}
 use Rattle.audit_model.specs.Serially.{place_and_ranks}
 use Rattle.report.specs.Outcomes.{IsSerialBy, IsSerialOf}
 use Rattle.serial_test.specs.Ranks.{HasRanks}
-use Rattle.flip_kernel.specs.Held.{Held}
+use Rattle.flip_kernel.specs.ChainState.{ChainState}
 use Rattle.plan_runs.specs.Serially.{IsTester, IsTesterBy}
 
-module _ (job : Job) (w : Held) where
+module _ (job : Job) (w : ChainState) where
   asked_by : (b : Bool) → IsTesterBy b job (Some w) → (b ≡ true) × (w.job ≡ job)
   asked_by true t = (refl, t)
   asked_by false t = absurd t

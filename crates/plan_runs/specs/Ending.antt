@@ -32,15 +32,15 @@ ended_as (finished.Stopped done total) = ended.Stopped done total
 ended_as finished.SaveFault = ended.SaveFault
 
 -- checkpoints were saved in turn, the last of all outcomes, unless a save failed
-pub record SavesLast (job : Job) (opening : List Outcome) (before after : Kept) (result : Result (Unit {0}) Failed) : Type 0 where
-  pub kept : IfBothObserved before.slots after.slots (KeepsASlot job opening)
-  pub in_turn : OnOk result (IfBothObserved before.slots after.slots (SavesInTurn job opening))
-  pub newest_is : OnOk result (IfBothObserved before.slots after.slots (λ p q. IsNewest job (full_of job opening) q))
+pub record SavesLast (job : Job) (initial_outcomes : List Outcome) (before after : Kept) (result : Result (Unit {0}) Failed) : Type 0 where
+  pub kept : IfBothObserved before.slots after.slots (KeepsASlot job initial_outcomes)
+  pub in_turn : OnOk result (IfBothObserved before.slots after.slots (SavesInTurn job initial_outcomes))
+  pub newest_is : OnOk result (IfBothObserved before.slots after.slots (λ p q. IsNewest job (full_of job initial_outcomes) q))
   pub cause : HasCause before.save_faults after.save_faults result
   pub loads : after.load_faults ≡ before.load_faults
-  pub attempted : AttemptsObserved job opening before after
+  pub attempted : AttemptsObserved job initial_outcomes before after
 
 -- the run saves nothing, or it saved everything that was due
 abbrev pub SavedBy : Bool → Job → List Outcome → Kept → Kept → Result (Unit {0}) Failed → Type 0
-SavedBy false job opening before after result = (after ≡ before) × (result ≡ Ok tt)
-SavedBy true job opening before after result = SavesLast job opening before after result
+SavedBy false job initial_outcomes before after result = (after ≡ before) × (result ≡ Ok tt)
+SavedBy true job initial_outcomes before after result = SavesLast job initial_outcomes before after result

@@ -31,19 +31,19 @@ pub record IsTellable (job : Job) (f : Found) : Type 0 where
   pub report_room : HasReportRoom job f.text.spare
 
 -- the report on this part is the report on all outcomes of a run with these initial outcomes
-pub record TellsAll (job : Job) (opening : List Outcome) (f : Found) : Type 0 where
+pub record TellsAll (job : Job) (initial_outcomes : List Outcome) (f : Found) : Type 0 where
   pub outcomes : List Outcome
-  pub all : AreAll job opening outcomes
+  pub all : AreAll job initial_outcomes outcomes
   pub whole : total job ≤ length outcomes
   pub same : report job (listed_in f) (observed_in f) (serial_observed job (draw job.setting.key)) ≡ full_report job (draw job.setting.key) outcomes
 
 -- all outcomes of such a run are there, and some of the job's trajectories are pending
-pub record LeavesSome (job : Job) (opening : List Outcome) (f : Found) : Type 0 where
-  pub all : AreAll job opening (listed_in f)
+pub record LeavesSome (job : Job) (initial_outcomes : List Outcome) (f : Found) : Type 0 where
+  pub all : AreAll job initial_outcomes (listed_in f)
   pub due : reported job ≡ total job
 
 -- the outcomes of a run with these initial outcomes: all that the report covers, or fewer
-pub record HasFound (job : Job) (opening : List Outcome) (f : Found) : Type 0 where
+pub record HasFound (job : Job) (initial_outcomes : List Outcome) (f : Found) : Type 0 where
   pub tellable : IsTellable job f
-  pub whole : reported job ≤ f.listed → TellsAll job opening f
-  pub short : f.listed < reported job → LeavesSome job opening f
+  pub whole : reported job ≤ f.listed → TellsAll job initial_outcomes f
+  pub short : f.listed < reported job → LeavesSome job initial_outcomes f

@@ -42,7 +42,7 @@ module _ {J : Type 0} where
   pub record IsWalkOf (w : PlanWalk J) : Type 0 where
     pub run : RunsAlone w.plan.job
     pub resources : IsResourcesFor w.plan.job w.resources
-    pub fresh : w.resources.ready.book.outcomes ≡ []
+    pub fresh : w.resources.buffers.book.outcomes ≡ []
 
   -- resources for each of these jobs, in order
   pub record AreWalksFor (jobs : Jobs) (walks : List (PlanWalk J)) : Type 0 where

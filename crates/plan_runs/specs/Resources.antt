@@ -36,6 +36,6 @@ module _ {J : Type 0} where
 
   -- all resources of a run of the job
   pub record IsResourcesFor (job : Job) (m : Resources J) : Type 0 where
-    pub ready : AreBuffersFor job m.ready
-    pub workers : AreWorkersFor job (length m.ready.todo) m.workers
+    pub buffers : AreBuffersFor job m.buffers
+    pub workers : AreWorkersFor job (length m.buffers.todo) m.workers
     pub tester : IsTester job m.tester

@@ -5,7 +5,7 @@ use Rattle.audit_model.specs.Job.{Job}
 use Rattle.audit_model.specs.Run.{total, run_ids}
 use Rattle.report.specs.Outcomes.{AreOutcomesOf, AreStopsOf, IsSerialOf}
 use Rattle.audit_statement.specs.Report.{report}
-use Rattle.plan_runs.specs.declared.ready.RunBuffers.{RunBuffers}
+use Rattle.plan_runs.specs.declared.buffers.RunBuffers.{RunBuffers}
 use Rattle.ckpt_store.specs.Fitting.{AreFit}
 use Rattle.audit_laws.specs.Runs.{IsRunJob}
 use Rattle.claim_counter.specs.Walks.{IsTodo}
@@ -22,11 +22,11 @@ pub record IsStartOf (job : Job) (outcomes : List Outcome) : Type 0 where
   pub fresh : 1 ≤ job.setting.stop → outcomes ≡ []
 
 -- a book of the initial outcomes, the ids to walk, and buffers for all outcomes and for the report
-pub record AreBuffersFor (job : Job) (ready : RunBuffers) : Type 0 where
-  pub total_is : ready.book.total ≡ total job
-  pub start : IsStartOf job ready.book.outcomes
-  pub ids : ready.todo ≡ run_ids job ready.book.outcomes job.setting.budget
-  pub todo : IsTodo job ready.book.outcomes ready.todo
-  pub room : ready.book.total ≤ length ready.sorted.items + ready.sorted.spare
-  pub blank : ready.text.items ≡ []
-  pub report_room : HasReportRoom job ready.text.spare
+pub record AreBuffersFor (job : Job) (buffers : RunBuffers) : Type 0 where
+  pub total_is : buffers.book.total ≡ total job
+  pub start : IsStartOf job buffers.book.outcomes
+  pub ids : buffers.todo ≡ run_ids job buffers.book.outcomes job.setting.budget
+  pub todo : IsTodo job buffers.book.outcomes buffers.todo
+  pub room : buffers.book.total ≤ length buffers.sorted.items + buffers.sorted.spare
+  pub blank : buffers.text.items ≡ []
+  pub report_room : HasReportRoom job buffers.text.spare

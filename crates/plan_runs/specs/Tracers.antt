@@ -9,7 +9,7 @@ use Rattle.audit_statement.specs.Draw.{draw}
 use Rattle.audit_statement.specs.Endings.{AppendsPart}
 use Rattle.audit_statement.specs.Report.{line}
 use Rattle.audit_statement.specs.Trace.{count_shown, first_lines, range_lines, trace_head, trace_text}
-use Rattle.flip_kernel.specs.Held.{Held}
+use Rattle.flip_kernel.specs.ChainState.{ChainState}
 use Rattle.plan_runs.specs.declared.tracing.TraceBuffers.{TraceBuffers}
 use Rattle.plan_runs.specs.declared.tracing.Traced.{Traced}
 use Rattle.plan_runs.specs.declared.tracing.TraceRange.{TraceRange}
@@ -24,14 +24,14 @@ pub record IsTracer {J : Type 0} (job : Job) (t : Tracer J) : Type 0 where
   pub pen : IsPen job t.pen
 
 -- a tracer, the hub's memory, and the lines before the first trajectory
-pub record IsReady {J : Type 0} (job : Job) (r : TraceBuffers J) : Type 0 where
+pub record AreTraceBuffersFor {J : Type 0} (job : Job) (r : TraceBuffers J) : Type 0 where
   pub tracer : IsTracer job r.tracer
   pub hub : length r.hub ≡ job.graph.units
   pub head : r.head.items ≡ trace_head job
 
 -- the current plan is that of the trajectory with this id after these steps and moves
-pub record IsHeldAt (job : Job) (id step : ℕ) (held : Held) (moved : ℕ) : Type 0 where
-  pub plan : held.plan ≡ plan_after job (draw job.setting.key) id step
+pub record IsCurrentAt (job : Job) (id step : ℕ) (current : ChainState) (moved : ℕ) : Type 0 where
+  pub plan : current.plan ≡ plan_after job (draw job.setting.key) id step
   pub counted : moved ≡ moves_after job (draw job.setting.key) id step
 
 -- the lines of all plans of a trajectory that are shown

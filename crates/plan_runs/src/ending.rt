@@ -6,7 +6,7 @@ ghost use Rattle.audit_model.specs.Serially.{serial_observed};
 ghost use Rattle.audit_statement.specs.Draw.{draw};
 ghost use Rattle.audit_statement.specs.Report.{report};
 ghost use Rattle.report.specs.Outcomes.{reported};
-ghost use Rattle.audit_statement.specs.Endings.{IsOpening, saves};
+ghost use Rattle.audit_statement.specs.Endings.{AreInitialOutcomes, saves};
 ghost use Rattle.plan_runs.specs.Ending.{SavedBy, ended_as, ended_by, stopped_by};
 ghost use Rattle.plan_runs.specs.Found.{HasFound, IsTellable, listed_in, observed_in};
 ghost use Rattle.plan_runs.specs.Serially.{IsTester};
@@ -115,8 +115,8 @@ pub fn end_run<K: Sink, J: Judge>(
 ) -> Finished
     requires tellable { IsTellable job.now found }
     requires tester { IsTester job.now tester }
-    ensures { (opening : List model.Outcome) (before after : Kept) → IsOpening job.now before.slots opening → HasFound job.now opening found
-        → SavedBy (saves job.now.setting) job.now opening before after saved
+    ensures { (initial_outcomes : List model.Outcome) (before after : Kept) → AreInitialOutcomes job.now before.slots initial_outcomes → HasFound job.now initial_outcomes found
+        → SavedBy (saves job.now.setting) job.now initial_outcomes before after saved
         → Finishes job.now (K.state out.old) (K.state out.new) before after (ended_as result) }
 {
     let due = due(job);

@@ -7,12 +7,12 @@
 //! plan after the other. A trace (`tracing`) writes the plans of a range of trajectories at every N-th step.
 #![tactic(auto)]
 
+pub mod buffers;
 pub mod ending;
 pub mod found;
 pub mod judges;
 pub mod pen;
 pub mod plans;
-pub mod ready;
 pub mod resources;
 pub mod saving;
 pub mod serially;
@@ -20,11 +20,11 @@ pub mod todo;
 pub mod tracing;
 pub mod walking;
 
+pub use buffers::{RunBuffers, make_buffers};
 pub use ending::{end_run, text_of};
 pub use found::Found;
 pub use judges::guards;
 pub use plans::report_plans;
-pub use ready::{RunBuffers, make_buffers};
 pub use resources::{Resources, Workers, make_resources};
 pub use saving::{SavedResources, finish_saved, make_saved_resources};
 pub use serially::{make_tester, test_serially};

@@ -87,15 +87,15 @@ fn walk_plan<R: Threads + Sync, J: Judge + Send, G: Gate + Sync>(
 ) -> Bytes
     requires run { RunsAlone job.now }
     requires resources { IsResourcesFor job.now resources }
-    requires fresh { resources.ready.book.outcomes ≡ [] }
+    requires fresh { resources.buffers.book.outcomes ≡ [] }
     ensures { result.items ≡ thread_report job.now (draw job.now.setting.key) }
 {
     let Resources {
-        ready,
+        buffers,
         workers,
         tester,
     } = resources;
-    let found = walk(rt, job, ready, workers);
+    let found = walk(rt, job, buffers, workers);
     text_of(job, found, tester)
 }
 

@@ -6,7 +6,7 @@ ghost use Rattle.plan_runs.specs.Resources.{AreWorkersFor, IsJudgeSet, IsResourc
 ghost use Rattle.plan_runs.specs.RunBuffers.{AreBuffersFor, IsStartOf};
 ghost use Rattle.plan_runs.specs.Serially.{IsTester};
 
-use crate::ready::{RunBuffers, make_buffers};
+use crate::buffers::{RunBuffers, make_buffers};
 use crate::serially::make_tester;
 use audit_model::memory::Memory;
 use audit_model::outcome::Outcome;
@@ -28,7 +28,7 @@ pub enum Workers<J: Judge> {
 /// there is one.
 #[derive(Drop)]
 pub struct Resources<J: Judge> {
-    pub ready: RunBuffers,
+    pub buffers: RunBuffers,
     pub workers: Workers<J>,
     pub tester: Option<Walker<J>>,
 }
@@ -37,24 +37,24 @@ pub struct Resources<J: Judge> {
 fn make_workers<J: Judge>(
     alloc: Global,
     job: &Job,
-    ready: &RunBuffers,
+    buffers: &RunBuffers,
     judges: Vec<J>,
 ) -> Result<Workers<J>, Memory>
-    requires ready { AreBuffersFor job.now ready.now }
+    requires buffers { AreBuffersFor job.now buffers.now }
     requires judges { AreJudges job.now J.judging judges.items }
     requires workers { vec_len judges ≡ job.now.setting.workers }
-    ensures { IfOk result (AreWorkersFor job.now (length ready.now.todo)) }
+    ensures { IfOk result (AreWorkersFor job.now (length buffers.now.todo)) }
 {
     if job.setting().stop > 0 {
         let pool = sequential_test::pool::make_pool(alloc, job, judges)?;
         return Ok(Workers::Early(pool));
     }
-    let pool = make_pool(alloc, job, ready.todo.len() as u32, judges)?;
+    let pool = make_pool(alloc, job, buffers.todo.len() as u32, judges)?;
     Ok(Workers::All(pool))
 }
 
 // Makes the initial state of a run that starts with these outcomes, and its workers.
-fn make_ready_workers<J: Judge>(
+fn make_buffers_and_workers<J: Judge>(
     alloc: Global,
     job: &Job,
     outcomes: &[Outcome],
@@ -63,15 +63,15 @@ fn make_ready_workers<J: Judge>(
     requires start { IsStartOf job.now outcomes.now }
     requires judges { AreJudges job.now J.judging judges.items }
     requires workers { vec_len judges ≡ job.now.setting.workers }
-    ensures ready { IfOk result (λ r. AreBuffersFor job.now r.0) }
+    ensures buffers { IfOk result (λ r. AreBuffersFor job.now r.0) }
     ensures workers { IfOk result (λ r. AreWorkersFor job.now (length r.0.todo) r.1) }
     ensures outcomes { IfOk result (λ r. r.0.book.outcomes ≡ outcomes.now) }
 {
-    let ready = make_buffers(alloc, job, outcomes)?;
-    match make_workers(alloc, job, &ready, judges) {
-        Ok(workers) => Ok((ready, workers)),
+    let buffers = make_buffers(alloc, job, outcomes)?;
+    match make_workers(alloc, job, &buffers, judges) {
+        Ok(workers) => Ok((buffers, workers)),
         Err(fault) => {
-            drop(ready);
+            drop(buffers);
             Err(fault)
         }
     }
@@ -90,11 +90,11 @@ fn make_with<J: Judge>(
     requires workers { vec_len judges ≡ job.now.setting.workers }
     requires tester { IsTester job.now tester }
     ensures resources { IfOk result (IsResourcesFor job.now) }
-    ensures outcomes { IfOk result (λ m. m.ready.book.outcomes ≡ outcomes.now) }
+    ensures outcomes { IfOk result (λ m. m.buffers.book.outcomes ≡ outcomes.now) }
 {
-    match make_ready_workers(alloc, job, outcomes, judges) {
-        Ok((ready, workers)) => Ok(Resources {
-            ready,
+    match make_buffers_and_workers(alloc, job, outcomes, judges) {
+        Ok((buffers, workers)) => Ok(Resources {
+            buffers,
             workers,
             tester,
         }),
@@ -113,7 +113,7 @@ pub fn make_resources<J: Judge>(
     requires start { IsStartOf job.now outcomes.now }
     requires judges { IsJudgeSet J.judging job.now judges }
     ensures resources { IfOk result (IsResourcesFor job.now) }
-    ensures outcomes { IfOk result (λ m. m.ready.book.outcomes ≡ outcomes.now) }
+    ensures outcomes { IfOk result (λ m. m.buffers.book.outcomes ≡ outcomes.now) }
 {
     let Some(judge) = judges.pop() else {
         unreachable!()

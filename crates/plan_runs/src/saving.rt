@@ -3,19 +3,19 @@
 
 ghost use Rattle.std.specs.Prelude.{◌≡◌, ◌+◌, ◌*◌, ◌≤◌, length, IfOk, true};
 ghost use Rattle.audit_model.specs.Run.{total};
-ghost use Rattle.audit_statement.specs.Endings.{IsOpening, saves};
+ghost use Rattle.audit_statement.specs.Endings.{AreInitialOutcomes, saves};
 ghost use Rattle.audit_statement.specs.Due.{LetsSavesOf};
 ghost use Rattle.audit_laws.specs.Calls.{Finishes};
-ghost use Rattle.audit_start.specs.Opening.{IsTargetFor};
+ghost use Rattle.audit_start.specs.ResumeState.{IsTargetFor};
 ghost use Rattle.plan_runs.specs.Resources.{IsJudgeSet};
 ghost use Rattle.plan_runs.specs.RunBuffers.{AreBuffersFor, IsStartOf};
 ghost use Rattle.plan_runs.specs.Serially.{IsTester};
 ghost use Rattle.plan_runs.specs.Saving.{IsSavedResourcesFor};
 ghost use Rattle.tally_desk.specs.Pools.{IsDeskPool};
 
+use crate::buffers::{RunBuffers, make_buffers};
 use crate::ending::end_run;
 use crate::found::Found;
-use crate::ready::{RunBuffers, make_buffers};
 use crate::serially::make_tester;
 use audit_io::gate::Gate;
 use audit_io::keeper::Keeper;
@@ -23,7 +23,7 @@ use audit_io::sink::Sink;
 use audit_model::buffers::Bytes;
 use audit_model::memory::Memory;
 use audit_model::outcome::Outcome;
-use audit_start::opening::Target;
+use audit_start::resume_state::Target;
 use ckpt_store::laws::checkpoints_are_ours;
 use claim_counter::runtime::Runtime;
 use flip_guard::judge::Judge;
@@ -43,7 +43,7 @@ use walker::walker::Walker;
 /// buffer. The walker of the serial test is there if the test was requested.
 #[derive(Drop)]
 pub struct SavedResources<J: Judge> {
-    pub ready: RunBuffers,
+    pub buffers: RunBuffers,
     pub target: Target,
     pub pool: DeskPool<J>,
     pub room: Bytes,
@@ -53,13 +53,13 @@ pub struct SavedResources<J: Judge> {
 // Makes the initial state of a run, and a buffer for the checkpoint of all outcomes.
 fn make_rooms(alloc: Global, job: &Job, outcomes: &[Outcome]) -> Result<(RunBuffers, Bytes), Memory>
     requires { IsStartOf job.now outcomes.now }
-    ensures ready { IfOk result (λ r. AreBuffersFor job.now r.0) }
+    ensures buffers { IfOk result (λ r. AreBuffersFor job.now r.0) }
     ensures outcomes { IfOk result (λ r. r.0.book.outcomes ≡ outcomes.now) }
     ensures room { IfOk result (λ r. 84 + 80 * total job.now ≤ length r.1.items + r.1.spare) }
 {
     let room = Bytes::with_room(alloc, 84 + 80 * job.total() as usize)?;
     match make_buffers(alloc, job, outcomes) {
-        Ok(ready) => Ok((ready, room)),
+        Ok(buffers) => Ok((buffers, room)),
         Err(_) => Err(Memory),
     }
 }
@@ -94,13 +94,13 @@ pub fn make_saved_resources<J: Judge>(
     requires start { IsStartOf job.now outcomes.now }
     requires judges { IsJudgeSet J.judging job.now judges }
     ensures resources { IfOk result (IsSavedResourcesFor job.now) }
-    ensures outcomes { IfOk result (λ m. m.ready.book.outcomes ≡ outcomes.now) }
+    ensures outcomes { IfOk result (λ m. m.buffers.book.outcomes ≡ outcomes.now) }
     ensures target { IfOk result (λ m. m.target ≡ target) }
 {
-    let (ready, room) = make_rooms(alloc, job, outcomes)?;
+    let (buffers, room) = make_rooms(alloc, job, outcomes)?;
     let (pool, tester) = make_walkers(alloc, job, judges)?;
     Ok(SavedResources {
-        ready,
+        buffers,
         target,
         pool,
         room,
@@ -125,7 +125,7 @@ pub fn finish_saved<
 ) -> (Ended, C)
     requires saved { saves job.now.setting ≡ true }
     requires placed { IsTargetFor job.now (C.state keeper).slots resources.target }
-    requires opened { IsOpening job.now (C.state keeper).slots resources.ready.book.outcomes }
+    requires opened { AreInitialOutcomes job.now (C.state keeper).slots resources.buffers.book.outcomes }
     requires resources { IsSavedResourcesFor job.now resources }
     requires lets { LetsSavesOf C.lets job.now (C.state keeper) }
     ensures { Finishes job.now (K.state out.old) (K.state out.new)
@@ -137,7 +137,7 @@ pub fn finish_saved<
     checkpoints_are_ours();
     outcomes_by_id_are_mapped();
     let SavedResources {
-        ready,
+        buffers,
         target,
         pool,
         mut room,
@@ -148,7 +148,7 @@ pub fn finish_saved<
         todo,
         mut sorted,
         text,
-    } = ready;
+    } = buffers;
     let digest = target.digest;
     let plan = DeskPlan {
         digest,

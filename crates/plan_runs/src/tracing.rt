@@ -9,7 +9,7 @@ ghost use Rattle.audit_statement.specs.Draw.{draw};
 ghost use Rattle.audit_statement.specs.Trace as definition;
 ghost use Rattle.flip_kernel.specs.Judged.{IsJudgeFor};
 ghost use Rattle.plan_runs.specs.Pens.{IsPen};
-ghost use Rattle.plan_runs.specs.Tracers.{IsHeldAt, IsReady, IsTracer, TracesJob, all_lines, end_line, lines_of_range};
+ghost use Rattle.plan_runs.specs.Tracers.{IsCurrentAt, AreTraceBuffersFor, IsTracer, TracesJob, all_lines, end_line, lines_of_range};
 ghost use Rattle.report.specs.Said.{WritesAllOf};
 ghost use Rattle.walker.specs.Walked.{IsUnderWay};
 
@@ -84,7 +84,7 @@ fn make_hub(job: &Job) -> Result<UnitList, Memory>
 
 fn make_buffers<J: Judge>(alloc: Global, job: &Job, judge: J) -> Result<TraceBuffers<J>, Memory>
     requires judge { IsJudgeFor job.now (J.judging judge) }
-    ensures { IfOk result (λ r. IsReady job.now r) }
+    ensures { IfOk result (λ r. AreTraceBuffersFor job.now r) }
 {
     let tracer = make_tracer(alloc, job, judge)?;
     let hub = make_hub(job)?;
@@ -106,7 +106,7 @@ fn write_line<J: Judge, K: Sink>(
     ensures pen { IsPen job.now pen.new }
     ensures before { pen.new.before ≡ walker.old.plan }
     ensures same { walker.new ≡ walker.old }
-    ensures written { (id : ℕ) → IsHeldAt job.now id step walker.old moved
+    ensures written { (id : ℕ) → IsCurrentAt job.now id step walker.old moved
         → WritesAllOf (K.state out.old) (K.state out.new) (definition.line_at job.now (draw job.now.setting.key) id pen.old.before step) result }
 {
     put_plan(job, walker, step, moved, pen);
@@ -254,17 +254,22 @@ fn find_hub<J: Judge>(job: &Job, last: u32, walker: &mut Walker<J>, hub: &mut Un
 fn write_body<J: Judge, K: Sink>(
     job: &Job,
     range: TraceRange,
-    ready: &mut TraceBuffers<J>,
+    buffers: &mut TraceBuffers<J>,
     out: &mut K,
 ) -> Result<(), Failed>
     requires thin { 0 < range.thin }
     requires order { range.first ≤ range.last }
     requires few { range.last < most_trajectories }
-    requires ready { IsReady job.now ready.old }
+    requires buffers { AreTraceBuffersFor job.now buffers.old }
     ensures { WritesAllOf (K.state out.old) (K.state out.new) (lines_of_range job.now range (range.last + 1 - range.first) ++ end_line) result }
 {
-    find_hub(job, range.last, &mut ready.tracer.walker, &mut ready.hub);
-    match write_range(job, range, &mut ready.tracer, ready.hub.as_slice(), out) {
+    find_hub(
+        job,
+        range.last,
+        &mut buffers.tracer.walker,
+        &mut buffers.hub,
+    );
+    match write_range(job, range, &mut buffers.tracer, buffers.hub.as_slice(), out) {
         Err(_) => Err(Failed),
         Ok(()) => write_all(out, b"end\n"),
     }
@@ -274,18 +279,18 @@ fn write_body<J: Judge, K: Sink>(
 fn write_trace<J: Judge, K: Sink>(
     job: &Job,
     range: TraceRange,
-    ready: &mut TraceBuffers<J>,
+    buffers: &mut TraceBuffers<J>,
     out: &mut K,
 ) -> Result<(), Failed>
     requires thin { 0 < range.thin }
     requires order { range.first ≤ range.last }
     requires few { range.last < most_trajectories }
-    requires ready { IsReady job.now ready.old }
+    requires buffers { AreTraceBuffersFor job.now buffers.old }
     ensures { WritesAllOf (K.state out.old) (K.state out.new) (definition.trace_text job.now (draw job.now.setting.key) range.first range.last range.thin) result }
 {
-    match write_all(out, ready.head.as_slice()) {
+    match write_all(out, buffers.head.as_slice()) {
         Err(_) => Err(Failed),
-        Ok(()) => write_body(job, range, ready, out),
+        Ok(()) => write_body(job, range, buffers, out),
     }
 }
 
@@ -306,7 +311,7 @@ pub fn trace<J: Judge, K: Sink>(
 {
     match make_buffers(alloc, job, judge) {
         Err(_) => Ended::NoMemory,
-        Ok(mut ready) => match write_trace(job, range, &mut ready, out) {
+        Ok(mut buffers) => match write_trace(job, range, &mut buffers, out) {
             Ok(()) => Ended::Done,
             Err(_) => Ended::WriteFault,
         },

@@ -1,7 +1,7 @@
 //! Walks a run that saves nothing, in one part or until each of its tests has stopped.
 
 ghost use Rattle.std.specs.Prelude.{◌≡◌, false, length};
-ghost use Rattle.audit_statement.specs.Endings.{IsOpening, saves};
+ghost use Rattle.audit_statement.specs.Endings.{AreInitialOutcomes, saves};
 ghost use Rattle.audit_laws.specs.Calls.{Finishes};
 ghost use Rattle.audit_model.specs.State.{Kept};
 ghost use Rattle.plan_runs.specs.Ending.{ended_as};
@@ -9,9 +9,9 @@ ghost use Rattle.plan_runs.specs.Found.{HasFound};
 ghost use Rattle.plan_runs.specs.Resources.{AreWorkersFor, AreWorkersForAll, AreWorkersForStops, IsResourcesFor};
 ghost use Rattle.plan_runs.specs.RunBuffers.{AreBuffersFor};
 
+use crate::buffers::RunBuffers;
 use crate::ending::{Finished, end_run};
 use crate::found::Found;
-use crate::ready::RunBuffers;
 use crate::resources::{Resources, Workers};
 use audit_io::gate::Gate;
 use audit_io::sink::Sink;
@@ -28,19 +28,19 @@ use std::thread::Threads;
 fn walk_all<R: Threads + Sync, J: Judge + Send, G: Gate + Sync>(
     rt: &Runtime<'_, R, G>,
     job: &Job,
-    ready: RunBuffers,
+    buffers: RunBuffers,
     pool: WorkerPool<J>,
 ) -> Found
-    requires ready { AreBuffersFor job.now ready }
-    requires workers { AreWorkersForAll job.now (length ready.todo) pool }
-    ensures { HasFound job.now ready.book.outcomes result }
+    requires buffers { AreBuffersFor job.now buffers }
+    requires workers { AreWorkersForAll job.now (length buffers.todo) pool }
+    ensures { HasFound job.now buffers.book.outcomes result }
 {
     let RunBuffers {
         mut book,
         todo,
         mut sorted,
         text,
-    } = ready;
+    } = buffers;
     walk_run(rt, job, todo.as_slice(), pool, &mut book, &mut sorted);
     Found::all(sorted, text)
 }
@@ -49,19 +49,19 @@ fn walk_all<R: Threads + Sync, J: Judge + Send, G: Gate + Sync>(
 fn walk_early<R: Threads + Sync, J: Judge + Send, G: Gate + Sync>(
     rt: &Runtime<'_, R, G>,
     job: &Job,
-    ready: RunBuffers,
+    buffers: RunBuffers,
     pool: StoppingPool<J>,
 ) -> Found
-    requires ready { AreBuffersFor job.now ready }
+    requires buffers { AreBuffersFor job.now buffers }
     requires workers { AreWorkersForStops job.now pool }
-    ensures { HasFound job.now ready.book.outcomes result }
+    ensures { HasFound job.now buffers.book.outcomes result }
 {
     let RunBuffers {
         mut book,
         todo,
         mut sorted,
         text,
-    } = ready;
+    } = buffers;
     let stops = walk_to_stops(rt, job, todo.as_slice(), pool, &mut book, &mut sorted);
     let setting = job.setting();
     Found {
@@ -77,16 +77,16 @@ fn walk_early<R: Threads + Sync, J: Judge + Send, G: Gate + Sync>(
 pub fn walk<R: Threads + Sync, J: Judge + Send, G: Gate + Sync>(
     rt: &Runtime<'_, R, G>,
     job: &Job,
-    ready: RunBuffers,
+    buffers: RunBuffers,
     workers: Workers<J>,
 ) -> Found
-    requires ready { AreBuffersFor job.now ready }
-    requires workers { AreWorkersFor job.now (length ready.todo) workers }
-    ensures { HasFound job.now ready.book.outcomes result }
+    requires buffers { AreBuffersFor job.now buffers }
+    requires workers { AreWorkersFor job.now (length buffers.todo) workers }
+    ensures { HasFound job.now buffers.book.outcomes result }
 {
     match workers {
-        Workers::All(pool) => walk_all(rt, job, ready, pool),
-        Workers::Early(pool) => walk_early(rt, job, ready, pool),
+        Workers::All(pool) => walk_all(rt, job, buffers, pool),
+        Workers::Early(pool) => walk_early(rt, job, buffers, pool),
     }
 }
 
@@ -99,13 +99,13 @@ pub fn finish_unsaved<R: Threads + Sync, K: Sink, J: Judge + Send, G: Gate + Syn
 ) -> Finished
     requires unsaved { saves job.now.setting ≡ false }
     requires resources { IsResourcesFor job.now resources }
-    ensures { (k : Kept) → IsOpening job.now k.slots resources.ready.book.outcomes → Finishes job.now (K.state out.old) (K.state out.new) k k (ended_as result) }
+    ensures { (k : Kept) → AreInitialOutcomes job.now k.slots resources.buffers.book.outcomes → Finishes job.now (K.state out.old) (K.state out.new) k k (ended_as result) }
 {
     let Resources {
-        ready,
+        buffers,
         workers,
         tester,
     } = resources;
-    let found = walk(rt, job, ready, workers);
+    let found = walk(rt, job, buffers, workers);
     end_run(job, found, tester, Ok(()), out)
 }

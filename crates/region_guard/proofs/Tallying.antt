@@ -32,8 +32,8 @@ pub no_term : (column plan : List ℕ) (d u : ℕ) → (get_or plan u 0 ≡ d �
 no_term column plan d u off = cond-false {A = ℕ} (get_or plan u 0 == d) (get_or column u 0) 0 (ne_eqb (get_or plan u 0) d off)
 
 -- a unit with number 0 adds nothing
-pub bare_term : (column plan : List ℕ) (d u : ℕ) → get_or column u 0 ≡ 0 → term column plan d u ≡ 0
-bare_term column plan d u none = elim (cases_eq (get_or plan u 0) d) [
+pub zero_term : (column plan : List ℕ) (d u : ℕ) → get_or column u 0 ≡ 0 → term column plan d u ≡ 0
+zero_term column plan d u none = elim (cases_eq (get_or plan u 0) d) [
   | inl e ↦ own_term column plan d u e ∙ none
   | inr off ↦ no_term column plan d u off
 ]
@@ -44,14 +44,14 @@ no_sum column plan d past = sum_none (length plan) (term column plan d) (λ u l.
     no_term column plan d u (λ e. let under = below_above_all plan u l in omega (arith, e, past, under)))
 
 -- without a column, each district has the sum 0
-pub bare_sum : (column plan : List ℕ) (d : ℕ) → length column ≡ 0 → district_sum column plan d ≡ 0
-bare_sum column plan d none = sum_none (length plan) (term column plan d) (λ u l.
-    bare_term column plan d u (get_or_past column u 0 (omega (arith, none))))
+pub zero_sum : (column plan : List ℕ) (d : ℕ) → length column ≡ 0 → district_sum column plan d ≡ 0
+zero_sum column plan d none = sum_none (length plan) (term column plan d) (λ u l.
+    zero_term column plan d u (get_or_past column u 0 (omega (arith, none))))
 
 -- the sum over the column's units is the district's sum
 pub whole_sum : (column plan : List ℕ) (d : ℕ) → length column ≤ length plan → part_of column plan (length column) d ≡ district_sum column plan d
 whole_sum column plan d l = sum_longer (length plan) (length column) (term column plan d) l (λ u past.
-    bare_term column plan d u (get_or_past column u 0 past))
+    zero_term column plan d u (get_or_past column u 0 past))
 
 -- adding one more unit's number
 pub added_on : (column plan sums : List ℕ) (unit : ℕ) → get_or plan unit 0 < length sums
@@ -154,12 +154,12 @@ module _ (column after : List ℕ) (u from : ℕ) (inside : u < length after) wh
 -- both columns of the group have a number per unit
 pub own_columns : (group : Group) → IsGroup (length group.members) group → IsColumn (length group.members) group.members × IsColumn (length group.members) group.whole
 own_columns group is = elim is [
-  | inl none ↦ (bare group.members (ap length none.0) (ap length none.0), bare group.whole (ap length none.1) (ap length none.0))
+  | inl none ↦ (empty_column group.members (ap length none.0) (ap length none.0), empty_column group.whole (ap length none.1) (ap length none.0))
   | inr both ↦ both
 ]
   where
-    bare : (xs : List ℕ) → length xs ≡ 0 → length group.members ≡ 0 → IsColumn (length group.members) xs
-    bare xs none no_members = record { width = omega (arith, none, no_members); small = λ k d l. absurd (omega (arith, none, l)) }
+    empty_column : (xs : List ℕ) → length xs ≡ 0 → length group.members ≡ 0 → IsColumn (length group.members) xs
+    empty_column xs none no_members = record { width = omega (arith, none, no_members); small = λ k d l. absurd (omega (arith, none, l)) }
 
 -- districts beyond the plan's have no majority
 pub majorities_within : (share : ℕ) (group : Group) (plan : List ℕ) (districts : ℕ) → above_all plan ≤ districts
@@ -173,7 +173,7 @@ majorities_within share group plan districts l =
 -- without a group, there are no majorities
 pub no_majority : (share : ℕ) (group : Group) (plan : List ℕ) → length group.members ≡ 0 → majorities share group plan ≡ 0
 no_majority share group plan none = count_below_none (above_all plan) (has_majority share group plan) (λ d l.
-    let members = bare_sum group.members plan d none in
+    let members = zero_sum group.members plan d none in
     false_from_ne_true (has_majority share group plan d) (λ h.
     let less = ltb-true (share * district_sum group.whole plan d) (10000 * district_sum group.members plan d) h in omega (arith, members, less)))
 
@@ -181,8 +181,8 @@ no_majority share group plan none = count_below_none (above_all plan) (has_major
 pub none_tallied : (group : Group) (districts : ℕ) (tally : GroupTally) (plan other : List ℕ) → length group.members ≡ 0 → length group.whole ≡ 0
     → IsTallied group districts tally plan → IsTallied group districts tally other
 none_tallied group districts tally plan other none no_whole stood = record {
-  members = λ d l. stood.members d l ∙ bare_sum group.members plan d none ∙ sym (bare_sum group.members other d none);
-  whole = λ d l. stood.whole d l ∙ bare_sum group.whole plan d no_whole ∙ sym (bare_sum group.whole other d no_whole);
+  members = λ d l. stood.members d l ∙ zero_sum group.members plan d none ∙ sym (zero_sum group.members other d none);
+  whole = λ d l. stood.whole d l ∙ zero_sum group.whole plan d no_whole ∙ sym (zero_sum group.whole other d no_whole);
   majorities = stood.majorities ∙ no_majority tally.share group plan none ∙ sym (no_majority tally.share group other none);
 }
 

@@ -13,7 +13,7 @@ use Rattle.std.proofs.lemmas.Float.{T_from_true}
 use Rattle.audit_model.specs.declared.outcome.Outcome.{Outcome}
 use Rattle.audit_model.specs.Below.{all_below, map_below}
 use Rattle.audit_model.specs.Job.{Job}
-use Rattle.audit_model.specs.Run.{total, bins_fit, fits, steps_of}
+use Rattle.audit_model.specs.Run.{total, histogram_fits, fits, steps_of}
 use Rattle.audit_model.specs.Trajectory.{value_at}
 use Rattle.audit_model.proofs.Below.{all_below_at}
 use Rattle.report.specs.Outcomes.{AreOutcomesOf, HasCounts, IsCount, AreEndsOf, reported, reported_by}
@@ -133,7 +133,7 @@ fits_parts job o h =
     let counts = not is_walk || all_below asks counted in
     let zeros = list_all (λ v. int_eq v (pos 0)) (drop asks o.values) in
     let few = nat_le o.moved (steps_of is_walk job) in
-    let whole = and_parts (nat_lt o.id (total job) && few && zeros && counts) (bins_fit is_walk job o) h in
+    let whole = and_parts (nat_lt o.id (total job) && few && zeros && counts) (histogram_fits is_walk job o) h in
     let last = and_parts (nat_lt o.id (total job) && few && zeros) counts whole.0 in
     let third = and_parts (nat_lt o.id (total job) && few) zeros last.0 in
     let second = and_parts (nat_lt o.id (total job)) few third.0 in

@@ -18,14 +18,14 @@ use Rattle.audit_model.proofs.Running.{fresh_run, at_is_new, get-replicate, step
 use Rattle.audit_model.proofs.Below.{length-filter_below, filter_below_same}
 use Rattle.audit_model.proofs.ListFacts.{apart_le, has-take}
 use Rattle.run_core.specs.Kept.{machine, IsKept}
-use Rattle.run_core.specs.Opening.{IsStart}
+use Rattle.run_core.specs.StartState.{IsStart}
 use Rattle.run_core.proofs.Marking.{take_split, all_from_has, has-drop, AreMarked}
 
 -- ---- initial states
 
 -- an initial state is a state of a run
-pub opening_is_run : (m : Machine) → IsStart m → IsRun m
-opening_is_run m o = record {
+pub start_is_run : (m : Machine) → IsStart m → IsRun m
+start_is_run m o = record {
   apart = subst AllApart (sym o.done) o.apart;
   below = λ id h. o.below id (subst (λ xs. has xs id ≡ true) o.done h);
   start_front = ([], o.done ∙ sym (append-nil m.start));
@@ -37,8 +37,8 @@ opening_is_run m o = record {
   ahead = λ k id l h. subst (λ xs. has xs id ≡ false) (sym o.done) (at_is_new m k id h).1;
 }
   where
-    none_open : (w id : ℕ) → slice_get m.held w ≡ Some (Some id) → ⊥
-    none_open w id h = get-replicate (length m.held) w id (subst (λ xs. slice_get xs w ≡ Some (Some id)) o.held h)
+    none_open : (w id : ℕ) → slice_get m.open_ids w ≡ Some (Some id) → ⊥
+    none_open w id h = get-replicate (length m.open_ids) w id (subst (λ xs. slice_get xs w ≡ Some (Some id)) o.open_ids h)
 
 -- the machine with nothing finished is a state of a run
 pub fresh_is_run : (total workers : ℕ) → IsRun (new_machine total workers)
@@ -47,15 +47,15 @@ fresh_is_run total workers = fresh_run 1 0 total total workers [] tt (λ id h. a
 -- ---- results of events
 
 -- a claim, by the worker's open id
-pub claim_by : (m : Machine) (w : ℕ) (o : Option (Option ℕ)) → slice_get m.held w ≡ o → claim m w o ≡ step m (Claim w)
+pub claim_by : (m : Machine) (w : ℕ) (o : Option (Option ℕ)) → slice_get m.open_ids w ≡ o → claim m w o ≡ step m (Claim w)
 claim_by m w o e = ap (claim m w) (sym e)
 
 -- a claim of a worker without an open id, by whether an id is pending
-pub claim_takes : (m : Machine) (w : ℕ) (o : Option ℕ) → slice_get m.held w ≡ Some None → slice_get (todo m) m.next ≡ o → claimed m w o ≡ step m (Claim w)
+pub claim_takes : (m : Machine) (w : ℕ) (o : Option ℕ) → slice_get m.open_ids w ≡ Some None → slice_get (todo m) m.next ≡ o → claimed m w o ≡ step m (Claim w)
 claim_takes m w o free at = ap (claimed m w) (sym at) ∙ claim_by m w (Some None) free
 
 -- a post, by the worker's open id
-pub post_by : (m : Machine) (w : ℕ) (o : Option (Option ℕ)) → slice_get m.held w ≡ o → post m w o ≡ step m (Post w)
+pub post_by : (m : Machine) (w : ℕ) (o : Option (Option ℕ)) → slice_get m.open_ids w ≡ o → post m w o ≡ step m (Post w)
 post_by m w o e = ap (post m w) (sym e)
 
 -- ---- pending ids
@@ -66,9 +66,9 @@ and_true true b e = e
 and_true false b e = refl
 
 -- every id lies in the single part
-todo_is : (total started saved : ℕ) (done : List ℕ) (next : ℕ) (held : List (Option ℕ))
-    → todo (machine total started saved done next held) ≡ filter_below total (λ id. not (has (take started done) id))
-todo_is total started saved done next held =
+todo_is : (total started saved : ℕ) (done : List ℕ) (next : ℕ) (open_ids : List (Option ℕ))
+    → todo (machine total started saved done next open_ids) ≡ filter_below total (λ id. not (has (take started done) id))
+todo_is total started saved done next open_ids =
     ap (take total) (filter_below_same total (λ id. not (has (take started done) id) && is_in_part 1 0 id) (λ id. not (has (take started done) id))
     (λ id l. and_true (not (has (take started done) id)) (is_in_part 1 0 id) (eq-eqb (id % 1) 0 (mod-one id))))
     ∙ take_all total (filter_below total (λ id. not (has (take started done) id))) (length-filter_below total (λ id. not (has (take started done) id)))
@@ -77,24 +77,24 @@ todo_is total started saved done next held =
 pub done_le : (m : Machine) → IsRun m → length m.done ≤ m.total
 done_le m run = apart_le m.total m.done run.apart run.below
 
-module _ (total started saved : ℕ) (done : List ℕ) (next : ℕ) (held : List (Option ℕ)) (ids : List ℕ) (marks : List Bool)
-    (kept : IsKept (machine total started saved done next held) started saved ids marks) where
+module _ (total started saved : ℕ) (done : List ℕ) (next : ℕ) (open_ids : List (Option ℕ)) (ids : List ℕ) (marks : List Bool)
+    (kept : IsKept (machine total started saved done next open_ids) started saved ids marks) where
   before : Machine
-  before = machine total started saved done next held
+  before = machine total started saved done next open_ids
 
   -- ---- a claim
 
-  pub claim_is : (w id : ℕ) → slice_get held w ≡ Some None → next < length ids → id ≡ get_or ids next 0
-      → (machine total started saved done (next + 1) (set held w (Some id)), Claimed id) ≡ step (machine total started saved done next held) (Claim w)
-  claim_is w id free within is = claim_takes (machine total started saved done next held) w (Some id) free
+  pub claim_is : (w id : ℕ) → slice_get open_ids w ≡ Some None → next < length ids → id ≡ get_or ids next 0
+      → (machine total started saved done (next + 1) (set open_ids w (Some id)), Claimed id) ≡ step (machine total started saved done next open_ids) (Claim w)
+  claim_is w id free within is = claim_takes (machine total started saved done next open_ids) w (Some id) free
       (ap (λ xs. slice_get xs next) (sym kept.ids) ∙ slice_get-get_or ids next 0 within ∙ ap Some (sym is))
 
-  pub kept_claim : (w id : ℕ) → slice_get held w ≡ Some None → next < length ids → id ≡ get_or ids next 0
-      → IsKept (machine total started saved done (next + 1) (set held w (Some id))) started saved ids marks
+  pub kept_claim : (w id : ℕ) → slice_get open_ids w ≡ Some None → next < length ids → id ≡ get_or ids next 0
+      → IsKept (machine total started saved done (next + 1) (set open_ids w (Some id))) started saved ids marks
   kept_claim w id free within is = record {
-    run = subst (λ (r : Machine × Did). IsRun r.0) (sym (claim_is w id free within is)) (step_keeps (machine total started saved done next held) (Claim w) kept.run);
+    run = subst (λ (r : Machine × Did). IsRun r.0) (sym (claim_is w id free within is)) (step_keeps (machine total started saved done next open_ids) (Claim w) kept.run);
     small = kept.small;
-    workers = length-set held w (Some id) ∙ kept.workers;
+    workers = length-set open_ids w (Some id) ∙ kept.workers;
     start_saved = kept.start_saved;
     saved_done = kept.saved_done;
     ids = kept.ids;
@@ -104,29 +104,29 @@ module _ (total started saved : ℕ) (done : List ℕ) (next : ℕ) (held : List
 
   -- ---- a post
 
-  module _ (w id : ℕ) (open_id : slice_get held w ≡ Some (Some id)) where
-    fronts : machine total started saved (done ++ id ∷ []) next (set held w None)
-        ≡ record { total = total; parts = 1; part = 0; budget = total; start = take started done; saved = take saved done; done = done ++ id ∷ []; next = next; held = set held w None }
+  module _ (w id : ℕ) (open_id : slice_get open_ids w ≡ Some (Some id)) where
+    fronts : machine total started saved (done ++ id ∷ []) next (set open_ids w None)
+        ≡ record { total = total; parts = 1; part = 0; budget = total; start = take started done; saved = take saved done; done = done ++ id ∷ []; next = next; open_ids = set open_ids w None }
     fronts =
-        ap (λ s. record { total = total; parts = 1; part = 0; budget = total; start = s; saved = take saved (done ++ id ∷ []); done = done ++ id ∷ []; next = next; held = set held w None })
+        ap (λ s. record { total = total; parts = 1; part = 0; budget = total; start = s; saved = take saved (done ++ id ∷ []); done = done ++ id ∷ []; next = next; open_ids = set open_ids w None })
         (take-append-le started done (id ∷ []) (omega (arith, kept.start_saved, kept.saved_done)))
-        ∙ ap (λ s. record { total = total; parts = 1; part = 0; budget = total; start = take started done; saved = s; done = done ++ id ∷ []; next = next; held = set held w None })
+        ∙ ap (λ s. record { total = total; parts = 1; part = 0; budget = total; start = take started done; saved = s; done = done ++ id ∷ []; next = next; open_ids = set open_ids w None })
         (take-append-le saved done (id ∷ []) kept.saved_done)
 
-    pub post_is : (machine total started saved (done ++ id ∷ []) next (set held w None), Posted id) ≡ step (machine total started saved done next held) (Post w)
-    post_is = ap (λ (m : Machine). (m, Posted id)) fronts ∙ post_by (machine total started saved done next held) w (Some (Some id)) open_id
+    pub post_is : (machine total started saved (done ++ id ∷ []) next (set open_ids w None), Posted id) ≡ step (machine total started saved done next open_ids) (Post w)
+    post_is = ap (λ (m : Machine). (m, Posted id)) fronts ∙ post_by (machine total started saved done next open_ids) w (Some (Some id)) open_id
 
-    run_after : IsRun (machine total started saved (done ++ id ∷ []) next (set held w None))
-    run_after = subst (λ (r : Machine × Did). IsRun r.0) (sym post_is) (step_keeps (machine total started saved done next held) (Post w) kept.run)
+    run_after : IsRun (machine total started saved (done ++ id ∷ []) next (set open_ids w None))
+    run_after = subst (λ (r : Machine × Did). IsRun r.0) (sym post_is) (step_keeps (machine total started saved done next open_ids) (Post w) kept.run)
 
     pub done_room : length done < total
-    done_room = omega (arith, done_le (machine total started saved (done ++ id ∷ []) next (set held w None)) run_after, length-append done (id ∷ []))
+    done_room = omega (arith, done_le (machine total started saved (done ++ id ∷ []) next (set open_ids w None)) run_after, length-append done (id ∷ []))
 
-    pub kept_post : IsKept (machine total started saved (done ++ id ∷ []) next (set held w None)) started saved ids marks
+    pub kept_post : IsKept (machine total started saved (done ++ id ∷ []) next (set open_ids w None)) started saved ids marks
     kept_post = record {
       run = run_after;
       small = kept.small;
-      workers = length-set held w None ∙ kept.workers;
+      workers = length-set open_ids w None ∙ kept.workers;
       start_saved = kept.start_saved;
       saved_done = omega (arith, kept.saved_done, length-append done (id ∷ []));
       ids = kept.ids ∙ ap todo (sym fronts);
@@ -142,10 +142,10 @@ module _ (total started saved : ℕ) (done : List ℕ) (next : ℕ) (held : List
     again : take saved (take saved done) ≡ take saved done
     again = take_all saved (take saved done) (omega (arith, length-take-le saved done kept.saved_done))
 
-    pub halt_is : (machine total saved saved (take saved done) 0 nobody, Halted) ≡ step (machine total started saved done next held) Halt
+    pub halt_is : (machine total saved saved (take saved done) 0 nobody, Halted) ≡ step (machine total started saved done next open_ids) Halt
     halt_is =
-        ap (λ s. (record { total = total; parts = 1; part = 0; budget = total; start = s; saved = s; done = take saved done; next = 0; held = nobody }, Halted)) again
-        ∙ ap (λ h. (record { total = total; parts = 1; part = 0; budget = total; start = take saved done; saved = take saved done; done = take saved done; next = 0; held = h }, Halted))
+        ap (λ s. (record { total = total; parts = 1; part = 0; budget = total; start = s; saved = s; done = take saved done; next = 0; open_ids = nobody }, Halted)) again
+        ∙ ap (λ h. (record { total = total; parts = 1; part = 0; budget = total; start = take saved done; saved = take saved done; done = take saved done; next = 0; open_ids = h }, Halted))
         (none ∙ ap (λ n. replicate n None) (sym kept.workers))
 
     pub kept_halt : (new_ids : List ℕ) (new_marks : List Bool) → length new_marks ≡ total
@@ -153,7 +153,7 @@ module _ (total started saved : ℕ) (done : List ℕ) (next : ℕ) (held : List
         → new_ids ≡ filter_below total (λ id. not (get_or new_marks id false))
         → IsKept (machine total saved saved (take saved done) 0 nobody) saved saved new_ids new_marks
     kept_halt new_ids new_marks width marked listed = record {
-      run = subst (λ (r : Machine × Did). IsRun r.0) (sym halt_is) (step_keeps (machine total started saved done next held) Halt kept.run);
+      run = subst (λ (r : Machine × Did). IsRun r.0) (sym halt_is) (step_keeps (machine total started saved done next open_ids) Halt kept.run);
       small = kept.small;
       workers = ap length none ∙ length-replicate {A = Option ℕ} 32 None;
       start_saved = omega arith;
@@ -172,7 +172,7 @@ module _ (total started saved : ℕ) (done : List ℕ) (next : ℕ) (held : List
           ap (λ n. machine n saved saved kept_ids 0 nobody) same
           ∙ ap (λ ds. machine total saved saved ds 0 nobody) front
 
-      pub halt_steps : (machine count saved saved kept_ids 0 nobody, Halted) ≡ step (machine total started saved done next held) Halt
+      pub halt_steps : (machine count saved saved kept_ids 0 nobody, Halted) ≡ step (machine total started saved done next open_ids) Halt
       halt_steps = ap (λ (m : Machine). (m, Halted)) halted ∙ halt_is
 
       pub kept_halted : (new_ids : List ℕ) (new_marks : List Bool) → length new_marks ≡ total
@@ -198,10 +198,10 @@ module _ (total started saved : ℕ) (done : List ℕ) (next : ℕ) (held : List
 -- ---- the first machine
 
 -- the fields at first
-pub kept_new : (total : ℕ) (done : List ℕ) (held : List (Option ℕ)) (ids : List ℕ) (marks : List Bool) → total ≤ 100000 → done ≡ [] → held ≡ replicate 32 None
+pub kept_new : (total : ℕ) (done : List ℕ) (open_ids : List (Option ℕ)) (ids : List ℕ) (marks : List Bool) → total ≤ 100000 → done ≡ [] → open_ids ≡ replicate 32 None
     → marks ≡ replicate total false → ids ≡ filter_below (length marks) (λ id. not (get_or marks id false))
-    → IsKept (machine (length marks) 0 0 done 0 held) 0 0 ids marks × (machine (length marks) 0 0 done 0 held ≡ new_machine total 32)
-kept_new total done held ids marks small empty none unmarked listed = (
+    → IsKept (machine (length marks) 0 0 done 0 open_ids) 0 0 ids marks × (machine (length marks) 0 0 done 0 open_ids ≡ new_machine total 32)
+kept_new total done open_ids ids marks small empty none unmarked listed = (
   record {
     run = subst IsRun (sym fresh) (fresh_is_run total 32);
     small = omega (arith, width, small);
@@ -211,7 +211,7 @@ kept_new total done held ids marks small empty none unmarked listed = (
     ids =
         listed
         ∙ filter_below_same (length marks) (λ id. not (get_or marks id false)) (λ id. true) (λ id l. ap not (no_mark id (omega (arith, l, width))))
-        ∙ sym (todo_is (length marks) 0 0 done 0 held);
+        ∙ sym (todo_is (length marks) 0 0 done 0 open_ids);
     width = refl;
     marks = λ id l. no_mark id (omega (arith, l, width));
   },
@@ -224,8 +224,8 @@ kept_new total done held ids marks small empty none unmarked listed = (
     no_mark : (id : ℕ) → id < total → get_or marks id false ≡ false
     no_mark id l = ap (λ xs. get_or xs id false) unmarked ∙ get_or-replicate total id false false l
 
-    fresh : machine (length marks) 0 0 done 0 held ≡ new_machine total 32
+    fresh : machine (length marks) 0 0 done 0 open_ids ≡ new_machine total 32
     fresh =
-        ap (λ n. record { total = n; parts = 1; part = 0; budget = n; start = []; saved = []; done = done; next = 0; held = held }) width
-        ∙ ap (λ d. record { total = total; parts = 1; part = 0; budget = total; start = []; saved = []; done = d; next = 0; held = held }) empty
-        ∙ ap (λ h. record { total = total; parts = 1; part = 0; budget = total; start = []; saved = []; done = []; next = 0; held = h }) none
+        ap (λ n. record { total = n; parts = 1; part = 0; budget = n; start = []; saved = []; done = done; next = 0; open_ids = open_ids }) width
+        ∙ ap (λ d. record { total = total; parts = 1; part = 0; budget = total; start = []; saved = []; done = d; next = 0; open_ids = open_ids }) empty
+        ∙ ap (λ h. record { total = total; parts = 1; part = 0; budget = total; start = []; saved = []; done = []; next = 0; open_ids = h }) none

@@ -8,14 +8,14 @@ use Rattle.audit_model.specs.Limits.{most_trajectories, most_workers}
 -- the machine of one part with these ids; the ids finished at the start and the saved ids are prefixes of the finished
 -- ones
 abbrev pub machine : ℕ → ℕ → ℕ → List ℕ → ℕ → List (Option ℕ) → Machine
-machine total started saved done next held =
-    record { total = total; parts = 1; part = 0; budget = total; start = take started done; saved = take saved done; done = done; next = next; held = held }
+machine total started saved done next open_ids =
+    record { total = total; parts = 1; part = 0; budget = total; start = take started done; saved = take saved done; done = done; next = next; open_ids = open_ids }
 
 -- a machine of 32 workers, with its pending ids listed and the ids finished at the start marked
 pub record IsKept (m : Machine) (started saved : ℕ) (listed : List ℕ) (marked : List Bool) : Type 0 where
   pub run : IsRun m
   pub small : m.total ≤ most_trajectories
-  pub workers : length m.held ≡ most_workers
+  pub workers : length m.open_ids ≡ most_workers
   pub start_saved : started ≤ saved
   pub saved_done : saved ≤ length m.done
   pub ids : listed ≡ todo m

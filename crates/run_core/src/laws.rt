@@ -7,7 +7,7 @@ ghost use Rattle.audit_model.specs.Job.{Job};
 ghost use Rattle.audit_model.specs.Machine.{Machine, IsRun, new_machine, step, state_after};
 ghost use Rattle.audit_model.specs.Run.{total, by_id};
 ghost use Rattle.audit_model.specs.Trajectory.{Draws, outcome, sequence};
-ghost use Rattle.run_core.specs.Opening.{IsStart};
+ghost use Rattle.run_core.specs.StartState.{IsStart};
 
 use outcome_book::laws::outcomes_by_id_are_mapped;
 

@@ -20,7 +20,7 @@ pub struct Core {
     marks: Vec<bool>,
     ids: Vec<u32>,
     next: usize,
-    held: [Option<u32>; 32],
+    open_ids: [Option<u32>; 32],
 }
 
 impl Model for Core {
@@ -30,9 +30,9 @@ impl Model for Core {
 
     ghost Value = { Machine };
 
-    ghost view = { λ c. machine (length c.marks.items) c.started c.saved c.done.items c.next c.held };
+    ghost view = { λ c. machine (length c.marks.items) c.started c.saved c.done.items c.next c.open_ids };
 
-    ghost invariant = { λ c. IsKept (machine (length c.marks.items) c.started c.saved c.done.items c.next c.held) c.started c.saved c.ids.items c.marks.items
+    ghost invariant = { λ c. IsKept (machine (length c.marks.items) c.started c.saved c.done.items c.next c.open_ids) c.started c.saved c.ids.items c.marks.items
         × HasRoom (length c.marks.items) (vec_capacity c.done) (vec_capacity c.ids) };
 }
 
@@ -54,7 +54,7 @@ impl Core {
             marks,
             ids,
             next: 0,
-            held: [None; 32],
+            open_ids: [None; 32],
         })
     }
 
@@ -77,7 +77,7 @@ impl Core {
         ensures step { (self.new, result) ≡ step self.old (Claim worker) }
         ensures sound { IsRun self.new }
     {
-        match open_id(&self.held, worker) {
+        match open_id(&self.open_ids, worker) {
             None => Did::Idle,
             Some(Some(_)) => Did::Idle,
             Some(None) => {
@@ -85,7 +85,7 @@ impl Core {
                     return Did::Empty;
                 }
                 let id = self.ids[self.next];
-                self.held[worker as usize] = Some(id);
+                self.open_ids[worker as usize] = Some(id);
                 self.next += 1;
                 Did::Claimed(id)
             }
@@ -97,11 +97,11 @@ impl Core {
         ensures step { (self.new, result) ≡ step self.old (Post worker) }
         ensures sound { IsRun self.new }
     {
-        match open_id(&self.held, worker) {
+        match open_id(&self.open_ids, worker) {
             None => Did::Idle,
             Some(None) => Did::Idle,
             Some(Some(id)) => {
-                self.held[worker as usize] = None;
+                self.open_ids[worker as usize] = None;
                 self.done.push_reserved(id);
                 Did::Posted(id)
             }
@@ -126,7 +126,7 @@ impl Core {
         self.done.truncate(self.saved);
         self.started = self.saved;
         self.next = 0;
-        self.held = [None; 32];
+        self.open_ids = [None; 32];
         Did::Halted
     }
 
@@ -148,8 +148,8 @@ impl Core {
 }
 
 // Returns the worker's open id. The outer option is `None` if there is no such worker.
-fn open_id(held: &[Option<u32>], worker: u32) -> Option<Option<u32>>
-    ensures { result ≡ slice_get held.now worker }
+fn open_id(open_ids: &[Option<u32>], worker: u32) -> Option<Option<u32>>
+    ensures { result ≡ slice_get open_ids.now worker }
 {
-    held.get(worker as usize).copied()
+    open_ids.get(worker as usize).copied()
 }

@@ -1,4 +1,4 @@
--- The stop that correct outcomes settle is the stop of all endpoints.
+-- The stop that correct outcomes decide is the stop of all endpoints.
 use Rattle.std.proofs.Common.{◌≡◌, ℕ, zero, suc, ◌+◌, ◌<◌, ◌≤◌, ◌⊎◌, Bool, true, false, cond, not, ◌||◌, ◌==◌, List, [], ◌∷◌, ◌++◌, length, map, filter, Option, Some, None, refl, sym, ap, ◌∙◌, subst, inl, inr, arith, append_assoc}
 use Rattle.std.specs.Prelude.{nat_le, find, unwrap_or, option_map, ℤ, pos}
 use Rattle.std.specs.List.{All}
@@ -13,9 +13,9 @@ use Rattle.audit_model.specs.Below.{map_below}
 use Rattle.audit_model.specs.First.{first_below}
 use Rattle.audit_model.specs.Job.{Job}
 use Rattle.audit_model.specs.Run.{IsRight, has_id}
-use Rattle.audit_model.specs.Stopping.{count_in_tail, end_values, ends_before_gap, known_values, settled, some_if, stop_of, value_with_id}
+use Rattle.audit_model.specs.Stopping.{count_in_tail, end_values, ends_before_gap, known_values, stop_of_known, some_if, stop_of, value_with_id}
 use Rattle.audit_model.specs.Trajectory.{Draws, outcome, plan_value, sequence, value_at}
-use Rattle.audit_model.proofs.Stopped.{stop_is_settled}
+use Rattle.audit_model.proofs.Stopped.{stop_is_decided}
 use Rattle.audit_model.proofs.First.{none_first_below}
 use Rattle.audit_model.proofs.Fitting.{outcome_id}
 use Rattle.audit_model.proofs.Below.{length-map_below, map_below_same}
@@ -149,16 +149,16 @@ module _ (job : Job) (draws : Draws) (place : ℕ) where
         let whole : end_values job place (sequence job draws) ≡ known_values job place outcomes ++ more.0 =
         all_ends ∙ more.1 ∙ ap (λ xs. xs ++ more.0) (sym known_are) in
         ap (λ values. stop_of job (place, ask) values enough) whole
-        ∙ stop_is_settled ask.tail (plan_value job job.start ask.score) (known_values job place outcomes) more.0 enough
+        ∙ stop_is_decided ask.tail (plan_value job job.start ask.score) (known_values job place outcomes) more.0 enough
         (leb-true enough (count_in_tail ask.tail (plan_value job job.start ask.score) (known_values job place outcomes)) h)
     final_by ask enough s (inr h) =
         let long = ap (length {A = ℤ}) known_are ∙ length-map_below gap end_value in
         let all : gap ≡ job.setting.ends = sym long ∙ eqb-true (length (known_values job place outcomes)) job.setting.ends h in
         ap (λ values. stop_of job (place, ask) values enough) (all_ends ∙ ap (λ n. map_below n end_value) (sym all) ∙ sym known_are)
 
-    pub settled_is_final : (ask : Ask) (enough : ℕ) (s : Stop) → settled job (place, ask) enough outcomes ≡ Some s
+    pub decided_is_final : (ask : Ask) (enough : ℕ) (s : Stop) → stop_of_known job (place, ask) enough outcomes ≡ Some s
         → s ≡ stop_of job (place, ask) (end_values job place (sequence job draws)) enough
-    settled_is_final ask enough s h =
+    decided_is_final ask enough s h =
         let enough_there : Bool = nat_le enough (count_in_tail ask.tail (plan_value job job.start ask.score) (known_values job place outcomes)) in
         let all_there : Bool = length (known_values job place outcomes) == job.setting.ends in
         let parts = some_parts (enough_there || all_there) (stop_of job (place, ask) (known_values job place outcomes) enough) s h in
@@ -167,10 +167,10 @@ module _ (job : Job) (draws : Draws) (place : ℕ) where
 -- ---- no endpoint is missing
 
 -- if no endpoint is missing, the test has stopped
-pub all_are_settled : (job : Job) (place : ℕ) (ask : Ask) (enough : ℕ) (outcomes : List Outcome)
+pub all_are_decided : (job : Job) (place : ℕ) (ask : Ask) (enough : ℕ) (outcomes : List Outcome)
     → ((j : ℕ) → j < job.setting.ends → has_id outcomes (job.setting.walks + j) ≡ true)
-    → settled job (place, ask) enough outcomes ≡ Some (stop_of job (place, ask) (known_values job place outcomes) enough)
-all_are_settled job place ask enough outcomes there =
+    → stop_of_known job (place, ask) enough outcomes ≡ Some (stop_of job (place, ask) (known_values job place outcomes) enough)
+all_are_decided job place ask enough outcomes there =
     let known : ends_before_gap job outcomes ≡ job.setting.ends =
     ap (λ o. unwrap_or o job.setting.ends) (none_first_below job.setting.ends (λ j. not (has_id outcomes (job.setting.walks + j)))
     (λ k l. not_from_true (has_id outcomes (job.setting.walks + k)) (there k l))) in

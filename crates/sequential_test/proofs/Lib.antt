@@ -2,5 +2,5 @@ pub mod Finals
 pub mod Ranks
 pub mod Reaching
 pub mod Rounding
-pub mod Settled
+pub mod Deciding
 pub mod Slicing

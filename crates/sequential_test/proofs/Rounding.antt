@@ -15,7 +15,7 @@ use Rattle.audit_model.specs.Limits.{IsSettingOf}
 use Rattle.claim_counter.specs.declared.parts.PartCounter.{PartCounter}
 use Rattle.claim_counter.specs.Parts.{IsFreshPart}
 use Rattle.sequential_test.specs.Pools.{AreRounds}
-use Rattle.sequential_test.specs.Rounds.{ends_after, found_below, AreSettled, StopsInTime}
+use Rattle.sequential_test.specs.Rounds.{ends_after, found_below, AreDecided, StopsInTime}
 
 -- one more round by the doubling rule
 pub next_after : (ends n : ℕ) → min ends (2 * ends_after ends n + 64) ≡ ends_after ends (suc n)
@@ -62,13 +62,13 @@ rounds_left ends seats done all rest p are is k d i inside at =
 
 -- ---- between two rounds
 
--- `walked` endpoints were walked, and after no round was every ask settled
+-- `walked` endpoints were walked, and after no round was every ask decided
 pub record IsAtRound (job : Job) (seats all : ℕ) (rounds : List PartCounter) (walked : ℕ) : Type 0 where
   pub done : ℕ
   pub counted : done + length rounds ≡ all
   pub rounds_are : AreRounds job.setting.ends seats done rounds
   pub walked_is : walked ≡ ends_after job.setting.ends done
-  pub before : (k : ℕ) → 1 ≤ k → k ≤ done → AreSettled job (found_below job (job.setting.walks + ends_after job.setting.ends k)) → ⊥
+  pub before : (k : ℕ) → 1 ≤ k → k ≤ done → AreDecided job (found_below job (job.setting.walks + ends_after job.setting.ends k)) → ⊥
 
 module _ (job : Job) (seats all : ℕ) (rounds : List PartCounter) (walked : ℕ) (at : IsAtRound job seats all rounds walked) where
   pub next_walked : (next : ℕ) → next ≡ min job.setting.ends (2 * walked + 64) → next ≡ ends_after job.setting.ends (suc at.done)
@@ -82,17 +82,17 @@ module _ (job : Job) (seats all : ℕ) (rounds : List PartCounter) (walked : ℕ
       subst (λ n. IsFreshPart n seats p) same (next_round job.setting.ends seats at.done rounds rest p at.rounds_are popped)
 
   pub round_done : (rest : List PartCounter) (p : PartCounter) (next : ℕ) → rounds ≡ rest ++ p ∷ [] → next ≡ min job.setting.ends (2 * walked + 64)
-      → (AreSettled job (found_below job (job.setting.walks + next)) → ⊥) → IsAtRound job seats all rest next
-  round_done rest p next popped is unsettled =
+      → (AreDecided job (found_below job (job.setting.walks + next)) → ⊥) → IsAtRound job seats all rest next
+  round_done rest p next popped is undecided =
       let next_is = next_walked next is in
       record {
         done = suc at.done;
         counted = let long = ap length popped ∙ length-append rest (p ∷ []) in let counted = at.counted in omega (arith, long, counted);
         rounds_are = rounds_left job.setting.ends seats at.done rounds rest p at.rounds_are popped;
         walked_is = next_is;
-        before = λ k some few settled. elim (cases_eq k (suc at.done)) [
-          | inl e ↦ unsettled (subst (λ n. AreSettled job (found_below job (job.setting.walks + n))) (ap (ends_after job.setting.ends) e ∙ sym next_is) settled)
-          | inr off ↦ at.before k some (omega (arith, few, off)) settled
+        before = λ k some few decided. elim (cases_eq k (suc at.done)) [
+          | inl e ↦ undecided (subst (λ n. AreDecided job (found_below job (job.setting.walks + n))) (ap (ends_after job.setting.ends) e ∙ sym next_is) decided)
+          | inr off ↦ at.before k some (omega (arith, few, off)) decided
         ];
       }
 
@@ -105,16 +105,16 @@ module _ (job : Job) (seats all : ℕ) (rounds : List PartCounter) (walked : ℕ
     before = λ k some less. at.before k some (omega (arith, less));
   }
 
-  -- while endpoints are left, some test is not settled: rounds do not run out
+  -- while endpoints are left, some test is not decided: rounds do not run out
   pub never_out : length rounds ≡ 0 → 1 ≤ job.setting.ends → ends_after job.setting.ends all ≡ job.setting.ends
-      → AreSettled job (found_below job (job.setting.walks + job.setting.ends)) → ⊥
-  never_out none some whole settled =
+      → AreDecided job (found_below job (job.setting.walks + job.setting.ends)) → ⊥
+  never_out none some whole decided =
       let e : at.done ≡ all = let counted = at.counted in omega (arith, counted, none) in
       let here : ends_after job.setting.ends at.done ≡ job.setting.ends = ap (ends_after job.setting.ends) e ∙ whole in
       at.before at.done (elim (cases_eq at.done 0) [
         | inl z ↦ absurd (omega (arith, ap (ends_after job.setting.ends) z, none_after job.setting.ends, here, some))
         | inr off ↦ omega arith
-      ]) (omega arith) (subst (λ n. AreSettled job (found_below job (job.setting.walks + n))) (sym here) settled)
+      ]) (omega arith) (subst (λ n. AreDecided job (found_below job (job.setting.walks + n))) (sym here) decided)
 
 -- an empty list has the counters of no rounds
 pub no_rounds : (ends seats : ℕ) (rounds : List PartCounter) → length rounds ≡ 0 → AreRounds ends seats 0 rounds

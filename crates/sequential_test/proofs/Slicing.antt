@@ -12,14 +12,14 @@ use Rattle.audit_model.specs.declared.setting.Ask.{Ask}
 use Rattle.audit_model.specs.Below.{filter_below, map_below}
 use Rattle.audit_model.specs.Job.{Job}
 use Rattle.audit_model.specs.Run.{IsRight, total, has_id, by_id}
-use Rattle.audit_model.specs.Stopping.{end_values, known_values, settled, stop_of, stops_by, stops_of, three_numbers}
+use Rattle.audit_model.specs.Stopping.{end_values, known_values, stop_of_known, stop_of, stops_by, stops_of, three_numbers}
 use Rattle.audit_model.specs.Trajectory.{Draws, outcome, sequence}
 use Rattle.audit_model.proofs.Fitting.{outcome_id}
 use Rattle.audit_model.proofs.Below.{length-map_below, get_or-map_below}
 use Rattle.claim_counter.specs.Walks.{found, IsTodo}
 use Rattle.audit_statement.specs.Draw.{draw}
 use Rattle.outcome_book.specs.Booked.{AreApart}
-use Rattle.sequential_test.specs.Rounds.{found_below, AreIds, AreSettled, AreSettledBelow}
+use Rattle.sequential_test.specs.Rounds.{found_below, AreIds, AreDecided, AreDecidedBelow}
 
 -- ---- parts of the ids
 
@@ -176,17 +176,17 @@ module _ (job : Job) where
   unfolding found_below
   found_there to j l = has_true f same to j l
 
--- ---- every ask is settled
+-- ---- every ask is decided
 
 -- the law of tests: if no endpoint is missing, each test has stopped
-abbrev pub AllSettle : Type 0
-AllSettle = (job : Job) (place : ℕ) (ask : Ask) (enough : ℕ) (outcomes : List Outcome)
+abbrev pub AllEndsDecide : Type 0
+AllEndsDecide = (job : Job) (place : ℕ) (ask : Ask) (enough : ℕ) (outcomes : List Outcome)
     → ((j : ℕ) → j < job.setting.ends → has_id outcomes (job.setting.walks + j) ≡ true)
-    → settled job (place, ask) enough outcomes ≡ Some (stop_of job (place, ask) (known_values job place outcomes) enough)
+    → stop_of_known job (place, ask) enough outcomes ≡ Some (stop_of job (place, ask) (known_values job place outcomes) enough)
 
--- the outcomes of all endpoints settle every ask
-pub all_settled : AllSettle → (job : Job) → AreSettled job (found_below job (job.setting.walks + job.setting.ends))
-all_settled law job place ask at =
+-- the outcomes of all endpoints decide every ask
+pub all_decided : AllEndsDecide → (job : Job) → AreDecided job (found_below job (job.setting.walks + job.setting.ends))
+all_decided law job place ask at =
     let outcomes = found_below job (job.setting.walks + job.setting.ends) in (
       stop_of job (place, ask) (known_values job place outcomes) job.setting.stop,
       law job place ask job.setting.stop outcomes (λ j l. found_there job (job.setting.walks + job.setting.ends) (job.setting.walks + j) (omega (arith, l))),
@@ -203,23 +203,23 @@ numbers_of g (ask ∷ asks) n (s ∷ stops) enough each =
     ∙ ap (λ xs. g (n, ask) ∷ xs) (numbers_of g asks (n + 1) stops (omega (arith, enough)) (λ place a inside at.
     each (suc place) a (omega (arith, inside)) at ∙ ap (λ k. g (k, a)) (let e : n + suc place ≡ n + 1 + place = omega arith in e)))
 
--- the law of tests: a stop that correct outcomes settle is the stop of all endpoints
+-- the law of tests: a stop that correct outcomes decide is the stop of all endpoints
 abbrev pub AreFinal : Type 0
 AreFinal = (job : Job) (draws : Draws) (place : ℕ) (ask : Ask) (enough : ℕ) (outcomes : List Outcome) (s : Stop) → IsRight job draws outcomes
-    → settled job (place, ask) enough outcomes ≡ Some s → s ≡ stop_of job (place, ask) (end_values job place (sequence job draws)) enough
+    → stop_of_known job (place, ask) enough outcomes ≡ Some s → s ≡ stop_of job (place, ask) (end_values job place (sequence job draws)) enough
 
--- the stops settled for every ask are the stops of all endpoints
+-- the stops decided for every ask are the stops of all endpoints
 pub final_stops : AreFinal → (job : Job) (draws : Draws) (outcomes : List Outcome) (stops : List (List ℕ)) → IsRight job draws outcomes → 1 ≤ job.setting.stop
-    → length job.setting.asks ≤ length stops → AreSettledBelow job outcomes (length job.setting.asks) stops
+    → length job.setting.asks ≤ length stops → AreDecidedBelow job outcomes (length job.setting.asks) stops
     → take (length job.setting.asks) stops ≡ stops_of job (sequence job draws)
-final_stops law job draws outcomes stops right some enough settled_so = by job.setting.stop refl some
+final_stops law job draws outcomes stops right some enough decided_so = by job.setting.stop refl some
   where
     by : (h : ℕ) → job.setting.stop ≡ h → 1 ≤ h → take (length job.setting.asks) stops ≡ stops_by h job (sequence job draws)
     by zero e some = absurd (omega (arith, some))
     by (suc h) e some = numbers_of (λ ask. three_numbers (stop_of job ask (end_values job ask.0 (sequence job draws)) (suc h))) job.setting.asks 0 stops enough (λ place ask inside at.
-        let s = settled_so place ask inside at in
+        let s = decided_so place ask inside at in
         s.numbers_are
-        ∙ ap three_numbers (law job draws place ask job.setting.stop outcomes s.stop right s.settled_is
+        ∙ ap three_numbers (law job draws place ask job.setting.stop outcomes s.stop right s.decided_stop
         ∙ ap (λ n. stop_of job (place, ask) (end_values job place (sequence job draws)) n) e)
         ∙ ap (λ k. three_numbers (stop_of job (k, ask) (end_values job k (sequence job draws)) (suc h))) (let z : place ≡ 0 + place = omega arith in z))
 

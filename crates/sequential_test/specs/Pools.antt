@@ -31,7 +31,7 @@ module _ {J : Type 0} where
   abbrev pub HasStartedNothing : Job → StoppingPool J → Type 0
   HasStartedNothing job c = HasNoHub job c.part_workers
 
-  -- the trajectories with ids below `count` were walked, and the workers are ready for more, with the hub and capacity
+  -- the trajectories with ids below `count` were walked, and the workers can walk more, with the hub and capacity
   -- for all outcomes
   pub record HasWalkedTo (job : Job) (seats count : ℕ) (t : PartWorkers J) (b : Booked) (sorted : RoomyOutcomes) : Type 0 where
     pub part_workers : IsPartWorkers job seats t

@@ -6,7 +6,7 @@ use Rattle.audit_model.specs.declared.outcome.Stop.{Stop}
 use Rattle.audit_model.specs.declared.setting.Ask.{Ask}
 use Rattle.audit_model.specs.Below.{map_below}
 use Rattle.audit_model.specs.Job.{Job}
-use Rattle.audit_model.specs.Stopping.{settled, three_numbers}
+use Rattle.audit_model.specs.Stopping.{stop_of_known, three_numbers}
 use Rattle.audit_model.specs.Trajectory.{outcome}
 use Rattle.audit_statement.specs.Draw.{draw}
 
@@ -24,21 +24,21 @@ pub record AreIds (from to : ℕ) (ids : List ℕ) : Type 0 where
   pub count : from + length ids ≡ to
   pub at : (k d : ℕ) → k < length ids → slice_index_or ids k d ≡ from + k
 
--- these outcomes settle the ask at this place, with these three numbers
-pub record IsSettledAs (job : Job) (outcomes : List Outcome) (place : ℕ) (ask : Ask) (numbers : List ℕ) : Type 0 where
+-- these outcomes decide the ask at this place, with these three numbers
+pub record IsDecidedAs (job : Job) (outcomes : List Outcome) (place : ℕ) (ask : Ask) (numbers : List ℕ) : Type 0 where
   pub stop : Stop
-  pub settled_is : settled job (place, ask) job.setting.stop outcomes ≡ Some stop
+  pub decided_stop : stop_of_known job (place, ask) job.setting.stop outcomes ≡ Some stop
   pub numbers_are : numbers ≡ three_numbers stop
 
--- these outcomes settle each of the first n asks, with the numbers at its place
-abbrev pub AreSettledBelow : Job → List Outcome → ℕ → List (List ℕ) → Type 0
-AreSettledBelow job outcomes count stops = (place : ℕ) (ask : Ask) → place < count → slice_get job.setting.asks place ≡ Some ask
-    → IsSettledAs job outcomes place ask (slice_index_or stops place [])
+-- these outcomes decide each of the first n asks, with the numbers at its place
+abbrev pub AreDecidedBelow : Job → List Outcome → ℕ → List (List ℕ) → Type 0
+AreDecidedBelow job outcomes count stops = (place : ℕ) (ask : Ask) → place < count → slice_get job.setting.asks place ≡ Some ask
+    → IsDecidedAs job outcomes place ask (slice_index_or stops place [])
 
--- these outcomes settle every ask
-abbrev pub AreSettled : Job → List Outcome → Type 0
-AreSettled job outcomes = (place : ℕ) (ask : Ask) → slice_get job.setting.asks place ≡ Some ask
-    → (s : Stop) × (settled job (place, ask) job.setting.stop outcomes ≡ Some s)
+-- these outcomes decide every ask
+abbrev pub AreDecided : Job → List Outcome → Type 0
+AreDecided job outcomes = (place : ℕ) (ask : Ask) → slice_get job.setting.asks place ≡ Some ask
+    → (s : Stop) × (stop_of_known job (place, ask) job.setting.stop outcomes ≡ Some s)
 
 -- a place of at most `ends`, and a fraction above 0 and at most 1
 pub record IsPartOf (ends : ℕ) (numbers : List ℕ) : Type 0 where
@@ -50,9 +50,9 @@ pub record IsPartOf (ends : ℕ) (numbers : List ℕ) : Type 0 where
 abbrev pub AreParts : ℕ → ℕ → List (List ℕ) → Type 0
 AreParts ends count stops = (place : ℕ) → place < count → IsPartOf ends (slice_index_or stops place [])
 
--- No round more than needed was walked: after each round before the last, some ask was not settled.
+-- No round more than needed was walked: after each round before the last, some ask was not decided.
 pub record StopsInTime (job : Job) (outcomes : List Outcome) : Type 0 where
   pub rounds : ℕ
   pub some : 1 ≤ rounds
   pub found_are : outcomes ≡ found_below job (job.setting.walks + ends_after job.setting.ends rounds)
-  pub before : (k : ℕ) → 1 ≤ k → k < rounds → AreSettled job (found_below job (job.setting.walks + ends_after job.setting.ends k)) → ⊥
+  pub before : (k : ℕ) → 1 ≤ k → k < rounds → AreDecided job (found_below job (job.setting.walks + ends_after job.setting.ends k)) → ⊥

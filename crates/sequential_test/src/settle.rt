@@ -3,7 +3,7 @@
 ghost use Rattle.std.specs.Prelude.{◌≡◌, ◌≢◌, ℕ, ◌+◌, ◌-◌, ◌<◌, ◌≤◌, length, pos, IfSome};
 ghost use Rattle.std.specs.List.{slice_get, AllPairs};
 ghost use Rattle.audit_model.specs.Job.{Job as JobValue};
-ghost use Rattle.audit_model.specs.Stopping.{settled};
+ghost use Rattle.audit_model.specs.Stopping.{stop_of_known};
 ghost use Rattle.audit_model.specs.Trajectory as trajectory;
 ghost use Rattle.audit_model.specs.declared.setting.Ask.{Ask};
 ghost use Rattle.sequential_test.specs.Ranks.{ends_below, tails_below};
@@ -45,7 +45,7 @@ pub fn settle(job: &Job, ask: u32, hits: u32, posted: &[Outcome]) -> Option<Stop
     requires ask { ask < length job.now.setting.asks }
     requires some { 1 ≤ hits }
     requires apart { AllPairs (λ a b. a.id ≡ b.id → ⊥) posted.now }
-    ensures settled { IfSome (slice_get job.now.setting.asks ask) (λ asked. result ≡ settled job.now (ask, asked) hits posted.now) }
+    ensures stop_of_known { IfSome (slice_get job.now.setting.asks ask) (λ asked. result ≡ stop_of_known job.now (ask, asked) hits posted.now) }
     ensures part { IfSome result (λ s. (s.place ≤ job.now.setting.ends) × (1 ≤ s.top) × (s.top ≤ s.of) × (s.of ≤ job.now.setting.ends + 1)) }
 {
     let setting = setting_of(job);
@@ -55,7 +55,7 @@ pub fn settle(job: &Job, ask: u32, hits: u32, posted: &[Outcome]) -> Option<Stop
         walks: setting.walks,
         ends: setting.ends,
     };
-    settle_values(span, tail, job.start_value(ask), place, hits, posted)
+    find_stop(span, tail, job.start_value(ask), place, hits, posted)
 }
 
 /// Returns the number of the first `count` endpoints whose outcomes are there.
@@ -130,7 +130,7 @@ fn tail_place(test: EndTest, known: u32, enough: usize, posted: &[Outcome]) -> u
 
 /// Computes `settle` for the ask at `place`, from the numbers that it needs of the job. It bisects for the first
 /// missing endpoint and for the stopping place, with one pass over the outcomes at each step.
-fn settle_values(
+fn find_stop(
     span: Span,
     tail: Tail,
     start: i64,
@@ -141,8 +141,8 @@ fn settle_values(
     requires place { place < 4 }
     requires some { 1 ≤ hits }
     requires apart { AllPairs (λ a b. a.id ≡ b.id → ⊥) posted.now }
-    ensures settled { (job : JobValue) (ask : Ask) → job.setting.walks ≡ span.walks → job.setting.ends ≡ span.ends → ask.tail ≡ tail →
-        trajectory.plan_value job job.start ask.score ≡ start → result ≡ settled job (place, ask) hits posted.now }
+    ensures stop_of_known { (job : JobValue) (ask : Ask) → job.setting.walks ≡ span.walks → job.setting.ends ≡ span.ends → ask.tail ≡ tail →
+        trajectory.plan_value job job.start ask.score ≡ start → result ≡ stop_of_known job (place, ask) hits posted.now }
     ensures part { IfSome result (λ s. (s.place ≤ span.ends) × (1 ≤ s.top) × (s.top ≤ s.of) × (s.of ≤ span.ends + 1)) }
 {
     let test = EndTest {

@@ -9,11 +9,11 @@ ghost use Rattle.audit_model.specs.Trajectory.{sequence};
 ghost use Rattle.claim_counter.specs.Parts.{IsFreshPart};
 ghost use Rattle.audit_statement.specs.Draw.{draw};
 ghost use Rattle.sequential_test.specs.Pools.{AreRounds, HasWalkedTo, IsStoppingPool};
-ghost use Rattle.sequential_test.specs.Rounds.{ends_after, found_below, AreIds, AreParts, AreSettledBelow, StopsInTime};
+ghost use Rattle.sequential_test.specs.Rounds.{ends_after, found_below, AreIds, AreParts, AreDecidedBelow, StopsInTime};
 
+use crate::all_stops::find_stops;
 use crate::limits::setting_of;
 use crate::pool::{StoppingPool, after_round};
-use crate::settling::settle_all;
 use audit_io::gate::Gate;
 use audit_model::buffers::OutcomeList;
 use claim_counter::parts::{PartCounter, PartWorkers, find_hub, walk_part};
@@ -86,7 +86,7 @@ fn walk_rounds<R: Threads + Sync, J: Judge + Send, G: Gate + Sync>(
     requires all { ends_after job.now.setting.ends (vec_len rounds.parts) ≡ job.now.setting.ends }
     requires walked { HasWalkedTo job.now (vec_len part_workers.old.idle_workers) job.now.setting.walks part_workers.old book.old sorted.old }
     ensures in_time { StopsInTime job.now sorted.new.items }
-    ensures stops { AreSettledBelow job.now sorted.new.items (length job.now.setting.asks) result }
+    ensures stops { AreDecidedBelow job.now sorted.new.items (length job.now.setting.asks) result }
     ensures parts { AreParts job.now.setting.ends (length job.now.setting.asks) result }
     ensures four { length result ≡ 4 }
 {
@@ -107,7 +107,7 @@ fn walk_rounds<R: Threads + Sync, J: Judge + Send, G: Gate + Sync>(
         };
         walk_to(rt, job, stretch, part_workers, book, sorted);
         walked = next;
-        match settle_all(job, sorted.as_slice()) {
+        match find_stops(job, sorted.as_slice()) {
             Some(stops) => return stops,
             None => {}
         }

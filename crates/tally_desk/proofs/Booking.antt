@@ -24,9 +24,9 @@ use Rattle.tally_desk.proofs.Todo.{todo_within, todo_lacked}
 -- one more post adds the outcome of its trajectory
 pub booked-push : (parts : Parts) (l : List Entry) (e : Entry) → booked parts (l ++ e ∷ []) ≡ booked parts l ++ found parts.job e.id ∷ []
 booked-push parts l e =
-    ap (λ (ids : List ℕ). parts.opening ++ map (found parts.job) ids) (map-append posted_id l (e ∷ []))
-    ∙ ap (λ (os : List Outcome). parts.opening ++ os) (map-append (found parts.job) (ids_of l) (e.id ∷ []))
-    ∙ sym (append_assoc parts.opening (map (found parts.job) (ids_of l)) (found parts.job e.id ∷ []))
+    ap (λ (ids : List ℕ). parts.initial_outcomes ++ map (found parts.job) ids) (map-append posted_id l (e ∷ []))
+    ∙ ap (λ (os : List Outcome). parts.initial_outcomes ++ os) (map-append (found parts.job) (ids_of l) (e.id ∷ []))
+    ∙ sym (append_assoc parts.initial_outcomes (map (found parts.job) (ids_of l)) (found parts.job e.id ∷ []))
 
 -- an id that is not among these ids has none of their outcomes
 absent_of_ids : (job : Job) (ids : List ℕ) (id : ℕ) → times id ids ≡ 0 → has_id (map (found job) ids) id ≡ false
@@ -40,7 +40,7 @@ absent_of_ids job (x ∷ ids) id none =
 -- an id to do that has no post is not in the book
 pub absent_of_book : (parts : Parts) → IsPlan parts → (l : List Entry) (id : ℕ) → 0 < times id parts.todo → times id (ids_of l) ≡ 0 → has_id (booked parts l) id ≡ false
 absent_of_book parts plan l id to_do unposted =
-    list_any-append (λ (o : Outcome). o.id == id) parts.opening (map (found parts.job) (ids_of l))
+    list_any-append (λ (o : Outcome). o.id == id) parts.initial_outcomes (map (found parts.job) (ids_of l))
     ∙ or_from _ _ (todo_lacked parts plan id to_do) (absent_of_ids parts.job (ids_of l) id unposted)
 
 -- ---- what fits
@@ -61,8 +61,8 @@ found_all test job (x ∷ ids) each =
 -- all outcomes of a desk's book fit the job
 pub booked_fit : (parts : Parts) → IsPlan parts → (l : List Entry) → ((id : ℕ) → times id (ids_of l) ≤ times id parts.todo) → list_all (fits parts.job) (booked parts l) ≡ true
 booked_fit parts plan l of_todo =
-    list_all-append (fits parts.job) parts.opening (map (found parts.job) (ids_of l))
-    ∙ and_from _ _ (all_from (fits parts.job) parts.opening plan.fit)
+    list_all-append (fits parts.job) parts.initial_outcomes (map (found parts.job) (ids_of l))
+    ∙ and_from _ _ (all_from (fits parts.job) parts.initial_outcomes plan.fit)
     (found_all (fits parts.job) parts.job (ids_of l)
     (λ id some_here. found_fits parts.job plan.few_asks id (todo_within parts plan id (omega (arith, some_here, of_todo id)))))
 

@@ -63,7 +63,7 @@ module _ {C : Type 0} (HomeAs : Parts → Home C → List Entry → Type 0) (par
       }
     where
       same_next : (a b : ℕ) (l : List Entry) → min a (length parts.todo) ≡ min b (length parts.todo) → machine_of parts a l ≡ machine_of parts b l
-      same_next a b l same = λ i. record (machine_of parts a l) { next = same i; held = map_below (length parts.todo) (open_at parts (same i) l) }
+      same_next a b l same = λ i. record (machine_of parts a l) { next = same i; open_ids = map_below (length parts.todo) (open_at parts (same i) l) }
   steps_are_events s _ _ m st (takes_ticket id v o at can) =
       let k = st.rule in
       let b = get_or s.words 1 0 in

@@ -20,7 +20,7 @@ use Rattle.tally_desk.proofs.Booking.{absent_of_book, booked-push, booked_fit, b
 use Rattle.claim_counter.proofs.Sharing.{found_id}
 use Rattle.tally_desk.proofs.Righting.{saved_outcomes_are_right}
 use Rattle.tally_desk.proofs.Todo.{todo_once, todo_within}
-use Rattle.tally_desk.specs.Holding.{HoldsOpeningAndPart, RunAttemptsAreRight, SavesHoldParts}
+use Rattle.tally_desk.specs.Holding.{ContainsInitialAndPart, RunAttemptsAreRight, SavesHoldParts}
 
 module _ (parts : Parts) (plan : IsPlan parts) where
   abbrev OfTodo : List Entry → Type 0
@@ -58,33 +58,33 @@ module _ (parts : Parts) (plan : IsPlan parts) where
     some_to_do id some_here = omega (arith, some_here, of_todo id)
 
     below : All (λ o. o.id < total parts.job) all
-    below = All-append (λ (o : Outcome). o.id < total parts.job) parts.opening (map (found parts.job) (ids_of part)) plan.book.below
+    below = All-append (λ (o : Outcome). o.id < total parts.job) parts.initial_outcomes (map (found parts.job) (ids_of part)) plan.book.below
         (all_mapped (λ (o : Outcome). o.id < total parts.job) (found parts.job) (ids_of part)
         (λ id some_here. subst (λ (i : ℕ). i < total parts.job) (sym (found_id parts.job id)) (todo_within parts plan id (some_to_do id some_here))))
 
     apart : AreApart all
-    apart = apart_from part [] of_todo (subst AreApart (sym (append-nil parts.opening)) plan.book.apart)
+    apart = apart_from part [] of_todo (subst AreApart (sym (append-nil parts.initial_outcomes)) plan.book.apart)
 
     pub moved_all : IsPermutation all saved
     moved_all = by_id-permutation (total parts.job) all apart below
 
     abbrev IsOf : Outcome → Type 0
-    IsOf o = Contains parts.opening o ⊎ ((0 < times o.id parts.todo) × (o ≡ found parts.job o.id))
+    IsOf o = Contains parts.initial_outcomes o ⊎ ((0 < times o.id parts.todo) × (o ≡ found parts.job o.id))
 
     each_of : All IsOf all
-    each_of = All-append IsOf parts.opening (map (found parts.job) (ids_of part)) (λ k d inside. inl (Contains-get_or parts.opening k d inside))
+    each_of = All-append IsOf parts.initial_outcomes (map (found parts.job) (ids_of part)) (λ k d inside. inl (Contains-get_or parts.initial_outcomes k d inside))
         (all_mapped IsOf (found parts.job) (ids_of part) (λ id some_here. inr (
           subst (λ (i : ℕ). 0 < times i parts.todo) (sym (found_id parts.job id)) (some_to_do id some_here),
           ap (found parts.job) (sym (found_id parts.job id)),
         )))
 
-    pub holds_part : HoldsOpeningAndPart parts (length part) saved
+    pub holds_part : ContainsInitialAndPart parts (length part) saved
     holds_part = record {
       each = All-permutation IsOf all saved moved_all each_of;
-      opening_kept = λ k d inside. Contains-permutation all saved _ moved_all (Contains-append_left parts.opening (map (found parts.job) (ids_of part)) _ (Contains-get_or parts.opening k d inside));
+      initial_kept = λ k d inside. Contains-permutation all saved _ moved_all (Contains-append_left parts.initial_outcomes (map (found parts.job) (ids_of part)) _ (Contains-get_or parts.initial_outcomes k d inside));
       counted =
           let same : length saved ≡ length all = length_permutation all saved moved_all in
-          omega (arith, same, length-append parts.opening (map (found parts.job) (ids_of part)), length-map (ids_of part) (found parts.job), length-map part posted_id);
+          omega (arith, same, length-append parts.initial_outcomes (map (found parts.job) (ids_of part)), length-map (ids_of part) (found parts.job), length-map part posted_id);
     }
 
 -- the law on the contents of a save
@@ -93,11 +93,11 @@ saves_hold_parts parts part plan of_todo = holds_part parts plan part of_todo
 
 -- the law on saves from correct initial outcomes
 pub run_attempts_are_right : RunAttemptsAreRight
-run_attempts_are_right parts t plan opening is = record {
+run_attempts_are_right parts t plan initial_outcomes is = record {
   version = 2;
   generation = is.generation;
   outcomes = by_id (total parts.job) (booked parts is.part);
   sound = subst (λ (bytes : List ℕ). IsCheckpoint bytes 2 (job_digest parts.job) is.generation (by_id (total parts.job) (booked parts is.part))) (sym is.bytes_are) is.sound;
   fit = by_id_fit (fits parts.job) (total parts.job) (booked parts is.part) (booked_fit parts plan is.part is.of_todo);
-  right = saved_outcomes_are_right parts is.part plan is.of_todo opening;
+  right = saved_outcomes_are_right parts is.part plan is.of_todo initial_outcomes;
 }

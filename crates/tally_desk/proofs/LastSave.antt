@@ -153,15 +153,15 @@ module _ {C : Type 0} (state : C → KeeperState) (parts : Parts) (v : PassView)
       → IfBothObserved a c (λ p q. SlotsAs parts p q kept.place posted) → KeepsOther c d kept.place.slot
       → HoldsBytes d kept.place.slot (checkpoint 2 digest kept.place.generation sorted) → IfObserved d (IsNewestForFitJobs digest kept.place.slot kept.place.generation sorted)
       → IfBothObserved a d (λ p q. RunSavesInTurn parts p q posted)
-  saved_now law none last sorted is sound None c d first observed other held fresh = tt
-  saved_now law none last sorted is sound (Some p) None d first observed other held fresh = absurd observed
-  saved_now law none last sorted is sound (Some p) (Some q) None first observed other held fresh = other
-  saved_now law none last sorted is sound (Some p) (Some q) (Some r) first observed other held fresh =
+  saved_now law none last sorted is sound None c d first observed other slot_bytes fresh = tt
+  saved_now law none last sorted is sound (Some p) None d first observed other slot_bytes fresh = absurd observed
+  saved_now law none last sorted is sound (Some p) (Some q) None first observed other slot_bytes fresh = other
+  saved_now law none last sorted is sound (Some p) (Some q) (Some r) first observed other slot_bytes fresh =
       let all : List Outcome = by_id (total parts.job) (booked parts posted) in
       let same : sorted ≡ all = is ∙ ap (λ (b : Booked). by_id b.total b.outcomes) k.closed.kept.book_is in
       let rest : SavesRest parts q r kept.place posted = record {
         saved = record {
-          bytes = held ∙ (λ i. Some (checkpoint 2 (k.digest_is i) kept.place.generation (same i)));
+          bytes = slot_bytes ∙ (λ i. Some (checkpoint 2 (k.digest_is i) kept.place.generation (same i)));
           sound = subst (λ (x : List ℕ × List Outcome). IsCheckpoint (checkpoint 2 x.0 kept.place.generation x.1) 2 x.0 kept.place.generation x.1) (λ i. (k.digest_is i, same i)) sound;
         };
         other = sym (other_is r kept.place.slot k.closed.slot) ∙ other ∙ other_is q kept.place.slot k.closed.slot;
@@ -248,7 +248,7 @@ module _ {C : Type 0} (state : C → KeeperState) (law : UnfailedRunsSaveInTurn)
       by false e =
           let t = s.unsaved e in
           saved_now state parts v kept digest k law both.0 e sorted is t.sound parts.keeper.slots (state kept.keeper).slots (state now.keeper).slots k.closed.plan.place
-          k.closed.kept.observed t.other (on_ok_at rest both.1 t.held) (on_ok_at rest both.1 t.newest)
+          k.closed.kept.observed t.other (on_ok_at rest both.1 t.slot_bytes) (on_ok_at rest both.1 t.newest)
 
   rest_attempted : (state now.keeper).attempted ≡ attempted_all parts.keeper.attempted (run_attempts kept.last_saved (is_ok rest) parts all_posted)
   rest_attempted = by kept.last_saved refl

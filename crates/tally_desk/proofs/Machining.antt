@@ -19,7 +19,7 @@ use Rattle.audit_model.proofs.Times.{one, one_same, times-cons, times_push}
 use Rattle.audit_model.proofs.Below.{length-map_below, map_below_same}
 use Rattle.tally_desk.specs.declared.entry.Entry.{Entry}
 use Rattle.tally_desk.specs.Entries.{post_of, posted_id, ids_of, saves_made, up_to_save}
-use Rattle.tally_desk.specs.Machines.{machine_of, open_at, opening_ids, post_events}
+use Rattle.tally_desk.specs.Machines.{machine_of, open_at, initial_ids, post_events}
 use Rattle.tally_desk.specs.Parts.{Parts, IsPlan}
 use Rattle.tally_desk.proofs.Marking.{saves-push, up_to_save-all, up_to_save-kept}
 use Rattle.tally_desk.proofs.Todo.{todo_once}
@@ -112,10 +112,10 @@ module _ (parts : Parts) (plan : IsPlan parts) where
   pub todo_is : (drawn : ℕ) (l : List Entry) → todo (machine_of parts drawn l) ≡ parts.todo
   todo_is drawn l =
       let s = parts.job.setting in
-      let lacked = filter_below (total parts.job) (λ id. not (has_id parts.opening id) && is_in_part s.parts s.part id) in
+      let lacked = filter_below (total parts.job) (λ id. not (has_id parts.initial_outcomes id) && is_in_part s.parts s.part id) in
       ap (take (length parts.todo))
-      (filter_same (total parts.job) (λ id. not (has (opening_ids parts) id) && is_in_part s.parts s.part id) (λ id. not (has_id parts.opening id) && is_in_part s.parts s.part id)
-      (λ id. ap (λ (b : Bool). not b && is_in_part s.parts s.part id) (has_ids parts.opening id)))
+      (filter_same (total parts.job) (λ id. not (has (initial_ids parts) id) && is_in_part s.parts s.part id) (λ id. not (has_id parts.initial_outcomes id) && is_in_part s.parts s.part id)
+      (λ id. ap (λ (b : Bool). not b && is_in_part s.parts s.part id) (has_ids parts.initial_outcomes id)))
       ∙ ap (λ (xs : List ℕ). take (length xs) lacked) plan.todo.1 ∙ take_again plan.todo.0 lacked ∙ sym plan.todo.1
 
   abbrev at : ℕ → ℕ
@@ -127,9 +127,9 @@ module _ (parts : Parts) (plan : IsPlan parts) where
 
   -- ---- a claim
 
-  held_claimed : (d : ℕ) (l : List Entry) → d < length parts.todo → times (at d) (ids_of l) ≡ 0 → (j : ℕ) → j < length parts.todo
+  open_ids_claimed : (d : ℕ) (l : List Entry) → d < length parts.todo → times (at d) (ids_of l) ≡ 0 → (j : ℕ) → j < length parts.todo
       → cond (j == d) (Some (at d)) (open_at parts (min d (length parts.todo)) l j) ≡ open_at parts (min (d + 1) (length parts.todo)) l j
-  held_claimed d l below new j inside = dite (ℕ_discrete j d)
+  open_ids_claimed d l below new j inside = dite (ℕ_discrete j d)
       (λ here. ap (λ (b : Bool). cond b (Some (at d)) (open_at parts (min d (length parts.todo)) l j)) (eq-eqb j d here)
       ∙ ap (λ (k : ℕ). Some (at k)) (sym here)
       ∙ sym (opened (min (d + 1) (length parts.todo)) l j true true (lt-ltb j (min (d + 1) (length parts.todo)) (omega (arith, here, inside)))
@@ -151,20 +151,20 @@ module _ (parts : Parts) (plan : IsPlan parts) where
       let m = machine_of parts d l in
       let next : min d (length parts.todo) ≡ d = omega arith in
       let one_more : min d (length parts.todo) + 1 ≡ min (d + 1) (length parts.todo) = omega arith in
-      let free : slice_get m.held d ≡ Some None =
+      let free : slice_get m.open_ids d ≡ Some None =
       get-map_below (length parts.todo) (open_at parts (min d (length parts.todo)) l) d below
       ∙ ap (λ (o : Option ℕ). Some o) (opened (min d (length parts.todo)) l d false (times (at d) (ids_of l) == 0) (le-ltb d (min d (length parts.todo)) (omega arith)) refl) in
       let is_next : slice_get (todo m) m.next ≡ Some (at d) = ap (λ (xs : List ℕ). slice_get xs m.next) (todo_is d l) ∙ ap (slice_get parts.todo) next ∙ get_in parts.todo d below in
-      let held : set m.held d (Some (at d)) ≡ map_below (length parts.todo) (open_at parts (min (d + 1) (length parts.todo)) l) =
+      let open_ids : set m.open_ids d (Some (at d)) ≡ map_below (length parts.todo) (open_at parts (min (d + 1) (length parts.todo)) l) =
       set-map_below (length parts.todo) (open_at parts (min d (length parts.todo)) l) d (Some (at d)) below
-      ∙ map_below_same (length parts.todo) _ _ (held_claimed d l below new) in
-      ap (claim m d) free ∙ ap (claimed m d) is_next ∙ (λ i. (record m { next = one_more i; held = held i }, Claimed (at d)))
+      ∙ map_below_same (length parts.todo) _ _ (open_ids_claimed d l below new) in
+      ap (claim m d) free ∙ ap (claimed m d) is_next ∙ (λ i. (record m { next = one_more i; open_ids = open_ids i }, Claimed (at d)))
 
   -- ---- a post
 
-  held_posted : (next p : ℕ) (l : List Entry) (t i : ℕ) (saved : Bool) → p < length parts.todo → i ≡ at p → (j : ℕ) → j < length parts.todo
+  open_ids_posted : (next p : ℕ) (l : List Entry) (t i : ℕ) (saved : Bool) → p < length parts.todo → i ≡ at p → (j : ℕ) → j < length parts.todo
       → cond (j == p) None (open_at parts next l j) ≡ open_at parts next (l ++ post_of t i saved ∷ []) j
-  held_posted next p l t i saved below is j inside =
+  open_ids_posted next p l t i saved below is j inside =
       let more : times (at j) (ids_of (l ++ post_of t i saved ∷ [])) ≡ times (at j) (ids_of l) + one (at j) i =
       ap (times (at j)) (map-append posted_id l (post_of t i saved ∷ [])) ∙ times_push (at j) (ids_of l) i in
       dite (ℕ_discrete j p)
@@ -186,29 +186,29 @@ module _ (parts : Parts) (plan : IsPlan parts) where
       let m = machine_of parts d l in
       let next = min d (length parts.todo) in
       let inside : p < length parts.todo = omega arith in
-      let open_here : slice_get m.held p ≡ Some (Some i) =
+      let open_here : slice_get m.open_ids p ≡ Some (Some i) =
       get-map_below (length parts.todo) (open_at parts next l) p inside
       ∙ ap (λ (o : Option ℕ). Some o) (opened next l p true true (lt-ltb p next below) (eq-eqb (times (at p) (ids_of l)) 0 (ap (λ (k : ℕ). times k (ids_of l)) (sym is) ∙ unposted))
       ∙ ap (λ (k : ℕ). Some k) (sym is)) in
-      let done_more : (opening_ids parts ++ ids_of l) ++ i ∷ [] ≡ opening_ids parts ++ ids_of (l ++ post_of t i saved ∷ []) =
-      append_assoc (opening_ids parts) (ids_of l) (i ∷ []) ∙ ap (λ (ids : List ℕ). opening_ids parts ++ ids) (sym (map-append posted_id l (post_of t i saved ∷ []))) in
-      let held : set m.held p None ≡ map_below (length parts.todo) (open_at parts next (l ++ post_of t i saved ∷ [])) =
-      set-map_below (length parts.todo) (open_at parts next l) p None inside ∙ map_below_same (length parts.todo) _ _ (held_posted next p l t i saved inside is) in
-      by saved (ap (post m p) open_here) done_more held
+      let done_more : (initial_ids parts ++ ids_of l) ++ i ∷ [] ≡ initial_ids parts ++ ids_of (l ++ post_of t i saved ∷ []) =
+      append_assoc (initial_ids parts) (ids_of l) (i ∷ []) ∙ ap (λ (ids : List ℕ). initial_ids parts ++ ids) (sym (map-append posted_id l (post_of t i saved ∷ []))) in
+      let open_ids : set m.open_ids p None ≡ map_below (length parts.todo) (open_at parts next (l ++ post_of t i saved ∷ [])) =
+      set-map_below (length parts.todo) (open_at parts next l) p None inside ∙ map_below_same (length parts.todo) _ _ (open_ids_posted next p l t i saved inside is) in
+      by saved (ap (post m p) open_here) done_more open_ids
     where
       by : (s : Bool) → step (machine_of parts d l) (Post p)
-          ≡ (record (machine_of parts d l) { done = (opening_ids parts ++ ids_of l) ++ i ∷ []; held = set (machine_of parts d l).held p None }, Posted i)
-          → (opening_ids parts ++ ids_of l) ++ i ∷ [] ≡ opening_ids parts ++ ids_of (l ++ post_of t i s ∷ [])
-          → set (machine_of parts d l).held p None ≡ map_below (length parts.todo) (open_at parts (min d (length parts.todo)) (l ++ post_of t i s ∷ []))
+          ≡ (record (machine_of parts d l) { done = (initial_ids parts ++ ids_of l) ++ i ∷ []; open_ids = set (machine_of parts d l).open_ids p None }, Posted i)
+          → (initial_ids parts ++ ids_of l) ++ i ∷ [] ≡ initial_ids parts ++ ids_of (l ++ post_of t i s ∷ [])
+          → set (machine_of parts d l).open_ids p None ≡ map_below (length parts.todo) (open_at parts (min d (length parts.todo)) (l ++ post_of t i s ∷ []))
           → state_after (machine_of parts d l) (post_events p s) ≡ machine_of parts d (l ++ post_of t i s ∷ [])
-      by false stepped done_more held =
+      by false stepped done_more open_ids =
           let count : saves_made l ≡ saves_made (l ++ post_of t i false ∷ []) = let more = saves-push l (post_of t i false) in omega arith in
-          let saved_same : opening_ids parts ++ ids_of (up_to_save (saves_made l) l) ≡ opening_ids parts ++ ids_of (up_to_save (saves_made (l ++ post_of t i false ∷ [])) (l ++ post_of t i false ∷ [])) =
-          ap (λ (q : List Entry). opening_ids parts ++ ids_of q)
+          let saved_same : initial_ids parts ++ ids_of (up_to_save (saves_made l) l) ≡ initial_ids parts ++ ids_of (up_to_save (saves_made (l ++ post_of t i false ∷ [])) (l ++ post_of t i false ∷ [])) =
+          ap (λ (q : List Entry). initial_ids parts ++ ids_of q)
           (sym (up_to_save-kept l (post_of t i false) (saves_made l) (omega arith)) ∙ ap (λ (n : ℕ). up_to_save n (l ++ post_of t i false ∷ [])) count) in
-          ap (λ (r : Machine × Did). r.0) stepped ∙ (λ k. record (machine_of parts d l) { done = done_more k; held = held k; saved = saved_same k })
-      by true stepped done_more held =
+          ap (λ (r : Machine × Did). r.0) stepped ∙ (λ k. record (machine_of parts d l) { done = done_more k; open_ids = open_ids k; saved = saved_same k })
+      by true stepped done_more open_ids =
           let count : saves_made (l ++ post_of t i true ∷ []) ≡ saves_made l + 1 = saves-push l (post_of t i true) in
-          let saved_all : (opening_ids parts ++ ids_of l) ++ i ∷ [] ≡ opening_ids parts ++ ids_of (up_to_save (saves_made (l ++ post_of t i true ∷ [])) (l ++ post_of t i true ∷ [])) =
-          done_more ∙ ap (λ (q : List Entry). opening_ids parts ++ ids_of q) (sym (up_to_save-all l t i (saves_made (l ++ post_of t i true ∷ [])) count)) in
-          ap (λ (r : Machine × Did). (step r.0 Save).0) stepped ∙ (λ k. record (machine_of parts d l) { done = done_more k; held = held k; saved = saved_all k })
+          let saved_all : (initial_ids parts ++ ids_of l) ++ i ∷ [] ≡ initial_ids parts ++ ids_of (up_to_save (saves_made (l ++ post_of t i true ∷ [])) (l ++ post_of t i true ∷ [])) =
+          done_more ∙ ap (λ (q : List Entry). initial_ids parts ++ ids_of q) (sym (up_to_save-all l t i (saves_made (l ++ post_of t i true ∷ [])) count)) in
+          ap (λ (r : Machine × Did). (step r.0 Save).0) stepped ∙ (λ k. record (machine_of parts d l) { done = done_more k; open_ids = open_ids k; saved = saved_all k })

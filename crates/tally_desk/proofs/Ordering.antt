@@ -53,28 +53,28 @@ module _ (parts : Parts) (plan : IsPlan parts) where
 
   -- the saves from the n-th on, by the place after the earlier posts
   abbrev From : List Entry → ℕ → List Entry → List Try → Type 0
-  From whole n earlier ts = AreSavesFrom parts.job parts.opening v (ids_of whole) n (moved (saves_made earlier) parts.place) ts
+  From whole n earlier ts = AreSavesFrom parts.job parts.initial_outcomes v (ids_of whole) n (moved (saves_made earlier) parts.place) ts
 
-  same_found : (posted : List Entry) → by_id (total parts.job) (booked parts posted) ≡ taken_in parts.job parts.opening (ids_of posted)
+  same_found : (posted : List Entry) → by_id (total parts.job) (booked parts posted) ≡ taken_in parts.job parts.initial_outcomes (ids_of posted)
   unfolding found
   same_found posted = refl
 
-  same_order : (posted : List Entry) → booked parts posted ≡ parts.opening ++ map (outcome parts.job (draw parts.job.setting.key)) (ids_of posted)
+  same_order : (posted : List Entry) → booked parts posted ≡ parts.initial_outcomes ++ map (outcome parts.job (draw parts.job.setting.key)) (ids_of posted)
   unfolding found
   same_order posted = refl
 
   save_of : (generation slot : ℕ) (posted : List Entry) (ids : List ℕ) (succeeded : Bool) → ids_of posted ≡ ids → OfTodo posted
       → IsCheckpoint (checkpoint 2 (job_digest parts.job) generation (by_id (total parts.job) (booked parts posted))) 2 (job_digest parts.job) generation (by_id (total parts.job) (booked parts posted))
-      → IsSaveOfIds parts.job parts.opening (record { slot = slot; generation = generation }) ids
+      → IsSaveOfIds parts.job parts.initial_outcomes (record { slot = slot; generation = generation }) ids
       (record { slot = slot; bytes = checkpoint 2 (job_digest parts.job) generation (by_id (total parts.job) (booked parts posted)); succeeded = succeeded })
   save_of generation slot posted ids succeeded is of_todo sound =
-      let same = same_found posted ∙ ap (taken_in parts.job parts.opening) is in
+      let same = same_found posted ∙ ap (taken_in parts.job parts.initial_outcomes) is in
       record {
         slot = refl;
         bytes = ap (checkpoint 2 (job_digest parts.job) generation) same;
         sound = subst (λ os. IsCheckpoint (checkpoint 2 (job_digest parts.job) generation (by_id (total parts.job) (booked parts posted))) 2 (job_digest parts.job) generation os) same sound;
         all = subst (λ (x : List Outcome × List Outcome). IsPermutation x.0 x.1)
-            (λ i. ((same_order posted ∙ ap (λ (l : List ℕ). parts.opening ++ map (outcome parts.job (draw parts.job.setting.key)) l) is) i, same i))
+            (λ i. ((same_order posted ∙ ap (λ (l : List ℕ). parts.initial_outcomes ++ map (outcome parts.job (draw parts.job.setting.key)) l) is) i, same i))
             (moved_all parts plan posted of_todo);
       }
 
@@ -104,13 +104,13 @@ module _ (parts : Parts) (plan : IsPlan parts) where
       → From whole (cond b (suc (suc q)) (suc q)) (earlier ++ e ∷ []) (map (try_made parts.job) ms ++ rest)
       → From whole (suc q) earlier (map (try_made parts.job) (cond b (made_with parts earlier e ∷ []) [] ++ ms) ++ rest)
   order_with whole earlier posted e q ms rest whole_is false undue due of_todo count sound goes =
-      subst (λ place. AreSavesFrom parts.job parts.opening v (ids_of whole) (suc q) place (map (try_made parts.job) ms ++ rest))
+      subst (λ place. AreSavesFrom parts.job parts.initial_outcomes v (ids_of whole) (suc q) place (map (try_made parts.job) ms ++ rest))
       (moved_on earlier e false (unsaved e due undue)) goes
   order_with whole earlier posted e q ms rest whole_is true is_one due of_todo count sound goes = (
     save_of (moved (saves_made earlier) parts.place).generation (moved (saves_made earlier) parts.place).slot (earlier ++ e ∷ []) (take (suc q * v) (ids_of whole)) e.saved
         (first_ids earlier posted e (suc q * v) (count refl) ∙ ap (λ (l : List Entry). take (suc q * v) (ids_of l)) (sym whole_is)) of_todo
         (All-head (IsSound parts.job) (made_with parts earlier e) ms sound),
-    subst (λ place. AreSavesFrom parts.job parts.opening v (ids_of whole) (suc (suc q)) place (map (try_made parts.job) ms ++ rest)) (moved_on earlier e e.saved refl) goes,
+    subst (λ place. AreSavesFrom parts.job parts.initial_outcomes v (ids_of whole) (suc (suc q)) place (map (try_made parts.job) ms ++ rest)) (moved_on earlier e e.saved refl) goes,
   )
 
   abbrev Tickets : List Entry → ℕ → Type 0
@@ -219,7 +219,7 @@ module _ (parts : Parts) (plan : IsPlan parts) where
 
   pub are_saves : (last_saved succeeded : Bool) (posted : List Entry) → OfTodo posted → tickets_of posted ≡ range_with_len 0 (length posted) → All (IsSound parts.job) (made parts posted)
       → AreDue parts posted → last_saved ≡ ends_saved posted → (last_saved ≡ false → IsSoundAt (moved (saves_made posted) parts.place).generation posted)
-      → AreSavesOf parts.job parts.opening parts.save_every parts.place (ids_of posted) (run_attempts last_saved succeeded parts posted)
+      → AreSavesOf parts.job parts.initial_outcomes parts.save_every parts.place (ids_of posted) (run_attempts last_saved succeeded parts posted)
   are_saves last_saved succeeded posted of_todo tickets sound due last rest_sound = record {
     each = order posted posted [] 0 0 (rest_attempts last_saved succeeded parts posted) refl (let none : 0 ≡ 0 * v + 0 = omega arith in none) (omega (arith, plan.every)) of_todo from sound due
         (rest_from last_saved rest_sound);
@@ -276,18 +276,18 @@ module _ (parts : Parts) (plan : IsPlan parts) where
 
   -- more ids do not change saves that need only the first ids
   more_ids : (ids more : List ℕ) (n : ℕ) (place : Place) (ts : List Try) → ((k : ℕ) → k < length ts → (n + k) * v ≤ length ids)
-      → AreSavesFrom parts.job parts.opening v ids n place ts → AreSavesFrom parts.job parts.opening v (ids ++ more) n place ts
+      → AreSavesFrom parts.job parts.initial_outcomes v ids n place ts → AreSavesFrom parts.job parts.initial_outcomes v (ids ++ more) n place ts
   more_ids ids more n place [] enough goes = tt
   more_ids ids more n place (t ∷ ts) enough goes =
       let here : n * v ≤ length ids = subst (λ (m : ℕ). m * v ≤ length ids) (let same : n + 0 ≡ n = omega arith in same) (enough 0 (omega arith)) in (
-        subst (λ (l : List ℕ). IsSaveOfIds parts.job parts.opening place l t) (sym (take-append-le (n * v) ids more here)) goes.0,
+        subst (λ (l : List ℕ). IsSaveOfIds parts.job parts.initial_outcomes place l t) (sym (take-append-le (n * v) ids more here)) goes.0,
         more_ids ids more (suc n) (place_after place t) ts
             (λ k less. subst (λ (m : ℕ). m * v ≤ length ids) (let same : n + suc k ≡ suc n + k = omega arith in same) (enough (suc k) (omega arith))) goes.1,
       )
 
   -- the attempts made with these posts are the first attempts of the run
   pub saves_so_far : (posted : List Entry) → OfTodo posted → tickets_of posted ≡ range_with_len 0 (length posted) → All (IsSound parts.job) (made parts posted) → AreDue parts posted
-      → AreSavesSoFar parts.job parts.opening parts.save_every parts.place parts.todo (attempts parts posted)
+      → AreSavesSoFar parts.job parts.initial_outcomes parts.save_every parts.place parts.todo (attempts parts posted)
   saves_so_far posted of_todo tickets sound due =
       let left = left_over (ids_of posted) parts.todo of_todo in record {
         walked = ids_of posted ++ left.0;
@@ -304,7 +304,7 @@ module _ (parts : Parts) (plan : IsPlan parts) where
       from : Tickets posted (0 * v + 0)
       from = tickets ∙ ap (λ (z : ℕ). range_with_len z (length posted)) none
 
-      goes : AreSavesFrom parts.job parts.opening v (ids_of posted) 1 parts.place (attempts parts posted)
+      goes : AreSavesFrom parts.job parts.initial_outcomes v (ids_of posted) 1 parts.place (attempts parts posted)
       goes = subst (From posted 1 []) (append-nil (attempts parts posted)) (order posted posted [] 0 0 [] refl none (omega (arith, plan.every)) of_todo from sound due tt)
 
       long : length (ids_of posted) ≡ length posted
@@ -329,7 +329,7 @@ module _ (parts : Parts) (plan : IsPlan parts) where
   -- the attempts of the run, with a last save of all posts
   pub saves_with_last : (succeeded : Bool) (posted : List Entry) → OfTodo posted → tickets_of posted ≡ range_with_len 0 (length posted) → All (IsSound parts.job) (made parts posted)
       → AreDue parts posted → IsPermutation (ids_of posted) parts.todo → false ≡ ends_saved posted → IsSoundAt (moved (saves_made posted) parts.place).generation posted
-      → AreSavesSoFar parts.job parts.opening parts.save_every parts.place parts.todo (run_attempts false succeeded parts posted)
+      → AreSavesSoFar parts.job parts.initial_outcomes parts.save_every parts.place parts.todo (run_attempts false succeeded parts posted)
   saves_with_last succeeded posted of_todo tickets sound due all last rest_sound =
       let saves = are_saves false succeeded posted of_todo tickets sound due last (λ _. rest_sound) in
       record { walked = ids_of posted; all_walked = all; first = record { each = saves.each; few = omega (arith, saves.counted) } }

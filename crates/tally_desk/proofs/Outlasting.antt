@@ -38,23 +38,23 @@ module _ (parts : Parts) (plan : IsPlan parts) where
       let sum = ap (times id) parted ∙ sum_by-append (λ (y : ℕ). cond (y == id) 1 0) (ids_of (earlier ++ e ∷ [])) (ids_of posted) in
       omega (arith, of_todo id, sum)
 
-  right_made : IsRight parts.job (draw parts.job.setting.key) parts.opening → (earlier : List Entry) (e : Entry)
+  right_made : IsRight parts.job (draw parts.job.setting.key) parts.initial_outcomes → (earlier : List Entry) (e : Entry)
       → ((id : ℕ) → times id (ids_of (earlier ++ e ∷ [])) ≤ times id parts.todo) → IsSound parts.job (made_with parts earlier e) → RightTry (try_made parts.job (made_with parts earlier e))
-  right_made opening earlier e of_todo sound = record {
+  right_made initial_outcomes earlier e of_todo sound = record {
     version = 2;
     generation = (made_with parts earlier e).generation;
     outcomes = (made_with parts earlier e).outcomes;
     sound = sound;
     fit = by_id_fit (fits parts.job) (total parts.job) (booked parts (earlier ++ e ∷ [])) (booked_fit parts plan (earlier ++ e ∷ []) of_todo);
-    right = saved_outcomes_are_right parts (earlier ++ e ∷ []) plan of_todo opening;
+    right = saved_outcomes_are_right parts (earlier ++ e ∷ []) plan of_todo initial_outcomes;
   }
 
-  right_attempts : IsRight parts.job (draw parts.job.setting.key) parts.opening → (posted earlier : List Entry)
+  right_attempts : IsRight parts.job (draw parts.job.setting.key) parts.initial_outcomes → (posted earlier : List Entry)
       → ((id : ℕ) → times id (ids_of (earlier ++ posted)) ≤ times id parts.todo) → All (IsSound parts.job) (made_after parts earlier posted)
       → All RightTry (map (try_made parts.job) (made_after parts earlier posted))
-  right_attempts opening [] earlier of_todo sound = All-nil RightTry
-  right_attempts opening (e ∷ posted) earlier of_todo sound =
-      by (is_due parts.save_every e) sound (right_attempts opening posted (earlier ++ e ∷ []) (λ id. subst (λ (l : List Entry). times id (ids_of l) ≤ times id parts.todo) (sym (append_assoc earlier (e ∷ []) posted)) (of_todo id)))
+  right_attempts initial_outcomes [] earlier of_todo sound = All-nil RightTry
+  right_attempts initial_outcomes (e ∷ posted) earlier of_todo sound =
+      by (is_due parts.save_every e) sound (right_attempts initial_outcomes posted (earlier ++ e ∷ []) (λ id. subst (λ (l : List Entry). times id (ids_of l) ≤ times id parts.todo) (sym (append_assoc earlier (e ∷ []) posted)) (of_todo id)))
     where
       by : (b : Bool) → All (IsSound parts.job) (cond b (made_with parts earlier e ∷ []) [] ++ made_after parts (earlier ++ e ∷ []) posted)
           → (All (IsSound parts.job) (made_after parts (earlier ++ e ∷ []) posted) → All RightTry (map (try_made parts.job) (made_after parts (earlier ++ e ∷ []) posted)))
@@ -64,7 +64,7 @@ module _ (parts : Parts) (plan : IsPlan parts) where
           let m = made_with parts earlier e in
           let rest = made_after parts (earlier ++ e ∷ []) posted in
           All-cons RightTry (try_made parts.job m) (map (try_made parts.job) rest)
-          (right_made opening earlier e (fewer earlier posted e of_todo) (All-head (IsSound parts.job) m rest all))
+          (right_made initial_outcomes earlier e (fewer earlier posted e of_todo) (All-head (IsSound parts.job) m rest all))
           (later (All-tail (IsSound parts.job) m rest all))
 
   -- ---- saves in turn
@@ -119,9 +119,9 @@ module _ (parts : Parts) (plan : IsPlan parts) where
 
 -- the saves of a desk are correct saves in turn, which leave consistent slots
 pub stops_leave_consistent_slots : SavesLeaveConsistentSlots → RunStopsLeaveConsistentSlots
-stops_leave_consistent_slots law parts posted before after n posts opening out consistent =
+stops_leave_consistent_slots law parts posted before after n posts initial_outcomes out consistent =
     law parts.job (draw parts.job.setting.key) (job_digest parts.job) before after (attempts parts posted) n
-    (right_attempts parts posts.plan opening posted [] posts.of_todo posts.sound) out consistent
+    (right_attempts parts posts.plan initial_outcomes posted [] posts.of_todo posts.sound) out consistent
 
 -- the saves of a desk keep the newest slot or make a newer one
 pub stops_keep_the_newest : SavesKeepTheNewest → RunStopsKeepTheNewest

@@ -32,10 +32,10 @@ saved_outcomes_are_right parts posted plan of_todo right =
     let n = total parts.job in
     let os = booked parts posted in
     let key = draw parts.job.setting.key in
-    let below : All (λ o. o.id < n) os = All-append (λ (o : Outcome). o.id < n) parts.opening (map (found parts.job) (ids_of posted)) right.below
+    let below : All (λ o. o.id < n) os = All-append (λ (o : Outcome). o.id < n) parts.initial_outcomes (map (found parts.job) (ids_of posted)) right.below
     (all_mapped (λ (o : Outcome). o.id < n) (found parts.job) (ids_of posted)
     (λ id some_here. let inside = todo_within parts plan id (omega (arith, some_here, of_todo id)) in omega (arith, inside, found_id parts.job id))) in
-    let all : All (λ o. o ≡ outcome parts.job key o.id) os = All-append (λ (o : Outcome). o ≡ outcome parts.job key o.id) parts.opening (map (found parts.job) (ids_of posted)) right.found
+    let all : All (λ o. o ≡ outcome parts.job key o.id) os = All-append (λ (o : Outcome). o ≡ outcome parts.job key o.id) parts.initial_outcomes (map (found parts.job) (ids_of posted)) right.found
     (all_mapped (λ (o : Outcome). o ≡ outcome parts.job key o.id) (found parts.job) (ids_of posted) (λ id some_here. found_right parts.job id)) in
     record {
       apart = λ i j d before inside same. let less = by_id-rising n os i j d before inside in absurd (omega (arith, less, same));

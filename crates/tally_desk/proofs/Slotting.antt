@@ -121,13 +121,13 @@ module _ (newest : SavedSlotsAreNewest) (ours : CheckpointsAreOurs) (parts : Par
     (first : place_for parts.job (job_digest parts.job) before ≡ (parts.place.slot, parts.place.generation)) (of_todo : (id : ℕ) → times id (ids_of l) ≤ times id parts.todo)
     (outcomes : List Outcome) (fit : list_all (fits parts.job) outcomes ≡ true)
     (sound : IsCheckpoint (checkpoint 2 (job_digest parts.job) place.generation outcomes) 2 (job_digest parts.job) place.generation outcomes)
-    (held : stored after place.slot ≡ Some (checkpoint 2 (job_digest parts.job) place.generation outcomes)) (last : stored after (1 - place.slot) ≡ stored now (1 - place.slot))
+    (slot_bytes : stored after place.slot ≡ Some (checkpoint 2 (job_digest parts.job) place.generation outcomes)) (last : stored after (1 - place.slot) ≡ stored now (1 - place.slot))
     (fresh : IsNewestForFitJobs (job_digest parts.job) place.slot place.generation outcomes after) (s : SlotsAs parts before now place l) where
   pub newest_written : (n : ℕ) → saves_made l ≡ n → newest_for parts.job (job_digest parts.job) after ≡ Some place.slot
   newest_written zero none =
       let here : place ≡ parts.place = at ∙ ap (λ (n : ℕ). moved n parts.place) none in
       let observed : place_for parts.job (job_digest parts.job) before ≡ (place.slot, place.generation) = first ∙ ap (λ (p : Place). (p.slot, p.generation)) (sym here) in
-      (newest parts.job 2 (job_digest parts.job) before after place.slot place.generation outcomes observed sound fit held (last ∙ s.last_unsaved none)).newest
+      (newest parts.job 2 (job_digest parts.job) before after place.slot place.generation outcomes observed sound fit slot_bytes (last ∙ s.last_unsaved none)).newest
   newest_written (suc n) some_saves =
       let save = s.last_saved (omega (arith, some_saves)) in
       let old = by_id (total parts.job) (booked parts (up_to_save (saves_made l) l)) in
@@ -152,7 +152,7 @@ module _ (newest : SavedSlotsAreNewest) (ours : CheckpointsAreOurs) (parts : Par
       (first : place_for parts.job (job_digest parts.job) before ≡ (parts.place.slot, parts.place.generation))
       (of_todo : (id : ℕ) → times id (ids_of l) ≤ times id parts.todo) (fit : list_all (fits parts.job) (all_of more) ≡ true)
       (sound : IsCheckpoint (saved_bytes place.generation more) 2 (job_digest parts.job) place.generation (all_of more))
-      (held : stored after place.slot ≡ Some (saved_bytes place.generation more)) (last : stored after (1 - place.slot) ≡ stored now (1 - place.slot))
+      (slot_bytes : stored after place.slot ≡ Some (saved_bytes place.generation more)) (last : stored after (1 - place.slot) ≡ stored now (1 - place.slot))
       (fresh : IsNewestForFitJobs (job_digest parts.job) place.slot place.generation (all_of more) after) (s : SlotsAs parts before now place l) where
     pub saved_slots : SlotsAs parts before after (next_place place) more
     saved_slots =
@@ -168,11 +168,11 @@ module _ (newest : SavedSlotsAreNewest) (ours : CheckpointsAreOurs) (parts : Par
           last_saved = λ some_save.
               subst (λ (q : ℕ × List Entry × Stored). IsSaveOf parts q.0 q.1 q.2)
               (λ k. (sym (before_next place.generation generation) k, sym saved_all k, stored after (sym back k)))
-              (record { bytes = held; sound = sound });
+              (record { bytes = slot_bytes; sound = sound });
           next_unsaved = λ none few. last ∙ s.last_unsaved (omega (arith, few, count));
           next_saved = λ none many.
               subst (λ (q : ℕ × List Entry × Stored). IsSaveOf parts q.0 q.1 q.2)
               (λ k. (sym (two_before_next place.generation generation) k, sym saved_before k, sym last k))
               (s.last_saved (omega (arith, many, count)));
-          newest = λ ends. newest_written newest ours parts plan l before now after place slot generation at first of_todo (all_of more) fit sound held last fresh s (saves_made l) refl ∙ ap (λ (n : ℕ). Some n) (sym back);
+          newest = λ ends. newest_written newest ours parts plan l before now after place slot generation at first of_todo (all_of more) fit sound slot_bytes last fresh s (saves_made l) refl ∙ ap (λ (n : ℕ). Some n) (sym back);
         }

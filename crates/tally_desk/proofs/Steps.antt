@@ -11,14 +11,14 @@ use Rattle.std.proofs.lemmas.List.{length-map, take_all}
 use Rattle.std.proofs.lemmas.List.Elements.{All-nil}
 use Rattle.std.proofs.lemmas.List.FromFn.{length-range_with_len}
 use Rattle.std.proofs.lemmas.List.Sorted.{IsPermutation-map, sum_by-IsPermutation}
-use Rattle.atomic_table.specs.Table.{State, Me, step, keeps, takes, gives, stepped, put_back, rest, Allows, Splits, Joins, Final, Seen, opening}
+use Rattle.atomic_table.specs.Table.{State, Me, step, keeps, takes, gives, stepped, put_back, rest, Allows, Splits, Joins, Final, Seen, initial_outcomes}
 use Rattle.atomic_table.proofs.Lists.{at_snoc, set_again, set_else, at_map}
 use Rattle.claim_counter.specs.declared.record.PassRecord.{PassRecord}
 use Rattle.claim_counter.specs.Records.{IsSole, with_claim, at_end}
 use Rattle.tally_desk.specs.declared.entry.Entry.{Entry}
 use Rattle.tally_desk.specs.declared.home.Home.{Home}
 use Rattle.tally_desk.specs.Counter.{CounterLaws}
-use Rattle.tally_desk.specs.Desks.{BeginsTurn, CanPost, DrawsPlace, FitsDesk, IsInTurn, IsSettled, KeepsTally, IsWaiting, KnowsPosts, LooksForTurn, SeesSeats, Serves, TakesTicket, Tallied, TriesTicket, entry_sum, first_view, claimed_ids, is_in_turn, joined_view, left_view, own_of, right_view, with_entry, with_own, with_turn}
+use Rattle.tally_desk.specs.Desks.{BeginsTurn, CanPost, DrawsPlace, FitsDesk, IsInTurn, IsComplete, KeepsTally, IsWaiting, KnowsPosts, LooksForTurn, SeesSeats, Serves, TakesTicket, Tallied, TriesTicket, entry_sum, first_view, claimed_ids, is_in_turn, joined_view, left_view, own_of, right_view, with_entry, with_own, with_turn}
 use Rattle.tally_desk.specs.Entries.{post_of, posted_id, ids_of, is_due, ticket_of}
 use Rattle.tally_desk.specs.Parts.{Parts, IsPlan}
 use Rattle.tally_desk.specs.Passes.{HasPostedAll}
@@ -292,7 +292,7 @@ module _ {C : Type 0} (HomeAs : Parts → Home C → List Entry → Type 0) (par
     tallied = merged HomeAs parts _ _ _ k.posted s.homes s.views k.tallied id v at laws is weighs other w apart (sym (set_else s.views id other (joined_view v w) apart) ∙ at_other) weighs' idle idle';
   }
 
-  pub opens : CounterLaws → (y : Home C) → IsPlan parts → HomeAs parts y [] → Tallied HomeAs parts (opening (0 ∷ 0 ∷ 0 ∷ []) (y ∷ []) (first_view parts))
+  pub opens : CounterLaws → (y : Home C) → IsPlan parts → HomeAs parts y [] → Tallied HomeAs parts (initial_outcomes (0 ∷ 0 ∷ 0 ∷ []) (y ∷ []) (first_view parts))
   opens laws y plan holds = record {
     three_words = refl;
     one_slot = refl;
@@ -312,9 +312,9 @@ module _ {C : Type 0} (HomeAs : Parts → Home C → List Entry → Type 0) (par
     };
   }
 
-  pub settles : CounterLaws → (id : ℕ) (v : PassView) (ws : List ℕ) (xs : List (Home C)) → Final (Seen (Tallied HomeAs parts) id v) ws xs → 0 < v.own.weight → v.own.weight + v.own.spare ≡ parts.seats → v.turn ≡ no_turn
-      → (y : Home C) × (get_elem? xs 0 ≡ maybe.some y) × IsSettled HomeAs parts (get_or ws 0 0) y v
-  settles laws id v ws xs final weighs all idle =
+  pub completes : CounterLaws → (id : ℕ) (v : PassView) (ws : List ℕ) (xs : List (Home C)) → Final (Seen (Tallied HomeAs parts) id v) ws xs → 0 < v.own.weight → v.own.weight + v.own.spare ≡ parts.seats → v.turn ≡ no_turn
+      → (y : Home C) × (get_elem? xs 0 ≡ maybe.some y) × IsComplete HomeAs parts (get_or ws 0 0) y v
+  completes laws id v ws xs final weighs all idle =
       let s = final.0 in
       let k = final.1.0 in
       let at = final.1.1 in
@@ -344,8 +344,8 @@ module _ {C : Type 0} (HomeAs : Parts → Home C → List Entry → Type 0) (par
       )
 
   -- a pass in its turn knows the contents of the slot that it reads
-  pub held_home : (t i : ℕ) (me : Mine) (now : Home C) (turn : IsInTurn HomeAs parts t i me) → me.1 ≡ (0, now) ∷ rest me.1 → HomeAs parts now turn.posted
-  held_home t i me now turn is = subst (λ (h : Home C). HomeAs parts h turn.posted) (ap (λ (l : List (ℕ × Home C)). home_in l turn.home) (sym turn.slots ∙ is)) turn.holds
+  pub posted_at_home : (t i : ℕ) (me : Mine) (now : Home C) (turn : IsInTurn HomeAs parts t i me) → me.1 ≡ (0, now) ∷ rest me.1 → HomeAs parts now turn.posted
+  posted_at_home t i me now turn is = subst (λ (h : Home C). HomeAs parts h turn.posted) (ap (λ (l : List (ℕ × Home C)). home_in l turn.home) (sym turn.slots ∙ is)) turn.holds
 
   pub posted_len : (t i : ℕ) (me : Mine) (turn : IsInTurn HomeAs parts t i me) → length turn.posted ≡ t
   posted_len t i me turn = sym (length-map turn.posted ticket_of) ∙ ap length turn.awaits.in_order ∙ length-range_with_len 0 t
@@ -369,7 +369,7 @@ module _ {C : Type 0} (HomeAs : Parts → Home C → List Entry → Type 0) (par
       }
 
   -- once all is drawn and posted, the posts are the ids of the list, each once
-  pub complete : (drawn : ℕ) (y : Home C) (v : PassView) (k : IsSettled HomeAs parts drawn y v) → v.own.ended ≡ true → HasPostedAll parts v → IsPermutation (ids_of k.posted) parts.todo
+  pub complete : (drawn : ℕ) (y : Home C) (v : PassView) (k : IsComplete HomeAs parts drawn y v) → v.own.ended ≡ true → HasPostedAll parts v → IsPermutation (ids_of k.posted) parts.todo
   complete drawn y v k is_ended all =
       let todo = parts.todo in
       let limit = length todo in

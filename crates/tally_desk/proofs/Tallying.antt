@@ -79,14 +79,14 @@ posts_within parts served posted v x fits = ⊎_elim
     (λ u. omega (arith, u.claimed x, times-append x (ids_of v.entries) (turn_ids v.turn), sum_mapped (one x) posted_id v.entries)) fits
 
 -- a pass in its turn has the ticket that is served
-held_is_served : (served : ℕ) (posted : List Entry) (x : Turn) → KnowsPosts served posted x → holding x ≤ times served (turn_tickets x)
-held_is_served served posted no_turn knows = omega arith
-held_is_served served posted (waiting t i) knows = omega arith
-held_is_served served posted (in_turn t i l) knows = omega (arith, times-cons served t [], ap (one served) knows.0, one_same served)
+holder_is_served : (served : ℕ) (posted : List Entry) (x : Turn) → KnowsPosts served posted x → holding x ≤ times served (turn_tickets x)
+holder_is_served served posted no_turn knows = omega arith
+holder_is_served served posted (waiting t i) knows = omega arith
+holder_is_served served posted (in_turn t i l) knows = omega (arith, times-cons served t [], ap (one served) knows.0, one_same served)
 
 -- a pass in its turn waits with the ticket that is served
 in_turn_is_served : (parts : Parts) (served : ℕ) (posted : List Entry) (v : PassView) → FitsDesk parts served posted v → is_in_turn v ≤ waiting_at served v
-in_turn_is_served parts served posted v fits = ⊎_elim (λ is. let none : is_in_turn v ≡ 0 = ap is_in_turn is in omega arith) (λ u. held_is_served served posted v.turn u.knows) fits
+in_turn_is_served parts served posted v fits = ⊎_elim (λ is. let none : is_in_turn v ≡ 0 = ap is_in_turn is in omega arith) (λ u. holder_is_served served posted v.turn u.knows) fits
 
 -- a post adds no knowledge to a pass that is not in its turn
 still_fits : (served : ℕ) (posted after : List Entry) (x : Turn) → KnowsPosts served posted x → holding x ≡ 0 → KnowsPosts (served + 1) after x

@@ -45,7 +45,7 @@ filter_passes x (suc n) test some_here = by (times x (filter_below n test)) refl
 
 module _ (parts : Parts) (plan : IsPlan parts) where
   abbrev lacks : ℕ → Bool
-  lacks id = not (has_id parts.opening id) && is_in_part parts.job.setting.parts parts.job.setting.part id
+  lacks id = not (has_id parts.initial_outcomes id) && is_in_part parts.job.setting.parts parts.job.setting.part id
 
   todo_taken : (x : ℕ) → times x parts.todo ≤ times x (filter_below (total parts.job) lacks)
   todo_taken x = omega (arith, ap (times x) plan.todo.1, sum_by-take-le (one x) (filter_below (total parts.job) lacks) plan.todo.0)
@@ -59,9 +59,9 @@ module _ (parts : Parts) (plan : IsPlan parts) where
   pub todo_within : (x : ℕ) → 0 < times x parts.todo → x < total parts.job
   todo_within x some_here = below_from_once x (total parts.job) (omega (arith, some_here, todo_below_total x))
 
-  pub todo_lacked : (x : ℕ) → 0 < times x parts.todo → has_id parts.opening x ≡ false
-  todo_lacked x some_here = not-true (has_id parts.opening x)
-      (and_parts (not (has_id parts.opening x)) (is_in_part parts.job.setting.parts parts.job.setting.part x)
+  pub todo_lacked : (x : ℕ) → 0 < times x parts.todo → has_id parts.initial_outcomes x ≡ false
+  todo_lacked x some_here = not-true (has_id parts.initial_outcomes x)
+      (and_parts (not (has_id parts.initial_outcomes x)) (is_in_part parts.job.setting.parts parts.job.setting.part x)
       (filter_passes x (total parts.job) lacks (omega (arith, some_here, todo_taken x)))).0
 
   pub todo_few : length parts.todo ≤ total parts.job

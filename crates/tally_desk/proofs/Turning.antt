@@ -103,13 +103,13 @@ module _ (newest : SavedSlotsAreNewest) (ours : CheckpointsAreOurs) where
       → KeepsOther b c place.slot → HoldsBytes c place.slot (checkpoint 2 (job_digest parts.job) place.generation all)
       → IfObserved c (IsNewestForFitJobs (job_digest parts.job) place.slot place.generation all)
       → IfBothObserved a c (λ before now. SlotsAs parts before now (next_place place) (l ++ post_of t i true ∷ [])))
-  observed_saved parts plan l t i place at of_todo fit sound None b c first h other held fresh = tt
-  observed_saved parts plan l t i place at of_todo fit sound (Some p) None c first h other held fresh = absurd h
-  observed_saved parts plan l t i place at of_todo fit sound (Some p) (Some q) None first h other held fresh = other
-  observed_saved parts plan l t i place at of_todo fit sound (Some p) (Some q) (Some r) first h other held fresh =
+  observed_saved parts plan l t i place at of_todo fit sound None b c first h other slot_bytes fresh = tt
+  observed_saved parts plan l t i place at of_todo fit sound (Some p) None c first h other slot_bytes fresh = absurd h
+  observed_saved parts plan l t i place at of_todo fit sound (Some p) (Some q) None first h other slot_bytes fresh = other
+  observed_saved parts plan l t i place at of_todo fit sound (Some p) (Some q) (Some r) first h other slot_bytes fresh =
       let slot : place.slot < 2 = subst (λ (x : Place). x.slot < 2) (sym at) (moved_slot (saves_made l) parts.place plan.slot) in
       let generation : place.generation < 3 = subst (λ (x : Place). x.generation < 3) (sym at) (moved_generation (saves_made l) parts.place plan.generation) in
-      saved_slots newest ours parts plan l t i p q r place slot generation at first of_todo fit sound held
+      saved_slots newest ours parts plan l t i p q r place slot generation at first of_todo fit sound slot_bytes
       (sym (other_is r place.slot slot) ∙ other ∙ other_is q place.slot slot) fresh h
 
 -- ---- the turn
@@ -203,7 +203,7 @@ module _ {C : Type 0} (state : C → Kept) (lets : Lets) (parts : Parts) (y : Ho
         subst (λ (x : Place × List ℕ × List Outcome). lets (state y.keeper) x.0.slot (checkpoint 2 x.1 x.0.generation x.2))
         (λ i. (sym k.place_is i, sym digests i, sym sorted i))
         (may.holds.run_saves (state y.keeper) (attempts parts l) (try_made parts.job (made_with parts l e)) k.attempted_is
-        (subst (AreSavesSoFar parts.job parts.opening parts.save_every parts.place parts.todo) one_more so_far))
+        (subst (AreSavesSoFar parts.job parts.initial_outcomes parts.save_every parts.place parts.todo) one_more so_far))
 
     -- no save was due, and none was made
     undone : is_due parts.save_every (post_of (length l) o.id false) ≡ false → Done m false
@@ -294,7 +294,7 @@ module _ {C : Type 0} (state : C → Kept) (lets : Lets) (parts : Parts) (y : Ho
                 (by_id_fit (fits parts.job) (total parts.job) (booked parts (next true)) (booked_fit parts may.plan (next true) (next_of_todo true)))
                 (subst (λ (x : List ℕ × List Outcome). IsCheckpoint (checkpoint 2 x.0 y.place.generation x.1) 2 x.0 y.place.generation x.1) (λ i. (digests i, sorted_is i)) attempted.sound)
                 parts.keeper.slots (state y.keeper).slots (state n.keeper).slots may.plan.place k.observed attempted.other
-                (subst (λ (x : List ℕ × List Outcome). HoldsBytes (state n.keeper).slots y.place.slot (checkpoint 2 x.0 y.place.generation x.1)) (λ i. (digests i, sorted_is i)) w.held)
+                (subst (λ (x : List ℕ × List Outcome). HoldsBytes (state n.keeper).slots y.place.slot (checkpoint 2 x.0 y.place.generation x.1)) (λ i. (digests i, sorted_is i)) w.slot_bytes)
                 (subst (λ (x : List ℕ × List Outcome). IfObserved (state n.keeper).slots (IsNewestForFitJobs x.0 y.place.slot y.place.generation x.1)) (λ i. (digests i, sorted_is i)) w.newest));
           }
 

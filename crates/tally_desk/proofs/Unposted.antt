@@ -20,13 +20,13 @@ use Rattle.tally_desk.specs.Desks.{claimed_ids, ended_view}
 use Rattle.tally_desk.specs.Entries.{post_of, posted_id, ids_of}
 use Rattle.tally_desk.specs.Parts.{Parts}
 use Rattle.tally_desk.specs.Passes.{Belongs, Claims, HasPostedAll, MayPost, Posts, view_of}
-use Rattle.tally_desk.specs.Unposted.{AreRooms, HoldsRest, IsHolding, IsRoomFor, IsRoomWithin, found_id, held_ids, held_room, holders, room_at}
+use Rattle.tally_desk.specs.Unposted.{AreRooms, HoldsRest, IsHolding, IsRoomFor, IsRoomWithin, found_id, buffered_ids, buffer_room, holders, room_at}
 use Rattle.tally_desk.specs.Views.{PassView}
 use Rattle.tally_desk.proofs.Wholes.{claimed_more, same_entries}
 
 -- if nothing is buffered, all claims are posted
-pub nothing_held : (parts : Parts) (v : PassView) → HasPostedAll parts v → HoldsRest parts v []
-nothing_held parts v all = record {
+pub nothing_buffered : (parts : Parts) (v : PassView) → HasPostedAll parts v → HoldsRest parts v []
+nothing_buffered parts v all = record {
   counted = λ id. omega (arith, all id);
   once = λ id some. absurd (omega (arith, some));
   right = All-nil (λ o. o ≡ found parts.job o.id);
@@ -36,17 +36,17 @@ pub all_posted : (parts : Parts) (v : PassView) → HoldsRest parts v [] → Has
 all_posted parts v h id = omega (arith, h.counted id)
 
 -- a draw past the end changes neither posts nor buffer
-pub ended_held : (parts : Parts) (v : PassView) (held : List Outcome) → HoldsRest parts v held → HoldsRest parts (ended_view v) held
-ended_held parts v held h = record { counted = h.counted; once = h.once; right = h.right }
+pub ended_buffered : (parts : Parts) (v : PassView) (buffered : List Outcome) → HoldsRest parts v buffered → HoldsRest parts (ended_view v) buffered
+ended_buffered parts v buffered h = record { counted = h.counted; once = h.once; right = h.right }
 
 -- one more buffered outcome
-held_push : (x : ℕ) (held : List Outcome) (o : Outcome) → times x (held_ids (held ++ o ∷ [])) ≡ times x (held_ids held) + one x o.id
-held_push x held o = ap (times x) (map-append found_id held (o ∷ [])) ∙ times_push x (held_ids held) o.id
+buffered_push : (x : ℕ) (buffered : List Outcome) (o : Outcome) → times x (buffered_ids (buffered ++ o ∷ [])) ≡ times x (buffered_ids buffered) + one x o.id
+buffered_push x buffered o = ap (times x) (map-append found_id buffered (o ∷ [])) ∙ times_push x (buffered_ids buffered) o.id
 
 -- a claimed and walked outcome is buffered
-pub claimed_held : (parts : Parts) (id : ℕ) (v w : PassView) (held : List Outcome) (o : Outcome) → HoldsRest parts v held → Claims parts id v w
-    → o ≡ found parts.job o.id → o.id ≡ id → HoldsRest parts w (held ++ o ∷ [])
-claimed_held parts id v w held o h c right named = record {
+pub claimed_buffered : (parts : Parts) (id : ℕ) (v w : PassView) (buffered : List Outcome) (o : Outcome) → HoldsRest parts v buffered → Claims parts id v w
+    → o ≡ found parts.job o.id → o.id ≡ id → HoldsRest parts w (buffered ++ o ∷ [])
+claimed_buffered parts id v w buffered o h c right named = record {
   counted = λ x. omega (arith, h.counted x, claimed_more parts id x v w c, entries x, pushed x);
   once = λ x some. ⊎_elim
       (λ t. let one_is : one x id ≡ 1 = ap (λ (b : Bool). cond b 1 0) t.0 in
@@ -54,30 +54,30 @@ claimed_held parts id v w held o h c right named = record {
       omega (arith, claimed_more parts id x v w c, one_is, none))
       (λ t. let none : one x id ≡ 0 = ap (λ (b : Bool). cond b 1 0) t.0 in
       omega (arith, claimed_more parts id x v w c, none, h.once x (omega (arith, some, pushed x, none)))) (eqb_tells id x);
-  right = All-push (λ u. u ≡ found parts.job u.id) held o h.right right;
+  right = All-push (λ u. u ≡ found parts.job u.id) buffered o h.right right;
 }
   where
     entries : (x : ℕ) → times x (ids_of w.entries) ≡ times x (ids_of v.entries)
     entries x = ap (λ (l : List Entry). times x (ids_of l)) (same_entries parts id v w c)
 
-    pushed : (x : ℕ) → times x (held_ids (held ++ o ∷ [])) ≡ times x (held_ids held) + one x id
-    pushed x = held_push x held o ∙ ap (λ (k : ℕ). times x (held_ids held) + one x k) named
+    pushed : (x : ℕ) → times x (buffered_ids (buffered ++ o ∷ [])) ≡ times x (buffered_ids buffered) + one x id
+    pushed x = buffered_push x buffered o ∙ ap (λ (k : ℕ). times x (buffered_ids buffered) + one x k) named
 
 -- the last buffered outcome may be posted
-pub may_post_held : (parts : Parts) (v : PassView) (held : List Outcome) (o : Outcome) → HoldsRest parts v (held ++ o ∷ []) → MayPost parts o.id v
-may_post_held parts v held o h =
-    let some : 0 < times o.id (held_ids (held ++ o ∷ [])) = omega (arith, held_push o.id held o, one_same o.id) in
+pub may_post_buffered : (parts : Parts) (v : PassView) (buffered : List Outcome) (o : Outcome) → HoldsRest parts v (buffered ++ o ∷ []) → MayPost parts o.id v
+may_post_buffered parts v buffered o h =
+    let some : 0 < times o.id (buffered_ids (buffered ++ o ∷ [])) = omega (arith, buffered_push o.id buffered o, one_same o.id) in
     record {
       claimed = omega (arith, h.once o.id some);
       unposted = omega (arith, h.once o.id some, h.counted o.id, some);
     }
 
 -- after a post, the others are still buffered
-pub posted_held : (parts : Parts) (v w : PassView) (held : List Outcome) (o : Outcome) → HoldsRest parts v (held ++ o ∷ []) → Posts o.id v w → HoldsRest parts w held
-posted_held parts v w held o h p = record {
-  counted = λ x. omega (arith, h.counted x, entries x, claims x, held_push x held o);
-  once = λ x some. claims x ∙ h.once x (omega (arith, some, held_push x held o));
-  right = popped_rest (λ u. u ≡ found parts.job u.id) (held ++ o ∷ []) held o h.right refl;
+pub posted_buffered : (parts : Parts) (v w : PassView) (buffered : List Outcome) (o : Outcome) → HoldsRest parts v (buffered ++ o ∷ []) → Posts o.id v w → HoldsRest parts w buffered
+posted_buffered parts v w buffered o h p = record {
+  counted = λ x. omega (arith, h.counted x, entries x, claims x, buffered_push x buffered o);
+  once = λ x some. claims x ∙ h.once x (omega (arith, some, buffered_push x buffered o));
+  right = popped_rest (λ u. u ≡ found parts.job u.id) (buffered ++ o ∷ []) buffered o h.right refl;
 }
   where
     entries : (x : ℕ) → times x (ids_of w.entries) ≡ times x (ids_of v.entries) + one x o.id
@@ -90,13 +90,13 @@ posted_held parts v w held o h p = record {
 -- ---- the buffer of a pass
 
 -- the buffer may be replaced by an equal list
-pub same_held : (table : TableId) (parts : Parts) (p : DeskPass) (xs ys : List Outcome) → xs ≡ ys → IsHolding table parts p xs → IsHolding table parts p ys
-same_held table parts p xs ys same h = subst (IsHolding table parts p) same h
+pub same_buffered : (table : TableId) (parts : Parts) (p : DeskPass) (xs ys : List Outcome) → xs ≡ ys → IsHolding table parts p xs → IsHolding table parts p ys
+same_buffered table parts p xs ys same h = subst (IsHolding table parts p) same h
 
 -- the buffer after a post of its last outcome
-pub holds_fewer : (table : TableId) (parts : Parts) (p q : DeskPass) (held : List Outcome) (o : Outcome) → IsHolding table parts p (held ++ o ∷ []) → Belongs table parts q
-    → Posts o.id (view_of p) (view_of q) → IsHolding table parts q held
-holds_fewer table parts p q held o h belongs posts = record { belongs = belongs; rest = posted_held parts (view_of p) (view_of q) held o h.rest posts }
+pub holds_fewer : (table : TableId) (parts : Parts) (p q : DeskPass) (buffered : List Outcome) (o : Outcome) → IsHolding table parts p (buffered ++ o ∷ []) → Belongs table parts q
+    → Posts o.id (view_of p) (view_of q) → IsHolding table parts q buffered
+holds_fewer table parts p q buffered o h belongs posts = record { belongs = belongs; rest = posted_buffered parts (view_of p) (view_of q) buffered o h.rest posts }
 
 -- ---- buffer capacities by place
 
@@ -114,12 +114,12 @@ module _ {A : Type 0} (s : Setting) (workers : ℕ) where
       (subst (IsRoomFor (room_at s workers (length lists))) (sym (get_or-append_seam lists h [] d)) last)) (cases_lt place (length lists))
 
   -- no buffer is larger than the allowed capacity
-  pub rooms_within : (lists : List (Vec Outcome A)) → AreRooms s workers lists → All (IsRoomWithin (held_room s workers)) lists
+  pub rooms_within : (lists : List (Vec Outcome A)) → AreRooms s workers lists → All (IsRoomWithin (buffer_room s workers)) lists
   rooms_within lists rooms place d inside = let r = rooms place d inside in record { blank = r.blank; few = omega (arith, r.room_is, at_most place) }
     where
-      at_most : (place : ℕ) → room_at s workers place ≤ held_room s workers
+      at_most : (place : ℕ) → room_at s workers place ≤ buffer_room s workers
       at_most place = cases (nat_lt place (holders workers))
         where
-          cases : (b : Bool) → (if b then held_room s workers else 0) ≤ held_room s workers
+          cases : (b : Bool) → (if b then buffer_room s workers else 0) ≤ buffer_room s workers
           cases true = omega arith
           cases false = omega arith

@@ -6,7 +6,7 @@ use Rattle.tally_desk.specs.Parts.{Parts}
 abbrev pub parts_of : {C : Type 0} → (C → Kept) → Founding C → Parts
 parts_of state f = record {
   job = f.job.value;
-  opening = f.book.value.outcomes;
+  initial_outcomes = f.book.value.outcomes;
   todo = f.todo.value;
   save_every = f.save_every;
   seats = f.seats;

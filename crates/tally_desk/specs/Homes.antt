@@ -27,7 +27,7 @@ use Rattle.audit_statement.specs.InOrder.{moved}
 
 -- the initial outcomes, and the outcomes of the posted ids
 abbrev pub booked : Parts → List Entry → List Outcome
-booked parts posted = parts.opening ++ map (found parts.job) (ids_of posted)
+booked parts posted = parts.initial_outcomes ++ map (found parts.job) (ids_of posted)
 
 -- ---- the place
 

@@ -19,8 +19,8 @@ use Rattle.tally_desk.specs.Views.{PassView, in_turn, no_turn, spent_view, waiti
 
 -- ---- the state
 
-abbrev pub opening_ids : Parts → List ℕ
-opening_ids parts = map (λ o. o.id) parts.opening
+abbrev pub initial_ids : Parts → List ℕ
+initial_ids parts = map (λ o. o.id) parts.initial_outcomes
 
 -- the id at a place of the list, if the place is claimed and the id is not posted
 abbrev pub open_at : Parts → ℕ → List Entry → ℕ → Option ℕ
@@ -34,11 +34,11 @@ machine_of parts drawn posted = record {
   parts = parts.job.setting.parts;
   part = parts.job.setting.part;
   budget = length parts.todo;
-  start = opening_ids parts;
-  saved = opening_ids parts ++ ids_of (up_to_save (saves_made posted) posted);
-  done = opening_ids parts ++ ids_of posted;
+  start = initial_ids parts;
+  saved = initial_ids parts ++ ids_of (up_to_save (saves_made posted) posted);
+  done = initial_ids parts ++ ids_of posted;
   next = min drawn (length parts.todo);
-  held = map_below (length parts.todo) (open_at parts (min drawn (length parts.todo)) posted);
+  open_ids = map_below (length parts.todo) (open_at parts (min drawn (length parts.todo)) posted);
 }
 
 -- ---- the steps

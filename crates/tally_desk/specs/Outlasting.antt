@@ -24,7 +24,7 @@ pub record ArePosts (parts : Parts) (posted : List Entry) : Type 0 where
 -- if the initial outcomes are correct, a stop anywhere in a run leaves consistent slots, wherever its saves failed
 abbrev pub RunStopsLeaveConsistentSlots : Type 0
 RunStopsLeaveConsistentSlots = (parts : Parts) (posted : List Entry) (before after : Pair) (n : ℕ)
-    → ArePosts parts posted → IsRight parts.job (draw parts.job.setting.key) parts.opening
+    → ArePosts parts posted → IsRight parts.job (draw parts.job.setting.key) parts.initial_outcomes
     → AreCarriedOut IsNotOurs parts.job (job_digest parts.job) before (stopped_in n (attempts parts posted)) after
     → AreConsistent parts.job (draw parts.job.setting.key) (job_digest parts.job) before
     → AreConsistent parts.job (draw parts.job.setting.key) (job_digest parts.job) after

@@ -19,7 +19,7 @@ use Rattle.outcome_book.specs.Booked.{Booked, IsBook}
 -- place of the first save, and the initial state of the keeper.
 pub record Parts : Type 0 where
   pub job : Job
-  pub opening : List Outcome
+  pub initial_outcomes : List Outcome
   pub todo : List ℕ
   pub save_every : ℕ
   pub seats : ℕ
@@ -32,7 +32,7 @@ IsPlaceFor job slots place = IfObserved slots (λ p. place_for job (job_digest j
 
 -- the ids to do: by rising id, the first ids of the job's part without an initial outcome
 abbrev pub IsTodoFor : Job → List Outcome → List ℕ → Type 0
-IsTodoFor job opening todo = (budget : ℕ) × (todo ≡ run_ids job opening budget)
+IsTodoFor job initial_outcomes todo = (budget : ℕ) × (todo ≡ run_ids job initial_outcomes budget)
 
 -- the requirements on a desk of the job, given the known slots: a plan, ids to do and a book
 pub record MayFound (job : Job) (slots : Option Pair) (plan : DeskPlan) (ids : List ℕ) (b : Booked) : Type 0 where
@@ -49,9 +49,9 @@ pub record MayFound (job : Job) (slots : Option Pair) (plan : DeskPlan) (ids : L
 pub record IsPlan (parts : Parts) : Type 0 where
   pub sound : IsJob parts.job
   pub few_asks : length parts.job.setting.asks ≤ 4
-  pub book : IsBook (record { total = total parts.job; outcomes = parts.opening })
-  pub fit : All (λ o. IsTrue (fits parts.job o)) parts.opening
-  pub todo : IsTodoFor parts.job parts.opening parts.todo
+  pub book : IsBook (record { total = total parts.job; outcomes = parts.initial_outcomes })
+  pub fit : All (λ o. IsTrue (fits parts.job o)) parts.initial_outcomes
+  pub todo : IsTodoFor parts.job parts.initial_outcomes parts.todo
   pub every : 1 ≤ parts.save_every
   pub some_seat : 1 ≤ parts.seats
   pub few_seats : parts.seats ≤ 33
@@ -61,4 +61,4 @@ pub record IsPlan (parts : Parts) : Type 0 where
 
 -- the keeper accepts each due save of the desk
 abbrev pub LetsDesk : Lets → Parts → Type 0
-LetsDesk lets parts = LetsRun lets parts.keeper.attempted parts.job parts.opening parts.save_every parts.place parts.todo
+LetsDesk lets parts = LetsRun lets parts.keeper.attempted parts.job parts.initial_outcomes parts.save_every parts.place parts.todo

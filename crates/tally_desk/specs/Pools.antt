@@ -8,16 +8,16 @@ use Rattle.tally_desk.specs.declared.pass.DeskPass.{DeskPass}
 use Rattle.tally_desk.specs.Parts.{Parts}
 use Rattle.tally_desk.specs.Passes.{Belongs, HasPostedAll, view_of}
 use Rattle.claim_counter.specs.Walks.{IsWithin, ServesEnds}
-use Rattle.flip_kernel.specs.Held.{Held}
+use Rattle.flip_kernel.specs.ChainState.{ChainState}
 use Rattle.tally_desk.specs.declared.pool.DeskPool.{DeskPool}
 use Rattle.tally_desk.specs.declared.worker.DeskWorker.{DeskWorker}
-use Rattle.tally_desk.specs.Unposted.{AreRooms, IsHolding, IsRoomWithin, held_room, holders}
+use Rattle.tally_desk.specs.Unposted.{AreRooms, IsHolding, IsRoomWithin, buffer_room, holders}
 
 -- a walker of the job, by its current plan
-abbrev pub IsWalker : Job → Held → Type 0
+abbrev pub IsWalker : Job → ChainState → Type 0
 IsWalker job w = w.job ≡ job
 
-abbrev pub AreWalkers : Job → List Held → Type 0
+abbrev pub AreWalkers : Job → List ChainState → Type 0
 AreWalkers job walkers = All (IsWalker job) walkers
 
 -- `count` walkers of the job, with capacity for as many workers, for the hub, and for the outcome buffers. All buffers
@@ -27,20 +27,20 @@ pub record IsDeskPool {J : Type 0} (job : Job) (count : ℕ) (c : DeskPool J) : 
   pub count_is : vec_len c.walkers ≡ count
   pub blank : c.workers.items ≡ []
   pub room : count ≤ vec_capacity c.workers
-  pub held_count : vec_len c.held ≡ count
-  pub held_rooms : AreRooms job.setting count c.held.items
-  pub held_few : holders count * held_room job.setting count ≤ job.setting.save_every - 1
+  pub buffer_count : vec_len c.buffered ≡ count
+  pub buffer_rooms : AreRooms job.setting count c.buffered.items
+  pub few_buffered : holders count * buffer_room job.setting count ≤ job.setting.save_every - 1
   pub hub_units : length c.hub ≡ job.graph.units
 
 -- a walker of the desk's job and an empty buffer for each seat, and capacity for as many workers
-pub record MaySeat {J A B D E : Type 0} (parts : Parts) (walkers : Vec Held A) (workers : Vec (DeskWorker J) B) (held : Vec (Vec Outcome D) E) : Type 0 where
+pub record MaySeat {J A B D E : Type 0} (parts : Parts) (walkers : Vec ChainState A) (workers : Vec (DeskWorker J) B) (buffered : Vec (Vec Outcome D) E) : Type 0 where
   pub seats_are : parts.seats ≡ vec_len walkers
   pub some : 0 < vec_len walkers
   pub walkers_are : AreWalkers parts.job walkers.items
   pub blank : workers.items ≡ []
   pub room : vec_len walkers ≤ vec_capacity workers
-  pub held_count : vec_len held ≡ vec_len walkers
-  pub held_rooms : All (IsRoomWithin (held_room parts.job.setting parts.seats)) held.items
+  pub buffer_count : vec_len buffered ≡ vec_len walkers
+  pub buffer_rooms : All (IsRoomWithin (buffer_room parts.job.setting parts.seats)) buffered.items
 
 -- the trajectories walked at a desk are those of its job, and the hub is there if one starts from it
 pub record WalksAtDesk (job : Job) (parts : Parts) (units : List ℕ) : Type 0 where
@@ -49,17 +49,17 @@ pub record WalksAtDesk (job : Job) (parts : Parts) (units : List ℕ) : Type 0 w
   pub hub : ServesEnds job parts.todo units
 
 -- a worker between two claims: each claim is posted or buffered, and the pass has not ended
-pub record IsAtDesk (table : TableId) (parts : Parts) (w : Held) (p : DeskPass) (held : List Outcome) : Type 0 where
+pub record IsAtDesk (table : TableId) (parts : Parts) (w : ChainState) (p : DeskPass) (buffered : List Outcome) : Type 0 where
   pub walks : IsWalker parts.job w
-  pub holds : IsHolding table parts p held
+  pub holds : IsHolding table parts p buffered
   pub going : (view_of p).own.ended ≡ false
   pub weight : (view_of p).own.weight ≡ 1
   pub spare : (view_of p).own.spare ≡ 0
 
 -- a worker before the first claim: its buffer is empty and no larger than allowed
-pub record IsReadyAtDesk {J : Type 0} (table : TableId) (parts : Parts) (w : DeskWorker J) : Type 0 where
+pub record IsUnstartedAtDesk {J : Type 0} (table : TableId) (parts : Parts) (w : DeskWorker J) : Type 0 where
   pub at_desk : IsAtDesk table parts w.walker w.pass []
-  pub held : IsRoomWithin (held_room parts.job.setting parts.seats) w.held
+  pub buffered : IsRoomWithin (buffer_room parts.job.setting parts.seats) w.buffered
 
 -- a worker that found no id left and has posted all its claims
 pub record IsDeskWorkerDone {J : Type 0} (table : TableId) (parts : Parts) (w : DeskWorker J) : Type 0 where

@@ -11,4 +11,4 @@ use Rattle.tally_desk.specs.Parts.{IsPlan, Parts}
 -- the law that outcomes saved from correct initial outcomes and posts of ids to do are those of the job's trajectories
 abbrev pub SavedOutcomesAreRight : Type 0
 SavedOutcomesAreRight = (parts : Parts) (posted : List Entry) → IsPlan parts → ((id : ℕ) → times id (ids_of posted) ≤ times id parts.todo)
-    → IsRight parts.job (draw parts.job.setting.key) parts.opening → IsRight parts.job (draw parts.job.setting.key) (by_id (total parts.job) (booked parts posted))
+    → IsRight parts.job (draw parts.job.setting.key) parts.initial_outcomes → IsRight parts.job (draw parts.job.setting.key) (by_id (total parts.job) (booked parts posted))

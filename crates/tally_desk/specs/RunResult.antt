@@ -24,9 +24,9 @@ use Rattle.tally_desk.specs.Parts.{IsPlan, Parts}
 
 -- the constants of a run's desk
 abbrev pub starts : {C : Type 0} → (C → Kept) → Job → List Outcome → List ℕ → ℕ → ℕ → Place → C → Parts
-starts state job opening todo save_every seats place keeper = record {
+starts state job initial_outcomes todo save_every seats place keeper = record {
   job = job;
-  opening = opening;
+  initial_outcomes = initial_outcomes;
   todo = todo;
   save_every = save_every;
   seats = seats;
@@ -77,5 +77,5 @@ pub record HasRun (parts : Parts) (keeper_now : Kept) (sorted : List Outcome)
   pub attempts : List Try
   pub attempted : keeper_now.attempted ≡ attempted_all parts.keeper.attempted attempts
   pub are_attempts : AreRunAttempts parts attempts
-  pub in_order : AreSavesOf parts.job parts.opening parts.save_every parts.place (ids_of posted) attempts
+  pub in_order : AreSavesOf parts.job parts.initial_outcomes parts.save_every parts.place (ids_of posted) attempts
   pub covered : min (parts.keeper.save_faults + failed_of attempts) (2 ^ 64 - 1) ≤ keeper_now.save_faults

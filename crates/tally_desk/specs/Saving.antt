@@ -41,7 +41,7 @@ module _ {C : Type 0} where
       pub place : now.place ≡ next_place before.place
       pub failed : now.failed_saves ≡ before.failed_saves
       pub faults : (state now.keeper).save_faults ≡ (state before.keeper).save_faults
-      pub held : HoldsBytes (state now.keeper).slots before.place.slot (bytes_of before)
+      pub slot_bytes : HoldsBytes (state now.keeper).slots before.place.slot (bytes_of before)
       pub newest : IfObserved (state now.keeper).slots (IsNewestForFitJobs before.digest before.place.slot before.place.generation (sorted_of before))
 
     -- the save failed

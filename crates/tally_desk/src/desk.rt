@@ -66,7 +66,7 @@ impl<C: Keeper> Desk<C> {
         requires lets { LetsDesk C.lets (starts C.state job.now initial_state.book.outcomes initial_state.todo initial_state.plan.save_every seats initial_state.plan.place initial_state.keeper) }
         ensures parts { IfOk result (λ d. parts_of C.state d.0.table.shared.key ≡ record {
           job = job.now;
-          opening = initial_state.book.outcomes;
+          initial_outcomes = initial_state.book.outcomes;
           todo = initial_state.todo;
           save_every = initial_state.plan.save_every;
           seats = seats;

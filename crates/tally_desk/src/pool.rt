@@ -3,8 +3,8 @@
 ghost use Rattle.std.specs.Prelude.{◌≡◌, ◌+◌, ◌-◌, ◌*◌, ◌<◌, ◌≤◌, ◌∷◌, [], ◌++◌, All, IfOk, vec_len};
 ghost use Rattle.tally_desk.specs.Founded.{parts_of};
 ghost use Rattle.tally_desk.specs.Passes.{IsFirstPass};
-ghost use Rattle.tally_desk.specs.Pools.{AreWalkers, IsDeskPool, IsReadyAtDesk, MaySeat};
-ghost use Rattle.tally_desk.specs.Unposted.{AreRooms, held_room, holders, room_at};
+ghost use Rattle.tally_desk.specs.Pools.{AreWalkers, IsDeskPool, IsUnstartedAtDesk, MaySeat};
+ghost use Rattle.tally_desk.specs.Unposted.{AreRooms, buffer_room, holders, room_at};
 ghost use Rattle.walker.specs.Judges.{AreJudges};
 
 use crate::desk::Desk;
@@ -27,7 +27,7 @@ use std::alloc::Global;
 pub struct DeskPool<J: Judge> {
     pub(crate) walkers: Vec<GatedWalker<J>>,
     pub(crate) workers: Vec<DeskWorker<J>>,
-    pub(crate) held: Vec<Vec<Outcome>>,
+    pub(crate) buffered: Vec<Vec<Outcome>>,
     pub(crate) hub: UnitList,
 }
 
@@ -35,7 +35,7 @@ pub struct DeskPool<J: Judge> {
 const LONG_STEPS: u32 = 100_000;
 
 /// The largest capacity of one outcome buffer.
-const MOST_HELD: usize = 4096;
+const MOST_BUFFERED: usize = 4096;
 
 /// The largest number of workers with an outcome buffer. With more buffering workers, the worker that saves would get
 /// too little of the processors.
@@ -52,12 +52,12 @@ pub fn make_pool<J: Judge>(alloc: Global, job: &Job, judges: Vec<J>) -> Result<D
     let setting = job.setting();
     // Called for its contract: the workers together buffer few outcomes.
     let _each = room_each(setting, judges.len());
-    let held = make_rooms(alloc, setting, judges.len())?;
+    let buffered = make_rooms(alloc, setting, judges.len())?;
     let walkers = make_walkers(alloc, job, judges)?;
     Ok(DeskPool {
         walkers,
         workers: room,
-        held,
+        buffered,
         hub,
     })
 }
@@ -72,14 +72,14 @@ fn holders(workers: usize) -> usize
 // Returns the capacity of each outcome buffer. All buffers together hold fewer outcomes than are posted between two
 // saves.
 fn room_each(setting: &Setting, workers: usize) -> usize
-    ensures room { result ≡ held_room setting.now workers }
+    ensures room { result ≡ buffer_room setting.now workers }
     ensures few { holders workers * result ≤ setting.now.save_every - 1 }
 {
     if setting.steps.max(setting.hub_steps) >= LONG_STEPS {
         return 0;
     }
     let few = setting.save_every.saturating_sub(1) as usize;
-    MOST_HELD.min(few / holders(workers).max(1))
+    MOST_BUFFERED.min(few / holders(workers).max(1))
 }
 
 // Returns the buffer capacity of the worker at this place.
@@ -98,12 +98,12 @@ fn make_rooms(alloc: Global, setting: &Setting, workers: usize) -> Result<Vec<Ve
     ensures count { IfOk result (λ h. vec_len h ≡ workers) }
     ensures rooms { IfOk result (λ h. AreRooms setting.now workers h.items) }
 {
-    let mut held = Vec::with_capacity(alloc, workers)?;
+    let mut buffered = Vec::with_capacity(alloc, workers)?;
     for place in 0..workers {
         let room = room_at(setting, workers, place);
-        held.push_reserved(Vec::with_capacity(alloc, room)?);
+        buffered.push_reserved(Vec::with_capacity(alloc, room)?);
     }
-    Ok(held)
+    Ok(buffered)
 }
 
 // Makes a worker of each walker, with its own pass and buffer.
@@ -116,7 +116,7 @@ pub(crate) fn seat<C: Keeper, J: Judge>(
 ) -> Vec<DeskWorker<J>>
     requires pass { IsFirstPass desk.now.table.shared.table_id (parts_of C.state desk.now.table.shared.key) pass }
     requires pool { MaySeat (parts_of C.state desk.now.table.shared.key) walkers workers lists }
-    ensures ready { All (IsReadyAtDesk desk.now.table.shared.table_id (parts_of C.state desk.now.table.shared.key)) result.items }
+    ensures unstarted { All (IsUnstartedAtDesk desk.now.table.shared.table_id (parts_of C.state desk.now.table.shared.key)) result.items }
     ensures count { vec_len result ≡ vec_len walkers }
 {
     // Called for its contract: a pass that posts what it claims has posted all its claims.
@@ -126,18 +126,18 @@ pub(crate) fn seat<C: Keeper, J: Judge>(
     };
     while let Some(walker) = walkers.pop() {
         let part = desk.split(&mut pass);
-        let held = take_last(&mut lists);
+        let buffered = take_last(&mut lists);
         workers.push_reserved(DeskWorker {
             walker,
             pass: part,
-            held,
+            buffered,
         });
     }
-    let held = take_last(&mut lists);
+    let buffered = take_last(&mut lists);
     workers.push_reserved(DeskWorker {
         walker: last,
         pass,
-        held,
+        buffered,
     });
     workers
 }

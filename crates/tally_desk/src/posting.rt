@@ -18,16 +18,16 @@ pub fn hand_in<R: Wait, C: Keeper>(
     rt: &R,
     desk: &Desk<C>,
     pass: &mut DeskPass,
-    held: &mut Vec<Outcome>,
+    buffered: &mut Vec<Outcome>,
     outcome: Outcome,
 )
-    requires { IsHolding desk.now.table.shared.table_id (parts_of C.state desk.now.table.shared.key) pass.old (held.old.items ++ outcome ∷ []) }
-    ensures holds { IsHolding desk.now.table.shared.table_id (parts_of C.state desk.now.table.shared.key) pass.new held.new.items }
+    requires { IsHolding desk.now.table.shared.table_id (parts_of C.state desk.now.table.shared.key) pass.old (buffered.old.items ++ outcome ∷ []) }
+    ensures holds { IsHolding desk.now.table.shared.table_id (parts_of C.state desk.now.table.shared.key) pass.new buffered.new.items }
     ensures own { (view_of pass.new).own ≡ (view_of pass.old).own }
-    ensures room { vec_capacity held.new ≡ vec_capacity held.old }
+    ensures room { vec_capacity buffered.new ≡ vec_capacity buffered.old }
 {
-    if post_or_hold(rt, desk, pass, held, outcome) {
-        post_while_free(rt, desk, pass, held);
+    if post_or_hold(rt, desk, pass, buffered, outcome) {
+        post_while_free(rt, desk, pass, buffered);
     }
 }
 
@@ -36,14 +36,14 @@ pub fn post_all<R: Wait, C: Keeper>(
     rt: &R,
     desk: &Desk<C>,
     pass: &mut DeskPass,
-    held: &mut Vec<Outcome>,
+    buffered: &mut Vec<Outcome>,
 )
-    requires { IsHolding desk.now.table.shared.table_id (parts_of C.state desk.now.table.shared.key) pass.old held.old.items }
+    requires { IsHolding desk.now.table.shared.table_id (parts_of C.state desk.now.table.shared.key) pass.old buffered.old.items }
     ensures holds { IsHolding desk.now.table.shared.table_id (parts_of C.state desk.now.table.shared.key) pass.new [] }
     ensures own { (view_of pass.new).own ≡ (view_of pass.old).own }
-    ensures room { vec_capacity held.new ≡ vec_capacity held.old }
+    ensures room { vec_capacity buffered.new ≡ vec_capacity buffered.old }
 {
-    while let Some(outcome) = held.pop() {
+    while let Some(outcome) = buffered.pop() {
         desk.post(rt, pass, outcome);
     }
 }
@@ -54,22 +54,22 @@ fn post_or_hold<R: Wait, C: Keeper>(
     rt: &R,
     desk: &Desk<C>,
     pass: &mut DeskPass,
-    held: &mut Vec<Outcome>,
+    buffered: &mut Vec<Outcome>,
     outcome: Outcome,
 ) -> bool
-    requires { IsHolding desk.now.table.shared.table_id (parts_of C.state desk.now.table.shared.key) pass.old (held.old.items ++ outcome ∷ []) }
-    ensures holds { IsHolding desk.now.table.shared.table_id (parts_of C.state desk.now.table.shared.key) pass.new held.new.items }
+    requires { IsHolding desk.now.table.shared.table_id (parts_of C.state desk.now.table.shared.key) pass.old (buffered.old.items ++ outcome ∷ []) }
+    ensures holds { IsHolding desk.now.table.shared.table_id (parts_of C.state desk.now.table.shared.key) pass.new buffered.new.items }
     ensures own { (view_of pass.new).own ≡ (view_of pass.old).own }
-    ensures room { vec_capacity held.new ≡ vec_capacity held.old }
+    ensures room { vec_capacity buffered.new ≡ vec_capacity buffered.old }
 {
-    if held.len() == held.capacity() {
+    if buffered.len() == buffered.capacity() {
         desk.post(rt, pass, outcome);
         return true;
     }
     if desk.try_post(rt, pass, outcome) {
         return true;
     }
-    held.push_reserved(outcome);
+    buffered.push_reserved(outcome);
     false
 }
 
@@ -78,16 +78,16 @@ fn post_while_free<R: Wait, C: Keeper>(
     rt: &R,
     desk: &Desk<C>,
     pass: &mut DeskPass,
-    held: &mut Vec<Outcome>,
+    buffered: &mut Vec<Outcome>,
 )
-    requires { IsHolding desk.now.table.shared.table_id (parts_of C.state desk.now.table.shared.key) pass.old held.old.items }
-    ensures holds { IsHolding desk.now.table.shared.table_id (parts_of C.state desk.now.table.shared.key) pass.new held.new.items }
+    requires { IsHolding desk.now.table.shared.table_id (parts_of C.state desk.now.table.shared.key) pass.old buffered.old.items }
+    ensures holds { IsHolding desk.now.table.shared.table_id (parts_of C.state desk.now.table.shared.key) pass.new buffered.new.items }
     ensures own { (view_of pass.new).own ≡ (view_of pass.old).own }
-    ensures room { vec_capacity held.new ≡ vec_capacity held.old }
+    ensures room { vec_capacity buffered.new ≡ vec_capacity buffered.old }
 {
-    while let Some(outcome) = held.pop() {
+    while let Some(outcome) = buffered.pop() {
         if !desk.try_post(rt, pass, outcome) {
-            held.push_reserved(outcome);
+            buffered.push_reserved(outcome);
             return;
         }
     }

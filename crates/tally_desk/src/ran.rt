@@ -92,7 +92,7 @@ fn work<R: Threads + Wait + Sync, C: Keeper + Send, J: Judge + Send, G: Gate + S
     pool: DeskPool<J>,
 ) -> Kept<C>
     requires pass { IsFirstPass desk.table.shared.table_id (parts_of C.state desk.table.shared.key) pass }
-    requires pool { MaySeat (parts_of C.state desk.table.shared.key) pool.walkers pool.workers pool.held }
+    requires pool { MaySeat (parts_of C.state desk.table.shared.key) pool.walkers pool.workers pool.buffered }
     requires shared { WalksAtDesk job.now (parts_of C.state desk.table.shared.key) pool.hub }
     ensures { (v : PassView) × IsClosed C.state (parts_of C.state desk.table.shared.key) v
         result.book result.keeper result.place result.failed_saves result.last_saved }
@@ -100,10 +100,10 @@ fn work<R: Threads + Wait + Sync, C: Keeper + Send, J: Judge + Send, G: Gate + S
     let DeskPool {
         walkers,
         workers,
-        held,
+        buffered,
         hub,
     } = pool;
-    let mut workers = seat(&desk, pass, walkers, workers, held);
+    let mut workers = seat(&desk, pass, walkers, workers, buffered);
     walk_each(rt, job, hub.as_slice(), &desk, workers.as_mut_slice());
     let pass = gather(&desk, workers);
     desk.close(pass)

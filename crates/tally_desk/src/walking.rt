@@ -3,7 +3,7 @@
 ghost use Rattle.std.specs.Prelude.{◌≡◌, ◌+◌, ◌<◌, ℕ, All, true, vec_len};
 ghost use Rattle.tally_desk.specs.Founded.{parts_of};
 ghost use Rattle.tally_desk.specs.Passes.{Belongs, HasPostedAll, view_of};
-ghost use Rattle.tally_desk.specs.Pools.{IsDeskWorkerDone, IsReadyAtDesk, WalksAtDesk};
+ghost use Rattle.tally_desk.specs.Pools.{IsDeskWorkerDone, IsUnstartedAtDesk, WalksAtDesk};
 
 use crate::desk::Desk;
 use crate::laws::posts_stay_whole;
@@ -26,7 +26,7 @@ pub fn walk_each<R: Threads + Wait + Sync, C: Keeper + Send, J: Judge + Send, G:
     desk: &Desk<C>,
     workers: &mut [DeskWorker<J>],
 )
-    requires ready { All (IsReadyAtDesk desk.now.table.shared.table_id (parts_of C.state desk.now.table.shared.key)) workers.old }
+    requires unstarted { All (IsUnstartedAtDesk desk.now.table.shared.table_id (parts_of C.state desk.now.table.shared.key)) workers.old }
     requires shared { WalksAtDesk job.now (parts_of C.state desk.now.table.shared.key) hub.now }
     ensures { All (IsDeskWorkerDone desk.now.table.shared.table_id (parts_of C.state desk.now.table.shared.key)) workers.new }
 {
@@ -38,7 +38,7 @@ pub fn walk_each<R: Threads + Wait + Sync, C: Keeper + Send, J: Judge + Send, G:
         workers,
         count,
         &|_, worker: &mut DeskWorker<J>|
-            requires ready { IsReadyAtDesk desk.now.table.shared.table_id (parts_of C.state desk.now.table.shared.key) worker.now }
+            requires unstarted { IsUnstartedAtDesk desk.now.table.shared.table_id (parts_of C.state desk.now.table.shared.key) worker.now }
             requires shared { WalksAtDesk job.now (parts_of C.state desk.now.table.shared.key) hub.now }
             ensures { IsDeskWorkerDone desk.entry.now.table.shared.table_id (parts_of C.state desk.entry.now.table.shared.key) worker.new }
         { worker.run(threads, job, hub, gate, desk) },
@@ -72,7 +72,7 @@ fn into_pass<J: Judge>(worker: DeskWorker<J>) -> DeskPass
     let DeskWorker {
         walker: _,
         pass,
-        held: _,
+        buffered: _,
     } = worker;
     pass
 }

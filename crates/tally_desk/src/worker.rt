@@ -16,13 +16,13 @@ use std::sync::Wait;
 pub struct DeskWorker<J: Judge> {
     pub walker: GatedWalker<J>,
     pub pass: DeskPass,
-    pub held: Vec<Outcome>,
+    pub buffered: Vec<Outcome>,
 }
 
 impl<J: Judge> DeskWorker<J> {
     ghost use Rattle.std.specs.Prelude.{◌≡◌, vec_capacity};
     ghost use Rattle.tally_desk.specs.Founded.{parts_of};
-    ghost use Rattle.tally_desk.specs.Pools.{IsDeskWorkerDone, IsReadyAtDesk, WalksAtDesk};
+    ghost use Rattle.tally_desk.specs.Pools.{IsDeskWorkerDone, IsUnstartedAtDesk, WalksAtDesk};
 
     /// Claims ids at the desk until none is left, walks each trajectory and posts its outcome. While another worker has
     /// its turn, outcomes are buffered and posted after a later walk.
@@ -34,19 +34,19 @@ impl<J: Judge> DeskWorker<J> {
         gate: &G,
         desk: &Desk<C>,
     )
-        requires ready { IsReadyAtDesk desk.now.table.shared.table_id (parts_of C.state desk.now.table.shared.key) self.old }
+        requires unstarted { IsUnstartedAtDesk desk.now.table.shared.table_id (parts_of C.state desk.now.table.shared.key) self.old }
         requires shared { WalksAtDesk job.now (parts_of C.state desk.now.table.shared.key) hub.now }
         ensures done { IsDeskWorkerDone desk.now.table.shared.table_id (parts_of C.state desk.now.table.shared.key) self.new }
-        ensures room { vec_capacity self.new.held ≡ vec_capacity self.old.held }
+        ensures room { vec_capacity self.new.buffered ≡ vec_capacity self.old.buffered }
     {
         let walker = &mut self.walker;
         let pass = &mut self.pass;
-        let held = &mut self.held;
+        let buffered = &mut self.buffered;
         while let Some(id) = desk.claim(pass) {
             let observed = StartToken::tell(gate, id);
             let outcome = walker.walk(job, hub, observed);
-            hand_in(rt, desk, pass, held, outcome);
+            hand_in(rt, desk, pass, buffered, outcome);
         }
-        post_all(rt, desk, pass, held);
+        post_all(rt, desk, pass, buffered);
     }
 }

@@ -11,7 +11,7 @@ use Rattle.audit_model.specs.Trajectory.{visit, four_values}
 use Rattle.audit_model.proofs.Below.{count_below_le, length-map_below}
 use Rattle.audit_model.proofs.ColumnFacts.{column_small}
 use Rattle.audit_model.proofs.Lengths.{cut_length_few}
-use Rattle.flip_kernel.specs.Held.{sums_in}
+use Rattle.flip_kernel.specs.ChainState.{sums_in}
 use Rattle.scores.specs.Votes.{AreVotes}
 use Rattle.walker.specs.Asked.{each, is_inside, visits_inside}
 

@@ -3,11 +3,11 @@ use Rattle.std.proofs.Common.{◌≡◌, ℕ, ◌+◌, ◌-◌, ◌*◌, List, [
 use Rattle.audit_model.specs.declared.outcome.Outcome.{Outcome}
 use Rattle.audit_model.specs.declared.setting.Ask.{Ask}
 use Rattle.audit_model.specs.Job.{Job}
-use Rattle.audit_model.specs.Trajectory.{Draws, visit, hub, plan_value, moves, visits_in_tail, four_values, no_bins, bins_by, walk_outcome, end_outcome}
+use Rattle.audit_model.specs.Trajectory.{Draws, visit, hub, plan_value, moves, visits_in_tail, four_values, empty_histogram, histogram_by, walk_outcome, end_outcome}
 use Rattle.audit_model.specs.Serially.{run_outcome}
-use Rattle.flip_kernel.specs.Held.{Held}
+use Rattle.flip_kernel.specs.ChainState.{ChainState}
 use Rattle.walker.specs.Asked.{each, asked_value, is_inside, visits_inside}
-use Rattle.walker.specs.Binned.{first_bins, plan_bin, visits_binned}
+use Rattle.walker.specs.Binned.{histogram_of_visits, plan_bin, visits_binned}
 use Rattle.walker.proofs.Asking.{each_is_four}
 
 -- the values of a plan, in the four places
@@ -24,36 +24,36 @@ counts_are_four job draws steps asks = each_is_four (λ o. pos (visits_inside jo
 
 -- an outcome with these fields and no histogram
 abbrev found : ℕ → ℕ → List ℤ → Outcome
-found id moved values = record { id = id; moved = moved; values = values; bins = no_bins }
+found id moved values = record { id = id; moved = moved; values = values; bins = empty_histogram }
 
 -- counts as signed numbers
 abbrev four_signed : List ℕ → List ℤ
 four_signed counts = pos (get_or counts 0 0) ∷ pos (get_or counts 1 0) ∷ pos (get_or counts 2 0) ∷ pos (get_or counts 3 0) ∷ []
 
 -- an outcome with another histogram
-abbrev with_bins : Outcome → List ℕ → Outcome
-with_bins o bins = record o { bins = bins }
+abbrev with_histogram : Outcome → List ℕ → Outcome
+with_histogram o bins = record o { bins = bins }
 
 -- the counts of a walk along a stream are its outcome
 pub run_found : (job : Job) (draws : Draws) (stream steps moved : ℕ) (counts bins its : List ℕ) (values : List ℤ)
     → moved ≡ moves job (draws stream) job.start steps
     → counts ≡ each (visits_inside job (draws stream) (steps + 1)) job.setting.asks → values ≡ four_signed counts → bins ≡ its
-    → with_bins (found 0 moved values) bins ≡ with_bins (run_outcome job draws stream steps) its
+    → with_histogram (found 0 moved values) bins ≡ with_histogram (run_outcome job draws stream steps) its
 run_found job draws stream steps moved counts bins its values m c v b =
-    ap (λ (n : ℕ). with_bins (found 0 n values) bins) m
-    ∙ ap (λ (xs : List ℤ). with_bins (found 0 (moves job (draws stream) job.start steps) xs) bins)
+    ap (λ (n : ℕ). with_histogram (found 0 n values) bins) m
+    ∙ ap (λ (xs : List ℤ). with_histogram (found 0 (moves job (draws stream) job.start steps) xs) bins)
     (v ∙ ap four_signed c ∙ sym (counts_are_four job (draws stream) steps job.setting.asks))
-    ∙ ap (λ (xs : List ℕ). with_bins (run_outcome job draws stream steps) xs) b
+    ∙ ap (λ (xs : List ℕ). with_histogram (run_outcome job draws stream steps) xs) b
 
 -- the outcome of a walk from the start plan, with a histogram if `Bool` is true
 abbrev run_with : Bool → Job → Draws → ℕ → ℕ → Outcome
-run_with shift job draws stream steps = with_bins (run_outcome job draws stream steps) (first_bins shift job (draws stream) (steps + 1))
+run_with shift job draws stream steps = with_histogram (run_outcome job draws stream steps) (histogram_of_visits shift job (draws stream) (steps + 1))
 
 -- the histogram of the visited plans is that of the definition
-bins_are_those : (shift : Bool) (job : Job) (draws : ℕ → ℕ) → first_bins shift job draws (job.setting.steps + 1) ≡ bins_by shift job draws
+histogram_is_that : (shift : Bool) (job : Job) (draws : ℕ → ℕ) → histogram_of_visits shift job draws (job.setting.steps + 1) ≡ histogram_by shift job draws
 unfolding visits_binned plan_bin
-bins_are_those true job draws = refl
-bins_are_those false job draws = refl
+histogram_is_that true job draws = refl
+histogram_is_that false job draws = refl
 
 abbrev under : ℕ → Outcome → Outcome
 under id o = record o { id = id }
@@ -64,10 +64,10 @@ pub walk_found : (job : Job) (draws : Draws) (id stream steps : ℕ) (shift : Bo
 walk_found job draws id stream steps shift walk s t b w =
     ap (under id) (w ∙ ap (λ (n : ℕ). run_with shift job draws stream n) t ∙ ap (λ (n : ℕ). run_with shift job draws n job.setting.steps) s
     ∙ ap (λ (c : Bool). run_with c job draws (2 * id) job.setting.steps) b)
-    ∙ ap (λ (xs : List ℕ). under id (with_bins (run_outcome job draws (2 * id) job.setting.steps) xs)) (bins_are_those job.setting.shift job (draws (2 * id)))
+    ∙ ap (λ (xs : List ℕ). under id (with_histogram (run_outcome job draws (2 * id) job.setting.steps) xs)) (histogram_is_that job.setting.shift job (draws (2 * id)))
 
 -- the result of a walk from the hub is the outcome of its id
-pub end_found : (job : Job) (draws : Draws) (id stream moved : ℕ) (from : List ℕ) (state : Held) (asks : List Ask) (values : List ℤ)
+pub end_found : (job : Job) (draws : Draws) (id stream moved : ℕ) (from : List ℕ) (state : ChainState) (asks : List Ask) (values : List ℤ)
     → stream ≡ 2 * (id - job.setting.walks) + 3 → from ≡ hub job draws
     → moved ≡ moves job (draws stream) from job.setting.hub_steps → state.job ≡ job
     → state.plan ≡ visit job (draws stream) from job.setting.hub_steps → asks ≡ job.setting.asks

@@ -3,6 +3,6 @@ pub mod Binning
 pub mod Crossing
 pub mod Departing
 pub mod Finding
-pub mod Settling
+pub mod Flushing
 pub mod Stepping
 pub mod Still

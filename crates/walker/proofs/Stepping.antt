@@ -9,7 +9,7 @@ use Rattle.audit_model.proofs.Below.{count_below_le}
 use Rattle.audit_statement.specs.Draw.{draw}
 use mir.Val.{bool_byte}
 use Rattle.chacha_draws.specs.DrawPlace.{DrawPlace}
-use Rattle.flip_kernel.specs.Held.{Held}
+use Rattle.flip_kernel.specs.ChainState.{ChainState}
 use Rattle.walker.specs.Walked.{IsWalked}
 
 -- a count over one more number
@@ -40,7 +40,7 @@ module _ (job : Job) (draws : ℕ → ℕ) (plan : List ℕ) where
       ∙ ap (λ (k : ℕ). moves job draws plan i + cond {A = ℕ} (not (bytes_eq (visit job draws plan i) (visit job draws plan k))) 1 0) (sym (add-one i))
 
 -- before the first step, the plan is the first one
-pub walked_none : (job : Job) (key : List ℕ) (stream : ℕ) (plan : List ℕ) (state : Held) (draws : DrawPlace) → state.job ≡ job → state.plan ≡ plan
+pub walked_none : (job : Job) (key : List ℕ) (stream : ℕ) (plan : List ℕ) (state : ChainState) (draws : DrawPlace) → state.job ≡ job → state.plan ≡ plan
     → draws.key ≡ key → draws.stream ≡ stream → draws.place ≡ 0 → IsWalked job key stream plan 0 state draws 0
 walked_none job key stream plan state draws made at k s first = record {
   made = made;
@@ -61,27 +61,27 @@ pub byte_le : (b : Bool) → bool_byte b ≤ 1
 byte_le true = omega arith
 byte_le false = omega arith
 
-module _ (job : Job) (key : List ℕ) (stream : ℕ) (plan : List ℕ) (steps : ℕ) (state : Held) (draws : DrawPlace) (moved : ℕ)
+module _ (job : Job) (key : List ℕ) (stream : ℕ) (plan : List ℕ) (steps : ℕ) (state : ChainState) (draws : DrawPlace) (moved : ℕ)
     (walked : IsWalked job key stream plan steps state draws moved) where
   pub walked_small : moved ≤ steps
   walked_small = omega (arith, walked.counted, moves_le job (draw key stream) plan steps)
 
   -- facts for the moment at which all steps are taken
   module _ (all : ℕ) (e : steps ≡ all) where
-    pub walked_state : (old : Held) → old.job ≡ job → state ≡ record { job = old.job; plan = visit job (draw key stream) plan all }
+    pub walked_state : (old : ChainState) → old.job ≡ job → state ≡ record { job = old.job; plan = visit job (draw key stream) plan all }
     walked_state old same =
-        ap (λ (j : Job). (let h : Held = record { job = j; plan = state.plan } in h)) (walked.made ∙ sym same)
-        ∙ ap (λ (p : List ℕ). (let h : Held = record { job = old.job; plan = p } in h)) (walked.visited ∙ ap (λ (n : ℕ). visit job (draw key stream) plan n) e)
+        ap (λ (j : Job). (let h : ChainState = record { job = j; plan = state.plan } in h)) (walked.made ∙ sym same)
+        ∙ ap (λ (p : List ℕ). (let h : ChainState = record { job = old.job; plan = p } in h)) (walked.visited ∙ ap (λ (n : ℕ). visit job (draw key stream) plan n) e)
 
     pub walked_moves : moved ≡ moves job (draw key stream) plan all
     walked_moves = walked.counted ∙ ap (λ (n : ℕ). moves job (draw key stream) plan n) e
 
-  module _ (after : Held) (later : DrawPlace)
+  module _ (after : ChainState) (later : DrawPlace)
       (stepped : after ≡ record { job = state.job; plan = next job state.plan (draw draws.key draws.stream draws.place) })
       (drawn : later ≡ record { key = draws.key; stream = draws.stream; place = draws.place + 1 }) where
     visited_more : after.plan ≡ visit job (draw key stream) plan (steps + 1)
     visited_more =
-        ap (λ (h : Held). h.plan) stepped
+        ap (λ (h : ChainState). h.plan) stepped
         ∙ ap (λ (k : List ℕ). next job state.plan (draw k draws.stream draws.place)) walked.same_key
         ∙ ap (λ (s : ℕ). next job state.plan (draw key s draws.place)) walked.same_stream
         ∙ ap (λ (p : ℕ). next job state.plan (draw key stream p)) walked.same_place
@@ -91,7 +91,7 @@ module _ (job : Job) (key : List ℕ) (stream : ℕ) (plan : List ℕ) (steps : 
     pub walked_more : (more : ℕ) (changed : Bool) → changed ≡ not (bytes_eq state.plan after.plan) → more ≡ moved + cond changed 1 0
         → IsWalked job key stream plan (steps + 1) after later more
     walked_more more changed is added = record {
-      made = ap (λ (h : Held). h.job) stepped ∙ walked.made;
+      made = ap (λ (h : ChainState). h.job) stepped ∙ walked.made;
       visited = visited_more;
       same_key = ap (λ (p : DrawPlace). p.key) drawn ∙ walked.same_key;
       same_stream = ap (λ (p : DrawPlace). p.stream) drawn ∙ walked.same_stream;
@@ -105,13 +105,13 @@ module _ (job : Job) (key : List ℕ) (stream : ℕ) (plan : List ℕ) (steps : 
     }
 
 -- continuing any trajectory in progress by some steps gives the same trajectory farther on
-abbrev pub GoesOn : Job → Held → DrawPlace → ℕ → Held → DrawPlace → ℕ → Type 0
+abbrev pub GoesOn : Job → ChainState → DrawPlace → ℕ → ChainState → DrawPlace → ℕ → Type 0
 GoesOn job state draws steps after later more =
     (key : List ℕ) (stream : ℕ) (plan : List ℕ) (place moved : ℕ) → IsWalked job key stream plan place state draws moved
     → IsWalked job key stream plan (place + steps) after later (moved + more)
 
 -- continuing by no step
-pub goes_nowhere : (job : Job) (state : Held) (draws : DrawPlace) → GoesOn job state draws 0 state draws 0
+pub goes_nowhere : (job : Job) (state : ChainState) (draws : DrawPlace) → GoesOn job state draws 0 state draws 0
 goes_nowhere job state draws key stream plan place moved walked = record {
   made = walked.made;
   visited = walked.visited ∙ ap (λ (n : ℕ). visit job (draw key stream) plan n) (let e : place ≡ place + 0 = omega arith in e);
@@ -122,7 +122,7 @@ goes_nowhere job state draws key stream plan place moved walked = record {
 }
 
 -- continuing by one more step
-pub goes_farther : (job : Job) (state : Held) (draws : DrawPlace) (steps : ℕ) (now after : Held) (here later : DrawPlace) (more again : ℕ) (changed : Bool)
+pub goes_farther : (job : Job) (state : ChainState) (draws : DrawPlace) (steps : ℕ) (now after : ChainState) (here later : DrawPlace) (more again : ℕ) (changed : Bool)
     → GoesOn job state draws steps now here more
     → after ≡ record { job = now.job; plan = next job now.plan (draw here.key here.stream here.place) }
     → later ≡ record { key = here.key; stream = here.stream; place = here.place + 1 }
@@ -140,7 +140,7 @@ goes_farther job state draws steps now after here later more again changed befor
     sum_back a b = omega arith
 
 -- a whole trajectory, continued from its first draw
-pub walked_all : (job : Job) (key : List ℕ) (stream steps : ℕ) (old after : Held) (first later : DrawPlace) (moved : ℕ) → old.job ≡ job
+pub walked_all : (job : Job) (key : List ℕ) (stream steps : ℕ) (old after : ChainState) (first later : DrawPlace) (moved : ℕ) → old.job ≡ job
     → first.key ≡ key → first.stream ≡ stream → first.place ≡ 0 → GoesOn job old first steps after later moved
     → IsWalked job key stream old.plan steps after later moved
 walked_all job key stream steps old after first later moved made k s p onward =

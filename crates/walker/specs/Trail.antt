@@ -4,7 +4,7 @@ use Rattle.audit_model.specs.Job.{Job}
 use Rattle.audit_model.specs.Trajectory.{moves, plan_seats, visit}
 use Rattle.walker.specs.declared.trail.Trail.{Trail}
 use Rattle.walker.specs.Asked.{each, asked_value, inside, visits_inside}
-use Rattle.walker.specs.Binned.{first_bins, plan_bin}
+use Rattle.walker.specs.Binned.{histogram_of_visits, plan_bin}
 
 -- the start values are those of the start plan, and the current scores are those of the plan
 pub record IsTested (job : Job) (plan : List ℕ) (t : Trail) : Type 0 where
@@ -17,7 +17,7 @@ pub record IsTested (job : Job) (plan : List ℕ) (t : Trail) : Type 0 where
 -- the counts cover exactly the first visited plans
 pub record IsCounted (job : Job) (draws : ℕ → ℕ) (visits : ℕ) (t : Trail) : Type 0 where
   pub counts : t.tally.counts ≡ each (visits_inside job draws visits) job.setting.asks
-  pub bins : t.bins.counts ≡ first_bins t.bins.asked job draws visits
+  pub bins : t.bins.counts ≡ histogram_of_visits t.bins.asked job draws visits
 
 -- all plans visited from one place to another are equal
 pub record IsStill (job : Job) (draws : ℕ → ℕ) (from to : ℕ) : Type 0 where

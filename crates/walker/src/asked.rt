@@ -94,7 +94,7 @@ impl Tally {
 }
 
 /// Returns the numerator of a score of the current plan.
-fn held_value<J: Judge>(state: &State<J>, score: Score, room: &mut Room) -> i64
+fn current_value<J: Judge>(state: &State<J>, score: Score, room: &mut Room) -> i64
     ensures { result ≡ plan_value state.now.job state.now.plan score }
 {
     // Called for its contract: the job is within its limits, and the plan is legal.
@@ -109,7 +109,7 @@ fn value_at<J: Judge>(state: &State<J>, asks: &[Ask], place: usize, room: &mut R
 {
     match asks.get(place) {
         None => 0,
-        Some(ask) => held_value(state, ask.score, room),
+        Some(ask) => current_value(state, ask.score, room),
     }
 }
 
@@ -127,6 +127,6 @@ fn inside_at<J: Judge>(
 {
     match asks.get(place) {
         None => 0,
-        Some(ask) => u32::from(in_tail(ask.tail, held_value(state, ask.score, room), start)),
+        Some(ask) => u32::from(in_tail(ask.tail, current_value(state, ask.score, room), start)),
     }
 }

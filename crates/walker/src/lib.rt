@@ -3,7 +3,7 @@
 #![tactic(auto)]
 
 mod asked;
-mod bins;
+mod histogram;
 mod steps;
 mod trail;
 pub mod walker;

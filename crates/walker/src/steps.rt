@@ -5,7 +5,7 @@ ghost use Rattle.audit_statement.specs.Draw.{draw};
 ghost use Rattle.audit_model.specs.Step.{next};
 ghost use Rattle.audit_model.specs.Trajectory.{visit, moves};
 ghost use Rattle.walker.specs.Asked.{each, visits_inside};
-ghost use Rattle.walker.specs.Binned.{first_bins};
+ghost use Rattle.walker.specs.Binned.{histogram_of_visits};
 ghost use Rattle.walker.specs.Track.{IsOnTrack};
 ghost use Rattle.walker.specs.Walked.{IsWalked};
 
@@ -96,7 +96,7 @@ pub fn count_visits<J: Judge, L: Ledger>(
     ensures made { state.new.job ≡ job.now }
     ensures moved { result.moved ≡ moves job.now (draw job.now.setting.key course.stream) job.now.start course.steps }
     ensures counts { result.tally.counts ≡ each (visits_inside job.now (draw job.now.setting.key course.stream) (course.steps + 1)) job.now.setting.asks }
-    ensures bins { result.bins.counts ≡ first_bins course.shift job.now (draw job.now.setting.key course.stream) (course.steps + 1) }
+    ensures bins { result.bins.counts ≡ histogram_of_visits course.shift job.now (draw job.now.setting.key course.stream) (course.steps + 1) }
 {
     let mut track = Track {
         draws: Draws::new(job.setting().key, course.stream),
@@ -106,7 +106,7 @@ pub fn count_visits<J: Judge, L: Ledger>(
         visit_next(job, state, &mut track, place, room, counter);
     }
     let mut trail = track.trail;
-    trail.settle(course.steps + 1);
+    trail.flush(course.steps + 1);
     trail
 }
 
@@ -151,6 +151,6 @@ fn visit_next<J: Judge, L: Ledger>(
     if !step(job, state, &mut track.draws, counter) {
         return;
     }
-    track.trail.settle(place + 1);
+    track.trail.flush(place + 1);
     track.trail.update(job, state, room);
 }

@@ -7,7 +7,7 @@ ghost use Rattle.walker.specs.Asked.{each, asked_value};
 ghost use Rattle.walker.specs.Trail.{IsCounted, IsTested, IsTrail};
 
 use crate::asked::Tally;
-use crate::bins::Bins;
+use crate::histogram::Histogram;
 use flip_guard::judge::Judge;
 use flip_kernel::state::State;
 use plan_core::job::Job;
@@ -22,7 +22,7 @@ pub struct Trail {
     pub moved: u32,
     pub visits: u32,
     pub tally: Tally,
-    pub bins: Bins,
+    pub bins: Histogram,
 }
 
 impl Trail {
@@ -34,7 +34,7 @@ impl Trail {
         ensures trail { (draws : ℕ → ℕ) → IsTrail job.now draws 0 result }
     {
         let tally = Tally::new(state, job.setting().asks.as_slice(), room);
-        let bins = Bins::new(shift, state, room);
+        let bins = Histogram::new(shift, state, room);
         Trail {
             moved: 0,
             visits: 0,
@@ -44,7 +44,7 @@ impl Trail {
     }
 
     /// Counts the plan scored last for its visits up to the number `visits`.
-    pub fn settle(&mut self, visits: u32)
+    pub fn flush(&mut self, visits: u32)
         requires order { self.old.visits ≤ visits }
         requires tails { (k : ℕ) → k < 4 → slice_index self.old.tally.counts k + (visits - self.old.visits) * slice_index self.old.tally.inside k < 2 ^ 32 }
         requires small { self.old.bins.bin < 9 }

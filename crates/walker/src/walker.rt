@@ -7,7 +7,7 @@ ghost use Rattle.audit_model.specs.Plan.{IsLegal};
 ghost use Rattle.audit_model.specs.Trajectory.{four_values, hub as hub_of, outcome, outcome_with, walk_outcome, end_outcome};
 ghost use Rattle.audit_model.specs.Serially.{run_outcome};
 ghost use Rattle.flip_kernel.specs.Judged.{IsJudgeFor};
-ghost use Rattle.walker.specs.Binned.{first_bins};
+ghost use Rattle.walker.specs.Binned.{histogram_of_visits};
 ghost use Rattle.walker.specs.Walked.{IsUnderWay};
 
 use crate::asked::{signed, values};
@@ -34,9 +34,9 @@ pub struct Walker<J: Judge> {
 }
 
 impl<J: Judge> Model for Walker<J> {
-    ghost use Rattle.flip_kernel.specs.Held.{Held};
+    ghost use Rattle.flip_kernel.specs.ChainState.{ChainState};
 
-    ghost Value = { Held };
+    ghost Value = { ChainState };
 
     ghost view = { λ w. w.state };
 }
@@ -207,7 +207,7 @@ impl<J: Judge> Walker<J> {
         requires made { self.old.job ≡ job.now }
         requires few { course.steps ≤ 10 ^ 9 }
         ensures outcome { result ≡ record (run_outcome job.now (draw job.now.setting.key) course.stream course.steps) {
-          bins = first_bins course.shift job.now (draw job.now.setting.key course.stream) (course.steps + 1);
+          bins = histogram_of_visits course.shift job.now (draw job.now.setting.key course.stream) (course.steps + 1);
         } }
         ensures made { self.new.job ≡ job.now }
     {
@@ -276,7 +276,7 @@ impl<J: Judge> Walker<J> {
         requires parts { blank.parts ≡ L.parts }
         requires some { 0 < L.parts }
         requires made { self.old.job ≡ job.now }
-        ensures held { self.new ≡ record self.old { plan = hub_of job.now (draw job.now.setting.key) } }
+        ensures unchanged { self.new ≡ record self.old { plan = hub_of job.now (draw job.now.setting.key) } }
     {
         let mut counter: Steps<L> = Steps::new(blank);
         self.state.set(job, job.start().as_slice());

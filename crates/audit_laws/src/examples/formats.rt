@@ -5,9 +5,9 @@ ghost use Rattle.audit_model.specs.declared.fault.CkptFault.TheVariants as ckpt;
 ghost use Rattle.audit_model.specs.declared.setting.Score.TheVariants.{Gap};
 ghost use Rattle.audit_model.specs.declared.setting.Tail.TheVariants.{Low, High};
 ghost use Rattle.audit_laws.specs.Jobs.{run_of, path_of_four, cycle_of_four, job_of_four, job_of_two, found_once};
-ghost use Rattle.audit_model.specs.Trajectory.{outcome, no_bins, sequence};
+ghost use Rattle.audit_model.specs.Trajectory.{outcome, empty_histogram, sequence};
 ghost use Rattle.audit_statement.specs.Checkpoint.{checkpoint, checkpoint_body, checkpoint_fault};
-ghost use Rattle.audit_statement.specs.Slots.{opening, outcomes_in, newest, save_place, absent, broken, ours};
+ghost use Rattle.audit_statement.specs.Slots.{initial_outcomes, outcomes_in, newest, save_place, absent, broken, ours};
 ghost use Rattle.audit_statement.specs.Draw.{draw};
 ghost use Rattle.audit_model.specs.declared.fault.GraphFault.TheVariants as fault;
 ghost use Rattle.audit_model.specs.declared.setting.Label.TheVariants.{Whole, Word};
@@ -48,7 +48,7 @@ pub fn check_text_of_a_path()
 /// Shows the report on the cycle of four units.
 pub fn report_on_a_cycle()
     ensures { report (job_of_four cycle_of_four (run_of 5000 1 8 0 1000 (record { score = Gap; tail = Low } ∷ record { score = Gap; tail = High } ∷ [])))
-        (record { id = 0; moved = 3; values = pos 4 ∷ pos 8 ∷ pos 0 ∷ pos 0 ∷ []; bins = no_bins } ∷ []) [] None ≡
+        (record { id = 0; moved = 3; values = pos 4 ∷ pos 8 ∷ pos 0 ∷ pos 0 ∷ []; bins = empty_histogram } ∷ []) [] None ≡
         codes "district-audit 1" ++ 10 ∷ codes "key 0000000000000000000000000000000000000000000000000000000000000000" ++ 10 ∷
         codes "units 4 edges 4 districts 2" ++ 10 ∷ codes "population 4 slack 5000 low 1 high 3" ++ 10 ∷
         codes "walks 1 steps 8 ends 0 hub-steps 1000" ++ 10 ∷
@@ -128,12 +128,12 @@ pub fn read_checkpoints()
 
 /// Shows the outcomes a run resumes from: all of them without histograms, or with `--shift` those of walks only if they
 /// have one.
-pub fn small_openings()
-    ensures bare { opening true (run_of 5000 1 8 1 8 []) (ours 0 (record found_once { bins = 9 ∷ [] } ∷ [])) absent ≡ Some (found_once ∷ []) }
-    ensures binned { opening true (record (run_of 5000 1 8 1 8 []) { shift = true }) (ours 0 (found_once ∷ record found_once { id = 1 } ∷ [])) absent ≡
+pub fn small_initial_outcomes()
+    ensures without_histogram { initial_outcomes true (run_of 5000 1 8 1 8 []) (ours 0 (record found_once { bins = 9 ∷ [] } ∷ [])) absent ≡ Some (found_once ∷ []) }
+    ensures binned { initial_outcomes true (record (run_of 5000 1 8 1 8 []) { shift = true }) (ours 0 (found_once ∷ record found_once { id = 1 } ∷ [])) absent ≡
         Some (record found_once { id = 1 } ∷ []) }
-    ensures fresh { opening false (run_of 5000 1 8 1 8 []) (ours 0 (found_once ∷ [])) absent ≡ Some [] }
-    ensures torn { opening true (run_of 5000 1 8 1 8 []) (broken (ckpt.TooShort 40)) absent ≡ None }
+    ensures fresh { initial_outcomes false (run_of 5000 1 8 1 8 []) (ours 0 (found_once ∷ [])) absent ≡ Some [] }
+    ensures torn { initial_outcomes true (run_of 5000 1 8 1 8 []) (broken (ckpt.TooShort 40)) absent ≡ None }
 {}
 
 /// Shows diagnostics of several endings.
@@ -167,7 +167,7 @@ pub fn first_neighbours_of_a_grid()
 /// Shows the outcome of the trajectory on the cycle, with the draws of its own stream.
 pub fn drawn_outcome()
     ensures { outcome (job_of_four cycle_of_four (run_of 5000 1 8 0 1000 (record { score = Gap; tail = Low } ∷ record { score = Gap; tail = High } ∷ []))) (draw (replicate 32 0)) 0
-        ≡ record { id = 0; moved = 3; values = pos 4 ∷ pos 8 ∷ pos 0 ∷ pos 0 ∷ []; bins = no_bins } }
+        ≡ record { id = 0; moved = 3; values = pos 4 ∷ pos 8 ∷ pos 0 ∷ pos 0 ∷ []; bins = empty_histogram } }
 {}
 
 /// Shows the outcomes of one thread on two units, with only the start plan legal, and the whole report on them.

@@ -10,7 +10,7 @@ ghost use Rattle.audit_model.specs.declared.setting.Label.TheVariants.{Whole};
 ghost use Rattle.audit_model.specs.declared.setting.Score.TheVariants.{Gap, Seats};
 ghost use Rattle.audit_model.specs.declared.setting.Tail.TheVariants.{Low};
 ghost use Rattle.audit_model.specs.Meets.{keeps_frozen, majorities, meets_rules};
-ghost use Rattle.audit_model.specs.Trajectory.{no_bins, outcome};
+ghost use Rattle.audit_model.specs.Trajectory.{empty_histogram, outcome};
 ghost use Rattle.audit_statement.specs.Checkpoint.{job_bytes};
 ghost use Rattle.audit_statement.specs.Note.{note, bad_graph, bad_plan};
 ghost use Rattle.audit_statement.specs.Reading.{reading};
@@ -41,7 +41,7 @@ pub fn small_shares()
 /// Shows that a trajectory does not move if all units are frozen.
 pub fn walks_with_frozen()
     ensures { outcome (record (job_of_four path_of_four (run_of 5000 1 8 0 1000 (record { score = Seats; tail = Low } ∷ []))) { frozen = 1 ∷ 1 ∷ 1 ∷ 1 ∷ [] }) first_draws_alone 0
-        ≡ record { id = 0; moved = 0; values = pos 9 ∷ pos 0 ∷ pos 0 ∷ pos 0 ∷ []; bins = no_bins } }
+        ≡ record { id = 0; moved = 0; values = pos 9 ∷ pos 0 ∷ pos 0 ∷ pos 0 ∷ []; bins = empty_histogram } }
 {}
 
 /// Shows the lines of the share and of frozen units in the text of a check, below that of the

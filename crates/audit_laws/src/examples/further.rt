@@ -7,8 +7,8 @@ ghost use Rattle.audit_model.specs.declared.setting.Score.TheVariants.{Seats, Ga
 ghost use Rattle.audit_model.specs.declared.setting.Tail.TheVariants.{Low, High};
 ghost use Rattle.audit_model.specs.Run.{fits};
 ghost use Rattle.audit_model.specs.Serially.{serial_of, serial_place};
-ghost use Rattle.audit_model.specs.Stopping.{settled, stop};
-ghost use Rattle.audit_model.specs.Trajectory.{bin_of, no_bins, outcome, tally};
+ghost use Rattle.audit_model.specs.Stopping.{stop_of_known, stop};
+ghost use Rattle.audit_model.specs.Trajectory.{bin_of, empty_histogram, outcome, tally};
 ghost use Rattle.audit_statement.specs.Draw.{draw};
 ghost use Rattle.audit_statement.specs.Report.{thread_report};
 ghost use Rattle.audit_statement.specs.Words.{setting_of};
@@ -17,7 +17,7 @@ ghost use Rattle.audit_laws.specs.Lines.{run_words};
 ghost use Rattle.audit_laws.specs.Texts.{columns};
 
 /// Shows the histogram place of a plan, by its seats and those of the start plan.
-pub fn small_bins()
+pub fn small_histograms()
     ensures same { bin_of 3 3 ≡ 4 }
     ensures fewer { bin_of 2 3 ≡ 3 }
     ensures far_fewer { bin_of 0 9 ≡ 0 }
@@ -27,7 +27,7 @@ pub fn small_bins()
 {}
 
 /// Shows the histograms of trajectories.
-pub fn seats_in_bins()
+pub fn seats_in_histogram()
     ensures three { outcome (job_of_three (record (run_of 5000 1 8 0 1000 (record { score = Seats; tail = High } ∷ [])) { shift = true })) first_draws_alone 0
         ≡ record { id = 0; moved = 1; values = pos 2 ∷ pos 0 ∷ pos 0 ∷ pos 0 ∷ []; bins = 0 ∷ 0 ∷ 0 ∷ 7 ∷ 2 ∷ 0 ∷ 0 ∷ 0 ∷ 0 ∷ [] } }
     ensures districts { outcome (job_of_three_districts (record (run_of 5000 1 8 0 1000 (record { score = MeanMedian; tail = High } ∷ [])) { shift = true })) first_draws_alone 0
@@ -37,7 +37,7 @@ pub fn seats_in_bins()
 {}
 
 /// Shows plausible histograms: all zeros, or counts that add up to the number of visits.
-pub fn fitting_bins()
+pub fn fitting_histograms()
     ensures none { fits (job_of_four cycle_of_four (run_of 5000 1 8 0 1000 (record { score = Gap; tail = Low } ∷ record { score = Gap; tail = High } ∷ []))) found_once ≡ true }
     ensures all { fits (job_of_four cycle_of_four (run_of 5000 1 8 0 1000 (record { score = Gap; tail = Low } ∷ record { score = Gap; tail = High } ∷ []))) (record found_once { bins = 0 ∷ 0 ∷ 0 ∷ 4 ∷ 5 ∷ 0 ∷ 0 ∷ 0 ∷ 0 ∷ [] }) ≡ true }
 {}
@@ -48,9 +48,9 @@ pub fn small_stops()
     ensures one { stop Low (negsuc 0) (negsuc 6 ∷ pos 5 ∷ negsuc 0 ∷ pos 5 ∷ negsuc 6 ∷ []) 1 ≡ record { place = 1; top = 1; of = 1 } }
     ensures two { stop Low (negsuc 0) (negsuc 6 ∷ pos 5 ∷ negsuc 0 ∷ pos 5 ∷ negsuc 6 ∷ []) 2 ≡ record { place = 3; top = 2; of = 3 } }
     ensures four { stop Low (negsuc 0) (negsuc 6 ∷ pos 5 ∷ negsuc 0 ∷ pos 5 ∷ negsuc 6 ∷ []) 4 ≡ record { place = 5; top = 4; of = 6 } }
-    ensures settled { settled (job_of_four cycle_of_four (run_of 5000 0 8 2 1000 [])) (0, record { score = Gap; tail = Low }) 2
+    ensures stop_of_known { stop_of_known (job_of_four cycle_of_four (run_of 5000 0 8 2 1000 [])) (0, record { score = Gap; tail = Low }) 2
         (record found_once { id = 1; values = negsuc 6 ∷ [] } ∷ record found_once { id = 0; values = negsuc 0 ∷ [] } ∷ []) ≡ Some (record { place = 2; top = 2; of = 2 }) }
-    ensures missing { settled (job_of_four cycle_of_four (run_of 5000 0 8 3 1000 [])) (0, record { score = Gap; tail = Low }) 2
+    ensures missing { stop_of_known (job_of_four cycle_of_four (run_of 5000 0 8 3 1000 [])) (0, record { score = Gap; tail = Low }) 2
         (record found_once { id = 2; values = negsuc 6 ∷ [] } ∷ record found_once { id = 0; values = negsuc 0 ∷ [] } ∷ []) ≡ None }
 {}
 

@@ -11,7 +11,7 @@ ghost use Rattle.audit_model.specs.declared.setting.Tail.TheVariants.{Low, High}
 ghost use Rattle.audit_model.specs.JobOf.{plan_fault};
 ghost use Rattle.audit_model.specs.Length.{cut_length};
 ghost use Rattle.audit_model.specs.Plan.{is_legal};
-ghost use Rattle.audit_model.specs.Trajectory.{no_bins, outcome};
+ghost use Rattle.audit_model.specs.Trajectory.{empty_histogram, outcome};
 ghost use Rattle.audit_statement.specs.Checkpoint.{job_bytes};
 ghost use Rattle.audit_statement.specs.Note.{note, bad_graph, bad_plan};
 ghost use Rattle.audit_statement.specs.Reading.{reading};
@@ -41,9 +41,9 @@ pub fn plans_with_lengths()
 /// Shows a trajectory with the score, which moves to a plan with a cut edge of length 9 unless the limit is lower.
 pub fn walks_with_lengths()
     ensures free { outcome (job_of_lengths 9 (record { score = CutLength; tail = Low } ∷ record { score = CutLength; tail = High } ∷ [])) first_draws_alone 0
-        ≡ record { id = 0; moved = 1; values = pos 8 ∷ pos 9 ∷ pos 0 ∷ pos 0 ∷ []; bins = no_bins } }
+        ≡ record { id = 0; moved = 1; values = pos 8 ∷ pos 9 ∷ pos 0 ∷ pos 0 ∷ []; bins = empty_histogram } }
     ensures limited { outcome (job_of_lengths 8 (record { score = CutLength; tail = Low } ∷ record { score = CutLength; tail = High } ∷ [])) first_draws_alone 0
-        ≡ record { id = 0; moved = 0; values = pos 9 ∷ pos 9 ∷ pos 0 ∷ pos 0 ∷ []; bins = no_bins } }
+        ≡ record { id = 0; moved = 0; values = pos 9 ∷ pos 9 ∷ pos 0 ∷ pos 0 ∷ []; bins = empty_histogram } }
 {}
 
 /// Shows the lines of lengths in the text of a check. That of the limit is left out if the limit is the largest.

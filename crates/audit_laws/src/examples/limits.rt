@@ -6,7 +6,7 @@ ghost use Rattle.audit_model.specs.declared.setting.Score.TheVariants.{Seats};
 ghost use Rattle.audit_model.specs.declared.setting.Tail.TheVariants.{Low};
 ghost use Rattle.audit_model.specs.JobOf.{plan_fault};
 ghost use Rattle.audit_model.specs.Meets.{has_majority, majorities, meets_rules, split_regions, splits_in_all};
-ghost use Rattle.audit_model.specs.Trajectory.{no_bins, outcome};
+ghost use Rattle.audit_model.specs.Trajectory.{empty_histogram, outcome};
 ghost use Rattle.audit_statement.specs.Checkpoint.{job_bytes};
 ghost use Rattle.audit_statement.specs.Report.{check_text};
 ghost use Rattle.audit_laws.specs.Jobs.{run_of, no_group, no_rules, group_of_four, path_of_four, job_of_four, limited_job, first_draws_alone};
@@ -62,13 +62,13 @@ pub fn refused_by_limits()
 /// majority.
 pub fn walks_within_limits()
     ensures splits { outcome (record (job_of_four path_of_four (record (run_of 5000 1 8 0 1000 (record { score = Seats; tail = Low } ∷ [])) { max_splits = 0 })) { regions = 0 ∷ 0 ∷ 1 ∷ 1 ∷ [] }) first_draws_alone 0
-        ≡ record { id = 0; moved = 0; values = pos 9 ∷ pos 0 ∷ pos 0 ∷ pos 0 ∷ []; bins = no_bins } }
+        ≡ record { id = 0; moved = 0; values = pos 9 ∷ pos 0 ∷ pos 0 ∷ pos 0 ∷ []; bins = empty_histogram } }
     ensures regions { outcome (record (job_of_four path_of_four (record (run_of 5000 1 8 0 1000 (record { score = Seats; tail = Low } ∷ [])) { max_split_regions = 0 })) { regions = 0 ∷ 0 ∷ 1 ∷ 1 ∷ [] }) first_draws_alone 0
-        ≡ record { id = 0; moved = 0; values = pos 9 ∷ pos 0 ∷ pos 0 ∷ pos 0 ∷ []; bins = no_bins } }
+        ≡ record { id = 0; moved = 0; values = pos 9 ∷ pos 0 ∷ pos 0 ∷ pos 0 ∷ []; bins = empty_histogram } }
     ensures majorities { outcome (record (job_of_four path_of_four (record (run_of 5000 1 8 0 1000 (record { score = Seats; tail = Low } ∷ [])) { group_districts = 2 })) { group = record { members = 0 ∷ 2 ∷ 2 ∷ 0 ∷ []; whole = 1 ∷ 1 ∷ 1 ∷ 1 ∷ [] } }) first_draws_alone 0
-        ≡ record { id = 0; moved = 0; values = pos 9 ∷ pos 0 ∷ pos 0 ∷ pos 0 ∷ []; bins = no_bins } }
+        ≡ record { id = 0; moved = 0; values = pos 9 ∷ pos 0 ∷ pos 0 ∷ pos 0 ∷ []; bins = empty_histogram } }
     ensures fewer { outcome (record (job_of_four path_of_four (record (run_of 5000 1 8 0 1000 (record { score = Seats; tail = Low } ∷ [])) { group_districts = 1 })) { group = record { members = 0 ∷ 2 ∷ 2 ∷ 0 ∷ []; whole = 1 ∷ 1 ∷ 1 ∷ 1 ∷ [] } }) first_draws_alone 0
-        ≡ record { id = 0; moved = 1; values = pos 9 ∷ pos 0 ∷ pos 0 ∷ pos 0 ∷ []; bins = no_bins } }
+        ≡ record { id = 0; moved = 1; values = pos 9 ∷ pos 0 ∷ pos 0 ∷ pos 0 ∷ []; bins = empty_histogram } }
 {}
 
 /// Shows the lines of these limits in the text of a check, below that of the splits of a region.

@@ -17,7 +17,7 @@ ghost use Rattle.audit_model.specs.Plan.{is_legal};
 ghost use Rattle.audit_model.specs.Proposal.{proposal};
 ghost use Rattle.audit_model.specs.Score.{value, sums_of};
 ghost use Rattle.audit_model.specs.Test.{bound, p_value};
-ghost use Rattle.audit_model.specs.Trajectory.{visit, outcome, no_bins, plan_value, rank_among};
+ghost use Rattle.audit_model.specs.Trajectory.{visit, outcome, empty_histogram, plan_value, rank_among};
 
 /// Shows that the last draws propose nothing, so that each pair of unit and district has equally many draws.
 pub fn last_draws_propose_nothing()
@@ -43,11 +43,11 @@ pub fn visits_on_a_path()
 /// Shows the outcomes of the trajectories on the path and on the cycle.
 pub fn small_outcomes()
     ensures path { outcome (job_of_four path_of_four (run_of 5000 1 8 0 1000 (record { score = Seats; tail = Low } ∷ []))) first_draws_alone 0
-        ≡ record { id = 0; moved = 1; values = pos 9 ∷ pos 0 ∷ pos 0 ∷ pos 0 ∷ []; bins = no_bins } }
+        ≡ record { id = 0; moved = 1; values = pos 9 ∷ pos 0 ∷ pos 0 ∷ pos 0 ∷ []; bins = empty_histogram } }
     ensures cycle { outcome (job_of_four cycle_of_four (run_of 5000 1 8 0 1000 (record { score = Gap; tail = Low } ∷ record { score = Gap; tail = High } ∷ []))) first_draws_alone 0
-        ≡ record { id = 0; moved = 3; values = pos 4 ∷ pos 8 ∷ pos 0 ∷ pos 0 ∷ []; bins = no_bins } }
+        ≡ record { id = 0; moved = 3; values = pos 4 ∷ pos 8 ∷ pos 0 ∷ pos 0 ∷ []; bins = empty_histogram } }
     ensures cut { outcome (job_of_four cycle_of_four (run_of 5000 1 8 0 1000 (record { score = CutEdges; tail = Low } ∷ []))) first_draws_alone 0
-        ≡ record { id = 0; moved = 3; values = pos 9 ∷ pos 0 ∷ pos 0 ∷ pos 0 ∷ []; bins = no_bins } }
+        ≡ record { id = 0; moved = 3; values = pos 9 ∷ pos 0 ∷ pos 0 ∷ pos 0 ∷ []; bins = empty_histogram } }
 {}
 
 /// Shows the scores of three districts.
@@ -114,9 +114,9 @@ pub fn refused_plans()
 /// Shows the outcomes of the trajectories on three units and with three districts.
 pub fn more_outcomes()
     ensures three { outcome (job_of_three (run_of 5000 1 8 0 1000 (record { score = Seats; tail = High } ∷ record { score = Gap; tail = High } ∷ []))) first_draws_alone 0
-        ≡ record { id = 0; moved = 1; values = pos 2 ∷ pos 2 ∷ pos 0 ∷ pos 0 ∷ []; bins = no_bins } }
+        ≡ record { id = 0; moved = 1; values = pos 2 ∷ pos 2 ∷ pos 0 ∷ pos 0 ∷ []; bins = empty_histogram } }
     ensures districts { outcome (job_of_three_districts (run_of 5000 1 8 0 1000 (record { score = MeanMedian; tail = High } ∷ []))) first_draws_alone 0
-        ≡ record { id = 0; moved = 1; values = pos 4 ∷ pos 0 ∷ pos 0 ∷ pos 0 ∷ []; bins = no_bins } }
+        ≡ record { id = 0; moved = 1; values = pos 4 ∷ pos 0 ∷ pos 0 ∷ pos 0 ∷ []; bins = empty_histogram } }
 {}
 
 /// Shows the scores of the plans of these jobs.
@@ -146,7 +146,7 @@ pub fn small_certificates()
 pub fn small_mirrors()
     ensures back { mirrored (job_of_four path_of_four (run_of 5000 1 8 0 1000 [])) (0 ∷ 0 ∷ 1 ∷ 1 ∷ []) 0x8665eeb269b687c3 ≡ 0x8665eeb269b687c2 }
     ensures leads { next (job_of_four path_of_four (run_of 5000 1 8 0 1000 [])) (0 ∷ 1 ∷ 1 ∷ 1 ∷ []) 0x8665eeb269b687c2 ≡ 0 ∷ 0 ∷ 1 ∷ 1 ∷ [] }
-    ensures held { mirrored (job_of_four path_of_four (run_of 5000 1 8 0 1000 [])) (0 ∷ 0 ∷ 1 ∷ 1 ∷ []) 0x903df1a0ade0b876 ≡ 0x903df1a0ade0b876 }
+    ensures rejected { mirrored (job_of_four path_of_four (run_of 5000 1 8 0 1000 [])) (0 ∷ 0 ∷ 1 ∷ 1 ∷ []) 0x903df1a0ade0b876 ≡ 0x903df1a0ade0b876 }
 {}
 
 /// Shows the sums after the last unit of the cycle moves.
@@ -157,8 +157,8 @@ pub fn small_sums()
 
 /// Shows the rank of a start plan among three outcomes.
 pub fn small_ranks()
-    ensures low { rank_among Low (negsuc 0) 0 (record { id = 1; moved = 0; values = negsuc 6 ∷ []; bins = no_bins } ∷ record { id = 2; moved = 0; values = pos 5 ∷ []; bins = no_bins } ∷ record { id = 3; moved = 0; values = negsuc 0 ∷ []; bins = no_bins } ∷ []) ≡ 3 }
-    ensures high { rank_among High (negsuc 0) 0 (record { id = 1; moved = 0; values = negsuc 6 ∷ []; bins = no_bins } ∷ record { id = 2; moved = 0; values = pos 5 ∷ []; bins = no_bins } ∷ record { id = 3; moved = 0; values = negsuc 0 ∷ []; bins = no_bins } ∷ []) ≡ 3 }
+    ensures low { rank_among Low (negsuc 0) 0 (record { id = 1; moved = 0; values = negsuc 6 ∷ []; bins = empty_histogram } ∷ record { id = 2; moved = 0; values = pos 5 ∷ []; bins = empty_histogram } ∷ record { id = 3; moved = 0; values = negsuc 0 ∷ []; bins = empty_histogram } ∷ []) ≡ 3 }
+    ensures high { rank_among High (negsuc 0) 0 (record { id = 1; moved = 0; values = negsuc 6 ∷ []; bins = empty_histogram } ∷ record { id = 2; moved = 0; values = pos 5 ∷ []; bins = empty_histogram } ∷ record { id = 3; moved = 0; values = negsuc 0 ∷ []; bins = empty_histogram } ∷ []) ≡ 3 }
 {}
 
 /// Shows ten trajectories in three parts, with id 4 already done. Each part takes the pending ids with its remainder,

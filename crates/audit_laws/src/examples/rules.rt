@@ -7,7 +7,7 @@ ghost use Rattle.audit_model.specs.declared.setting.Tail.TheVariants.{Low};
 ghost use Rattle.audit_model.specs.JobOf.{plan_fault};
 ghost use Rattle.audit_model.specs.Meets.{meets_rules, region_count, split_of};
 ghost use Rattle.audit_model.specs.Plan.{cut_edges};
-ghost use Rattle.audit_model.specs.Trajectory.{no_bins, outcome};
+ghost use Rattle.audit_model.specs.Trajectory.{empty_histogram, outcome};
 ghost use Rattle.audit_statement.specs.Checkpoint.{job_bytes};
 ghost use Rattle.audit_statement.specs.Report.{check_text};
 ghost use Rattle.audit_laws.specs.Jobs.{run_of, no_rules, path_of_four, square_with_diagonal, job_of_four, first_draws_alone};
@@ -35,17 +35,17 @@ pub fn refused_by_rules()
 /// Shows the outcome of the trajectory on the square with a diagonal, with and without a limit on cut edges.
 pub fn limited_cut_edges()
     ensures free { outcome (record (job_of_four square_with_diagonal (run_of 5000 1 8 0 1000 (record { score = CutEdges; tail = Low } ∷ []))) { start = 0 ∷ 1 ∷ 0 ∷ 0 ∷ [] }) first_draws_alone 0
-        ≡ record { id = 0; moved = 4; values = pos 3 ∷ pos 0 ∷ pos 0 ∷ pos 0 ∷ []; bins = no_bins } }
+        ≡ record { id = 0; moved = 4; values = pos 3 ∷ pos 0 ∷ pos 0 ∷ pos 0 ∷ []; bins = empty_histogram } }
     ensures limited { outcome (record (job_of_four square_with_diagonal (record (run_of 5000 1 8 0 1000 (record { score = CutEdges; tail = Low } ∷ [])) { max_cut = 2 })) { start = 0 ∷ 1 ∷ 0 ∷ 0 ∷ [] }) first_draws_alone 0
-        ≡ record { id = 0; moved = 0; values = pos 9 ∷ pos 0 ∷ pos 0 ∷ pos 0 ∷ []; bins = no_bins } }
+        ≡ record { id = 0; moved = 0; values = pos 9 ∷ pos 0 ∷ pos 0 ∷ pos 0 ∷ []; bins = empty_histogram } }
 {}
 
 /// Shows the outcome of the trajectory on the path if no region may be split, and if each may lie in two districts.
 pub fn whole_regions()
     ensures whole { outcome (record (job_of_four path_of_four (record (run_of 5000 1 8 0 1000 (record { score = Seats; tail = Low } ∷ [])) { max_split = 1 })) { regions = 0 ∷ 0 ∷ 1 ∷ 1 ∷ [] }) first_draws_alone 0
-        ≡ record { id = 0; moved = 0; values = pos 9 ∷ pos 0 ∷ pos 0 ∷ pos 0 ∷ []; bins = no_bins } }
+        ≡ record { id = 0; moved = 0; values = pos 9 ∷ pos 0 ∷ pos 0 ∷ pos 0 ∷ []; bins = empty_histogram } }
     ensures split { outcome (record (job_of_four path_of_four (record (run_of 5000 1 8 0 1000 (record { score = Seats; tail = Low } ∷ [])) { max_split = 2 })) { regions = 0 ∷ 0 ∷ 1 ∷ 1 ∷ [] }) first_draws_alone 0
-        ≡ record { id = 0; moved = 1; values = pos 9 ∷ pos 0 ∷ pos 0 ∷ pos 0 ∷ []; bins = no_bins } }
+        ≡ record { id = 0; moved = 1; values = pos 9 ∷ pos 0 ∷ pos 0 ∷ pos 0 ∷ []; bins = empty_histogram } }
 {}
 
 /// Shows the lines of the rules in the text of a check.

@@ -11,7 +11,7 @@ ghost use Rattle.audit_model.specs.declared.setting.Score.TheVariants.{Seats, Ga
 ghost use Rattle.audit_model.specs.declared.setting.Tail.TheVariants.{Low};
 ghost use Rattle.audit_model.specs.JobOf.{job_with};
 ghost use Rattle.audit_model.specs.Several.{named_jobs};
-ghost use Rattle.audit_model.specs.Trajectory.{no_bins, outcome};
+ghost use Rattle.audit_model.specs.Trajectory.{empty_histogram, outcome};
 ghost use Rattle.audit_statement.specs.Regions.{id_reading, region_reading};
 ghost use Rattle.audit_statement.specs.Table.{graph_part, table_part, table_reading};
 ghost use Rattle.audit_statement.specs.Words.{setting_of};
@@ -56,7 +56,7 @@ pub fn small_tables()
 /// Shows a plan of a table as a job, and a refused plan.
 pub fn jobs_of_plans()
     ensures walked { outcome (record (job_of_four path_of_four (run_of 5000 1 8 0 1000 (record { score = Seats; tail = Low } ∷ []))) { start = 0 ∷ 0 ∷ 0 ∷ 1 ∷ [] }) first_draws_alone 0
-        ≡ record { id = 0; moved = 2; values = pos 9 ∷ pos 0 ∷ pos 0 ∷ pos 0 ∷ []; bins = no_bins } }
+        ≡ record { id = 0; moved = 2; values = pos 9 ∷ pos 0 ∷ pos 0 ∷ pos 0 ∷ []; bins = empty_histogram } }
     ensures refused { job_with (job_of_four path_of_four (run_of 5000 1 8 0 1000 [])) (0 ∷ 1 ∷ 0 ∷ 0 ∷ []) (Word (codes "A") ∷ Word (codes "B") ∷ []) ≡ Err (Disconnected 0 0 2) }
     ensures named { named_jobs (job_of_four path_of_four (run_of 5000 1 8 0 1000 [])) (record { name = codes "p"; start = 0 ∷ 1 ∷ 0 ∷ 0 ∷ []; labels = Word (codes "A") ∷ Word (codes "B") ∷ [] } ∷ []) ≡
         Err (codes "p", Disconnected 0 0 2) }

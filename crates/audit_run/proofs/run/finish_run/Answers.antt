@@ -1,5 +1,5 @@
 use Rattle.std.proofs.Common.{sym, subst}
-use Rattle.audit_start.specs.Opening.{IsOpened}
+use Rattle.audit_start.specs.ResumeState.{IsOpened}
 use Rattle.audit_model.specs.State.{Kept}
 use Rattle.audit_statement.specs.Due.{LetsSavesOf}
 use Rattle.audit_run.proofs.Placing.{goes_on}
@@ -7,14 +7,14 @@ use Rattle.audit_run.proofs.run.finish_run.Goals as goal
 
 pub finish_cut-requires-clause-opened : goal.finish_cut-requires-clause-opened
 finish_cut-requires-clause-opened g c κs within =
-    subst (λ (k : Kept). IsOpened c.args.job.now k.slots c.in-Ok.opening) (sym c.in-Ok.ensures.same) c.in-Ok.ensures.opened
+    subst (λ (k : Kept). IsOpened c.args.job.now k.slots c.in-Ok.resume_state) (sym c.in-Ok.ensures.same) c.in-Ok.ensures.opened
 
 pub finish_cut-requires-clause-lets : goal.finish_cut-requires-clause-lets
 finish_cut-requires-clause-lets g c κs within = subst (LetsSavesOf g.C.Keeper.lets c.args.job.now) (sym c.in-Ok.ensures.same) c.requires.lets
 
 pub finish_ruled-requires-clause-opened : goal.finish_ruled-requires-clause-opened
 finish_ruled-requires-clause-opened g c κs within =
-    subst (λ (k : Kept). IsOpened c.args.job.now k.slots c.in-Ok.opening) (sym c.in-Ok.ensures.same) c.in-Ok.ensures.opened
+    subst (λ (k : Kept). IsOpened c.args.job.now k.slots c.in-Ok.resume_state) (sym c.in-Ok.ensures.same) c.in-Ok.ensures.opened
 
 pub finish_ruled-requires-clause-lets : goal.finish_ruled-requires-clause-lets
 finish_ruled-requires-clause-lets g c κs within = subst (LetsSavesOf g.C.Keeper.lets c.args.job.now) (sym c.in-Ok.ensures.same) c.requires.lets

@@ -1,7 +1,7 @@
 use Rattle.std.proofs.Common.{List, sym, subst}
 use Rattle.audit_model.specs.declared.outcome.Outcome.{Outcome}
 use Rattle.report.specs.declared.ended.Ended.{Ended}
-use Rattle.audit_statement.specs.Endings.{IsOpening}
+use Rattle.audit_statement.specs.Endings.{AreInitialOutcomes}
 use Rattle.audit_laws.specs.Calls.{Finishes}
 use Rattle.audit_run.proofs.run.run_unsaved.Goals as goal
 
@@ -11,7 +11,7 @@ returns-in-Ok g c = λ k opened.
     let out = g.K.Sink.state c.args.out.now in
     let later = g.K.Sink.state c.finish_unsaved.new.out in
     subst (λ (why : Ended). Finishes job out later k k why) (sym c.ended.ensures)
-    (c.finish_unsaved.ensures k (subst (λ (os : List Outcome). IsOpening job k.slots os) (sym c.in-Ok.ensures.outcomes) opened))
+    (c.finish_unsaved.ensures k (subst (λ (os : List Outcome). AreInitialOutcomes job k.slots os) (sym c.in-Ok.ensures.outcomes) opened))
 
 pub finish_unsaved-requires-clause-resources : goal.finish_unsaved-requires-clause-resources
 finish_unsaved-requires-clause-resources g c κs within = c.in-Ok.ensures.resources

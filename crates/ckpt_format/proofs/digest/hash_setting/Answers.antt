@@ -7,7 +7,7 @@ use Rattle.ckpt_format.proofs.digest.hash_setting.Goals as goal
 
 pub returns : goal.returns
 returns c =
-    let key : Hashes c.hash_u32.new.hasher c.update.new.self c.args.setting.now.key = record { taken = λ before held. c.update.ensures before held } in
+    let key : Hashes c.hash_u32.new.hasher c.update.new.self c.args.setting.now.key = record { taken = λ before hashed. c.update.ensures before hashed } in
     let count = hashes_same _ _ _ _ (ap (to_be_bytes w32) c.len.ensures) c.hash_u32-6.ensures in
     let asks = hashes_same _ _ _ _ (ap (flat_map ask_bytes) c.as_slice.ensures) c.hash_asks.ensures in
     let two = hashes_then _ _ _ _ _ c.hash_u32.ensures key in

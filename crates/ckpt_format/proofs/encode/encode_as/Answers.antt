@@ -19,8 +19,8 @@ returns-clause-length c =
     ∙ length-checkpoint c.args.version c.args.digest.now c.args.generation c.args.outcomes.now (search rules) c.append_outcomes.ensures.sound
 
 pub returns-clause-sound : goal.returns-clause-sound
-returns-clause-sound c = λ held. record {
-  bins_held = held;
+returns-clause-sound c = λ storable. record {
+  storable_histograms = storable;
   digest_length = search rules;
   digest_bytes = recursion_from_All (λ b. b < 256) c.args.digest.now (All-from_get_or (λ b. b < 256) c.args.digest.now 0 (λ i l. c.fits-digest i));
   generation_below = c.requires.generation;

@@ -5,7 +5,7 @@ use Rattle.audit_model.specs.Plan.{IsLegal}
 use Rattle.audit_model.specs.Proposal.{proposal}
 use Rattle.audit_model.specs.Step.{next, mirrored}
 use Rattle.audit_model.proofs.Mirror.{mirrored_below, mirrored_stays}
-use Rattle.flip_kernel.specs.Held.{IsMove, ProposesOpen}
+use Rattle.flip_kernel.specs.ChainState.{IsMove, ProposesOpen}
 use Rattle.flip_kernel.proofs.flip.find_mirror.Goals as goal
 use Rattle.flip_kernel.proofs.Flipping.{next_moved, next_stays, move_differs, mirrored_turned}
 

@@ -4,8 +4,8 @@ use Rattle.audit_model.proofs.Mirror.{next-mirrored, mirrored-mirrored, mirrored
 use Rattle.flip_kernel.proofs.Flipping.{mirrored_moved}
 use Rattle.flip_kernel.proofs.flip.mirror.Goals as goal
 
-pub returns-clause-held : goal.returns-clause-held
-returns-clause-held g c = λ same. c.find_mirror.ensures.value ∙ mirrored_stays c.args.job.now c.args.state.now.plan c.args.draw same
+pub returns-clause-unchanged : goal.returns-clause-unchanged
+returns-clause-unchanged g c = λ same. c.find_mirror.ensures.value ∙ mirrored_stays c.args.job.now c.args.state.now.plan c.args.draw same
 
 pub returns-clause-moved : goal.returns-clause-moved
 returns-clause-moved g c = λ unit district is differs.

@@ -1,26 +1,26 @@
 use Rattle.std.proofs.Common.{◌≤◌, ◌++◌, ℕ, List, length, take, ap, sym, subst, ◌∙◌, arith}
 use Rattle.audit_model.specs.declared.setting.Setting.{Setting}
 use Rattle.audit_statement.specs.Trace.{plan_line}
-use Rattle.plan_runs.proofs.Tracing.{legal_held, line_observed}
+use Rattle.plan_runs.proofs.Tracing.{legal_current, line_observed}
 use Rattle.plan_runs.proofs.pen.put_plan.Goals as goal
 
 pub plan_line-requires-clause-room : goal.plan_line-requires-clause-room
 plan_line-requires-clause-room g c =
     let job = c.args.job.now in
-    let held = c.args.walker.now in
+    let current = c.args.walker.now in
     let now = c.values-values.new.self in
-    let observed = line_observed job held now c.values-values.ensures.same c.requires.made c.args.step c.args.moved c.len-asks.result c.values-values.result c.args.pen.now.before c.as_slice.result.now c.as_slice-plan.result.now
+    let observed = line_observed job current now c.values-values.ensures.same c.requires.made c.args.step c.args.moved c.len-asks.result c.values-values.result c.args.pen.now.before c.as_slice.result.now c.as_slice-plan.result.now
     c.units-units.ensures.sound (c.len-asks.ensures ∙ ap (λ (s : Setting). length s.asks) c.setting.ensures) c.values-values.ensures.values c.as_slice.ensures
     (c.as_slice-plan.ensures ∙ c.plan.ensures.value) in
-    let fits = c.requires.pen.room.plan c.args.step c.args.moved c.args.pen.now.before held.plan (legal_held job held now c.values-values.ensures.same c.requires.made c.plan.ensures.legal) in
+    let fits = c.requires.pen.room.plan c.args.step c.args.moved c.args.pen.now.before current.plan (legal_current job current now c.values-values.ensures.same c.requires.made c.plan.ensures.legal) in
     omega (arith, ap length observed, fits, c.clear.ensures.spare)
 
 pub returns-clause-line : goal.returns-clause-line
 returns-clause-line g c =
     let job = c.args.job.now in
-    let held = c.args.walker.now in
+    let current = c.args.walker.now in
     let now = c.values-values.new.self in
-    let observed = line_observed job held now c.values-values.ensures.same c.requires.made c.args.step c.args.moved c.len-asks.result c.values-values.result c.args.pen.now.before c.as_slice.result.now c.as_slice-plan.result.now
+    let observed = line_observed job current now c.values-values.ensures.same c.requires.made c.args.step c.args.moved c.len-asks.result c.values-values.result c.args.pen.now.before c.as_slice.result.now c.as_slice-plan.result.now
     c.units-units.ensures.sound (c.len-asks.ensures ∙ ap (λ (s : Setting). length s.asks) c.setting.ensures) c.values-values.ensures.values c.as_slice.ensures
     (c.as_slice-plan.ensures ∙ c.plan.ensures.value) in
     c.plan_line.ensures.items

@@ -4,8 +4,8 @@ use Rattle.plan_runs.specs.Found.{HasFound}
 use Rattle.plan_runs.proofs.Reported.{none_short, thread_observed}
 use Rattle.plan_runs.proofs.plans.walk_plan.Goals as goal
 
-pub walk-found-requires-clause-ready : goal.walk-found-requires-clause-ready
-walk-found-requires-clause-ready g c κs within = c.requires.resources.ready
+pub walk-found-requires-clause-buffers : goal.walk-found-requires-clause-buffers
+walk-found-requires-clause-buffers g c κs within = c.requires.resources.buffers
 
 pub walk-found-requires-clause-workers : goal.walk-found-requires-clause-workers
 walk-found-requires-clause-workers g c κs within = c.requires.resources.workers

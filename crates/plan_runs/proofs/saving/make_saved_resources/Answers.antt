@@ -2,8 +2,8 @@ use Rattle.plan_runs.proofs.saving.make_saved_resources.Goals as goal
 
 pub returns-clause-resources : goal.returns-clause-resources
 returns-clause-resources g c = record {
-  ready = c.in_ok-ready.ensures.ready;
+  buffers = c.in_ok-buffers.ensures.buffers;
   pool = c.in_ok-pool.ensures.pool;
-  room = c.in_ok-ready.ensures.room;
+  room = c.in_ok-buffers.ensures.room;
   tester = c.in_ok-pool.ensures.tester;
 }

@@ -2,8 +2,8 @@ use Rattle.std.proofs.Common.{◌≡◌, ◌<◌, ◌≤◌, ◌+◌, ◌-◌, �
 use Rattle.audit_model.specs.Rounded.{quotient_up}
 use Rattle.audit_statement.specs.Along.{own_steps}
 use Rattle.audit_statement.specs.Draw.{draw}
-use Rattle.flip_kernel.specs.Held.{Held}
-use Rattle.plan_runs.specs.Tracers.{IsHeldAt}
+use Rattle.flip_kernel.specs.ChainState.{ChainState}
+use Rattle.plan_runs.specs.Tracers.{IsCurrentAt}
 use Rattle.plan_runs.proofs.Strides.{lines_cut, lines_then, shown_next}
 use Rattle.report.specs.Said.{WritesAllOf}
 use Rattle.walker.specs.Walked.{IsUnderWay}
@@ -18,18 +18,18 @@ loop-place-preserved g c =
     let id = c.args.traced.id in
     let thin = c.args.traced.thin in
     let step = c.loop-place.step in
-    let held = c.loop-place.invariant in
-    let under = c.go_on.ensures.way id step held.way in
+    let so_far = c.loop-place.invariant in
+    let under = c.go_on.ensures.way id step so_far.way in
     let next : step + c.min-stride.result ≡ _ =
-    ap (λ (n : ℕ). step + n) (c.min-stride.ensures ∙ ap (λ (n : ℕ). min thin (n - step)) c.steps_of-steps.ensures) ∙ shown_next thin (own_steps job id) c.loop-place.place step held.at in
+    ap (λ (n : ℕ). step + n) (c.min-stride.ensures ∙ ap (λ (n : ℕ). min thin (n - step)) c.steps_of-steps.ensures) ∙ shown_next thin (own_steps job id) c.loop-place.place step so_far.at in
     record {
       at = next;
       pen = c.in-Ok.ensures.pen;
-      way = subst (λ (h : Held). IsUnderWay job id (step + c.min-stride.result) h c.go_on.new.way) (sym c.in-Ok.ensures.same) under;
-      before = c.in-Ok.ensures.before ∙ ap (λ (h : Held). h.plan) (sym c.in-Ok.ensures.same);
+      way = subst (λ (h : ChainState). IsUnderWay job id (step + c.min-stride.result) h c.go_on.new.way) (sym c.in-Ok.ensures.same) under;
+      before = c.in-Ok.ensures.before ∙ ap (λ (h : ChainState). h.plan) (sym c.in-Ok.ensures.same);
       written = λ before first.
           lines_then job (draw job.setting.key) id thin before (g.K.Sink.state c.loop-place.out) (g.K.Sink.state c.write_line.new.out) c.loop-place.place step (step + c.min-stride.result)
-          c.loop-place.tracer.pen.before (Ok tt) held.at next (held.before ∙ held.way.walked.visited) (held.written before first)
+          c.loop-place.tracer.pen.before (Ok tt) so_far.at next (so_far.before ∙ so_far.way.walked.visited) (so_far.written before first)
           (c.in-Ok.ensures.written id (record { plan = under.walked.visited; counted = c.move_count.ensures ∙ under.walked.counted }));
     }
 
@@ -39,14 +39,14 @@ returns-in-Err-clause-written g c = λ before first.
     let id = c.args.traced.id in
     let thin = c.args.traced.thin in
     let step = c.loop-place.step in
-    let held = c.loop-place.invariant in
-    let under = c.go_on.ensures.way id step held.way in
+    let so_far = c.loop-place.invariant in
+    let under = c.go_on.ensures.way id step so_far.way in
     let next : step + c.min-stride.result ≡ _ =
-    ap (λ (n : ℕ). step + n) (c.min-stride.ensures ∙ ap (λ (n : ℕ). min thin (n - step)) c.steps_of-steps.ensures) ∙ shown_next thin (own_steps job id) c.loop-place.place step held.at in
+    ap (λ (n : ℕ). step + n) (c.min-stride.ensures ∙ ap (λ (n : ℕ). min thin (n - step)) c.steps_of-steps.ensures) ∙ shown_next thin (own_steps job id) c.loop-place.place step so_far.at in
     let below : c.loop-place.place < quotient_up (own_steps job id) thin =
     subst (λ (n : ℕ). c.loop-place.place < n) (c.strides_of-place-end.ensures ∙ ap (λ (n : ℕ). quotient_up n thin) c.steps_of-steps.ensures) c.loop-place-test.true in
     lines_cut job (draw job.setting.key) id thin before (g.K.Sink.state c.write_line.new.out) (c.loop-place.place + 1 + 1) (quotient_up (own_steps job id) thin + 1) c.in-Err.field-0 _
     (two_more c.loop-place.place (quotient_up (own_steps job id) thin) below)
     (lines_then job (draw job.setting.key) id thin before (g.K.Sink.state c.loop-place.out) (g.K.Sink.state c.write_line.new.out) c.loop-place.place step (step + c.min-stride.result)
-    c.loop-place.tracer.pen.before (Err c.in-Err.field-0) held.at next (held.before ∙ held.way.walked.visited) (held.written before first)
+    c.loop-place.tracer.pen.before (Err c.in-Err.field-0) so_far.at next (so_far.before ∙ so_far.way.walked.visited) (so_far.written before first)
     (c.in-Err.ensures.written id (record { plan = under.walked.visited; counted = c.move_count.ensures ∙ under.walked.counted })))

@@ -14,7 +14,7 @@ returns-in-Err g c =
     let later = g.K.Sink.state c.write_all.new.out in
     subst (λ (t : List ℕ). WritesAllOf out later t (Err _)) (sym (text_parts job (draw job.setting.key) range.first range.last range.thin))
     (wrote_part out later (trace_head job) (lines_of_range job range (range.last + 1 - range.first) ++ end_line) c.in-Err.field-0 _
-    (subst (λ (t : List ℕ). WritesAllOf out later t (Err c.in-Err.field-0)) (c.as_slice.ensures ∙ c.requires.ready.head) c.in-Err.ensures))
+    (subst (λ (t : List ℕ). WritesAllOf out later t (Err c.in-Err.field-0)) (c.as_slice.ensures ∙ c.requires.buffers.head) c.in-Err.ensures))
 
 pub returns-in-Ok : goal.returns-in-Ok
 returns-in-Ok g c =
@@ -25,4 +25,4 @@ returns-in-Ok g c =
     let later = g.K.Sink.state c.write_body.new.out in
     subst (λ (t : List ℕ). WritesAllOf out later t c.write_body.result) (sym (text_parts job (draw job.setting.key) range.first range.last range.thin))
     (wrote_then out mid later (trace_head job) (lines_of_range job range (range.last + 1 - range.first) ++ end_line) c.write_body.result
-    (subst (λ (t : List ℕ). WritesAllOf out mid t (Ok tt)) (c.as_slice.ensures ∙ c.requires.ready.head) c.in-Ok.ensures) c.write_body.ensures)
+    (subst (λ (t : List ℕ). WritesAllOf out mid t (Ok tt)) (c.as_slice.ensures ∙ c.requires.buffers.head) c.in-Ok.ensures) c.write_body.ensures)

@@ -7,5 +7,5 @@ end_run-requires-clause-tellable g c = c.walk-found.ensures.tellable
 
 pub returns : goal.returns
 returns g c = λ k opened.
-    let opening = c.args.resources.ready.book.outcomes in
-    c.end_run.ensures opening k k opened c.walk-found.ensures (subst (λ b. SavedBy b c.args.job.now opening k k (Ok tt)) (sym c.requires.unsaved) (refl, refl))
+    let initial_outcomes = c.args.resources.buffers.book.outcomes in
+    c.end_run.ensures initial_outcomes k k opened c.walk-found.ensures (subst (λ b. SavedBy b c.args.job.now initial_outcomes k k (Ok tt)) (sym c.requires.unsaved) (refl, refl))

@@ -8,20 +8,20 @@ use Rattle.plan_runs.proofs.walking.walk_all.Goals as goal
 pub returns : goal.returns
 returns g c =
     let job = c.args.job.now in
-    let ready = c.requires.ready in
+    let buffers = c.requires.buffers in
     let found = c.all.ensures in
-    let all = are_all job ready.start.run c.args.ready.book.outcomes c.args.ready.book.outcomes c.as_slice.result.now c.walk_run.new.out.items
-    refl ready.start.fit (c.as_slice.ensures ∙ ready.ids) (subst (IsWithin job) (sym c.as_slice.ensures) ready.todo.within)
+    let all = are_all job buffers.start.run c.args.buffers.book.outcomes c.args.buffers.book.outcomes c.as_slice.result.now c.walk_run.new.out.items
+    refl buffers.start.fit (c.as_slice.ensures ∙ buffers.ids) (subst (IsWithin job) (sym c.as_slice.ensures) buffers.todo.within)
     c.walk_run.ensures.full c.walk_run.ensures.all c.walk_run.ensures.rising in
-    all_found job ready.start.run c.requires.workers.plain c.args.ready.book.outcomes c.all.result
+    all_found job buffers.start.run c.requires.workers.plain c.args.buffers.book.outcomes c.all.result
     (rw found.sorted all)
     (rw found.sorted found.listed)
     found.observed
-    (rw found.text ready.blank)
-    (rw found.text ready.report_room)
+    (rw found.text buffers.blank)
+    (rw found.text buffers.report_room)
 
 pub walk_run-requires-clause-todo : goal.walk_run-requires-clause-todo
 walk_run-requires-clause-todo g c κs within = record {
-  ids = subst (IsTodo c.args.job.now c.args.ready.book.outcomes) (sym c.as_slice.ensures) c.requires.ready.todo;
-  whole = c.requires.ready.total_is;
+  ids = subst (IsTodo c.args.job.now c.args.buffers.book.outcomes) (sym c.as_slice.ensures) c.requires.buffers.todo;
+  whole = c.requires.buffers.total_is;
 }

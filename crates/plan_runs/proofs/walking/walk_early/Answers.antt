@@ -9,15 +9,15 @@ use Rattle.plan_runs.proofs.walking.walk_early.Goals as goal
 pub walk_to_stops-stops-requires-clause-ids : goal.walk_to_stops-stops-requires-clause-ids
 walk_to_stops-stops-requires-clause-ids g c κs within =
     let job = c.args.job.now in
-    let ready = c.requires.ready in
+    let buffers = c.requires.buffers in
     let early = c.requires.workers.early in
-    c.as_slice.ensures ∙ ready.ids ∙ ap (λ (os : List Outcome). run_ids job os job.setting.budget) (ready.start.fresh early) ∙ all_walked job ready.start.run early
+    c.as_slice.ensures ∙ buffers.ids ∙ ap (λ (os : List Outcome). run_ids job os job.setting.budget) (buffers.start.fresh early) ∙ all_walked job buffers.start.run early
 
 pub returns : goal.returns
 returns g c =
     let walked = c.walk_to_stops-stops.ensures in
-    let ready = c.requires.ready in
-    early_found c.args.job.now ready.start.run c.requires.workers.early c.args.ready.book.outcomes (ready.start.fresh c.requires.workers.early) _ walked.in_time
+    let buffers = c.requires.buffers in
+    early_found c.args.job.now buffers.start.run c.requires.workers.early c.args.buffers.book.outcomes (buffers.start.fresh c.requires.workers.early) _ walked.in_time
     (ap (λ (s : Setting). s.walks) c.setting-setting.ensures)
     (c.len.ensures ∙ ap (λ (s : Setting). length s.asks) c.setting-setting.ensures)
-    walked.stops walked.parts walked.four ready.blank ready.report_room
+    walked.stops walked.parts walked.four buffers.blank buffers.report_room

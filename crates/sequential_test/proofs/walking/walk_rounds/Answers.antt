@@ -2,11 +2,11 @@ use Rattle.std.proofs.Common.{◌≡◌, ◌∙◌, ℕ, ◌+◌, ◌≤◌, ap,
 use Rattle.audit_model.specs.Run.{total}
 use Rattle.audit_model.proofs.Below.{length-map_below}
 use Rattle.audit_model.specs.declared.setting.Setting.{Setting}
-use Rattle.sequential_test.specs.Rounds.{found_below, AreSettled}
+use Rattle.sequential_test.specs.Rounds.{found_below, AreDecided}
 use Rattle.sequential_test.proofs.Rounding.{few_after, never_out, part_is, round_done, stops_in_time}
 use Rattle.sequential_test.proofs.Reaching.{same_part, same_walked}
-use Rattle.sequential_test.proofs.Slicing.{all_settled, whole_ids}
-use Rattle.sequential_test.proofs.Finals.{all_are_settled}
+use Rattle.sequential_test.proofs.Slicing.{all_decided, whole_ids}
+use Rattle.sequential_test.proofs.Finals.{all_are_decided}
 use Rattle.sequential_test.proofs.walking.walk_rounds.Goals as goal
 
 pub loop-part-init : goal.loop-part-init
@@ -16,7 +16,7 @@ loop-part-init g c = record {
     counted = omega (arith, c.args.rounds.parts.ok.0);
     rounds_are = c.requires.rounds;
     walked_is = omega arith;
-    before = λ k some few settled. absurd (omega (arith, some, few));
+    before = λ k some few decided. absurd (omega (arith, some, few));
   };
   walked_is = same_walked c.args.job.now (vec_len c.args.part_workers.now.idle_workers) c.args.job.now.setting.walks _ _ _ c.requires.walked _ _ refl (omega arith);
 }
@@ -57,17 +57,17 @@ loop-part-preserved g c =
     record {
       round = round_done _ _ _ _ _ was.round c.pop.new.self.items c.in-Some.part c.after_round-next.result c.in-Some.ensures.items
           (c.after_round-next.ensures ∙ ap (λ (s : Setting). min s.ends (2 * c.loop-part.walked + 64)) c.setting_of-2.ensures.value)
-          (λ settled. c.in-None.ensures.none (subst (AreSettled c.args.job.now) (sym (c.as_slice.ensures ∙ done.sorted ∙ ap (λ (s : Setting). found_below c.args.job.now (s.walks + c.after_round-next.result)) c.setting_of.ensures.value)) settled));
+          (λ decided. c.in-None.ensures.none (subst (AreDecided c.args.job.now) (sym (c.as_slice.ensures ∙ done.sorted ∙ ap (λ (s : Setting). found_below c.args.job.now (s.walks + c.after_round-next.result)) c.setting_of.ensures.value)) decided));
       walked_is = same_walked c.args.job.now _ _ _ _ _ done.walked _ _ (sym was.walked_is.part_workers.count)
           (sym (ap (λ (s : Setting). s.walks + c.after_round-next.result) c.setting_of.ensures.value));
     }
 
-pub returns-in-Some-settle_all-clause-in_time : goal.returns-in-Some-settle_all-clause-in_time
-returns-in-Some-settle_all-clause-in_time g c =
+pub returns-in-Some-find_stops-clause-in_time : goal.returns-in-Some-find_stops-clause-in_time
+returns-in-Some-find_stops-clause-in_time g c =
     stops_in_time _ _ _ _ _ c.loop-part.invariant.round c.after_round-next.result _ (c.after_round-next.ensures ∙ ap (λ (s : Setting). min s.ends (2 * c.loop-part.walked + 64)) c.setting_of-2.ensures.value)
     (c.walk_to.ensures.sorted ∙ ap (λ (s : Setting). found_below c.args.job.now (s.walks + c.after_round-next.result)) c.setting_of.ensures.value)
 
 pub unreachable-requires : goal.unreachable-requires
 unreachable-requires g c =
     never_out _ _ _ _ _ c.loop-part.invariant.round (omega (arith, c.loop-part.parts.ok.0, c.in_default.ensures.cases.0)) c.requires.some_ends c.requires.all
-    (all_settled (λ job place ask enough outcomes there. all_are_settled job place ask enough outcomes there) c.args.job.now)
+    (all_decided (λ job place ask enough outcomes there. all_are_decided job place ask enough outcomes there) c.args.job.now)

@@ -9,7 +9,7 @@ use Rattle.sequential_test.specs.Rounds.{ends_after}
 use Rattle.sequential_test.proofs.Rounding.{few_after, few_job}
 use Rattle.sequential_test.proofs.Reaching.{own_seats, same_walked}
 use Rattle.sequential_test.proofs.Slicing.{final_stops, found_right, none_walked, whole_ids}
-use Rattle.sequential_test.proofs.Finals.{settled_is_final}
+use Rattle.sequential_test.proofs.Finals.{decided_is_final}
 use Rattle.sequential_test.proofs.walking.walk_to_stops.Goals as goal
 
 pub ids_from-requires : goal.ids_from-requires
@@ -45,5 +45,5 @@ returns-clause-stops g c =
     let time = c.walk_rounds.ensures.in_time in
     let right = subst (λ (os : List Outcome). IsRight job (draw job.setting.key) os) (sym time.found_are)
     (found_right job (job.setting.walks + ends_after job.setting.ends time.rounds) (omega (arith, few_after job.setting.ends time.rounds))) in
-    final_stops (λ job draws place ask enough outcomes s right h. settled_is_final job draws place outcomes right ask enough s h) job (draw job.setting.key) c.walk_rounds.new.sorted.items c.walk_rounds.result right c.requires.some
+    final_stops (λ job draws place ask enough outcomes s right h. decided_is_final job draws place outcomes right ask enough s h) job (draw job.setting.key) c.walk_rounds.new.sorted.items c.walk_rounds.result right c.requires.some
     (omega (arith, (few_job job c.setting_of.ensures.sound).1, c.walk_rounds.ensures.four)) c.walk_rounds.ensures.stops

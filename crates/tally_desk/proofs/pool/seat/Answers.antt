@@ -3,9 +3,9 @@ use Rattle.std.proofs.lemmas.List.Elements.{All-nil, All-push}
 use Rattle.tally_desk.specs.Founded.{parts_of}
 use Rattle.tally_desk.specs.Passes.{HasPostedAll, view_of}
 use Rattle.tally_desk.specs.Views.{PassView}
-use Rattle.tally_desk.specs.Pools.{IsReadyAtDesk, IsWalker}
-use Rattle.tally_desk.specs.Unposted.{IsRoomWithin, held_room}
-use Rattle.tally_desk.proofs.Unposted.{nothing_held}
+use Rattle.tally_desk.specs.Pools.{IsUnstartedAtDesk, IsWalker}
+use Rattle.tally_desk.specs.Unposted.{IsRoomWithin, buffer_room}
+use Rattle.tally_desk.proofs.Unposted.{nothing_buffered}
 use Rattle.tally_desk.proofs.pool.seat.Goals as goal
 use Rattle.audit_model.proofs.ListFacts.{popped_last, popped_rest}
 
@@ -17,7 +17,7 @@ loop-walker-init g c =
     let left = c.in-Some.ensures.len in
     record {
       walkers = popped_rest (IsWalker parts.job) _ _ c.in-Some.last c.requires.pool.walkers_are c.in-Some.ensures.items;
-      ready = subst (All (IsReadyAtDesk table parts)) (sym c.requires.pool.blank) (All-nil (IsReadyAtDesk table parts));
+      unstarted = subst (All (IsUnstartedAtDesk table parts)) (sym c.requires.pool.blank) (All-nil (IsUnstartedAtDesk table parts));
       pass = c.requires.pass.belongs;
       going = ap (λ (v : PassView). v.own.ended) first;
       weight = ap (λ (v : PassView). v.own.weight) first;
@@ -25,8 +25,8 @@ loop-walker-init g c =
       whole = subst (HasPostedAll parts) (sym first) (c.posts_stay_whole.ensures.first parts);
       count = omega (arith, c.args.workers.ok.0, ap length c.requires.pool.blank, left);
       room = c.requires.pool.room;
-      lists = omega (arith, c.requires.pool.held_count, left);
-      rooms = c.requires.pool.held_rooms;
+      lists = omega (arith, c.requires.pool.buffer_count, left);
+      rooms = c.requires.pool.buffer_rooms;
     }
 
 pub loop-walker-preserved : goal.loop-walker-preserved
@@ -39,20 +39,20 @@ loop-walker-preserved g c =
     let left = c.in-Some-pop.ensures.len in
     record {
       walkers = popped_rest (IsWalker parts.job) _ _ c.in-Some-pop.walker was.walkers c.in-Some-pop.ensures.items;
-      ready = subst (All (IsReadyAtDesk table parts)) (sym c.push_reserved.ensures.items)
-          (All-push (IsReadyAtDesk table parts) c.loop-walker.workers.items _ was.ready (record {
+      unstarted = subst (All (IsUnstartedAtDesk table parts)) (sym c.push_reserved.ensures.items)
+          (All-push (IsUnstartedAtDesk table parts) c.loop-walker.workers.items _ was.unstarted (record {
             at_desk = record {
               walks = popped_last (IsWalker parts.job) _ _ c.in-Some-pop.walker was.walkers c.in-Some-pop.ensures.items;
               holds = record {
                 belongs = new.0;
-                rest = nothing_held parts (view_of c.split-part.result)
+                rest = nothing_buffered parts (view_of c.split-part.result)
                     (subst (HasPostedAll parts) (sym new.1) (c.posts_stay_whole.ensures.right parts (view_of c.loop-walker.pass)));
               };
               going = ap (λ (v : PassView). v.own.ended) new.1;
               weight = ap (λ (v : PassView). v.own.weight) new.1;
               spare = ap (λ (v : PassView). v.own.spare) new.1;
             };
-            held = popped_last (IsRoomWithin (held_room parts.job.setting parts.seats)) _ _ c.take_last-held.result was.rooms c.take_last-held.ensures.items;
+            buffered = popped_last (IsRoomWithin (buffer_room parts.job.setting parts.seats)) _ _ c.take_last-buffered.result was.rooms c.take_last-buffered.ensures.items;
           }));
       pass = rest.0;
       going = ap (λ (v : PassView). v.own.ended) rest.1 ∙ was.going;
@@ -61,23 +61,23 @@ loop-walker-preserved g c =
       whole = subst (HasPostedAll parts) (sym rest.1) (c.posts_stay_whole.ensures.left parts (view_of c.loop-walker.pass) was.whole);
       count = omega (arith, was.count, left, c.push_reserved.ensures.len);
       room = omega (arith, was.room, c.push_reserved.ensures.capacity);
-      lists = omega (arith, was.lists, left, c.take_last-held.ensures.len);
-      rooms = popped_rest (IsRoomWithin (held_room parts.job.setting parts.seats)) _ _ c.take_last-held.result was.rooms c.take_last-held.ensures.items;
+      lists = omega (arith, was.lists, left, c.take_last-buffered.ensures.len);
+      rooms = popped_rest (IsRoomWithin (buffer_room parts.job.setting parts.seats)) _ _ c.take_last-buffered.result was.rooms c.take_last-buffered.ensures.items;
     }
 
-pub returns-clause-ready : goal.returns-clause-ready
-returns-clause-ready g c =
+pub returns-clause-unstarted : goal.returns-clause-unstarted
+returns-clause-unstarted g c =
     let parts = parts_of g.C.Keeper.state c.args.desk.now.table.shared.key in
     let table = c.args.desk.now.table.shared.table_id in
     let was = c.loop-walker.invariant in
-    subst (All (IsReadyAtDesk table parts)) (sym c.push_reserved-2.ensures.items)
-    (All-push (IsReadyAtDesk table parts) c.loop-walker.workers.items _ was.ready (record {
+    subst (All (IsUnstartedAtDesk table parts)) (sym c.push_reserved-2.ensures.items)
+    (All-push (IsUnstartedAtDesk table parts) c.loop-walker.workers.items _ was.unstarted (record {
       at_desk = record {
         walks = popped_last (IsWalker parts.job) _ _ c.in-Some.last c.requires.pool.walkers_are c.in-Some.ensures.items;
-        holds = record { belongs = was.pass; rest = nothing_held parts (view_of c.loop-walker.pass) was.whole };
+        holds = record { belongs = was.pass; rest = nothing_buffered parts (view_of c.loop-walker.pass) was.whole };
         going = was.going;
         weight = was.weight;
         spare = omega (arith, was.spare, c.in_default-pop.ensures.cases.0);
       };
-      held = popped_last (IsRoomWithin (held_room parts.job.setting parts.seats)) _ _ c.take_last-held-2.result was.rooms c.take_last-held-2.ensures.items;
+      buffered = popped_last (IsRoomWithin (buffer_room parts.job.setting parts.seats)) _ _ c.take_last-buffered-2.result was.rooms c.take_last-buffered-2.ensures.items;
     }))

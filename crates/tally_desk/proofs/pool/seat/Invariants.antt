@@ -1,14 +1,14 @@
 use Rattle.std.proofs.Common.{◌≡◌, ◌+◌, ◌≤◌, All, vec_capacity, vec_len, false}
 use Rattle.tally_desk.specs.Founded.{parts_of}
 use Rattle.tally_desk.specs.Passes.{Belongs, HasPostedAll, view_of}
-use Rattle.tally_desk.specs.Pools.{AreWalkers, IsReadyAtDesk}
-use Rattle.tally_desk.specs.Unposted.{IsRoomWithin, held_room}
+use Rattle.tally_desk.specs.Pools.{AreWalkers, IsUnstartedAtDesk}
+use Rattle.tally_desk.specs.Unposted.{IsRoomWithin, buffer_room}
 use Rattle.tally_desk.proofs.pool.seat.Given as goal
 
 abbrev pub invariant-loop-walker : goal.invariant-loop-walker
 invariant-loop-walker g l = record {
   walkers : AreWalkers l.desk.table.shared.key.job.value l.walkers.items;
-  ready : All (IsReadyAtDesk l.desk.table.shared.table_id (parts_of g.C.Keeper.state l.desk.table.shared.key)) l.workers.items;
+  unstarted : All (IsUnstartedAtDesk l.desk.table.shared.table_id (parts_of g.C.Keeper.state l.desk.table.shared.key)) l.workers.items;
   pass : Belongs l.desk.table.shared.table_id (parts_of g.C.Keeper.state l.desk.table.shared.key) l.pass;
   going : (view_of l.pass).own.ended ≡ false;
   weight : (view_of l.pass).own.weight ≡ 1;
@@ -17,7 +17,7 @@ invariant-loop-walker g l = record {
   count : vec_len l.workers + vec_len l.walkers + 1 ≡ vec_len l.fn.walkers;
   room : vec_len l.fn.walkers ≤ vec_capacity l.workers;
   lists : vec_len l.lists ≡ vec_len l.walkers + 1;
-  rooms : All (IsRoomWithin (held_room l.desk.table.shared.key.job.value.setting l.desk.table.shared.key.seats)) l.lists.items;
+  rooms : All (IsRoomWithin (buffer_room l.desk.table.shared.key.job.value.setting l.desk.table.shared.key.seats)) l.lists.items;
 }
 
 abbrev pub decreases-loop-walker : goal.decreases-loop-walker

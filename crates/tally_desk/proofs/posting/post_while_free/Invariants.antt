@@ -6,10 +6,10 @@ use Rattle.tally_desk.proofs.posting.post_while_free.Given as goal
 
 abbrev pub invariant-loop-outcome : goal.invariant-loop-outcome
 invariant-loop-outcome g l = record {
-  holds : IsHolding l.desk.table.shared.table_id (parts_of g.C.Keeper.state l.desk.table.shared.key) l.pass l.held.items;
+  holds : IsHolding l.desk.table.shared.table_id (parts_of g.C.Keeper.state l.desk.table.shared.key) l.pass l.buffered.items;
   own : (view_of l.pass).own ≡ (view_of l.fn.pass).own;
-  room : vec_capacity l.held ≡ vec_capacity l.fn.held;
+  room : vec_capacity l.buffered ≡ vec_capacity l.fn.buffered;
 }
 
 abbrev pub decreases-loop-outcome : goal.decreases-loop-outcome
-decreases-loop-outcome g l = vec_len l.held
+decreases-loop-outcome g l = vec_len l.buffered

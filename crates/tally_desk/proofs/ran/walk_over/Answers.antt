@@ -5,7 +5,7 @@ use Rattle.audit_model.specs.Job.{Job}
 use Rattle.audit_model.specs.declared.setting.Setting.{Setting}
 use Rattle.tally_desk.specs.Parts.{Parts}
 use Rattle.tally_desk.specs.Pools.{IsWalker}
-use Rattle.tally_desk.specs.Unposted.{IsRoomWithin, held_room}
+use Rattle.tally_desk.specs.Unposted.{IsRoomWithin, buffer_room}
 use Rattle.tally_desk.proofs.Unposted.{rooms_within}
 use Rattle.claim_counter.specs.Walks.{IsWithin, ServesEnds}
 use Rattle.tally_desk.proofs.ran.walk_over.Goals as goal
@@ -21,10 +21,10 @@ work-requires-clause-pool g c κs inside =
           (All-set (IsWalker c.args.job.now) c.args.pool.walkers.items 0 c.walk_hub.new.walker c.walk_hub.ensures.walks c.requires.pool.walkers_are);
       blank = c.requires.pool.blank;
       room = c.requires.pool.room;
-      held_count = c.requires.pool.held_count;
-      held_rooms = subst (λ (j : Job). All (IsRoomWithin (held_room j.setting c.in-Ok.desk.table.shared.key.seats)) c.args.pool.held.items) job
-          (subst (λ (n : ℕ). All (IsRoomWithin (held_room c.args.job.now.setting n)) c.args.pool.held.items) (sym seats)
-          (rooms_within c.args.job.now.setting (vec_len c.args.pool.walkers) c.args.pool.held.items c.requires.pool.held_rooms));
+      buffer_count = c.requires.pool.buffer_count;
+      buffer_rooms = subst (λ (j : Job). All (IsRoomWithin (buffer_room j.setting c.in-Ok.desk.table.shared.key.seats)) c.args.pool.buffered.items) job
+          (subst (λ (n : ℕ). All (IsRoomWithin (buffer_room c.args.job.now.setting n)) c.args.pool.buffered.items) (sym seats)
+          (rooms_within c.args.job.now.setting (vec_len c.args.pool.walkers) c.args.pool.buffered.items c.requires.pool.buffer_rooms));
     }
 
 pub work-requires-clause-shared : goal.work-requires-clause-shared

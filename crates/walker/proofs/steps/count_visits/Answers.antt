@@ -2,8 +2,8 @@ use Rattle.std.proofs.Common.{◌+◌, Bool, refl, sym, ap, ◌∙◌, arith}
 use Rattle.audit_model.specs.declared.setting.Setting.{Setting}
 use Rattle.chacha_draws.specs.DrawPlace.{DrawPlace}
 use Rattle.audit_statement.specs.Draw.{draw}
-use Rattle.walker.specs.Binned.{first_bins}
-use Rattle.walker.proofs.Settling.{arrived, tails_fit, bins_fit}
+use Rattle.walker.specs.Binned.{histogram_of_visits}
+use Rattle.walker.proofs.Flushing.{arrived, tails_fit, histogram_fits}
 use Rattle.walker.proofs.Stepping.{visit_none}
 use Rattle.walker.proofs.steps.count_visits.Goals as goal
 
@@ -26,52 +26,52 @@ loop-place-init g c =
 pub loop-place-preserved : goal.loop-place-preserved
 loop-place-preserved g c =
     let drawn = c.visit_next.ensures.draws in
-    let held = c.loop-place.invariant in
+    let so_far = c.loop-place.invariant in
     record {
       made = c.visit_next.ensures.made;
       on = c.visit_next.ensures.on;
-      same_key = ap (λ (d : DrawPlace). d.key) drawn ∙ held.same_key;
-      same_stream = ap (λ (d : DrawPlace). d.stream) drawn ∙ held.same_stream;
-      asked = c.visit_next.ensures.asked ∙ held.asked;
+      same_key = ap (λ (d : DrawPlace). d.key) drawn ∙ so_far.same_key;
+      same_stream = ap (λ (d : DrawPlace). d.stream) drawn ∙ so_far.same_stream;
+      asked = c.visit_next.ensures.asked ∙ so_far.asked;
     }
 
-pub settle-requires-clause-tails : goal.settle-requires-clause-tails
-settle-requires-clause-tails g c =
+pub flush-requires-clause-tails : goal.flush-requires-clause-tails
+flush-requires-clause-tails g c =
     let job = c.args.job.now in
-    let held = c.loop-place.invariant in
+    let so_far = c.loop-place.invariant in
     tails_fit job (draw job.setting.key c.args.course.stream) c.args.course.steps c.loop-place.track.trail
-    (arrived job job.setting.key c.args.course.stream c.loop-place.place c.args.course.steps c.loop-place.track.draws c.loop-place.track.trail held.same_key held.same_stream
-    (omega (arith, c.loop-place-test.false, c.loop-place.auto.place-end)) held.on.trail) c.requires.few
+    (arrived job job.setting.key c.args.course.stream c.loop-place.place c.args.course.steps c.loop-place.track.draws c.loop-place.track.trail so_far.same_key so_far.same_stream
+    (omega (arith, c.loop-place-test.false, c.loop-place.auto.place-end)) so_far.on.trail) c.requires.few
 
-pub settle-requires-clause-bins : goal.settle-requires-clause-bins
-settle-requires-clause-bins g c =
+pub flush-requires-clause-bins : goal.flush-requires-clause-bins
+flush-requires-clause-bins g c =
     let job = c.args.job.now in
-    let held = c.loop-place.invariant in
-    bins_fit job (draw job.setting.key c.args.course.stream) c.args.course.steps c.loop-place.track.trail
-    (arrived job job.setting.key c.args.course.stream c.loop-place.place c.args.course.steps c.loop-place.track.draws c.loop-place.track.trail held.same_key held.same_stream
-    (omega (arith, c.loop-place-test.false, c.loop-place.auto.place-end)) held.on.trail) c.requires.few
+    let so_far = c.loop-place.invariant in
+    histogram_fits job (draw job.setting.key c.args.course.stream) c.args.course.steps c.loop-place.track.trail
+    (arrived job job.setting.key c.args.course.stream c.loop-place.place c.args.course.steps c.loop-place.track.draws c.loop-place.track.trail so_far.same_key so_far.same_stream
+    (omega (arith, c.loop-place-test.false, c.loop-place.auto.place-end)) so_far.on.trail) c.requires.few
 
 pub returns-clause-move_count : goal.returns-clause-move_count
 returns-clause-move_count g c =
     let job = c.args.job.now in
-    let held = c.loop-place.invariant in
-    c.settle.ensures.moved
-    ∙ (arrived job job.setting.key c.args.course.stream c.loop-place.place c.args.course.steps c.loop-place.track.draws c.loop-place.track.trail held.same_key held.same_stream
-    (omega (arith, c.loop-place-test.false, c.loop-place.auto.place-end)) held.on.trail).moved
+    let so_far = c.loop-place.invariant in
+    c.flush.ensures.moved
+    ∙ (arrived job job.setting.key c.args.course.stream c.loop-place.place c.args.course.steps c.loop-place.track.draws c.loop-place.track.trail so_far.same_key so_far.same_stream
+    (omega (arith, c.loop-place-test.false, c.loop-place.auto.place-end)) so_far.on.trail).moved
 
 pub returns-clause-counts : goal.returns-clause-counts
 returns-clause-counts g c =
     let job = c.args.job.now in
-    let held = c.loop-place.invariant in
-    (c.settle.ensures.counted job (draw job.setting.key c.args.course.stream) c.args.course.steps
-    (arrived job job.setting.key c.args.course.stream c.loop-place.place c.args.course.steps c.loop-place.track.draws c.loop-place.track.trail held.same_key held.same_stream
-    (omega (arith, c.loop-place-test.false, c.loop-place.auto.place-end)) held.on.trail) refl).counts
+    let so_far = c.loop-place.invariant in
+    (c.flush.ensures.counted job (draw job.setting.key c.args.course.stream) c.args.course.steps
+    (arrived job job.setting.key c.args.course.stream c.loop-place.place c.args.course.steps c.loop-place.track.draws c.loop-place.track.trail so_far.same_key so_far.same_stream
+    (omega (arith, c.loop-place-test.false, c.loop-place.auto.place-end)) so_far.on.trail) refl).counts
 
 pub returns-clause-bins : goal.returns-clause-bins
 returns-clause-bins g c =
     let job = c.args.job.now in
-    let held = c.loop-place.invariant in
-    (c.settle.ensures.counted job (draw job.setting.key c.args.course.stream) c.args.course.steps
-    (arrived job job.setting.key c.args.course.stream c.loop-place.place c.args.course.steps c.loop-place.track.draws c.loop-place.track.trail held.same_key held.same_stream
-    (omega (arith, c.loop-place-test.false, c.loop-place.auto.place-end)) held.on.trail) refl).bins
-    ∙ ap (λ (b : Bool). first_bins b job (draw job.setting.key c.args.course.stream) (c.args.course.steps + 1)) (c.settle.ensures.asked ∙ held.asked)
+    let so_far = c.loop-place.invariant in
+    (c.flush.ensures.counted job (draw job.setting.key c.args.course.stream) c.args.course.steps
+    (arrived job job.setting.key c.args.course.stream c.loop-place.place c.args.course.steps c.loop-place.track.draws c.loop-place.track.trail so_far.same_key so_far.same_stream
+    (omega (arith, c.loop-place-test.false, c.loop-place.auto.place-end)) so_far.on.trail) refl).bins
+    ∙ ap (λ (b : Bool). histogram_of_visits b job (draw job.setting.key c.args.course.stream) (c.args.course.steps + 1)) (c.flush.ensures.asked ∙ so_far.asked)

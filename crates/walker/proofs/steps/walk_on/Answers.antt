@@ -1,6 +1,6 @@
 use Rattle.std.proofs.Common.{ℕ, ◌+◌, refl, ap, ◌∙◌, subst, arith}
 use Rattle.chacha_draws.specs.DrawPlace.{DrawPlace}
-use Rattle.flip_kernel.specs.Held.{Held}
+use Rattle.flip_kernel.specs.ChainState.{ChainState}
 use Rattle.walker.specs.Walked.{IsWalked}
 use Rattle.walker.proofs.Stepping.{goes_nowhere, goes_farther, drawn_none, drawn_more, byte_cond, byte_le}
 use Rattle.walker.proofs.steps.walk_on.Goals as goal
@@ -21,7 +21,7 @@ overflow_add-move_count g c = omega (arith, c.loop-place.invariant.few, c.from-m
 
 pub loop-place-preserved : goal.loop-place-preserved
 loop-place-preserved g c = record {
-  made = ap (λ (h : Held). h.job) c.step.ensures.plan ∙ c.loop-place.invariant.made;
+  made = ap (λ (h : ChainState). h.job) c.step.ensures.plan ∙ c.loop-place.invariant.made;
   few = omega (arith, c.loop-place.invariant.few, c.from-move_count.ensures, byte_le c.step.result);
   drawn = drawn_more c.args.draws.now c.loop-place.draws c.step.new.draws c.loop-place.place c.loop-place.invariant.drawn c.step.ensures.draws;
   walked = goes_farther c.args.job.now c.args.state.now c.args.draws.now c.loop-place.place c.loop-place.state c.step.new.state c.loop-place.draws c.step.new.draws

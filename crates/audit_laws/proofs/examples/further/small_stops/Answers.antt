@@ -10,8 +10,8 @@ returns-clause-two c = refl
 pub returns-clause-four : goal.returns-clause-four
 returns-clause-four c = refl
 
-pub returns-clause-settled : goal.returns-clause-settled
-returns-clause-settled c = refl
+pub returns-clause-stop_of_known : goal.returns-clause-stop_of_known
+returns-clause-stop_of_known c = refl
 
 pub returns-clause-missing : goal.returns-clause-missing
 returns-clause-missing c = refl

@@ -12,6 +12,6 @@ pub returns-clause-leads : goal.returns-clause-leads
 unfolding is_legal next mirrored count_below
 returns-clause-leads c = refl
 
-pub returns-clause-held : goal.returns-clause-held
+pub returns-clause-rejected : goal.returns-clause-rejected
 unfolding is_legal next mirrored count_below
-returns-clause-held c = refl
+returns-clause-rejected c = refl

@@ -1,6 +1,6 @@
 use Rattle.std.proofs.Common.{ℕ, List, ap, ◌∙◌}
-use Rattle.flip_kernel.specs.Held.{Held}
-use Rattle.flip_kernel.proofs.Holding.{held_for}
+use Rattle.flip_kernel.specs.ChainState.{ChainState}
+use Rattle.flip_kernel.proofs.Holding.{up_to_date_for}
 use Rattle.flip_kernel.proofs.Leaving.{home_connected}
 use Rattle.flip_kernel.proofs.board.Board.counting_tells.Goals as goal
 
@@ -9,7 +9,7 @@ counting_tells-requires-clause-connected c =
     let s = c.self.inside in
     let job = c.args.job.now in
     let plan : List ℕ = c.args.self.now.plan in
-    let at = ap (λ (h : Held). h.plan) c.self.view_is in
-    let held = held_for s.job.value job s.plan plan s.sums s.marks.units s.openings s.pairs s.low s.high s.faces s.counts
-    (ap (λ (h : Held). h.job) c.self.view_is ∙ c.requires.made) at c.self.invariant in
-    home_connected job c.graph-graph.result.now plan c.as_slice.result.now c.args.unit c.graph-graph.ensures (c.as_slice.ensures ∙ at) held.summed.legal c.requires.unit
+    let at = ap (λ (h : ChainState). h.plan) c.self.view_is in
+    let current = up_to_date_for s.job.value job s.plan plan s.sums s.marks.units s.open_pairs s.pairs s.low s.high s.faces s.counts
+    (ap (λ (h : ChainState). h.job) c.self.view_is ∙ c.requires.made) at c.self.invariant in
+    home_connected job c.graph-graph.result.now plan c.as_slice.result.now c.args.unit c.graph-graph.ensures (c.as_slice.ensures ∙ at) current.summed.legal c.requires.unit

@@ -1,8 +1,8 @@
 use Rattle.std.proofs.Common.{ℕ, sym, ap, ◌∙◌, subst}
 use Rattle.std.proofs.lemmas.Bool.{cond-true, cond-false}
-use Rattle.flip_kernel.specs.Held.{Held, ProposesOpen}
-use Rattle.flip_kernel.proofs.Holding.{held_for}
-use Rattle.flip_kernel.proofs.Proposing.{still_held, closed_stays, is_proposed}
+use Rattle.flip_kernel.specs.ChainState.{ChainState, ProposesOpen}
+use Rattle.flip_kernel.proofs.Holding.{up_to_date_for}
+use Rattle.flip_kernel.proofs.Proposing.{still_rejected, closed_stays, is_proposed}
 use Rattle.flip_kernel.proofs.board.Board.proposal_of.Goals.{then-not-has-via-then-not-has, then-not-has-via-else-not-has+then-is_past}
 use Rattle.flip_kernel.proofs.board.Board.proposal_of.Goals as goal
 
@@ -10,14 +10,14 @@ pub returns-then-not-has : goal.returns-then-not-has
 returns-then-not-has c =
     let s = c.self.inside in
     let now = c.args.self.now in
-    let held = held_for s.job.value now.job s.plan now.plan s.sums s.marks.units s.openings s.pairs s.low s.high s.faces s.counts
-    (ap (λ (h : Held). h.job) c.self.view_is) (ap (λ (h : Held). h.plan) c.self.view_is) c.self.invariant in
+    let current = up_to_date_for s.job.value now.job s.plan now.plan s.sums s.marks.units s.open_pairs s.pairs s.low s.high s.faces s.counts
+    (ap (λ (h : ChainState). h.job) c.self.view_is) (ap (λ (h : ChainState). h.plan) c.self.view_is) c.self.invariant in
     elim c.then-not-has.branch [
       | then-not-has-via-then-not-has w ↦
-          closed_stays now.job now.plan s.sums s.marks.units s.openings s.pairs s.low s.high s.faces s.counts held c.args.draw c.rest-place.result c.rest-place.ensures
+          closed_stays now.job now.plan s.sums s.marks.units s.open_pairs s.pairs s.low s.high s.faces s.counts current c.args.draw c.rest-place.result c.rest-place.ensures
           (sym c.has.ensures ∙ w.if-not-has.true)
       | then-not-has-via-else-not-has+then-is_past w ↦
-          still_held now.job now.plan s.sums s.marks.units s.openings s.pairs s.low s.high s.faces s.counts held c.args.draw
+          still_rejected now.job now.plan s.sums s.marks.units s.open_pairs s.pairs s.low s.high s.faces s.counts current c.args.draw
           (sym (w.is_past.ensures ∙ cond-true _ _ _ w.if-is_past.true))
     ]
 
@@ -25,9 +25,9 @@ pub returns : goal.returns
 returns c =
     let s = c.self.inside in
     let now = c.args.self.now in
-    let held = held_for s.job.value now.job s.plan now.plan s.sums s.marks.units s.openings s.pairs s.low s.high s.faces s.counts
-    (ap (λ (h : Held). h.job) c.self.view_is) (ap (λ (h : Held). h.plan) c.self.view_is) c.self.invariant in
+    let current = up_to_date_for s.job.value now.job s.plan now.plan s.sums s.marks.units s.open_pairs s.pairs s.low s.high s.faces s.counts
+    (ap (λ (h : ChainState). h.job) c.self.view_is) (ap (λ (h : ChainState). h.plan) c.self.view_is) c.self.invariant in
     subst (λ (pair : ℕ × ℕ). ProposesOpen now.job now.plan c.args.draw pair.0 pair.1) (sym c.at.ensures)
-    (is_proposed now.job now.plan s.sums s.marks.units s.openings s.pairs s.low s.high s.faces s.counts held c.args.draw c.rest-place.result
+    (is_proposed now.job now.plan s.sums s.marks.units s.open_pairs s.pairs s.low s.high s.faces s.counts current c.args.draw c.rest-place.result
     (sym (c.is_past.ensures ∙ cond-false _ _ _ c.if-is_past.false))
-    s.pairs.districts held.numbers.districts (sym c.has.ensures ∙ c.if-not-has.false))
+    s.pairs.districts current.numbers.districts (sym c.has.ensures ∙ c.if-not-has.false))

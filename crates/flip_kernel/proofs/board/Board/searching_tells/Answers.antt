@@ -1,6 +1,6 @@
 use Rattle.std.proofs.Common.{ℕ, List, ap, ◌∙◌}
-use Rattle.flip_kernel.specs.Held.{Held}
-use Rattle.flip_kernel.proofs.Holding.{held_for}
+use Rattle.flip_kernel.specs.ChainState.{ChainState}
+use Rattle.flip_kernel.proofs.Holding.{up_to_date_for}
 use Rattle.flip_kernel.proofs.Leaving.{home_connected, leaves_of}
 use Rattle.flip_kernel.proofs.board.Board.searching_tells.Goals as goal
 
@@ -9,9 +9,9 @@ returns-clause-leaves g c =
     let s = c.self.inside in
     let job = c.args.job.now in
     let plan : List ℕ = c.args.self.now.plan in
-    let at = ap (λ (h : Held). h.plan) c.self.view_is in
-    let held = held_for s.job.value job s.plan plan s.sums s.marks.units s.openings s.pairs s.low s.high s.faces s.counts
-    (ap (λ (h : Held). h.job) c.self.view_is ∙ c.requires.made) at c.self.invariant in
+    let at = ap (λ (h : ChainState). h.plan) c.self.view_is in
+    let current = up_to_date_for s.job.value job s.plan plan s.sums s.marks.units s.open_pairs s.pairs s.low s.high s.faces s.counts
+    (ap (λ (h : ChainState). h.job) c.self.view_is ∙ c.requires.made) at c.self.invariant in
     leaves_of c.may_leave.result c.graph.result.now job.graph c.as_slice.result.now plan c.args.unit c.graph.ensures (c.as_slice.ensures ∙ at)
     (c.may_leave.ensures.leaves
-    (home_connected job c.graph.result.now plan c.as_slice.result.now c.args.unit c.graph.ensures (c.as_slice.ensures ∙ at) held.summed.legal c.requires.unit))
+    (home_connected job c.graph.result.now plan c.as_slice.result.now c.args.unit c.graph.ensures (c.as_slice.ensures ∙ at) current.summed.legal c.requires.unit))

@@ -8,14 +8,14 @@ use Rattle.audit_model.specs.declared.place.Place.{Place}
 use Rattle.outcome_book.specs.Booked.{Booked}
 use mathlib.Core.Option.{some-injective}
 use Rattle.tally_desk.specs.declared.home.Home.{Home}
-use Rattle.tally_desk.specs.Desks.{IsSettled, Tallied}
+use Rattle.tally_desk.specs.Desks.{IsComplete, Tallied}
 use Rattle.tally_desk.specs.Founded.{parts_of}
 use Rattle.tally_desk.specs.Homes.{HomeAs, KeptAs}
 use Rattle.tally_desk.specs.Entries.{ends_saved, posted_id, saves_made}
 use Rattle.tally_desk.specs.Views.{PassView, view_in}
 use Rattle.tally_desk.proofs.Permuting.{permutation_from_sums}
 use Rattle.tally_desk.proofs.Slotting.{moved_generation, moved_slot}
-use Rattle.tally_desk.proofs.Steps.{complete, settles}
+use Rattle.tally_desk.proofs.Steps.{complete, completes}
 use Rattle.tally_desk.proofs.desk.Desk.close.Goals as goal
 
 pub take-home-requires : goal.take-home-requires
@@ -31,10 +31,10 @@ returns g c =
     let v = view_in c.args.pass.badge.views in
     let final = subst (λ (u : PassView). Final (Seen (Tallied (HomeAs g.C.Keeper.state g.C.Keeper.lets) parts) c.take_out-seat.result.id u) (slots_items c.close_with-closed.result.words) (slots_items c.close_with-closed.result.slots))
     (ap (λ m. m.0) c.take_out-seat.ensures.view) c.close_with-closed.ensures.values.2 in
-    let s = settles (HomeAs g.C.Keeper.state g.C.Keeper.lets) parts c.counter_laws.ensures c.take_out-seat.result.id v _ _ final c.args.pass.live c.requires.only c.args.pass.idle in
+    let s = completes (HomeAs g.C.Keeper.state g.C.Keeper.lets) parts c.counter_laws.ensures c.take_out-seat.result.id v _ _ final c.args.pass.live c.requires.only c.args.pass.idle in
     let same : s.0 ≡ c.take-home.result = some-injective _ _ (sym s.1 ∙ c.take-home.ensures.value) in
     let drawn = get_or (slots_items c.close_with-closed.result.words) 0 0 in
-    let k = subst (λ (h : Home g.row.C.Denot). IsSettled (HomeAs g.C.Keeper.state g.C.Keeper.lets) parts drawn h v) same s.2 in
+    let k = subst (λ (h : Home g.row.C.Denot). IsComplete (HomeAs g.C.Keeper.state g.C.Keeper.lets) parts drawn h v) same s.2 in
     let all = complete (HomeAs g.C.Keeper.state g.C.Keeper.lets) parts drawn c.take-home.result v k c.requires.ended c.requires.posted in
     let count : length k.posted ≡ length parts.todo = sym (length_permutation _ _ all ∙ length-map k.posted posted_id) in
     let place = c.hand_over.ensures.place ∙ k.holds.kept.place_is in

@@ -7,13 +7,13 @@ use Rattle.tally_desk.specs.Passes.{view_of}
 use Rattle.tally_desk.specs.Unposted.{HoldsRest}
 use Rattle.tally_desk.specs.Views.{PassView}
 use Rattle.tally_desk.proofs.Found.{walked_found, walked_id}
-use Rattle.tally_desk.proofs.Unposted.{all_posted, claimed_held, ended_held}
+use Rattle.tally_desk.proofs.Unposted.{all_posted, claimed_buffered, ended_buffered}
 use Rattle.tally_desk.proofs.worker.DeskWorker.run.Goals as goal
 
 pub loop-id-init : goal.loop-id-init
 loop-id-init g c = record {
-  at_desk = subst (λ (held : List Outcome). IsAtDesk c.args.desk.now.table.shared.table_id (parts_of g.C.Keeper.state c.args.desk.now.table.shared.key) c.args.self.now.walker c.args.self.now.pass held)
-      (sym c.requires.ready.held.blank) c.requires.ready.at_desk;
+  at_desk = subst (λ (buffered : List Outcome). IsAtDesk c.args.desk.now.table.shared.table_id (parts_of g.C.Keeper.state c.args.desk.now.table.shared.key) c.args.self.now.walker c.args.self.now.pass buffered)
+      (sym c.requires.unstarted.buffered.blank) c.requires.unstarted.at_desk;
   room = refl;
 }
 
@@ -24,7 +24,7 @@ hand_in-requires g c =
     let named = walked_id c.args.job.now c.in-Some.id c.tell-observed.result c.walk-outcome.result c.tell-observed.ensures c.walk-outcome.ensures.outcome in
     record {
       belongs = c.in-Some.ensures.pass;
-      rest = claimed_held parts c.in-Some.id (view_of c.loop-id.pass) (view_of c.claim.new.pass) c.loop-id.held.items c.walk-outcome.result c.loop-id.invariant.at_desk.holds.rest
+      rest = claimed_buffered parts c.in-Some.id (view_of c.loop-id.pass) (view_of c.claim.new.pass) c.loop-id.buffered.items c.walk-outcome.result c.loop-id.invariant.at_desk.holds.rest
           c.in-Some.ensures.claimed right named;
     }
 
@@ -49,8 +49,8 @@ post_all-requires g c =
     let parts = parts_of g.C.Keeper.state c.args.desk.now.table.shared.key in
     record {
       belongs = c.claim.ensures.pass;
-      rest = subst (λ (v : PassView). HoldsRest parts v c.loop-id.held.items) (sym c.in_default.ensures.end)
-          (ended_held parts (view_of c.loop-id.pass) c.loop-id.held.items c.loop-id.invariant.at_desk.holds.rest);
+      rest = subst (λ (v : PassView). HoldsRest parts v c.loop-id.buffered.items) (sym c.in_default.ensures.end)
+          (ended_buffered parts (view_of c.loop-id.pass) c.loop-id.buffered.items c.loop-id.invariant.at_desk.holds.rest);
     }
 
 pub returns-clause-done : goal.returns-clause-done

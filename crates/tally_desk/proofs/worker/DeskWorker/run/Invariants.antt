@@ -6,8 +6,8 @@ use Rattle.tally_desk.proofs.worker.DeskWorker.run.Given as goal
 
 abbrev pub invariant-loop-id : goal.invariant-loop-id
 invariant-loop-id g l = record {
-  at_desk : IsAtDesk l.desk.table.shared.table_id (parts_of g.C.Keeper.state l.desk.table.shared.key) l.walker l.pass l.held.items;
-  room : vec_capacity l.held ≡ vec_capacity l.fn.self.held;
+  at_desk : IsAtDesk l.desk.table.shared.table_id (parts_of g.C.Keeper.state l.desk.table.shared.key) l.walker l.pass l.buffered.items;
+  room : vec_capacity l.buffered ≡ vec_capacity l.fn.self.buffered;
 }
 
 abbrev pub decreases-loop-id : goal.decreases-loop-id

@@ -1,7 +1,7 @@
 use Rattle.std.proofs.Common.{sym, subst}
 use Rattle.audit_statement.specs.Along.{first_plan, stream_of}
 use Rattle.audit_statement.specs.Draw.{draw}
-use Rattle.flip_kernel.specs.Held.{Held}
+use Rattle.flip_kernel.specs.ChainState.{ChainState}
 use Rattle.walker.specs.Walked.{IsWalked}
 use Rattle.walker.proofs.walker.Walker.go_on_by.Goals as goal
 
@@ -12,5 +12,5 @@ returns-clause-way g c = λ id place under.
     let first = first_plan job (draw job.setting.key) id in
     record {
       walked = c.go_on.ensures.walked job.setting.key (stream_of job id) first place
-          (subst (λ (h : Held). IsWalked job job.setting.key (stream_of job id) first place h way.draws way.moved) (sym c.self.view_is) under.walked);
+          (subst (λ (h : ChainState). IsWalked job job.setting.key (stream_of job id) first place h way.draws way.moved) (sym c.self.view_is) under.walked);
     }

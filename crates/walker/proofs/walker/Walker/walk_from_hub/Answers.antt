@@ -3,7 +3,7 @@ use Rattle.audit_model.specs.declared.setting.Setting.{Setting}
 use Rattle.audit_model.specs.Plan.{IsLegal}
 use Rattle.audit_model.specs.Trajectory.{moves, visit}
 use Rattle.audit_statement.specs.Draw.{draw}
-use Rattle.flip_kernel.specs.Held.{Held}
+use Rattle.flip_kernel.specs.ChainState.{ChainState}
 use Rattle.audit_model.proofs.Mirror.{visit_stays_legal}
 use Rattle.walker.proofs.Finding.{end_found}
 use Rattle.walker.proofs.walker.Walker.walk_from_hub.Goals as goal
@@ -18,17 +18,17 @@ pub returns-clause-outcome : goal.returns-clause-outcome
 returns-clause-outcome g c =
     let job = c.args.job.now in
     let stream = 2 * c.from.result + 3 in
-    let held = ap (λ (h : Held). h.plan) c.set.ensures.held in
+    let unchanged = ap (λ (h : ChainState). h.plan) c.set.ensures.unchanged in
     let steps = ap (λ (s : Setting). s.hub_steps) c.setting-setting.ensures in
     end_found job (draw job.setting.key) c.args.id stream c.from-2.result c.args.hub.now c.walk-move_count.new.state c.as_slice.result.now c.values.result
     (ap (λ (n : ℕ). 2 * n + 3) (c.from.ensures ∙ ap (λ (s : Setting). c.args.id - s.walks) c.setting-setting.ensures))
     c.requires.hub
     (c.from-2.ensures ∙ c.walk-move_count.ensures.moved
-    ∙ ap (λ (p : List ℕ). moves job (draw job.setting.key stream) p c.setting-setting.result.now.hub_steps) held
+    ∙ ap (λ (p : List ℕ). moves job (draw job.setting.key stream) p c.setting-setting.result.now.hub_steps) unchanged
     ∙ ap (λ (n : ℕ). moves job (draw job.setting.key stream) c.args.hub.now n) steps)
-    (ap (λ (h : Held). h.job) c.walk-move_count.ensures.plan ∙ ap (λ (h : Held). h.job) c.set.ensures.held ∙ ap (λ (h : Held). h.job) c.self.view_is ∙ c.requires.made)
-    (ap (λ (h : Held). h.plan) c.walk-move_count.ensures.plan
-    ∙ ap (λ (p : List ℕ). visit job (draw job.setting.key stream) p c.setting-setting.result.now.hub_steps) held
+    (ap (λ (h : ChainState). h.job) c.walk-move_count.ensures.plan ∙ ap (λ (h : ChainState). h.job) c.set.ensures.unchanged ∙ ap (λ (h : ChainState). h.job) c.self.view_is ∙ c.requires.made)
+    (ap (λ (h : ChainState). h.plan) c.walk-move_count.ensures.plan
+    ∙ ap (λ (p : List ℕ). visit job (draw job.setting.key stream) p c.setting-setting.result.now.hub_steps) unchanged
     ∙ ap (λ (n : ℕ). visit job (draw job.setting.key stream) c.args.hub.now n) steps)
     (c.as_slice.ensures ∙ ap (λ (s : Setting). s.asks) c.setting-setting.ensures)
     c.values.ensures

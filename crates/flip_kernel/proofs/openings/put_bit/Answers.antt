@@ -1,5 +1,0 @@
-use Rattle.flip_kernel.proofs.Words.{flags_of-set}
-use Rattle.flip_kernel.proofs.openings.put_bit.Goals as goal
-
-pub returns : goal.returns
-returns c = flags_of-set c.args.words.now c.args.place c.with_bit.result c.args.flag c.requires c.with_bit.ensures.own c.with_bit.ensures.others

@@ -1,0 +1,196 @@
+//! The open pairs: those that may be a move at all.
+
+ghost use Rattle.std.specs.Int.{bit_at};
+ghost use Rattle.std.specs.Prelude.{◌≡◌, ◌≢◌, ℕ, ◌+◌, ◌*◌, ◌/◌, ◌<◌, ◌≤◌, cond, false, [], length, slice_index, slice_set, replicate, IfOk, IsTrue};
+ghost use Rattle.std.specs.List.{slice_index_or};
+ghost use Rattle.flip_kernel.specs.Flags.{bit_of, flags_of};
+ghost use Rattle.flip_kernel.specs.OpenPairs.{is_open, flag_of, TellsOpen, HasOpened};
+
+use audit_model::memory::Memory;
+use dual_graph::graph::Graph;
+use std::alloc::Global;
+use std::marker::Model;
+
+/// For each pair of a unit and a district, one bit: the pair is open if the unit is in another
+/// district and has a neighbor in this one.
+#[derive(Drop)]
+pub struct OpenPairs {
+    words: Vec<u64>,
+}
+
+impl Model for OpenPairs {
+    ghost use Rattle.std.specs.Prelude.{Bool, List};
+    ghost use Rattle.flip_kernel.specs.Flags.{flags_of};
+
+    ghost Value = { List Bool };
+
+    ghost view = { λ o. flags_of o.words.items };
+}
+
+impl OpenPairs {
+    /// Allocates bits for all pairs, with none open. Fails if there is no memory.
+    pub fn none(alloc: Global, units: u32, districts: u32) -> Result<OpenPairs, Memory>
+        ensures { IfOk result (λ o. units * districts ≤ length o) }
+    {
+        Ok(OpenPairs {
+            words: vec![in alloc; 0; place_of(units, 0, districts) / 64 + 1]?,
+        })
+    }
+
+    /// Returns true if the pair at a place is open.
+    #[inline]
+    pub fn has(&self, place: usize) -> bool
+        requires { place < length self.now }
+        ensures { result ≡ slice_index_or self.now place false }
+    {
+        bit_of(&self.words, place)
+    }
+
+    /// Opens or closes a pair.
+    #[inline]
+    fn put(&mut self, districts: u32, unit: u32, district: u32, flag: bool)
+        requires { unit * districts + district < length self.old }
+        ensures { self.new ≡ slice_set self.old (unit * districts + district) flag }
+    {
+        put_bit(&mut self.words, place_of(unit, district, districts), flag);
+    }
+
+    /// Opens or closes a pair, unless its district is `there`, the unit's own. That pair is closed
+    /// already.
+    #[inline]
+    fn put_elsewhere(&mut self, districts: u32, unit: u32, district: u32, there: u32, flag: bool)
+        requires inside { unit * districts + district < length self.old }
+        requires closed { there ≡ district → flag_of self.old districts unit district ≡ false }
+        requires own { there ≡ district → flag ≡ false }
+        ensures { self.new ≡ slice_set self.old (unit * districts + district) flag }
+    {
+        if there != district {
+            self.put(districts, unit, district, flag);
+        }
+    }
+
+    fn clear(&mut self)
+        ensures { self.new ≡ replicate (length self.old) false }
+    {
+        self.words.fill(0);
+    }
+
+    /// Opens the pairs of a unit with each other district in which it has a neighbor. All its pairs
+    /// must be closed.
+    fn open_beside(&mut self, graph: &Graph, plan: &[u32], districts: u32, unit: u32)
+        requires plan { length plan.now ≡ graph.now.units }
+        requires in_range { (u : ℕ) → u < graph.now.units → slice_index plan.now u < districts }
+        requires unit { unit < graph.now.units }
+        requires width { graph.now.units * districts ≤ length self.old }
+        requires closed { (d : ℕ) → d < districts → flag_of self.old districts unit d ≡ false }
+        ensures { HasOpened plan.now districts unit (slice_index_or graph.now.neighbours unit []) self.old self.new }
+    {
+        let home = plan[unit as usize];
+        for other in graph.neighbours(unit) {
+            let district = plan[*other as usize];
+            self.put(districts, unit, district, home != district);
+        }
+    }
+
+    /// Recomputes the open pairs of a plan. It allocates nothing.
+    pub fn refill(&mut self, graph: &Graph, plan: &[u32], districts: u32)
+        requires plan { length plan.now ≡ graph.now.units }
+        requires in_range { (u : ℕ) → u < graph.now.units → slice_index plan.now u < districts }
+        requires width { graph.now.units * districts ≤ length self.old }
+        ensures { TellsOpen graph.now plan.now districts self.new }
+    {
+        self.clear();
+        for unit in 0..graph.units() {
+            self.open_beside(graph, plan, districts, unit);
+        }
+    }
+
+    /// Updates the open pairs after a unit has moved away from `home`, where it has a neighbor.
+    ///
+    /// It costs one pass over the unit's neighbors and theirs, and allocates nothing.
+    pub fn update(&mut self, graph: &Graph, plan: &[u32], districts: u32, unit: u32, home: u32)
+        requires plan { length plan.now ≡ graph.now.units }
+        requires in_range { (u : ℕ) → u < graph.now.units → slice_index plan.now u < districts }
+        requires unit { unit < graph.now.units }
+        requires home { home < districts }
+        requires beside { IsTrue (is_open graph.now plan.now unit home) }
+        requires table { TellsOpen graph.now (slice_set plan.now unit home) districts self.old }
+        ensures { TellsOpen graph.now plan.now districts self.new }
+    {
+        // Called for its contract: the graph is sound and has at most 100,000 units.
+        let _units = graph.units();
+        let district = plan[unit as usize];
+        for other in graph.neighbours(unit) {
+            let v = *other;
+            let there = plan[v as usize];
+            self.put(districts, v, district, there != district);
+            self.put_elsewhere(districts, v, home, there, is_open(graph, plan, v, home));
+        }
+        self.put(districts, unit, district, false);
+        self.put(districts, unit, home, true);
+    }
+}
+
+#[inline]
+fn place_of(unit: u32, district: u32, districts: u32) -> usize
+    ensures { result ≡ unit * districts + district }
+{
+    unit as usize * districts as usize + district as usize
+}
+
+#[inline]
+fn with_bit(word: u64, bit: usize, flag: bool) -> u64
+    requires { bit < 64 }
+    ensures own { bit_at result bit ≡ cond flag 1 0 }
+    ensures others { (i : ℕ) → i < 64 → i ≢ bit → bit_at result i ≡ bit_at word i }
+{
+    (word & !(1u64 << bit)) | (u64::from(flag) << bit)
+}
+
+#[inline]
+fn bit_of(words: &[u64], place: usize) -> bool
+    requires { place / 64 < length words.now }
+    ensures { result ≡ bit_of words.now place }
+{
+    (words[place / 64] >> (place % 64)) & 1 == 1
+}
+
+#[inline]
+fn put_bit(words: &mut [u64], place: usize, flag: bool)
+    requires { place / 64 < length words.old }
+    ensures { flags_of words.new ≡ slice_set (flags_of words.old) place flag }
+{
+    let word = words[place / 64];
+    words[place / 64] = with_bit(word, place % 64, flag);
+}
+
+/// The greatest number of neighbors that are scanned without a branch.
+const SHORT: usize = 16;
+
+/// Returns true if the unit is in another district and has a neighbor in this one.
+///
+/// A short row is scanned to its end, so that no branch depends on the districts. A long row is
+/// scanned up to the first hit.
+fn is_open(graph: &Graph, plan: &[u32], unit: u32, district: u32) -> bool
+    requires plan { length plan.now ≡ graph.now.units }
+    requires unit { unit < graph.now.units }
+    ensures { result ≡ is_open graph.now plan.now unit district }
+{
+    if plan[unit as usize] == district {
+        return false;
+    }
+    let row = graph.neighbours(unit);
+    if row.len() > SHORT {
+        for one in row {
+            if plan[*one as usize] == district {
+                return true;
+            }
+        }
+        return false;
+    }
+    let mut beside = false;
+    for other in row {
+        beside = beside | (plan[*other as usize] == district);
+    }
+    beside
+}

@@ -1,0 +1,15 @@
+use Rattle.std.proofs.Common.{◌^◌, ◌<◌, sym, subst}
+use Rattle.audit_model.specs.declared.outcome.SumsView.{SumsView}
+use Rattle.scores.specs.Votes.{AreVotes}
+use Rattle.walker.proofs.Asking.{legal_short, legal_votes}
+use Rattle.walker.proofs.asked.current_value.Goals as goal
+
+pub value-requires-clause-votes : goal.value-requires-clause-votes
+value-requires-clause-votes g c =
+    subst (λ (s : SumsView). AreVotes s.first s.second) (sym c.view.ensures)
+    (legal_votes c.args.state.now.job c.args.state.now.plan c.plan-plan.ensures.sound c.plan-plan.ensures.legal)
+
+pub value-requires-clause-short : goal.value-requires-clause-short
+value-requires-clause-short g c =
+    subst (λ (s : SumsView). s.length < 2 ^ 63) (sym c.view.ensures)
+    (legal_short c.args.state.now.job c.args.state.now.plan c.plan-plan.ensures.sound)

@@ -1,0 +1,94 @@
+//! Histograms of visited plans by seats, relative to the start plan.
+
+ghost use Rattle.std.specs.Prelude.{◌≡◌, ℕ, ◌+◌, ◌*◌, ◌<◌, ◌^◌, ◌==◌, cond, length, slice_index, IsTrue, IsFalse};
+ghost use Rattle.audit_model.specs.Trajectory.{empty_histogram, plan_seats};
+ghost use Rattle.audit_model.specs.Trajectory as definition;
+ghost use Rattle.walker.specs.Binned.{plan_bin};
+
+use audit_model::setting::Score;
+use flip_guard::judge::Judge;
+use flip_kernel::state::State;
+use scores::Room;
+
+/// The start plan's seats, the bin of the current plan, and the number of counted plans in each
+/// bin.
+///
+/// Without a histogram (`asked` is false), the counts stay zero and no seats are computed.
+#[derive(Drop)]
+pub struct Histogram {
+    pub asked: bool,
+    pub start: u64,
+    pub bin: usize,
+    pub counts: [u32; 9],
+}
+
+impl Histogram {
+    /// Starts an empty histogram at the start plan.
+    pub fn new<J: Judge>(asked: bool, state: &State<J>, room: &mut Room) -> Histogram
+        requires start { state.now.plan ≡ state.now.job.start }
+        ensures asked { result.asked ≡ asked }
+        ensures start { IsTrue asked → result.start ≡ plan_seats state.now.job state.now.job.start }
+        ensures bin { IsTrue asked → result.bin ≡ plan_bin state.now.job state.now.plan }
+        ensures small { result.bin < 9 }
+        ensures counts { result.counts ≡ empty_histogram }
+    {
+        let start = if asked { current_seats(state, room) } else { 0 };
+        Histogram {
+            asked,
+            start,
+            bin: 4,
+            counts: [0; 9],
+        }
+    }
+
+    /// Finds the bin of the current plan after a move.
+    pub fn update<J: Judge>(&mut self, state: &State<J>, room: &mut Room)
+        requires start { IsTrue self.old.asked → self.old.start ≡ plan_seats state.now.job state.now.job.start }
+        requires small { self.old.bin < 9 }
+        ensures asked { self.new.asked ≡ self.old.asked }
+        ensures start { self.new.start ≡ self.old.start }
+        ensures bin { IsTrue self.old.asked → self.new.bin ≡ plan_bin state.now.job state.now.plan }
+        ensures small { self.new.bin < 9 }
+        ensures counts { self.new.counts ≡ self.old.counts }
+    {
+        if self.asked {
+            self.bin = bin_of(current_seats(state, room), self.start);
+        }
+    }
+
+    /// Counts the plan whose bin was found last, `times` times.
+    pub fn count(&mut self, times: u32)
+        requires small { self.old.bin < 9 }
+        requires fits { IsTrue self.old.asked → slice_index self.old.counts self.old.bin + times < 2 ^ 32 }
+        ensures asked { self.new.asked ≡ self.old.asked }
+        ensures start { self.new.start ≡ self.old.start }
+        ensures bin { self.new.bin ≡ self.old.bin }
+        ensures counts { IsTrue self.old.asked → (k : ℕ) → k < 9 →
+            slice_index self.new.counts k ≡ slice_index self.old.counts k + times * cond (self.old.bin == k) 1 0 }
+        ensures nine { length self.new.counts ≡ 9 }
+        ensures none { IsFalse self.old.asked → self.new.counts ≡ self.old.counts }
+    {
+        if self.asked {
+            self.counts[self.bin] += times;
+        }
+    }
+}
+
+fn current_seats<J: Judge>(state: &State<J>, room: &mut Room) -> u64
+    ensures seats { result ≡ plan_seats state.now.job state.now.plan }
+    ensures small { result < 2 ^ 63 }
+{
+    // Called for its contract: the job is within its limits, and the plan is legal.
+    let _plan = state.plan();
+    room.value(Score::Seats, state.view()) as u64
+}
+
+/// Returns the bin of a plan with this number of seats. Bin 4 means as many seats as the start
+/// plan; the outer bins 0 and 8 are open.
+fn bin_of(seats: u64, start: u64) -> usize
+    requires { seats < 2 ^ 63 }
+    ensures bin { result ≡ definition.bin_of seats start }
+    ensures small { result < 9 }
+{
+    (seats + 4).saturating_sub(start).min(8) as usize
+}
