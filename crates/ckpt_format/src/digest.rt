@@ -172,8 +172,6 @@ fn hash_unit(hasher: &mut Sha256, job: &Job, unit: usize)
     requires { unit < job.now.graph.units }
     ensures { Hashes hasher.old hasher.new (unit_bytes job.now unit) }
 {
-    // Called for its contract: the job is within its limits, and its start plan is legal.
-    let _units = job.units();
     let counts = job.counts();
     hash_u64(hasher, counts.population.as_slice()[unit]);
     hash_u64(hasher, counts.first.as_slice()[unit]);

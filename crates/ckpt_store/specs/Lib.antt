@@ -9,5 +9,6 @@ pub mod Laws
 pub mod Looked
 pub mod Places
 pub mod Progress
+pub mod Saved
 pub mod View
 pub mod Whole

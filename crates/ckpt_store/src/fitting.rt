@@ -69,8 +69,6 @@ fn asks_of(job: &Job) -> usize
     ensures asks { result ≡ length job.now.setting.asks }
     ensures few { result ≤ 4 }
 {
-    // Called for its contract: the job is within its limits, and its start plan is legal.
-    let _units = job.units();
     job.setting().asks.len()
 }
 

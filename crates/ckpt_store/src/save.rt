@@ -1,13 +1,9 @@
 //! Saving a checkpoint.
 
-ghost use Rattle.std.specs.Prelude.{◌≡◌, ◌+◌, ◌-◌, ◌*◌, ◌%◌, ◌<◌, ◌≤◌, length, map, OnErr, OnOk, is_ok};
-ghost use Rattle.audit_model.specs.Faults.{HasCause};
-ghost use Rattle.audit_model.specs.Observed.{IfObserved};
-ghost use Rattle.audit_model.specs.Pair.{HoldsBytes, KeepsOther};
-ghost use Rattle.audit_model.specs.Attempts.{attempted_too};
-ghost use Rattle.audit_statement.specs.Checkpoint.{AreRising, IsCheckpoint, checkpoint, empty_length};
+ghost use Rattle.std.specs.Prelude.{◌≡◌, ◌+◌, ◌-◌, ◌*◌, ◌%◌, ◌<◌, ◌≤◌, length, map, OnErr, OnOk};
+ghost use Rattle.audit_statement.specs.Checkpoint.{AreRising, empty_length};
 ghost use Rattle.audit_statement.specs.Due.{LetsCheckpoint};
-ghost use Rattle.ckpt_store.specs.Laws.{IsNewestForFitJobs};
+ghost use Rattle.ckpt_store.specs.Saved.{SavesThese};
 ghost use Rattle.audit_model.specs.Limits.{most_trajectories};
 
 use crate::slots::generation_after;
@@ -39,15 +35,9 @@ pub fn save<C: Keeper>(
     requires rising { AreRising (map (λ o. o.id) outcomes.now) }
     requires room { empty_length + 80 * length outcomes.now ≤ length room.old.items + room.old.spare }
     requires lets { LetsCheckpoint C.lets (C.state keeper.old) digest.now place.old.slot place.old.generation outcomes.now }
-    ensures saved { OnOk result (HoldsBytes (C.state keeper.new).slots place.old.slot (checkpoint 2 digest.now place.old.generation outcomes.now)) }
-    ensures sound { IsCheckpoint (checkpoint 2 digest.now place.old.generation outcomes.now) 2 digest.now place.old.generation outcomes.now }
-    ensures newest { OnOk result (IfObserved (C.state keeper.new).slots (IsNewestForFitJobs digest.now place.old.slot place.old.generation outcomes.now)) }
+    ensures saves { SavesThese C.state keeper.old keeper.new place.old digest.now outcomes.now result }
     ensures moved { OnOk result (place.new ≡ record { slot = 1 - place.old.slot; generation = (place.old.generation + 1) % 3 }) }
     ensures kept { OnErr result (place.new ≡ place.old) }
-    ensures other { KeepsOther (C.state keeper.old).slots (C.state keeper.new).slots place.old.slot }
-    ensures cause { HasCause (C.state keeper.old).save_faults (C.state keeper.new).save_faults result }
-    ensures loads { (C.state keeper.new).load_faults ≡ (C.state keeper.old).load_faults }
-    ensures attempted { (C.state keeper.new).attempted ≡ attempted_too (C.state keeper.old).attempted place.old.slot (checkpoint 2 digest.now place.old.generation outcomes.now) (is_ok result) }
     ensures room { length room.new.items + room.new.spare ≡ length room.old.items + room.old.spare }
 {
     save_with(keeper, place, digest, outcomes, room, None)
@@ -72,15 +62,9 @@ pub fn save_with<C: Keeper>(
     requires rising { AreRising (map (λ o. o.id) outcomes.now) }
     requires room { empty_length + 80 * length outcomes.now ≤ length room.old.items + room.old.spare }
     requires lets { LetsCheckpoint C.lets (C.state keeper.old) digest.now place.old.slot place.old.generation outcomes.now }
-    ensures saved { OnOk result (HoldsBytes (C.state keeper.new).slots place.old.slot (checkpoint 2 digest.now place.old.generation outcomes.now)) }
-    ensures sound { IsCheckpoint (checkpoint 2 digest.now place.old.generation outcomes.now) 2 digest.now place.old.generation outcomes.now }
-    ensures newest { OnOk result (IfObserved (C.state keeper.new).slots (IsNewestForFitJobs digest.now place.old.slot place.old.generation outcomes.now)) }
+    ensures saves { SavesThese C.state keeper.old keeper.new place.old digest.now outcomes.now result }
     ensures moved { OnOk result (place.new ≡ record { slot = 1 - place.old.slot; generation = (place.old.generation + 1) % 3 }) }
     ensures kept { OnErr result (place.new ≡ place.old) }
-    ensures other { KeepsOther (C.state keeper.old).slots (C.state keeper.new).slots place.old.slot }
-    ensures cause { HasCause (C.state keeper.old).save_faults (C.state keeper.new).save_faults result }
-    ensures loads { (C.state keeper.new).load_faults ≡ (C.state keeper.old).load_faults }
-    ensures attempted { (C.state keeper.new).attempted ≡ attempted_too (C.state keeper.old).attempted place.old.slot (checkpoint 2 digest.now place.old.generation outcomes.now) (is_ok result) }
     ensures room { length room.new.items + room.new.spare ≡ length room.old.items + room.old.spare }
 {
     encode_with(digest, place.generation, outcomes, room, ahead);

@@ -5,7 +5,7 @@ ghost use Rattle.std.specs.List.{slice_index_or};
 ghost use Rattle.audit_model.specs.District.{in_district};
 ghost use Rattle.contig.specs.Corners.{IsOnRow, is_filled, corners_at, units_of};
 ghost use Rattle.contig.specs.Counts.{AreCounts, HasNoHole, is_before};
-ghost use Rattle.contig.specs.Faces.{count_mates};
+ghost use Rattle.contig.specs.Faces.{AreFaces, count_mates};
 ghost use Rattle.audit_model.specs.Limits.{most_edges};
 
 use crate::corner::Corner;
@@ -105,10 +105,8 @@ impl FaceCounts {
         requires in_range { (u : ℕ) → u < graph.now.units → slice_index plan.now u < length self.old.edges }
         ensures { AreCounts graph.now table.now.faces (length self.old.edges) plan.now self.new }
     {
-        // Called for their contracts: the faces are the graph's, and few, and it has at most
-        // 400,000 edges.
+        // Called for its contract: before the loop, nothing else tells that the faces are the graph's.
         let _units = table.units();
-        let _edges = graph.edges();
         self.clear();
         for unit in 0..graph.units() {
             let member = Member { graph, plan, unit };
@@ -130,11 +128,6 @@ impl FaceCounts {
         requires counts { AreCounts leaving.graph.now table.now.faces (length self.old.edges) leaving.plan.now self.old }
         ensures { AreCounts leaving.entry.graph.now table.now.faces (length self.old.edges) (slice_set leaving.entry.plan.now leaving.entry.unit district) self.new }
     {
-        // Called for their contracts: the graph is sound, with at most 100,000 units and 400,000
-        // edges, and the faces are the graph's, and few.
-        let _units = leaving.graph.units();
-        let _edges = leaving.graph.edges();
-        let _faces = table.units();
         let home = leaving.plan[leaving.unit as usize];
         let mates = mates_of(leaving, home, district);
         let corners = corners_of(leaving, table, home, district);
@@ -220,6 +213,8 @@ fn corners_of(member: Member, table: &FaceTable, one: u32, other: u32) -> (u64, 
     requires { table.now.graph ≡ member.graph.now }
     ensures one { result.0 ≡ count_by (is_filled (in_district member.entry.plan.now one)) (corners_at member.entry.unit table.now.faces) }
     ensures other { result.1 ≡ count_by (is_filled (in_district member.entry.plan.now other)) (corners_at member.entry.unit table.now.faces) }
+    ensures faces { AreFaces table.now.graph table.now.faces }
+    ensures few { length table.now.faces ≤ 4000000 }
 {
     let mut in_one = 0;
     let mut in_other = 0;

@@ -1,6 +1,7 @@
 //! Rings of three to five units.
 
 ghost use Rattle.std.specs.Prelude.{◌≡◌, ◌<◌};
+ghost use Rattle.audit_model.specs.Graph.{IsGraph};
 ghost use Rattle.contig.specs.Rings.{goes_round, turned, differ, follow};
 
 use dual_graph::graph::Graph;
@@ -17,7 +18,8 @@ impl Face {
     /// Returns true if the units are distinct units of the graph, each adjacent to the next and the
     /// last to the first.
     pub fn is_ring(&self, graph: &Graph) -> bool
-        ensures { result ≡ goes_round graph.now self.now }
+        ensures value { result ≡ goes_round graph.now self.now }
+        ensures sound { IsGraph graph.now }
     {
         let n = graph.units();
         match *self {

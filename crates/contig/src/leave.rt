@@ -27,9 +27,15 @@ pub fn local_holds(graph: &Graph, plan: &[u32], unit: u32, marks: &mut Marks) ->
     ensures marks { marks.new.units ≡ marks.old.units }
     ensures local { IsTrue result ↔ IsLocal graph.now plan.now unit }
 {
-    // Called for its contract: the graph is sound and has at most 100,000 units.
-    let _units = graph.units();
-    let leaving = Member { graph, plan, unit };
+    has_linked_mates(graph.member(plan, unit), marks)
+}
+
+// Does the work of `local_holds` for a unit with its graph and plan.
+fn has_linked_mates(leaving: Member, marks: &mut Marks) -> bool
+    requires { marks.old.units ≡ leaving.graph.now.units }
+    ensures marks { marks.new.units ≡ marks.old.units }
+    ensures local { IsTrue result ↔ IsLocal leaving.entry.graph.now leaving.entry.plan.now leaving.entry.unit }
+{
     let mates = mark_mates(leaving, marks);
     if mates == 0 || mates > MOST {
         return mates_are_whole(leaving, marks);
@@ -54,7 +60,7 @@ pub fn search_holds<L: Ledger>(
     ensures leaves { IsTrue result ↔ MayLeave graph.now plan.now unit }
     ensures cost { steps.new ≡ steps.old + 1 }
 {
-    rest_is_whole(Member::of(graph, plan, unit), marks, steps)
+    rest_is_whole(graph.member(plan, unit), marks, steps)
 }
 
 /// Returns true if the unit's district, which must be connected, stays connected without it.
@@ -76,9 +82,19 @@ pub fn may_leave<L: Ledger>(
     ensures rising { steps.old ≤ steps.new }
     ensures most { steps.new ≤ steps.old + 1 }
 {
-    // Called for its contract: the graph is sound and has at most 100,000 units.
-    let _units = graph.units();
-    let leaving = Member { graph, plan, unit };
+    can_leave(graph.member(plan, unit), marks, steps)
+}
+
+// Does the work of `may_leave` for a unit with its graph and plan.
+fn can_leave<L: Ledger>(leaving: Member, marks: &mut Marks, steps: &mut Steps<L>) -> bool
+    requires { marks.old.units ≡ leaving.graph.now.units }
+    ensures marks { marks.new.units ≡ marks.old.units }
+    ensures leaves { let g = leaving.entry.graph.now in let plan = leaving.entry.plan.now in let u = leaving.entry.unit in
+        IsConnected g (in_district plan (slice_index plan u)) → (IsTrue result ↔ MayLeave g plan u) }
+    ensures local { IsLocal leaving.entry.graph.now leaving.entry.plan.now leaving.entry.unit → steps.new ≡ steps.old }
+    ensures rising { steps.old ≤ steps.new }
+    ensures most { steps.new ≤ steps.old + 1 }
+{
     let mates = mark_mates(leaving, marks);
     if mates == 1 {
         return true;

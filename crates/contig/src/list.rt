@@ -62,8 +62,6 @@ impl FaceList {
         ensures unchanged { IfOk result (λ added. OnFalse added (self.new ≡ self.old)) }
         ensures err { OnErr result (self.new ≡ self.old) }
     {
-        // Called for its contract: the graph is sound and has at most 100,000 units.
-        let _units = graph.units();
         if !face.is_ring(graph) || has_own(&self.sides, face) {
             return Ok(false);
         }

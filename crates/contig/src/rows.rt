@@ -2,7 +2,7 @@
 
 ghost use Rattle.std.specs.Prelude.{◌≡◌, ◌<◌, ℕ, List, [], length, slice_index, IsTrue, IfOk, OnOk};
 ghost use Rattle.std.specs.List.{slice_index_or};
-ghost use Rattle.audit_model.specs.Graph.{adjacent};
+ghost use Rattle.audit_model.specs.Graph.{adjacent, has};
 ghost use Rattle.contig.specs.Corners.{HasCorners, with_corner, with_face, corners_at};
 ghost use Rattle.contig.specs.Faces.{IsRing, AreFaces};
 ghost use Rattle.contig.specs.Listed.{rings};
@@ -27,17 +27,14 @@ pub fn rows_of(alloc: Global, graph: &Graph, faces: &[Face]) -> Result<Vec<Corne
 }
 
 /// Returns the position of a neighbor in a unit's list.
-fn place_of(graph: &Graph, unit: u32, other: u32) -> u32
-    requires { IsTrue (adjacent graph.now unit other) }
-    ensures within { result < length (slice_index_or graph.now.neighbours unit []) }
-    ensures there { slice_index (slice_index_or graph.now.neighbours unit []) result ≡ other }
+fn place_of(row: &[u32], other: u32) -> usize
+    requires { IsTrue (has row.now other) }
+    ensures within { result < length row.now }
+    ensures there { slice_index row.now result ≡ other }
 {
-    // Called for its contract: the graph is sound and has at most 100,000 units.
-    let _units = graph.units();
-    let row = graph.neighbours(unit);
     for place in 0..row.len() {
         if row[place] == other {
-            return place as u32;
+            return place;
         }
     }
     0
@@ -59,9 +56,10 @@ fn add_corner(
     ensures added { OnOk result ((corners : ℕ → List (ℕ × ℕ × ℕ × ℕ)) → HasCorners graph.now corners rows.old.items →
         HasCorners graph.now (λ w. with_corner w (corners w) unit (one, other, opposite.0, opposite.1)) rows.new.items) }
 {
+    let row = graph.neighbours(unit);
     let corner = Corner {
-        one: place_of(graph, unit, one),
-        other: place_of(graph, unit, other),
+        one: place_of(row, one) as u32,
+        other: place_of(row, other) as u32,
         far: opposite.0,
         further: opposite.1,
     };

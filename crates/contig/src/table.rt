@@ -71,6 +71,7 @@ impl FaceTable {
     pub fn at(&self, unit: u32) -> &[Corner]
         requires { unit < self.now.graph.units }
         ensures faces { AreFaces self.now.graph self.now.faces }
+        ensures few { length self.now.faces ≤ 4000000 }
         ensures placed { All (IsOnRow self.now.graph (slice_index_or self.now.graph.neighbours unit [])) result.now }
         ensures seen { map (units_of (slice_index_or self.now.graph.neighbours unit [])) result.now ≡ corners_at unit self.now.faces }
     {

@@ -75,8 +75,6 @@ fn measure_edges(graph: &Graph, lengths: &[u32], plan: &[u32]) -> u64
     ensures length { result ≡ cut_length graph.now lengths.now plan.now }
     ensures small { result ≤ most_length }
 {
-    // Called for its contract: the graph has at most 400,000 edges.
-    let _edges = graph.edges();
     let mut total = 0;
     for unit in 0..graph.units() {
         let home = plan[unit as usize];
@@ -106,8 +104,6 @@ fn move_length(member: Member, lengths: &[u32], before: u64, district: u32) -> u
     requires before { before ≡ cut_length member.graph.now lengths.now member.plan.now }
     ensures { result ≡ cut_length member.entry.graph.now lengths.now (slice_set member.entry.plan.now member.entry.unit district) }
 {
-    // Called for its contract: the graph has at most 400,000 edges.
-    let _edges = member.graph.edges();
     let home = member.plan[member.unit as usize];
     let (was, is) = lengths_apart(member, lengths, member.graph.units(), home, district);
     before + is - was

@@ -18,10 +18,9 @@ use dual_graph::member::Member;
 /// Returns the number of edges whose units lie in different districts. It allocates nothing.
 pub fn count_cut(graph: &Graph, plan: &[u32]) -> u32
     requires { length plan.now ≡ graph.now.units }
-    ensures { result ≡ cut_edges graph.now plan.now }
+    ensures value { result ≡ cut_edges graph.now plan.now }
+    ensures few { graph.now.units ≤ most_units }
 {
-    // Called for its contract: the graph has at most 400,000 edges.
-    let _edges = graph.edges();
     let mut cut = 0;
     for unit in 0..graph.units() {
         cut += others_below(Member { graph, plan, unit }, unit);
@@ -36,12 +35,10 @@ pub(crate) fn refill_view(graph: &Graph, counts: &Counts, plan: &[u32], view: &m
     requires second { length view.old.second ≡ length view.old.population }
     ensures { view.new ≡ sums_of graph.now counts.now (length view.old.population) plan.now }
 {
-    // Called for its contract: the graph has at most 100,000 units.
-    let _units = graph.units();
+    view.cut = count_cut(graph, plan);
     refill_column(&counts.population, plan, &mut view.population);
     refill_column(&counts.first, plan, &mut view.first);
     refill_column(&counts.second, plan, &mut view.second);
-    view.cut = count_cut(graph, plan);
     view.length = measure_cut(graph, &counts.lengths, plan);
 }
 

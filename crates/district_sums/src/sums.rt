@@ -3,7 +3,7 @@
 ghost use Rattle.std.specs.Prelude.{◌≡◌, ◌<◌, length, slice_set, IfOk};
 ghost use Rattle.audit_model.specs.Below.{map_below};
 ghost use Rattle.audit_model.specs.Plan.{cut_edges};
-ghost use Rattle.district_sums.specs.Following.{AreInputs, StandsFor, StandsForSome, apart_of, districts_in};
+ghost use Rattle.district_sums.specs.Following.{AreInputs, MovesWithin, StandsFor, StandsForSome, apart_of, districts_in};
 
 use crate::lengths::length_after;
 use crate::scratch::{refill_apart, refill_view};
@@ -77,21 +77,28 @@ impl Sums {
         ensures districts { districts_in self.new ≡ districts_in self.old }
         ensures stands { StandsFor graph.now counts.now plan.new self.new }
     {
-        // Called for their contracts: the graph is sound, with at most 100,000 units and 400,000
-        // edges.
-        let _units = graph.units();
-        let _edges = graph.edges();
         if plan[unit as usize] == district {
             return;
         }
-        let before = self.apart.as_slice()[unit as usize];
-        let member = Member { graph, plan, unit };
+        self.follow(counts, graph.member(plan, unit), district);
+        plan[unit as usize] = district;
+    }
+
+    // Updates the sums for a unit that is about to move to another district.
+    #[inline]
+    fn follow(&mut self, counts: &Counts, member: Member, district: u32)
+        requires inputs { AreInputs member.graph.now counts.now (districts_in self.old) member.plan.now }
+        requires stands { StandsFor member.graph.now counts.now member.plan.now self.old }
+        requires moves { MovesWithin (districts_in self.old) member.plan.now member.unit district }
+        ensures districts { districts_in self.new ≡ districts_in self.old }
+        ensures stands { StandsFor member.entry.graph.now counts.now (slice_set member.entry.plan.now member.entry.unit district) self.new }
+    {
+        let before = self.apart.as_slice()[member.unit as usize];
         self.view.length = length_after(member, &counts.lengths, self.view.length, district);
         shift_counts(counts, member, district, &mut self.view);
         shift_apart(member, district, &mut self.apart);
-        let after = self.apart.as_slice()[unit as usize];
+        let after = self.apart.as_slice()[member.unit as usize];
         self.view.cut = self.view.cut + after - before;
-        plan[unit as usize] = district;
     }
 
     /// Returns the number of cut edges after a move of the unit to `district`, in one pass over its
@@ -102,8 +109,6 @@ impl Sums {
         requires apart { self.now.apart ≡ map_below member.graph.now.units (apart_of member.graph.now member.plan.now) }
         ensures { result ≡ cut_edges member.entry.graph.now (slice_set member.entry.plan.now member.entry.unit district) }
     {
-        // Called for its contract: the graph has at most 400,000 edges.
-        let _edges = member.graph.edges();
         let before = self.apart.as_slice()[member.unit as usize];
         self.view.cut + others_than(member, district) - before
     }

@@ -8,6 +8,7 @@ ghost use Rattle.audit_model.specs.Graph.{adjacent, count_edges};
 ghost use Rattle.audit_model.specs.Length.{degree};
 ghost use Rattle.audit_model.specs.Limits.{most_units, most_edges};
 
+use crate::member::Member;
 use crate::pairs::{begins_of, both_ways, put_in_order, seconds_of};
 use audit_model::memory::Memory;
 use std::alloc::Global;
@@ -68,6 +69,7 @@ impl Graph {
     pub fn units(&self) -> u32
         ensures units { result ≡ self.now.units }
         ensures few { self.now.units ≤ most_units }
+        ensures few_edges { count_edges self.now (λ u v. true) ≤ most_edges }
         ensures sound { IsGraph self.now }
     {
         // Reading a field makes the type's invariant known to the prover.
@@ -92,10 +94,31 @@ impl Graph {
         requires { unit < self.now.units }
         ensures list { result.now ≡ slice_index_or self.now.neighbours unit [] }
         ensures below { All (λ v. v < self.now.units) result.now }
+        ensures few { self.now.units ≤ most_units }
+        ensures few_edges { count_edges self.now (λ u v. true) ≤ most_edges }
+        ensures sound { IsGraph self.now }
     {
         let begin = self.begins[unit as usize] as usize;
         let end = self.begins[unit as usize + 1] as usize;
         &self.near[begin..end]
+    }
+
+    /// Pairs a unit with its graph and a plan on it.
+    #[inline]
+    pub fn member<'a>(&'a self, plan: &'a [u32], unit: u32) -> Member<'a>
+        requires plan { length plan.now ≡ self.now.units }
+        requires unit { unit < self.now.units }
+        ensures graph { result.graph.now ≡ self.now }
+        ensures plan { result.plan.now ≡ plan.now }
+        ensures unit { result.unit ≡ unit }
+    {
+        // Reading a field makes the type's invariant known to the prover.
+        let _ = &self.near;
+        Member {
+            graph: self,
+            plan,
+            unit,
+        }
     }
 
     /// Returns the number of directed edges from the units below this one, which is the place of its

@@ -3,7 +3,7 @@
 ghost use Rattle.std.specs.Prelude.{◌≡◌, ◌<◌, ◌↔◌, ◌&&◌, ℕ, [], not, IsTrue};
 ghost use Rattle.std.specs.List.{slice_index_or};
 ghost use Rattle.audit_model.specs.First.{first_below};
-ghost use Rattle.audit_model.specs.Graph.{has, IsIn};
+ghost use Rattle.audit_model.specs.Graph.{has, IsGraph, IsIn};
 ghost use Rattle.audit_model.specs.Path.{HasPath, IsConnected};
 ghost use Rattle.dual_graph.specs.Marked.{IsMarked};
 ghost use Rattle.audit_model.specs.Search.{AddsFrom};
@@ -57,7 +57,8 @@ fn reach<I: Inside>(within: &Within<I>, start: u32, marks: &mut Marks)
 
 /// Returns the least unit of the set.
 fn first_unit<I: Inside>(within: &Within<I>) -> Option<u32>
-    ensures { result ≡ first_below within.now.graph.now.units (I.inside within.now.set.now) }
+    ensures first { result ≡ first_below within.now.graph.now.units (I.inside within.now.set.now) }
+    ensures sound { IsGraph within.now.graph.now }
 {
     for unit in 0..within.graph.units() {
         if within.set.holds(unit) {
@@ -90,8 +91,6 @@ pub fn parting<I: Inside>(graph: &Graph, set: &I, marks: &mut Marks) -> Option<(
     ensures units { marks.new.units ≡ graph.now.units }
     ensures parting { result ≡ parting_of graph.now (I.inside set.now) }
 {
-    // Called for its contract: the graph is sound and has at most 100,000 units.
-    let _units = graph.units();
     let within = Within { graph, set };
     match first_unit(&within) {
         None => Some((0, 0)),

@@ -84,7 +84,7 @@ module _ (job : Job) (plan : List ℕ) (sums : Following) (marks : ℕ) (table :
     pub is_proposed : (districts : ℕ) → districts ≡ job.districts → get_or table found false ≡ true → ProposesOpen job plan draw (found / districts) (found % districts)
     is_proposed districts same set1 =
         subst (λ (n : ℕ). ProposesOpen job plan draw (found / n) (found % n)) (sym same)
-        (record { proposed = proposal_is; unit_below = unit_below; inside = omega (arith, unit_below, current.summed.legal.complete); district_below = district_below; beside = sym flag_is ∙ set1 })
+        (record { sound = current.numbers.sound; proposed = proposal_is; unit_below = unit_below; inside = omega (arith, unit_below, current.summed.legal.complete); district_below = district_below; beside = sym flag_is ∙ set1 })
 
   -- if the pair at a draw's remainder is not open, the plan stays
   pub closed_stays : (rest : ℕ) → rest ≡ draw % pairs.count → get_or table rest false ≡ false → next job plan draw ≡ plan

@@ -2,6 +2,7 @@
 use Rattle.std.specs.Prelude.{◌≡◌, ◌≢◌, ℕ, ◌+◌, ◌<◌, ◌≤◌, ◌&&◌, nat_le, Bool, IsTrue, Some, List, length, slice_index, slice_set}
 use Rattle.audit_model.specs.declared.outcome.SumsView.{SumsView}
 use Rattle.audit_model.specs.Job.{Job, rules}
+use Rattle.audit_model.specs.JobOf.{IsJob}
 use Rattle.audit_model.specs.Length.{cut_length}
 use Rattle.audit_model.specs.Meets.{meets_rules}
 use Rattle.audit_model.specs.District.{district_sum}
@@ -39,8 +40,9 @@ pub record IsUpToDate (job : Job) (plan : List ℕ) (sums : Following) (marks : 
   pub made : faced.graph ≡ job.graph
   pub counts : AreCounts job.graph faced.faces job.districts plan counted
 
--- the draw proposes the unit for the district, and the pair is open
+-- the draw proposes the unit for the district, the pair is open, and the job is sound
 pub record ProposesOpen (job : Job) (plan : List ℕ) (draw unit district : ℕ) : Type 0 where
+  pub sound : IsJob job
   pub proposed : proposal job.graph.units job.districts draw ≡ Some (unit, district)
   pub unit_below : unit < job.graph.units
   pub inside : unit < length plan

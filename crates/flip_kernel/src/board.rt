@@ -136,7 +136,9 @@ impl Board {
     /// Returns the sums of the current plan.
     #[inline]
     pub fn view(&self) -> &SumsView
-        ensures { result.now ≡ sums_in self.now.job self.now.plan }
+        ensures value { result.now ≡ sums_in self.now.job self.now.plan }
+        ensures legal { IsLegal self.now.job self.now.plan }
+        ensures sound { IsJob self.now.job }
     {
         self.sums.view()
     }
@@ -160,10 +162,10 @@ impl Board {
     pub(crate) fn keeps_bounds(&self, flip: Flip) -> bool
         requires made { self.now.job ≡ flip.job.now }
         requires elsewhere { slice_index self.now.plan flip.unit ≢ flip.district }
-        ensures { IsTrue result ↔ KeepsBoundsIn flip.entry.job.now self.now.plan flip.entry.unit flip.entry.district }
+        ensures value { IsTrue result ↔ KeepsBoundsIn flip.entry.job.now self.now.plan flip.entry.unit flip.entry.district }
+        ensures legal { IsLegal self.now.job self.now.plan }
+        ensures sound { IsJob self.now.job }
     {
-        // Called for its contract: the job is within its limits, and its start plan is legal.
-        let _units = flip.job.units();
         let people = flip.job.counts().population.as_slice()[flip.unit as usize];
         let home = self.plan.as_slice()[flip.unit as usize];
         let populations = self.sums.view().population.as_slice();
@@ -187,9 +189,8 @@ impl Board {
             result ≡ meets_rules (rules flip.entry.job.now) (cut_edges flip.entry.job.now.graph after) after }
         ensures same { self.new ≡ self.old }
     {
-        // Called for its contract: the job and the number of its graph's edges are within their
-        // limits.
-        let _units = flip.job.units();
+        // Reading a field makes the type's invariant known to the prover.
+        let _ = &self.sums;
         if judge.limits_nothing() {
             return true;
         }
@@ -227,11 +228,11 @@ impl Board {
     fn counting_tells(&self, job: &Job, unit: u32) -> Option<bool>
         requires made { self.now.job ≡ job.now }
         requires unit { unit < job.now.graph.units }
-        ensures { MatchOption result ⊤ (λ may. IsTrue may ↔ MayLeave job.now.graph self.now.plan unit) }
+        ensures observed { MatchOption result ⊤ (λ may. IsTrue may ↔ MayLeave job.now.graph self.now.plan unit) }
+        ensures legal { IsLegal self.now.job self.now.plan }
+        ensures sound { IsJob self.now.job }
     {
         let graph = job.graph();
-        // Called for its contract: the graph is sound and has at most 100,000 units.
-        let _units = graph.units();
         let leaving = Member {
             graph,
             plan: self.plan.as_slice(),
@@ -273,8 +274,6 @@ impl Board {
             (λ moves. IsTrue moves ↔ IsMove flip.entry.job.now self.old.plan flip.entry.unit flip.entry.district) }
         ensures same { self.new ≡ self.old }
     {
-        // Called for its contract: the job is within its limits, and the plan is legal.
-        let _plan = self.plan();
         match self.counting_tells(flip.job, flip.unit) {
             Some(false) => Some(false),
             Some(true) => Some(self.allows(judge, flip)),
@@ -304,8 +303,6 @@ impl Board {
         ensures searches { (steps.old ≤ steps.new) × (steps.new ≤ steps.old + 1) }
         ensures local { IsLocal flip.entry.job.now.graph self.old.plan flip.entry.unit → steps.new ≡ steps.old }
     {
-        // Called for its contract: the job is within its limits, and the plan is legal.
-        let _plan = self.plan();
         if !self.keeps_bounds(flip) {
             return false;
         }
@@ -361,8 +358,6 @@ impl Board {
     {
         let graph = flip.job.graph();
         let home = self.plan.as_slice()[flip.unit as usize];
-        // Called for its contract: the graph is sound and has at most 100,000 units.
-        let _units = graph.units();
         let leaving = Member {
             graph,
             plan: self.plan.as_slice(),
@@ -387,8 +382,6 @@ fn shift(flip: Flip, sums: &mut Sums, plan: &mut UnitList)
     ensures places { districts_in sums.new ≡ flip.entry.job.now.districts }
     ensures stands { StandsFor flip.entry.job.now.graph flip.entry.job.now.counts plan.new sums.new }
 {
-    // Called for its contract: the job is within its limits, and its start plan is legal.
-    let _units = flip.job.units();
     sums.shift(
         flip.job.graph(),
         flip.job.counts(),
@@ -415,8 +408,6 @@ fn is_short(flip: Flip, sums: &Sums, plan: &UnitList) -> bool
     ensures { result ≡ nat_le (cut_length flip.entry.job.now.graph flip.entry.job.now.counts.lengths (slice_set plan.now flip.entry.unit flip.entry.district))
         flip.entry.job.now.setting.max_length }
 {
-    // Called for its contract: the job is within its limits, and its start plan is legal.
-    let _units = flip.job.units();
     let member = Member {
         graph: flip.job.graph(),
         plan: plan.as_slice(),
@@ -443,8 +434,6 @@ fn is_permitted<J: Judge>(judge: &J, flip: Flip, sums: &mut Sums, plan: &mut Uni
 {
     let home = plan.as_slice()[flip.unit as usize];
     let before = sums.view().cut;
-    // Called for its contract: the job is within its limits, and its start plan is legal.
-    let _units = flip.job.units();
     let member = Member {
         graph: flip.job.graph(),
         plan: plan.as_slice(),

@@ -33,8 +33,6 @@ pub fn try_flip<J: Judge, L: Ledger>(
     ensures local { (unit district : ℕ) → proposal job.now.graph.units job.now.districts draw ≡ Some (unit, district) →
         IsLocal job.now.graph state.old.plan unit → steps.new ≡ steps.old }
 {
-    // Called for its contract: the job is within its limits, and its start plan is legal.
-    let _units = job.units();
     match state.proposal_of(draw) {
         None => false,
         Some((unit, district)) => state.flip(
@@ -78,8 +76,6 @@ fn find_mirror<J: Judge, L: Ledger>(job: &Job, state: &mut State<J>, draw: u64, 
     ensures same { state.new ≡ state.old }
     ensures legal { IsLegal job.now state.old.plan }
 {
-    // Called for its contract: the job is within its limits, and its start plan is legal.
-    let _units = job.units();
     let plan = state.plan();
     match state.proposal_of(draw) {
         None => draw,

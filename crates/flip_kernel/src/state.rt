@@ -76,7 +76,9 @@ impl<J: Judge> State<J> {
     /// Returns the sums of the current plan.
     #[inline]
     pub fn view(&self) -> &SumsView
-        ensures { result.now ≡ sums_in self.now.job self.now.plan }
+        ensures value { result.now ≡ sums_in self.now.job self.now.plan }
+        ensures legal { IsLegal self.now.job self.now.plan }
+        ensures sound { IsJob self.now.job }
     {
         self.board.view()
     }
@@ -109,8 +111,6 @@ impl<J: Judge> State<J> {
         requires made { self.old.job ≡ job.now }
         ensures same { self.new ≡ self.old }
     {
-        // Called for its contract: the job is within its limits, and its start plan is legal.
-        let _units = job.units();
         match self.board.proposal_of(draw) {
             None => false,
             Some((unit, district)) => {
@@ -149,8 +149,6 @@ impl<J: Judge> State<J> {
         ensures searches { (steps.old ≤ steps.new) × (steps.new ≤ steps.old + 1) }
         ensures local { IsLocal flip.entry.job.now.graph self.old.plan flip.entry.unit → steps.new ≡ steps.old }
     {
-        // Called for its contract: the job is within its limits, and the plan is legal.
-        let _plan = self.board.plan();
         if !self.board.keeps_bounds(flip) {
             return false;
         }

@@ -216,14 +216,16 @@ impl Job {
 
     /// Returns the graph.
     pub fn graph(&self) -> &Graph
-        ensures { result.now ≡ self.now.graph }
+        ensures value { result.now ≡ self.now.graph }
+        ensures sound { IsJob self.now }
     {
         self.input.graph()
     }
 
     /// Returns the population and votes of each unit.
     pub fn counts(&self) -> &Counts
-        ensures { result.now ≡ self.now.counts }
+        ensures value { result.now ≡ self.now.counts }
+        ensures sound { IsJob self.now }
     {
         self.input.counts()
     }
@@ -232,6 +234,7 @@ impl Job {
     pub fn start(&self) -> &UnitList
         ensures value { result.now ≡ self.now.start }
         ensures legal { IsLegal self.now result.now }
+        ensures sound { IsJob self.now }
     {
         self.input.start()
     }
@@ -246,14 +249,16 @@ impl Job {
 
     /// Returns the setting.
     pub fn setting(&self) -> &Setting
-        ensures { result.now ≡ self.now.setting }
+        ensures value { result.now ≡ self.now.setting }
+        ensures sound { IsJob self.now }
     {
         self.input.setting()
     }
 
     /// Returns the rules that plans must meet.
     pub fn rules(&self) -> &Rules
-        ensures { result.now ≡ rules self.now }
+        ensures value { result.now ≡ rules self.now }
+        ensures sound { IsJob self.now }
     {
         self.input.rules()
     }
@@ -289,7 +294,8 @@ impl Job {
 
     /// Returns the number of districts.
     pub fn districts(&self) -> u32
-        ensures { result ≡ self.now.districts }
+        ensures value { result ≡ self.now.districts }
+        ensures sound { IsJob self.now }
     {
         self.input.districts()
     }
@@ -303,14 +309,16 @@ impl Job {
 
     /// Returns the votes of both parties in all units.
     pub fn votes(&self) -> u64
-        ensures { result ≡ total_votes self.now }
+        ensures value { result ≡ total_votes self.now }
+        ensures sound { IsJob self.now }
     {
         self.input.votes()
     }
 
     /// Returns the number of trajectories: walks and endpoint trajectories.
     pub fn total(&self) -> u32
-        ensures { result ≡ self.now.setting.walks + self.now.setting.ends }
+        ensures value { result ≡ self.now.setting.walks + self.now.setting.ends }
+        ensures sound { IsJob self.now }
     {
         let setting = self.input.setting();
         setting.walks + setting.ends

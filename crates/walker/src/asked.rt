@@ -97,8 +97,6 @@ impl Tally {
 fn current_value<J: Judge>(state: &State<J>, score: Score, room: &mut Room) -> i64
     ensures { result ≡ plan_value state.now.job state.now.plan score }
 {
-    // Called for its contract: the job is within its limits, and the plan is legal.
-    let _plan = state.plan();
     room.value(score, state.view())
 }
 

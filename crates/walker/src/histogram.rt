@@ -78,8 +78,6 @@ fn current_seats<J: Judge>(state: &State<J>, room: &mut Room) -> u64
     ensures seats { result ≡ plan_seats state.now.job state.now.plan }
     ensures small { result < 2 ^ 63 }
 {
-    // Called for its contract: the job is within its limits, and the plan is legal.
-    let _plan = state.plan();
     room.value(Score::Seats, state.view()) as u64
 }
 

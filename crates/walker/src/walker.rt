@@ -112,8 +112,6 @@ impl<J: Judge> Walker<J> {
         requires hub { job.now.setting.walks ≤ id → hub.now ≡ hub_of job.now (draw job.now.setting.key) }
         ensures way { IsUnderWay job.now id 0 self.new result }
     {
-        // Called for its contract: the job is within its limits, and its start plan is legal.
-        let _units = job.units();
         let setting = job.setting();
         if id < setting.walks {
             self.state.set(job, job.start().as_slice());
@@ -228,8 +226,6 @@ impl<J: Judge> Walker<J> {
         ensures outcome { result ≡ walk_outcome job.now.setting.shift job.now (draw job.now.setting.key) id }
         ensures made { self.new.job ≡ job.now }
     {
-        // Called for its contract: the job is within its limits, and its start plan is legal.
-        let _units = job.units();
         let setting = job.setting();
         let stream = 2 * u64::from(id);
         let course = Course {
@@ -256,8 +252,6 @@ impl<J: Judge> Walker<J> {
         ensures outcome { result ≡ end_outcome job.now (draw job.now.setting.key) id }
         ensures made { self.new.job ≡ job.now }
     {
-        // Called for its contract: the job is within its limits, and its start plan is legal.
-        let _units = job.units();
         let setting = job.setting();
         self.state.set(job, hub);
         let stream = 2 * u64::from(id - setting.walks) + 3;

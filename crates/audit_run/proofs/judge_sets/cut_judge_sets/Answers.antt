@@ -10,22 +10,22 @@ use Rattle.audit_run.proofs.judge_sets.cut_judge_sets.Goals as goal
 pub guards-requires-clause-answers : goal.guards-requires-clause-answers
 guards-requires-clause-answers g c = λ sums answer few ret.
     let here = (subst (IsCutBy c.args.rules.now) (sym c.plan-item.is) (c.requires.plans c.loop-plan.plan-index c.plan-item.result (omega arith))) in
-    c.requires.answers sums answer few ret ∙ ap (λ m. nat_le sums.cut m) (sym (ap (λ (r : Rules). r.max_cut) c.rules.ensures ∙ here.cut_is))
+    c.requires.answers sums answer few ret ∙ ap (λ m. nat_le sums.cut m) (sym (ap (λ (r : Rules). r.max_cut) c.rules.ensures.value ∙ here.cut_is))
 
 pub guards-requires-clause-no_regions : goal.guards-requires-clause-no_regions
 guards-requires-clause-no_regions g c =
     let here = (subst (IsCutBy c.args.rules.now) (sym c.plan-item.is) (c.requires.plans c.loop-plan.plan-index c.plan-item.result (omega arith))) in
-    ap (λ (r : Rules). r.regions) c.rules.ensures ∙ here.no_regions
+    ap (λ (r : Rules). r.regions) c.rules.ensures.value ∙ here.no_regions
 
 pub guards-requires-clause-no_group : goal.guards-requires-clause-no_group
 guards-requires-clause-no_group g c =
     let here = (subst (IsCutBy c.args.rules.now) (sym c.plan-item.is) (c.requires.plans c.loop-plan.plan-index c.plan-item.result (omega arith))) in
-    ap (λ (r : Rules). r.group_districts) c.rules.ensures ∙ here.no_group
+    ap (λ (r : Rules). r.group_districts) c.rules.ensures.value ∙ here.no_group
 
 pub guards-requires-clause-no_frozen : goal.guards-requires-clause-no_frozen
 guards-requires-clause-no_frozen g c =
     let here = (subst (IsCutBy c.args.rules.now) (sym c.plan-item.is) (c.requires.plans c.loop-plan.plan-index c.plan-item.result (omega arith))) in
-    ap (λ (r : Rules). r.frozen) c.rules.ensures ∙ here.no_frozen
+    ap (λ (r : Rules). r.frozen) c.rules.ensures.value ∙ here.no_frozen
 
 pub loop-plan-preserved : goal.loop-plan-preserved
 loop-plan-preserved g c =
@@ -36,6 +36,6 @@ loop-plan-preserved g c =
     (subst (λ judge_sets. ArePaired judge_set (take c.loop-plan.plan-index c.args.plans.now ++ c.plan-item.result ∷ []) judge_sets) (sym c.in_ok-push.ensures.items)
     (paired_push judge_set (take c.loop-plan.plan-index c.args.plans.now) c.loop-plan.judge_sets.items c.plan-item.result _ c.loop-plan.invariant
     (record {
-      each = rw (← c.rules.ensures) c.in_ok-judges.ensures.each;
+      each = rw (← c.rules.ensures.value) c.in_ok-judges.ensures.each;
       count_is = c.in_ok-judges.ensures.count;
     })))

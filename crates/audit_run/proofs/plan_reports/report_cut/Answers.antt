@@ -16,12 +16,12 @@ first_of-first-requires g c = omega (arith, ap length c.as_slice.ensures.value, 
 pub overflow_add-workers : goal.overflow_add-workers
 overflow_add-workers g c =
     let of = run_setting c.first_of-first.ensures.0.job (of_first (λ (n : Named). RunsAlone n.job) c.args.plans.items c.first_of-first.ensures.0 (rw c.as_slice.ensures.value at c.first_of-first.ensures.1) c.requires.plans.shared.some c.requires.plans.alone).run in
-    let workers = ap (λ (s : Setting). s.workers) (c.setting.ensures ∙ ap (λ (j : Job). j.setting) c.first_of-first.ensures.2) in
+    let workers = ap (λ (s : Setting). s.workers) (c.setting.ensures.value ∙ ap (λ (j : Job). j.setting) c.first_of-first.ensures.2) in
     omega (arith, workers, of.few_workers)
 
 pub cut_judge_sets-requires-clause-plans : goal.cut_judge_sets-requires-clause-plans
 cut_judge_sets-requires-clause-plans g c =
-    let cut = ap (λ (r : Rules). r.max_cut) c.rules-rules.ensures ∙ ap (λ (j : Job). j.setting.max_cut) c.first_of-first.ensures.2 in
+    let cut = ap (λ (r : Rules). r.max_cut) c.rules-rules.ensures.value ∙ ap (λ (j : Job). j.setting.max_cut) c.first_of-first.ensures.2 in
     rw c.as_slice-2.ensures.value (λ k d inside.
     let like = (all_like c.args.plans.items c.first_of-first.ensures.0 (rw c.as_slice.ensures.value at c.first_of-first.ensures.1) c.requires.plans) k d inside in
     record {
@@ -33,8 +33,8 @@ cut_judge_sets-requires-clause-plans g c =
 
 pub report_plans-requires-clause-judges : goal.report_plans-requires-clause-judges
 report_plans-requires-clause-judges g c κs within =
-    let cut = ap (λ (r : Rules). r.max_cut) c.rules-rules.ensures ∙ ap (λ (j : Job). j.setting.max_cut) c.first_of-first.ensures.2 in
-    let workers = ap (λ (s : Setting). s.workers) c.setting.ensures ∙ ap (λ (j : Job). j.setting.workers) c.first_of-first.ensures.2 in
+    let cut = ap (λ (r : Rules). r.max_cut) c.rules-rules.ensures.value ∙ ap (λ (j : Job). j.setting.max_cut) c.first_of-first.ensures.2 in
+    let workers = ap (λ (s : Setting). s.workers) c.setting.ensures.value ∙ ap (λ (j : Job). j.setting.workers) c.first_of-first.ensures.2 in
     paired_with (λ n. IsLike c.first_of-first.ensures.0 n × (n.job.regions ≡ []) × (n.job.setting.group_districts ≡ 0) × (n.job.frozen ≡ [])) _ _ (λ n judges each judge_set.
     let same = each.0.set in
     record {

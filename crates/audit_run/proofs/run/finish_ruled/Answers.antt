@@ -9,28 +9,28 @@ use Rattle.audit_run.proofs.run.finish_ruled.Goals as goal
 
 pub overflow_add-workers : goal.overflow_add-workers
 overflow_add-workers g c =
-    let workers = ap (λ (s : Setting). s.workers) c.setting.ensures in
+    let workers = ap (λ (s : Setting). s.workers) c.setting.ensures.value in
     let few = (run_setting c.args.job.now c.requires.opened.run).few_workers in
     omega (arith, workers, few)
 
 pub region_guards-requires-clause-group : goal.region_guards-requires-clause-group
-region_guards-requires-clause-group g c = rw c.rules-rules.ensures (own_group _ _ c.requires.opened.run.sound.within.group).0
+region_guards-requires-clause-group g c = rw c.rules-rules.ensures.value (own_group _ _ c.requires.opened.run.sound.within.group).0
 
 pub region_guards-requires-clause-few_units : goal.region_guards-requires-clause-few_units
 region_guards-requires-clause-few_units g c =
-    rw c.rules-rules.ensures (omega (arith, (own_group _ _ c.requires.opened.run.sound.within.group).1, c.requires.opened.run.sound.within.input.units))
+    rw c.rules-rules.ensures.value (omega (arith, (own_group _ _ c.requires.opened.run.sound.within.group).1, c.requires.opened.run.sound.within.input.units))
 
 pub region_guards-requires-clause-share : goal.region_guards-requires-clause-share
-region_guards-requires-clause-share g c = rw c.rules-rules.ensures c.requires.opened.run.sound.within.setting.few_shares
+region_guards-requires-clause-share g c = rw c.rules-rules.ensures.value c.requires.opened.run.sound.within.setting.few_shares
 
 pub region_guards-requires-clause-homes : goal.region_guards-requires-clause-homes
-region_guards-requires-clause-homes g c = rw c.rules-rules.ensures (frozen_home c.args.job.now c.requires.opened.run.sound.within)
+region_guards-requires-clause-homes g c = rw c.rules-rules.ensures.value (frozen_home c.args.job.now c.requires.opened.run.sound.within)
 
 pub finish_judged-requires-clause-judges : goal.finish_judged-requires-clause-judges
 finish_judged-requires-clause-judges g c κs within = record {
   judges_are = λ k d inside.
       let is = c.in-Ok.ensures.each k d inside in
-      let ruled = is.rules_are ∙ c.rules-rules.ensures in
+      let ruled = is.rules_are ∙ c.rules-rules.ensures.value in
       record {
         kept = (
           rw is.cut_is (first_of (search rules, grind (arith, common_steps))),
@@ -44,7 +44,7 @@ finish_judged-requires-clause-judges g c κs within = record {
           rw is.rules_are is.homes,
         );
         ruled = ruled;
-        taken = takes_plans c.args.job.now _ _ c.requires.opened.run.sound.within ruled (is.districts_are ∙ c.districts.ensures);
+        taken = takes_plans c.args.job.now _ _ c.requires.opened.run.sound.within ruled (is.districts_are ∙ c.districts.ensures.value);
       };
-  count_is = omega (arith, c.in-Ok.ensures.count, ap (λ (s : Setting). s.workers) c.setting.ensures);
+  count_is = omega (arith, c.in-Ok.ensures.count, ap (λ (s : Setting). s.workers) c.setting.ensures.value);
 }

@@ -9,8 +9,8 @@ use Rattle.audit_start.proofs.resume_state.open.Goals as goal
 
 pub returns : goal.returns
 returns g c =
-    let fresh : c.args.job.now.setting.resume ≡ false = ap (λ (s : Setting). s.resume) (sym c.setting-setting.ensures) ∙ c.if-setting.false in
-    let unsaved : c.args.job.now.setting.save_every ≡ 0 = ap (λ (s : Setting). s.save_every) (sym c.setting-setting.ensures) ∙ c.if-setting-ne0.false in
+    let fresh : c.args.job.now.setting.resume ≡ false = ap (λ (s : Setting). s.resume) (sym c.setting-setting.ensures.value) ∙ c.if-setting.false in
+    let unsaved : c.args.job.now.setting.save_every ≡ 0 = ap (λ (s : Setting). s.save_every) (sym c.setting-setting.ensures.value) ∙ c.if-setting-ne0.false in
     record {
       same = refl;
       opened = record {

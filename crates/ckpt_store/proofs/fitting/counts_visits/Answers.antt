@@ -9,7 +9,7 @@ pub returns-else-outcome-setting : goal.returns-else-outcome-setting
 returns-else-outcome-setting c =
     let job = c.args.job.now in
     let outcome = c.args.outcome.now in
-    let same = c.setting-setting.ensures in
+    let same = c.setting-setting.ensures.value in
     let walks = ap (λ (s : Setting). s.walks) same in
     let below : outcome.id < job.setting.walks = omega (arith, c.if-outcome-setting.false, walks) in
     let few : c.asks_of-asks.result ≤ length outcome.values = grind (arith, c.asks_of-asks.ensures.few) in

@@ -25,7 +25,7 @@ overflow_add-total c =
     let most : sum_below (unit + 1) (own g lengths plan) ≤ 4294967295 * sum_below (unit + 1) (λ v. count_below v (λ u. adjacent g u v && test u v)) =
     sum_edges_few g lengths test (unit + 1) c.requires.lengths.small in
     let few = counted_edges_le g test (unit + 1) (omega (arith, c.loop-unit-test.true, c.units-unit-end.ensures.units)) in
-    omega (arith, so_far, here, more, most, few, c.edges-edges.ensures.few)
+    omega (arith, so_far, here, more, most, few, c.units-unit-end.ensures.few_edges)
 
 pub loop-unit-preserved : goal.loop-unit-preserved
 unfolding own
@@ -46,5 +46,5 @@ returns-clause-small c =
     let plan : List ℕ = c.args.plan.now in
     let all : c.loop-unit.unit ≡ g.units = omega (arith, c.loop-unit-test.false, c.loop-unit.auto.unit-end, c.units-unit-end.ensures.units) in
     let is : c.loop-unit.total ≡ sum_below g.units (own g lengths plan) = c.loop-unit.invariant ∙ ap (λ (n : ℕ). sum_below n (own g lengths plan)) all in
-    let few : sum_below g.units (own g lengths plan) ≤ 1717986918000000 = cut_length_few g lengths plan c.requires.lengths.small c.edges-edges.ensures.few in
+    let few : sum_below g.units (own g lengths plan) ≤ 1717986918000000 = cut_length_few g lengths plan c.requires.lengths.small c.units-unit-end.ensures.few_edges in
     omega (arith, is, few)

@@ -10,7 +10,7 @@ pub overflow_add-result : goal.overflow_add-result
 overflow_add-result c =
     let m = c.args.member in
     let g = m.graph.now in
-    let few = cut_length_few g c.args.lengths.now m.plan.now c.requires.lengths.small c.edges-edges.ensures.few in
+    let few = cut_length_few g c.args.lengths.now m.plan.now c.requires.lengths.small c.units.ensures.few_edges in
     let row = apart_few g c.args.lengths.now m.plan.now m.unit g.units c.args.district c.requires.lengths.small in
     let bound : c.units.result ≡ g.units = c.units.ensures.units in
     let is = c.lengths_apart-was.ensures.other ∙ ap (λ (n : ℕ). length_apart g c.args.lengths.now m.plan.now m.unit n c.args.district) bound in

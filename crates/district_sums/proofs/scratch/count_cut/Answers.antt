@@ -12,10 +12,10 @@ overflow_add-cut c =
     let each : ℕ → ℕ = λ v. count_below v (λ u. adjacent g u v && test u v) in
     let more : sum_below (unit + 1) each ≡ sum_below unit each + each unit = ap (λ (n : ℕ). sum_below n each) (add-one unit) in
     let few = counted_edges_le g test (unit + 1) (omega (arith, c.loop-unit-test.true, c.units-unit-end.ensures.units)) in
-    omega (arith, c.loop-unit.invariant, c.others_below-cut.ensures, more, few, c.edges-edges.ensures.few)
+    omega (arith, c.loop-unit.invariant, c.others_below-cut.ensures, more, few, c.units-unit-end.ensures.few_edges)
 
-pub returns : goal.returns
-returns c =
+pub returns-clause-value : goal.returns-clause-value
+returns-clause-value c =
     let g = c.args.graph.now in
     let each : ℕ → ℕ = λ v. count_below v (λ u. adjacent g u v && not (get_or c.args.plan.now u 0 == get_or c.args.plan.now v 0)) in
     let all : c.loop-unit.unit ≡ g.units = omega (arith, c.loop-unit-test.false, c.loop-unit.auto.unit-end, c.units-unit-end.ensures.units) in

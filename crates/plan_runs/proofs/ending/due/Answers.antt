@@ -11,9 +11,9 @@ some_stop job (suc n) some = refl
 
 pub returns-then-setting-eq0 : goal.returns-then-setting-eq0
 returns-then-setting-eq0 c =
-    c.total.ensures ∙ sym (reports_all c.args.job.now (sym (ap (λ (s : Setting). s.stop) c.setting.ensures) ∙ c.if-setting-eq0.true))
+    c.total.ensures.value ∙ sym (reports_all c.args.job.now (sym (ap (λ (s : Setting). s.stop) c.setting.ensures.value) ∙ c.if-setting-eq0.true))
 
 pub returns-else-setting-eq0 : goal.returns-else-setting-eq0
 returns-else-setting-eq0 c =
-    ap (λ (s : Setting). s.walks) c.setting-else-setting-eq0.ensures
-    ∙ sym (some_stop c.args.job.now c.args.job.now.setting.stop (λ none. c.if-setting-eq0.false (ap (λ (s : Setting). s.stop) c.setting.ensures ∙ none)))
+    ap (λ (s : Setting). s.walks) c.setting-else-setting-eq0.ensures.value
+    ∙ sym (some_stop c.args.job.now c.args.job.now.setting.stop (λ none. c.if-setting-eq0.false (ap (λ (s : Setting). s.stop) c.setting.ensures.value ∙ none)))

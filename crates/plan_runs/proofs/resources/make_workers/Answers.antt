@@ -21,8 +21,8 @@ make_pool-requires-2-clause-count g c = omega (arith, c.len.ensures, few_run_tod
 
 pub returns-then-setting-gt0 : goal.returns-then-setting-gt0
 returns-then-setting-gt0 g c =
-    let early : 1 ≤ c.args.job.now.setting.stop = omega (arith, c.if-setting-gt0.true, ap (λ (s : Setting). s.stop) c.setting.ensures) in
+    let early : 1 ≤ c.args.job.now.setting.stop = omega (arith, c.if-setting-gt0.true, ap (λ (s : Setting). s.stop) c.setting.ensures.value) in
     record { early = early; pool = rw c.requires.workers at c.in_ok-pool.ensures.pool }
 
 pub returns : goal.returns
-returns g c = record { plain = omega (arith, c.if-setting-gt0.false, ap (λ (s : Setting). s.stop) c.setting.ensures); pool = rw (c.requires.workers, c.len.ensures) at c.in_ok-pool-2.ensures.pool }
+returns g c = record { plain = omega (arith, c.if-setting-gt0.false, ap (λ (s : Setting). s.stop) c.setting.ensures.value); pool = rw (c.requires.workers, c.len.ensures) at c.in_ok-pool-2.ensures.pool }

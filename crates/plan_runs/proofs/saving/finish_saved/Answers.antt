@@ -18,7 +18,7 @@ run_over-requires-clause-initial_state g c κs within =
     let buffers = c.requires.resources.buffers in
     record {
       digest = c.requires.placed.digest_is;
-      every = subst (λ (s : Setting). 1 ≤ s.save_every) (sym c.setting.ensures) (saves_every job c.requires.saved);
+      every = subst (λ (s : Setting). 1 ≤ s.save_every) (sym c.setting.ensures.value) (saves_every job c.requires.saved);
       slot = c.requires.placed.slot_below;
       generation = c.requires.placed.generation_below;
       place = place_observed_for job (g.C.Keeper.state c.args.keeper).slots c.args.resources.target c.requires.placed;
@@ -53,7 +53,7 @@ run_over-requires-clause-lets g c κs within =
     let observed = (g.C.Keeper.state c.args.keeper).attempted in
     let initial_outcomes = c.args.resources.buffers.book.outcomes in
     let place = c.args.resources.target.place in
-    let every : c.setting.result.now.save_every ≡ job.setting.save_every = ap (λ (s : Setting). s.save_every) c.setting.ensures in
+    let every : c.setting.result.now.save_every ≡ job.setting.save_every = ap (λ (s : Setting). s.save_every) c.setting.ensures.value in
     subst (λ (x : ℕ × List ℕ). LetsRun g.C.Keeper.lets observed job initial_outcomes x.0 place x.1) (λ i. (sym every i, sym buffers.ids i))
     (c.requires.lets initial_outcomes place c.requires.saved c.requires.opened (first_place_for job (g.C.Keeper.state c.args.keeper).slots c.args.resources.target c.requires.placed))
 
@@ -75,7 +75,7 @@ returns-in-Ok g c =
     let after = g.C.Keeper.state c.in-Ok.ran.keeper in
     let h = c.in-Ok.ensures.ran in
     let all = all_outcomes _ _ _ _ h buffers.ids c.outcomes_by_id_are_mapped.ensures buffers.start.run buffers.start.fit buffers.todo.within buffers.todo.absent in
-    let last = saves_last _ _ _ _ h buffers.ids c.checkpoints_are_ours.ensures c.saves_hold_parts.ensures c.run_attempts_are_right.ensures (ap (λ (s : Setting). s.save_every) c.setting.ensures)
+    let last = saves_last _ _ _ _ h buffers.ids c.checkpoints_are_ours.ensures c.saves_hold_parts.ensures c.run_attempts_are_right.ensures (ap (λ (s : Setting). s.save_every) c.setting.ensures.value)
     (placed_known job (g.C.Keeper.state c.args.keeper).slots c.args.resources.target c.requires.placed) all.full in
     let found = c.all-found.ensures in
     let has = all_found job buffers.start.run (saved_plain job buffers.start.run c.requires.saved) initial_outcomes c.all-found.result (rw found.sorted all) (rw found.sorted found.listed)

@@ -9,7 +9,7 @@ pub returns-clause-todo : goal.returns-clause-todo
 returns-clause-todo c =
     let kept = c.args.book.now.outcomes in
     let s = c.args.job.now.setting in
-    let whole = c.total-total.ensures in
+    let whole = c.total-total.ensures.value in
     let at : c.loop-id.id ≡ total c.args.job.now = omega (arith, whole, c.loop-id-test.false, c.loop-id.auto.id-end) in
     subst (IsTodo c.args.job.now kept)
     (sym (c.loop-id.invariant ∙ ap (λ n. take c.args.budget (filter_below n (λ id. not (has_id kept id) && is_in_part s.parts s.part id))) at))

@@ -18,6 +18,6 @@ returns g c =
     let walked = c.walk_to_stops-stops.ensures in
     let buffers = c.requires.buffers in
     early_found c.args.job.now buffers.start.run c.requires.workers.early c.args.buffers.book.outcomes (buffers.start.fresh c.requires.workers.early) _ walked.in_time
-    (ap (λ (s : Setting). s.walks) c.setting-setting.ensures)
-    (c.len.ensures ∙ ap (λ (s : Setting). length s.asks) c.setting-setting.ensures)
+    (ap (λ (s : Setting). s.walks) c.setting-setting.ensures.value)
+    (c.len.ensures ∙ ap (λ (s : Setting). length s.asks) c.setting-setting.ensures.value)
     walked.stops walked.parts walked.four buffers.blank buffers.report_room

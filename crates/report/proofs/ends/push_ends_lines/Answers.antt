@@ -10,5 +10,5 @@ returns c =
     let job = c.args.job.now in
     let ends = c.ends_of.result.now in
     appends-by c.args.out.now c.push_ends.new.out (flat_map (ends_line job ends) (placed_asks job)) (ends_lines job.setting.ends job c.args.sorted.now) c.push_ends.result
-    (lines_alone job.setting.ends job c.args.sorted.now ends (λ none. c.if-setting-eq0.false (ap (λ s. s.ends) c.setting.ensures ∙ none)) c.ends_of.ensures.all c.ends_of.ensures.sound)
+    (lines_alone job.setting.ends job c.args.sorted.now ends (λ none. c.if-setting-eq0.false (ap (λ s. s.ends) c.setting.ensures.value ∙ none)) c.ends_of.ensures.all c.ends_of.ensures.sound)
     c.push_ends.ensures

@@ -8,7 +8,7 @@ returns c =
     let job = c.args.job.now in
     let sound = c.units-units.ensures.sound in
     let limits = small job sound in
-    let walks : c.setting.result.now.walks ≡ job.setting.walks = ap (λ s. s.walks) c.setting.ensures in
+    let walks : c.setting.result.now.walks ≡ job.setting.walks = ap (λ s. s.walks) c.setting.ensures.value in
     let asks : length c.asks_of.result.now ≡ length job.setting.asks = ap length c.asks_of.ensures.value in
     record {
       enough = λ os stops serial h stopped found. rw (walks, asks) (report-le job os stops serial sound h stopped found);

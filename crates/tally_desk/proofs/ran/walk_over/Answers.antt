@@ -30,7 +30,7 @@ work-requires-clause-pool g c κs inside =
 pub work-requires-clause-shared : goal.work-requires-clause-shared
 work-requires-clause-shared g c κs inside =
     let below : IsFalse c.has_above-needed.result → All (λ id. id < c.args.job.now.setting.walks) c.args.initial_state.todo =
-    λ none. subst (λ (x : Setting × List ℕ). All (λ id. id < x.0.walks) x.1) (λ i. (c.setting.ensures i, c.as_slice.ensures i)) (c.has_above-needed.ensures.none none) in
+    λ none. subst (λ (x : Setting × List ℕ). All (λ id. id < x.0.walks) x.1) (λ i. (c.setting.ensures.value i, c.as_slice.ensures i)) (c.has_above-needed.ensures.none none) in
     let todo = sym (ap (λ (p : Parts). p.todo) c.in-Ok.ensures.parts) in
     record {
       same = sym (ap (λ (p : Parts). p.job) c.in-Ok.ensures.parts);

@@ -18,7 +18,7 @@ loop-place-init g c =
         visited = c.requires.start ∙ sym (visit_none job (draw draws.key draws.stream) job.start);
         trail = c.new-2.ensures.trail (draw draws.key draws.stream);
       };
-      same_key = c.new.ensures.key ∙ ap (λ (s : Setting). s.key) c.setting.ensures;
+      same_key = c.new.ensures.key ∙ ap (λ (s : Setting). s.key) c.setting.ensures.value;
       same_stream = c.new.ensures.stream;
       asked = c.new-2.ensures.asked;
     }
@@ -51,8 +51,8 @@ flush-requires-clause-bins g c =
     (arrived job job.setting.key c.args.course.stream c.loop-place.place c.args.course.steps c.loop-place.track.draws c.loop-place.track.trail so_far.same_key so_far.same_stream
     (omega (arith, c.loop-place-test.false, c.loop-place.auto.place-end)) so_far.on.trail) c.requires.few
 
-pub returns-clause-move_count : goal.returns-clause-move_count
-returns-clause-move_count g c =
+pub returns-clause-moved : goal.returns-clause-moved
+returns-clause-moved g c =
     let job = c.args.job.now in
     let so_far = c.loop-place.invariant in
     c.flush.ensures.moved

@@ -8,11 +8,11 @@ returns-clause-plan g c =
     let job = c.args.job.now in
     walked_state job job.setting.key c.args.stream c.args.state.now.plan c.args.steps c.walk_on.new.state c.walk_on.new.draws c.walk_on.result
     (walked_all job job.setting.key c.args.stream c.args.steps c.args.state.now c.walk_on.new.state c.new-draws.result c.walk_on.new.draws c.walk_on.result c.requires.made
-    (c.new-draws.ensures.key ∙ ap (λ (s : Setting). s.key) c.setting-setting.ensures) c.new-draws.ensures.stream c.new-draws.ensures.place c.walk_on.ensures.walked)
+    (c.new-draws.ensures.key ∙ ap (λ (s : Setting). s.key) c.setting-setting.ensures.value) c.new-draws.ensures.stream c.new-draws.ensures.place c.walk_on.ensures.walked)
     c.args.steps refl c.args.state.now c.requires.made
 
-pub returns-clause-move_count : goal.returns-clause-move_count
-returns-clause-move_count g c =
+pub returns-clause-moved : goal.returns-clause-moved
+returns-clause-moved g c =
     let job = c.args.job.now in
     (walked_all job job.setting.key c.args.stream c.args.steps c.args.state.now c.walk_on.new.state c.new-draws.result c.walk_on.new.draws c.walk_on.result c.requires.made
-    (c.new-draws.ensures.key ∙ ap (λ (s : Setting). s.key) c.setting-setting.ensures) c.new-draws.ensures.stream c.new-draws.ensures.place c.walk_on.ensures.walked).counted
+    (c.new-draws.ensures.key ∙ ap (λ (s : Setting). s.key) c.setting-setting.ensures.value) c.new-draws.ensures.stream c.new-draws.ensures.place c.walk_on.ensures.walked).counted

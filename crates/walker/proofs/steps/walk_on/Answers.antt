@@ -16,17 +16,17 @@ loop-place-init g c = record {
 pub step-requires-clause-place : goal.step-requires-clause-place
 step-requires-clause-place g c = omega (arith, ap (λ (p : DrawPlace). p.place) c.loop-place.invariant.drawn, c.loop-place-test.true, c.requires.few)
 
-pub overflow_add-move_count : goal.overflow_add-move_count
-overflow_add-move_count g c = omega (arith, c.loop-place.invariant.few, c.from-move_count.ensures, byte_le c.step.result, c.loop-place-test.true)
+pub overflow_add-moved : goal.overflow_add-moved
+overflow_add-moved g c = omega (arith, c.loop-place.invariant.few, c.from-moved.ensures, byte_le c.step.result, c.loop-place-test.true)
 
 pub loop-place-preserved : goal.loop-place-preserved
 loop-place-preserved g c = record {
   made = ap (λ (h : ChainState). h.job) c.step.ensures.plan ∙ c.loop-place.invariant.made;
-  few = omega (arith, c.loop-place.invariant.few, c.from-move_count.ensures, byte_le c.step.result);
+  few = omega (arith, c.loop-place.invariant.few, c.from-moved.ensures, byte_le c.step.result);
   drawn = drawn_more c.args.draws.now c.loop-place.draws c.step.new.draws c.loop-place.place c.loop-place.invariant.drawn c.step.ensures.draws;
   walked = goes_farther c.args.job.now c.args.state.now c.args.draws.now c.loop-place.place c.loop-place.state c.step.new.state c.loop-place.draws c.step.new.draws
-      c.loop-place.moved (c.loop-place.moved + c.from-move_count.result) c.step.result c.loop-place.invariant.walked c.step.ensures.plan c.step.ensures.draws c.step.ensures.moved
-      (ap (λ (n : ℕ). c.loop-place.moved + n) (c.from-move_count.ensures ∙ byte_cond c.step.result));
+      c.loop-place.moved (c.loop-place.moved + c.from-moved.result) c.step.result c.loop-place.invariant.walked c.step.ensures.plan c.step.ensures.draws c.step.ensures.moved
+      (ap (λ (n : ℕ). c.loop-place.moved + n) (c.from-moved.ensures ∙ byte_cond c.step.result));
 }
 
 pub returns-clause-draws : goal.returns-clause-draws

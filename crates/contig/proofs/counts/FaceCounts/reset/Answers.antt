@@ -29,7 +29,7 @@ raise-requires-clause-edges c =
     (λ x v l other. before_next plan u x v other) (λ v l off. refl) c.mates_in-mates.ensures c.corners_in-corners.ensures c.loop-unit.invariant
     (before_here plan u) (before_itself plan u (get_or plan u 0)) in
     let few = edges_few g (is_before plan (u + 1) (get_or plan u 0)) in
-    omega (arith, sum, few, c.edges-edges.ensures.few)
+    omega (arith, sum, few, c.units-unit-end.ensures.few_edges)
 
 pub raise-requires-clause-filled : goal.raise-requires-clause-filled
 raise-requires-clause-filled c =

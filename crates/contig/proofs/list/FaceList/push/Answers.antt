@@ -12,7 +12,7 @@ invariant_of-self-2 c = holds_more c.self.inside.faces.items c.push.new.self.ite
 
 pub returns-clause-faces : goal.returns-clause-faces
 returns-clause-faces c = faces_more c.args.graph.now c.self.inside.faces.items c.push.new.self.items c.args.face (contains same_side c.self.inside.sides)
-    c.in_ok-push.ensures.items c.units-units.ensures.sound (sym c.is_ring.ensures ∙ c.if-not-is_ring.false) c.self.invariant
+    c.in_ok-push.ensures.items c.is_ring.ensures.sound (sym c.is_ring.ensures.value ∙ c.if-not-is_ring.false) c.self.invariant
     (sym c.has_own.ensures ∙ c.if-has_own.false) (subst (AreFaces c.args.graph.now) (sym c.self.view_is) c.requires.faces)
 
 pub returns-clause-added : goal.returns-clause-added

@@ -22,7 +22,7 @@ overflow_add-result c =
     let cut : c.self.inside.view.cut ≡ cut_edges g plan = ap (λ (s : Following). s.view.cut) c.self.view_is ∙ c.requires.cut in
     let now : c.others_than.result ≡ apart_of g after c.args.member.unit =
     c.others_than.ensures ∙ sym (own_apart plan c.args.member.unit c.args.district inside g c.args.member.sound c.args.member.within) in
-    omega (arith, cut, now, cut_edges_few g plan, c.edges-edges.ensures.few, apart_few g after c.args.member.unit, c.args.member.few)
+    omega (arith, cut, now, cut_edges_few g plan, c.args.member.few_edges, apart_few g after c.args.member.unit, c.args.member.few)
 
 pub overflow_sub-result : goal.overflow_sub-result
 overflow_sub-result c =

@@ -14,7 +14,7 @@ are_kept-requires-clause-people c =
     let at = ap (λ (h : ChainState). h.plan) c.self.view_is in
     let current = up_to_date_for s.job.value job s.plan plan s.sums s.marks.units s.open_pairs s.pairs s.low s.high s.faces s.counts
     (ap (λ (h : ChainState). h.job) c.self.view_is ∙ c.requires.made) at c.self.invariant in
-    let people = ap (λ (xs : List ℕ). get_or xs c.args.flip.unit 0) (c.as_slice.ensures ∙ ap (λ (k : Counts). k.population) c.counts.ensures) in
+    let people = ap (λ (xs : List ℕ). get_or xs c.args.flip.unit 0) (c.as_slice.ensures ∙ ap (λ (k : Counts). k.population) c.counts.ensures.value) in
     let home = ap (λ (p : List ℕ). get_or p c.args.flip.unit 0) (c.as_slice-2.ensures ∙ at) in
     let from = population_at job plan s.sums s.marks.units s.open_pairs s.pairs s.low s.high s.faces s.counts current c.view.result.now populations (get_or plan c.args.flip.unit 0)
     c.view.ensures c.as_slice-populations.ensures (current.summed.legal.in_range c.args.flip.unit c.args.flip.unit_below) in
@@ -57,8 +57,8 @@ are_kept-requires-clause-high c =
     (ap (λ (h : ChainState). h.job) c.self.view_is ∙ c.requires.made) (ap (λ (h : ChainState). h.plan) c.self.view_is) c.self.invariant in
     omega (arith, current.numbers.greatest, greatest_small job current.numbers.sound)
 
-pub returns : goal.returns
-returns c =
+pub returns-clause-value : goal.returns-clause-value
+returns-clause-value c =
     let s = c.self.inside in
     let job = c.args.flip.job.now in
     let plan : List ℕ = c.args.self.now.plan in
@@ -66,7 +66,7 @@ returns c =
     let at = ap (λ (h : ChainState). h.plan) c.self.view_is in
     let current = up_to_date_for s.job.value job s.plan plan s.sums s.marks.units s.open_pairs s.pairs s.low s.high s.faces s.counts
     (ap (λ (h : ChainState). h.job) c.self.view_is ∙ c.requires.made) at c.self.invariant in
-    let people = ap (λ (xs : List ℕ). get_or xs c.args.flip.unit 0) (c.as_slice.ensures ∙ ap (λ (k : Counts). k.population) c.counts.ensures) in
+    let people = ap (λ (xs : List ℕ). get_or xs c.args.flip.unit 0) (c.as_slice.ensures ∙ ap (λ (k : Counts). k.population) c.counts.ensures.value) in
     let home = ap (λ (p : List ℕ). get_or p c.args.flip.unit 0) (c.as_slice-2.ensures ∙ at) in
     let from = population_at job plan s.sums s.marks.units s.open_pairs s.pairs s.low s.high s.faces s.counts current c.view.result.now populations (get_or plan c.args.flip.unit 0)
     c.view.ensures c.as_slice-populations.ensures (current.summed.legal.in_range c.args.flip.unit c.args.flip.unit_below) in

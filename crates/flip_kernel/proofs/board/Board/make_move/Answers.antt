@@ -18,7 +18,7 @@ update-requires-clause-table c =
     let same : s.job.value ≡ c.args.flip.job.now = ap (λ (h : ChainState). h.job) c.self.view_is ∙ c.requires.made in
     let back = put_back s.plan c.as_slice-3.result.now c.args.flip.unit c.args.flip.district _ (c.as_slice-3.ensures ∙ c.shift.ensures.plan) (ap (λ (p : List ℕ). get_or p c.args.flip.unit 0) c.as_slice.ensures) in
     table_of s.job.value.graph c.graph-graph.result.now s.plan _ s.job.value.districts s.pairs.districts s.open_pairs
-    (ap (λ (j : Job). j.graph) same ∙ sym c.graph-graph.ensures) (sym back) (sym c.self.invariant.numbers.districts) c.self.invariant.opened
+    (ap (λ (j : Job). j.graph) same ∙ sym c.graph-graph.ensures.value) (sym back) (sym c.self.invariant.numbers.districts) c.self.invariant.opened
 
 pub update-requires-clause-beside : goal.update-requires-clause-beside
 update-requires-clause-beside c =
@@ -29,7 +29,7 @@ update-requires-clause-beside c =
     let at = ap (λ (h : ChainState). h.plan) c.self.view_is in
     let current = up_to_date_for s.job.value job s.plan plan s.sums s.marks.units s.open_pairs s.pairs s.low s.high s.faces s.counts
     (ap (λ (h : ChainState). h.job) c.self.view_is ∙ c.requires.made) at c.self.invariant in
-    ap (λ (g : Graph). is_open g c.as_slice-3.result.now flip.unit (get_or c.as_slice.result.now flip.unit 0)) c.graph-graph.ensures
+    ap (λ (g : Graph). is_open g c.as_slice-3.result.now flip.unit (get_or c.as_slice.result.now flip.unit 0)) c.graph-graph.ensures.value
     ∙ ap (λ (p : List ℕ). is_open job.graph p flip.unit (get_or c.as_slice.result.now flip.unit 0))
     (c.as_slice-3.ensures ∙ c.shift.ensures.plan ∙ ap (λ (p : List ℕ). set p flip.unit flip.district) at)
     ∙ ap (λ (p : List ℕ). is_open job.graph (set plan flip.unit flip.district) flip.unit (get_or p flip.unit 0)) (c.as_slice.ensures ∙ at)

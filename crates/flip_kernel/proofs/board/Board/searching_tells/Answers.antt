@@ -12,6 +12,6 @@ returns-clause-leaves g c =
     let at = ap (λ (h : ChainState). h.plan) c.self.view_is in
     let current = up_to_date_for s.job.value job s.plan plan s.sums s.marks.units s.open_pairs s.pairs s.low s.high s.faces s.counts
     (ap (λ (h : ChainState). h.job) c.self.view_is ∙ c.requires.made) at c.self.invariant in
-    leaves_of c.may_leave.result c.graph.result.now job.graph c.as_slice.result.now plan c.args.unit c.graph.ensures (c.as_slice.ensures ∙ at)
+    leaves_of c.may_leave.result c.graph.result.now job.graph c.as_slice.result.now plan c.args.unit c.graph.ensures.value (c.as_slice.ensures ∙ at)
     (c.may_leave.ensures.leaves
-    (home_connected job c.graph.result.now plan c.as_slice.result.now c.args.unit c.graph.ensures (c.as_slice.ensures ∙ at) current.summed.legal c.requires.unit))
+    (home_connected job c.graph.result.now plan c.as_slice.result.now c.args.unit c.graph.ensures.value (c.as_slice.ensures ∙ at) current.summed.legal c.requires.unit))

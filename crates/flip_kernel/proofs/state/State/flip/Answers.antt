@@ -18,7 +18,7 @@ returns-then-not-keeps_bounds-clause-moves g c =
     let made : old.job ≡ job = ap (λ (h : ChainState). h.job) c.self.view_is ∙ c.requires.made in
     let same = ap (λ (h : ChainState). h.plan) c.self.view_is in
     subst (λ (p : List ℕ). IsTrue false ↔ IsMove job p flip.unit flip.district) same
-    (not_kept job plan flip.unit flip.district (subst IsJob made c.plan-plan.ensures.sound)
-    (subst (λ (j : Job). IsLegal j plan) made c.plan-plan.ensures.legal) flip.unit_below flip.district_below
+    (not_kept job plan flip.unit flip.district (subst IsJob made c.keeps_bounds.ensures.sound)
+    (subst (λ (j : Job). IsLegal j plan) made c.keeps_bounds.ensures.legal) flip.unit_below flip.district_below
     (open_elsewhere job.graph plan flip.unit flip.district (ap (λ (p : List ℕ). is_open job.graph p flip.unit flip.district) same ∙ c.requires.beside))
-    c.keeps_bounds.result c.if-not-keeps_bounds.true c.keeps_bounds.ensures)
+    c.keeps_bounds.result c.if-not-keeps_bounds.true c.keeps_bounds.ensures.value)

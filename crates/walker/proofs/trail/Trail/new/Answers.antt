@@ -9,6 +9,6 @@ returns-clause-trail g c =
     let current = c.args.state.now in
     λ draws. trail_none job draws _ refl refl
     (tested_first job current.job current.plan c.as_slice.result.now _ c.requires.made c.requires.start
-    (c.as_slice.ensures ∙ ap (λ (s : Setting). s.asks) c.setting.ensures) c.new-tally.ensures.start c.new-tally.ensures.inside
+    (c.as_slice.ensures ∙ ap (λ (s : Setting). s.asks) c.setting.ensures.value) c.new-tally.ensures.start c.new-tally.ensures.inside
     (λ asked. c.new-bins.ensures.start (sym c.new-bins.ensures.asked ∙ asked)) (λ asked. c.new-bins.ensures.bin (sym c.new-bins.ensures.asked ∙ asked)) c.new-bins.ensures.small)
     c.new-tally.ensures.counts c.new-bins.ensures.counts

@@ -13,5 +13,5 @@ returns-clause-values g c =
     let plan = c.args.self.now.plan in
     c.values.ensures ∙ ap (λ (h : ChainState). each (asked_value h.job h.plan) c.as_slice.result.now) c.self.view_is
     ∙ ap (λ (j : Job). each (asked_value j plan) c.as_slice.result.now) c.requires.made
-    ∙ ap (λ (asks : List Ask). each (asked_value job plan) asks) (c.as_slice.ensures ∙ ap (λ (s : Setting). s.asks) c.setting.ensures)
+    ∙ ap (λ (asks : List Ask). each (asked_value job plan) asks) (c.as_slice.ensures ∙ ap (λ (s : Setting). s.asks) c.setting.ensures.value)
     ∙ sym (values_are_four job plan job.setting.asks)
