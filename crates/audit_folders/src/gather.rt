@@ -19,7 +19,7 @@ use audit_io::file_keeper::FileKeeper;
 use audit_io::folder_keeper::FolderKeeper;
 use audit_io::std_adapters::WriteSink;
 use audit_words::names::command_of;
-use folder_report::gathering::gather_and_tell;
+use folder_report::gathering::{GatherRequest, gather_and_tell};
 use plan_core::job::Job;
 use report::ended::Ended;
 use std::alloc::AllocError;
@@ -58,13 +58,16 @@ fn look(rt: &HostRuntime, job: &Job, folders: &[String], keepers: &mut [FolderSl
     requires names { length folders.now ≡ length keepers.old }
     requires named { map {B = List ℕ × Bool} (λ k. (k.place.folder.now, k.place.locks)) keepers.old ≡ map {B = List ℕ × Bool} (λ f. (string_bytes f, false)) folders.now }
 {
+    let request = GatherRequest {
+        job,
+        names: folders,
+        saves: false,
+    };
     gather_and_tell(
         rt.alloc(),
-        job,
+        &request,
         &mut slots_of(rt, ".", false),
         keepers,
-        folders,
-        false,
         &mut WriteSink::new(rt.stdout()),
         &mut WriteSink::new(rt.stderr()),
     )
@@ -81,13 +84,16 @@ fn gather_here(
     requires names { length folders.now ≡ length keepers.old }
     requires named { map {B = List ℕ × Bool} (λ k. (k.place.folder.now, k.place.locks)) keepers.old ≡ map {B = List ℕ × Bool} (λ f. (string_bytes f, true)) folders.now }
 {
+    let request = GatherRequest {
+        job,
+        names: folders,
+        saves: true,
+    };
     gather_and_tell(
         rt.alloc(),
-        job,
+        &request,
         &mut FileKeeper::new(SystemCalls::new(rt)),
         keepers,
-        folders,
-        true,
         &mut WriteSink::new(rt.stdout()),
         &mut WriteSink::new(rt.stderr()),
     )

@@ -122,6 +122,82 @@ fn is_range(text: &str, walks: u32, ends: u32) -> bool
         && are_ids(number_in(first), number_in(last), walks, ends)
 }
 
+/// Returns true if the number of endpoint trajectories is valid.
+fn is_end_count(words: &[String]) -> bool
+    requires { RestsOnGood (pairs_in words.now) name.Ends }
+    ensures { result ≡ definition.is_good command.Check (pairs_in words.now) name.Ends }
+{
+    is_number(0, 100_000, text_of(words, Name::Ends))
+        && has_walks(number_at(words, Name::Walks), number_at(words, Name::Ends))
+}
+
+/// Returns true if the budget is valid.
+fn is_budget(words: &[String]) -> bool
+    requires { RestsOnGood (pairs_in words.now) name.Budget }
+    ensures { result ≡ definition.is_good command.Check (pairs_in words.now) name.Budget }
+{
+    is_number(0, 100_000, text_of(words, Name::Budget))
+        && covers_walks(
+            words,
+            number_at(words, Name::Walks),
+            number_at(words, Name::Ends),
+            number_at(words, Name::Budget),
+        )
+}
+
+/// Returns true if the number of endpoints after which tests may stop is valid.
+fn is_stop(words: &[String]) -> bool
+    requires { RestsOnGood (pairs_in words.now) name.Stop }
+    ensures { result ≡ definition.is_good command.Check (pairs_in words.now) name.Stop }
+{
+    is_number(0, 100_000, text_of(words, Name::Stop))
+        && stops_alone(
+            words,
+            number_at(words, Name::Stop),
+            number_at(words, Name::Ends),
+            number_at(words, Name::Save),
+        )
+}
+
+/// Returns true if the answer about the serial test is valid.
+fn is_serial(words: &[String]) -> bool
+    requires { RestsOnGood (pairs_in words.now) name.Serial }
+    ensures { result ≡ definition.is_good command.Check (pairs_in words.now) name.Serial }
+{
+    is_answer(text_of(words, Name::Serial)) && divides_draws(words, number_at(words, Name::Steps))
+}
+
+/// Returns true if the number of parts is valid.
+fn is_part_count(words: &[String]) -> bool
+    requires { RestsOnGood (pairs_in words.now) name.Parts }
+    ensures { result ≡ definition.is_good command.Check (pairs_in words.now) name.Parts }
+{
+    is_number(1, 100_000, text_of(words, Name::Parts))
+        && saves_parts(number_at(words, Name::Parts), number_at(words, Name::Save))
+}
+
+/// Returns true if the number of the part is valid.
+fn is_part(words: &[String]) -> bool
+    requires { RestsOnGood (pairs_in words.now) name.Part }
+    ensures { result ≡ definition.is_good command.Check (pairs_in words.now) name.Part }
+{
+    is_number(0, 100_000, text_of(words, Name::Part))
+        && number_at(words, Name::Part) < number_at(words, Name::Parts)
+}
+
+/// Returns true if the ids to trace are valid.
+fn are_traced_ids(words: &[String]) -> bool
+    requires { RestsOnGood (pairs_in words.now) name.Ids }
+    ensures { result ≡ definition.is_good command.Check (pairs_in words.now) name.Ids }
+{
+    let text = text_of(words, Name::Ids);
+    is_range(
+        text,
+        number_at(words, Name::Walks),
+        number_at(words, Name::Ends),
+    )
+}
+
 /// Returns true if the value of a name, given or default, is valid. The precondition holds once the values of earlier
 /// names are valid.
 pub fn is_good(command: Command, words: &[String], name: Name) -> bool
@@ -136,46 +212,19 @@ pub fn is_good(command: Command, words: &[String], name: Name) -> bool
         Name::Size => is_number(1, 30, text),
         Name::Slack => is_number(0, 10_000, text),
         Name::Key => key_of(text).is_some(),
-        Name::Walks => is_number(0, 100_000, text),
-        Name::Steps => is_number(1, 1_000_000_000, text),
-        Name::Ends => {
-            is_number(0, 100_000, text)
-                && has_walks(number_at(words, Name::Walks), number_at(words, Name::Ends))
-        }
-        Name::HubSteps => is_number(1, 1_000_000_000, text),
+        Name::Walks | Name::Save => is_number(0, 100_000, text),
+        Name::Steps | Name::HubSteps | Name::Thin => is_number(1, 1_000_000_000, text),
+        Name::Ends => is_end_count(words),
         Name::Ask => are_asks(text) && has_asked_length(words),
         Name::Workers => is_number(1, 32, text),
-        Name::Budget => {
-            is_number(0, 100_000, text)
-                && covers_walks(
-                    words,
-                    number_at(words, Name::Walks),
-                    number_at(words, Name::Ends),
-                    number_at(words, Name::Budget),
-                )
-        }
-        Name::Save => is_number(0, 100_000, text),
+        Name::Budget => is_budget(words),
         Name::Resume | Name::Shift | Name::Source => is_answer(text),
         Name::MaxCut => is_number(0, 400_000, text),
-        Name::Stop => {
-            is_number(0, 100_000, text)
-                && stops_alone(
-                    words,
-                    number_at(words, Name::Stop),
-                    number_at(words, Name::Ends),
-                    number_at(words, Name::Save),
-                )
-        }
-        Name::Serial => is_answer(text) && divides_draws(words, number_at(words, Name::Steps)),
+        Name::Stop => is_stop(words),
+        Name::Serial => is_serial(words),
         Name::MaxSplit => { is_number(1, 200, text) && is_set_for(words, name, 200, Name::Region) }
-        Name::Parts => {
-            is_number(1, 100_000, text)
-                && saves_parts(number_at(words, Name::Parts), number_at(words, Name::Save))
-        }
-        Name::Part => {
-            is_number(0, 100_000, text)
-                && number_at(words, Name::Part) < number_at(words, Name::Parts)
-        }
+        Name::Parts => is_part_count(words),
+        Name::Part => is_part(words),
         Name::MaxSplits => {
             is_number(0, 995_000, text) && is_set_for(words, name, 995_000, Name::Region)
         }
@@ -186,14 +235,7 @@ pub fn is_good(command: Command, words: &[String], name: Name) -> bool
         Name::GroupDistricts => {
             is_number(0, 200, text) && is_set_for(words, name, 0, Name::Group)
         }
-        Name::Ids => {
-            is_range(
-                text,
-                number_at(words, Name::Walks),
-                number_at(words, Name::Ends),
-            )
-        }
-        Name::Thin => is_number(1, 1_000_000_000, text),
+        Name::Ids => are_traced_ids(words),
         Name::GroupShare => {
             is_number(0, 10_000, text) && is_set_for(words, name, 5_000, Name::Group)
         }

@@ -27,30 +27,36 @@ use std::alloc::Global;
 /// The exit status if a folder cannot be gathered.
 pub const REFUSED: u8 = 10;
 
-/// Gathers folders into the slots of `keeper` and reports the findings. Without `saves` it only looks at the folders.
-/// Returns the exit status.
+/// The job whose folders are gathered, the names of the folders, and whether their union is saved.
+#[derive(Clone, Copy)]
+pub struct GatherRequest<'a> {
+    pub job: &'a Job,
+    pub names: &'a [String],
+    pub saves: bool,
+}
+
+/// Gathers folders into the slots of `keeper` and reports the findings. A request that does not save only looks at the
+/// folders. Returns the exit status.
 ///
 /// The findings go to `out` if the union was saved or was not to be saved. Otherwise a line on `note` gives the reason
 /// for each refused folder, and the status is `REFUSED`. If the gathering or writing the findings failed, the
 /// diagnostic and the status are those of a run that fails for that reason.
 pub fn gather_and_tell<C: Keeper, F: Keeper, O: Sink, N: Sink>(
     alloc: Global,
-    job: &Job,
+    request: &GatherRequest<'_>,
     keeper: &mut C,
     folders: &mut [F],
-    names: &[String],
-    saves: bool,
     out: &mut O,
     note: &mut N,
 ) -> u8
-    requires few { total job.now ≤ most_trajectories }
-    requires names { length names.now ≡ length folders.old }
-    requires lets { LetsGathering C.lets job.now (job_digest job.now) saves (C.state keeper.old).slots (C.state keeper.old).attempted (map (λ k. F.state k) folders.old) }
-    ensures { EndsGathering job.now saves (map string_bytes names.now) (C.state keeper.old) (C.state keeper.new) (map (λ k. F.state k) folders.old) (map (λ k. F.state k) folders.new)
+    requires few { total request.now.job.now ≤ most_trajectories }
+    requires names { length request.now.names.now ≡ length folders.old }
+    requires lets { LetsGathering C.lets request.now.job.now (job_digest request.now.job.now) request.now.saves (C.state keeper.old).slots (C.state keeper.old).attempted (map (λ k. F.state k) folders.old) }
+    ensures { EndsGathering request.now.job.now request.now.saves (map string_bytes request.now.names.now) (C.state keeper.old) (C.state keeper.new) (map (λ k. F.state k) folders.old) (map (λ k. F.state k) folders.new)
         (record { out = O.state out.old; note = N.state note.old }) (record { out = O.state out.new; note = N.state note.new }) result }
 {
-    match gather(alloc, keeper, folders, job, saves) {
-        Ok(observed) => tell_found(job, names, saves, &observed, out, note),
+    match gather(alloc, keeper, folders, request.job, request.saves) {
+        Ok(observed) => tell_found(request, &observed, out, note),
         Err(why) => tell_failed(why, note),
     }
 }
@@ -70,21 +76,19 @@ fn tell_failed<N: Sink>(why: Ungathered, note: &mut N) -> u8
 
 // Writes the findings, or the reasons why nothing was saved. Returns the status.
 fn tell_found<O: Sink, N: Sink>(
-    job: &Job,
-    names: &[String],
-    saves: bool,
+    request: &GatherRequest<'_>,
     observed: &GatherResult,
     out: &mut O,
     note: &mut N,
 ) -> u8
-    ensures { TellsFound (not saves || observed.now.saved) (map string_bytes names.now) (total job.now) observed.now
+    ensures { TellsFound (not request.now.saves || observed.now.saved) (map string_bytes request.now.names.now) (total request.now.job.now) observed.now
         (record { out = O.state out.old; note = N.state note.old }) (record { out = O.state out.new; note = N.state note.new }) result }
 {
-    if saves && !observed.saved {
-        write_refusals(names, observed, note);
+    if request.saves && !observed.saved {
+        write_refusals(request.names, observed, note);
         return REFUSED;
     }
-    if write_observed(job.total(), names, observed, out) {
+    if write_observed(request.job.total(), request.names, observed, out) {
         return 0;
     }
     tell(&Ended::WriteFault, note)

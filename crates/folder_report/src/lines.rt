@@ -1,6 +1,6 @@
 //! The lines about folders.
 
-ghost use Rattle.std.specs.Prelude.{◌≡◌, ◌++◌, [], List, ℕ, map, string_bytes};
+ghost use Rattle.std.specs.Prelude.{◌≡◌, ◌++◌, ◌∷◌, [], List, ℕ, codes, decimal, map, string_bytes};
 ghost use Rattle.ckpt_store.specs.declared.finding.Finding.TheVariants as what;
 ghost use Rattle.audit_statement.specs.Note.{as_line};
 ghost use Rattle.folder_report.specs.FolderLines.{beside_text, folder_texts, name_of, own_texts};
@@ -83,36 +83,41 @@ pub(crate) fn add_own_line<N: Sink>(
     }
 }
 
-// Writes the line of a folder whose outcomes were added.
-fn add_added_line<N: Sink>(
-    out: &mut N,
-    going: bool,
-    first: &[Piece],
-    name: &str,
-    count: u32,
-    new: u32,
-    beside: bool,
-) -> bool
-    ensures { AddsText (N.state out.old) (N.state out.new) going (as_line (map piece_text first.now ++ folder_texts [] name.now (what.Added count new beside))) result }
+// Returns the line of a folder whose outcomes were added.
+fn added_pieces(name: &str, count: u32, new: u32, beside: bool) -> [Piece<'_>; 8]
+    ensures { map piece_text result ≡ folder_texts [] name.now (what.Added count new beside) }
 {
-    let count = Number(u64::from(count));
-    let new = Number(u64::from(new));
-    let beside = Text(beside_of(beside));
-    add_line(
-        out,
-        going,
-        first,
-        &[
-            Text("folder "),
-            Text(name),
-            Text(": "),
-            count,
-            Text(" outcomes, "),
-            new,
-            Text(" new"),
-            beside,
-        ],
-    )
+    [
+        Text("folder "),
+        Text(name),
+        Text(": "),
+        Number(u64::from(count)),
+        Text(" outcomes, "),
+        Number(u64::from(new)),
+        Text(" new"),
+        Text(beside_of(beside)),
+    ]
+}
+
+// Returns the line of a folder of which there is nothing to count: its name and these words.
+fn named_pieces<'x>(name: &'x str, words: &'x str) -> [Piece<'x>; 3]
+    ensures { map piece_text result ≡ codes "folder " ∷ name.now ∷ words.now ∷ [] }
+{
+    [Text("folder "), Text(name), Text(words)]
+}
+
+// Returns the line of an outcome that differs in two folders.
+fn differing_pieces<'x>(id: u32, other: &'x str, name: &'x str) -> [Piece<'x>; 6]
+    ensures { map piece_text result ≡ codes "outcome " ∷ decimal id ∷ codes " differs in " ∷ other.now ∷ codes " and " ∷ name.now ∷ [] }
+{
+    [
+        Text("outcome "),
+        Number(u64::from(id)),
+        Text(" differs in "),
+        Text(other),
+        Text(" and "),
+        Text(name),
+    ]
 }
 
 /// Writes the line of a folder after these pieces, unless an earlier write failed. Returns true if nothing failed.
@@ -128,43 +133,31 @@ pub(crate) fn add_folder_line<'x, N: Sink>(
 {
     match finding {
         Finding::Added { count, new, beside } => {
-            add_added_line(out, going, first, name, *count, *new, *beside)
+            let line = added_pieces(name, *count, *new, *beside);
+            add_line(out, going, first, &line)
         }
         Finding::Nothing => {
-            let line = [Text("folder "), Text(name), Text(": no checkpoint")];
+            let line = named_pieces(name, ": no checkpoint");
             add_line(out, going, first, &line)
         }
         Finding::OtherJob => {
-            let line = [
-                Text("folder "),
-                Text(name),
-                Text(": another job's checkpoint"),
-            ];
+            let line = named_pieces(name, ": another job's checkpoint");
             add_line(out, going, first, &line)
         }
         Finding::Damaged => {
-            let line = [Text("folder "), Text(name), Text(": no slot is intact")];
+            let line = named_pieces(name, ": no slot is intact");
             add_line(out, going, first, &line)
         }
         Finding::Differs { id, other } => {
-            let id = Number(u64::from(*id));
-            let other = Text(name_of(names, *other));
-            let line = [
-                Text("outcome "),
-                id,
-                Text(" differs in "),
-                other,
-                Text(" and "),
-                Text(name),
-            ];
+            let line = differing_pieces(*id, name_of(names, *other), name);
             add_line(out, going, first, &line)
         }
         Finding::Unread => {
-            let line = [Text("folder "), Text(name), Text(": a slot cannot be read")];
+            let line = named_pieces(name, ": a slot cannot be read");
             add_line(out, going, first, &line)
         }
         Finding::Taken => {
-            let line = [Text("folder "), Text(name), Text(": a run holds it")];
+            let line = named_pieces(name, ": a run holds it");
             add_line(out, going, first, &line)
         }
     }

@@ -1,35 +1,17 @@
 //! The lines about slots.
 
 ghost use Rattle.std.specs.Prelude.{◌≡◌, ◌++◌, ◌∷◌, [], List, ℕ};
-ghost use Rattle.audit_statement.specs.Note.{as_line, fault_name};
+ghost use Rattle.audit_statement.specs.Note.{as_line};
 ghost use Rattle.ckpt_store.specs.declared.slot_content.SlotContent.TheVariants as what;
 ghost use Rattle.folder_report.specs.SlotLines.{newest_texts, progress_texts, slot_line};
 ghost use Rattle.report.specs.Said.{AddsText};
 
 use audit_io::sink::Sink;
-use audit_model::fault::CkptFault;
 use ckpt_format::decode::Checkpoint;
 use ckpt_store::progress::Progress;
 use ckpt_store::slot_content::SlotContent;
-use report::note::add_line;
+use report::note::{add_line, fault_name};
 use report::piece::Piece::{Digest, Number, Text};
-
-fn name_of(fault: &CkptFault) -> &'static str
-    ensures { result.now ≡ fault_name fault.now }
-{
-    match fault {
-        CkptFault::TooLong(_) => "too long",
-        CkptFault::TooShort(_) => "too short",
-        CkptFault::BadMagic => "bad magic",
-        CkptFault::BadVersion(_) => "bad version",
-        CkptFault::BadGeneration(_) => "bad generation",
-        CkptFault::BadCount { .. } => "bad count",
-        CkptFault::BadOrder(_) => "bad order",
-        CkptFault::BadDigest { .. } => "bad digest",
-        CkptFault::Unfit(_) => "unfit",
-        CkptFault::Memory => "memory",
-    }
-}
 
 // Writes the line of a slot that holds a checkpoint.
 fn add_whole_line<N: Sink>(out: &mut N, going: bool, slot: u8, checkpoint: &Checkpoint) -> bool
@@ -73,7 +55,7 @@ pub(crate) fn add_slot_line<N: Sink>(
         }
         SlotContent::Broken(fault) => {
             let number = Number(u64::from(slot));
-            let name = Text(name_of(fault));
+            let name = Text(fault_name(fault));
             add_line(out, going, &[Text("slot "), number], &[Text(": "), name])
         }
         SlotContent::Whole(checkpoint) => add_whole_line(out, going, slot, checkpoint),

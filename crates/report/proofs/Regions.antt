@@ -7,7 +7,7 @@ use Rattle.audit_model.specs.Graph.{has}
 use Rattle.audit_model.specs.Limits.{AreFrozen}
 use Rattle.audit_model.specs.Meets.{region_count}
 use Rattle.audit_model.proofs.Below.{count_below_into}
-use Rattle.audit_statement.specs.Report.{line, share_line, splits_line}
+use Rattle.audit_statement.specs.Report.{group_line, line, share_line, splits_line}
 
 -- ---- the marks
 
@@ -49,6 +49,14 @@ pub splits_are_observed : (splits most : ℕ) (regions : List ℕ) → (length r
 splits_are_observed splits most [] some limited = cc
 splits_are_observed splits most (r ∷ rest) some limited =
     sym (cond-true (nat_lt splits 995000 || nat_lt most 5000) (line (codes "max-splits" ∷ decimal splits ∷ codes "max-split-regions" ∷ decimal most ∷ [])) [] limited)
+
+-- ---- the line of a group
+
+-- the line is written if there is a group
+pub group_is_observed : (least there : ℕ) (members : List ℕ) → (length members == 0) ≡ false
+    → line (codes "group-districts" ∷ decimal least ∷ codes "of" ∷ decimal there ∷ []) ≡ group_line least there members
+group_is_observed least there [] some = cc
+group_is_observed least there (n ∷ rest) some = refl
 
 -- ---- the line of the share
 

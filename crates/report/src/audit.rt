@@ -1,6 +1,6 @@
 //! The report of an audit.
 
-ghost use Rattle.std.specs.Prelude.{◌≡◌, ◌+◌, ◌≤◌, ◌++◌, length};
+ghost use Rattle.std.specs.Prelude.{◌≡◌, ◌+◌, ◌∷◌, ◌≤◌, ◌++◌, [], length};
 ghost use Rattle.report.specs.Lines.{AppendsText};
 ghost use Rattle.report.specs.Outcomes.{AreOutcomesOf, AreStopsOf, IsSerialOf};
 ghost use Rattle.report.specs.Parts.{head, key_line, report_by_parts};
@@ -79,12 +79,18 @@ fn push_head(job: &Job, out: &mut Bytes) -> Result<(), Memory>
 fn push_title_line(job: &Job, out: &mut Bytes) -> Result<(), Memory>
     ensures { AppendsText out.old out.new (definition.title_line job.now.setting.shift) result }
 {
-    let title = if job.setting().shift {
+    push_line(out, &[Word::Text(title_of(job.setting().shift))])
+}
+
+/// Returns the title of a report, which says if the line of seats is there.
+fn title_of(shift: bool) -> &'static str
+    ensures { definition.line (result.now ∷ []) ≡ definition.title_line shift }
+{
+    if shift {
         "district-audit 2"
     } else {
         "district-audit 1"
-    };
-    push_line(out, &[Word::Text(title)])
+    }
 }
 
 /// Appends the line with the key.

@@ -71,8 +71,6 @@ fn lines_room(job: &Job) -> usize
         length (definition.report job.now outcomes stops serial) ≤ result + length (definition.origin_lines job.now job.now.origin) }
     ensures few { result ≤ 90000000 }
 {
-    // Called for its contract: the job is within its limits, and its start plan is legal.
-    let _units = job.units();
     let lines_of_ask = job.setting().walks as usize + 2;
     FRAME_ROOM + lines_of_ask * asks_of(job).len() * LINE_ROOM
 }

@@ -183,8 +183,6 @@ fn frozen_of(job: &Job) -> &[u32]
     ensures value { result.now ≡ job.now.frozen }
     ensures few { length result.now < 2 ^ 32 }
 {
-    // Called for its contract: the job is within its limits.
-    let _units = job.units();
     job.rules().frozen.as_slice()
 }
 
@@ -206,8 +204,6 @@ fn regions_of(job: &Job) -> &[u32]
     ensures value { result.now ≡ job.now.regions }
     ensures few { All (λ r. r < most_regions) result.now }
 {
-    // Called for its contract: the job is within its limits, and its start plan is legal.
-    let _units = job.units();
     job.rules().regions.as_slice()
 }
 

@@ -17,8 +17,6 @@ pub fn push_shift_line(job: &Job, sorted: &[Outcome], out: &mut Bytes) -> Result
     requires { AreOutcomesOf job.now sorted.now }
     ensures { AppendsText out.old out.new (definition.shift_line job.now.setting.shift sorted.now) result }
 {
-    // Called for its contract: the job is within its limits, and its start plan is legal.
-    let _units = job.units();
     if !job.setting().shift {
         return Ok(());
     }

@@ -57,8 +57,6 @@ fn push_stopped_line(
     requires stop { IsStopOf job.now.setting.ends stop }
     ensures { AppendsText out.old out.new (definition.stopped_line job.now (ask, stop)) result }
 {
-    // Called for its contract: the job is within its limits, and its start plan is legal.
-    let _units = job.units();
     let [place, top, of] = stop;
     push_line(
         out,

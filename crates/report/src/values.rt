@@ -2,6 +2,7 @@
 
 ghost use Rattle.std.specs.Prelude.{◌≡◌, ◌+◌, ◌≤◌, length};
 ghost use Rattle.audit_model.specs.Job.{total_votes};
+ghost use Rattle.audit_model.specs.JobOf.{IsJob};
 ghost use Rattle.audit_model.specs.Score as definition;
 
 use audit_model::setting::{Ask, Score};
@@ -11,10 +12,9 @@ use scores::denominator;
 /// Returns the denominator of a score of the job's plans.
 #[tactic(auto, using(crate::proofs::Limits::votes))]
 pub fn denominator_of(job: &Job, score: Score) -> u64
-    ensures { result ≡ definition.denominator score job.now.districts (total_votes job.now) }
+    ensures value { result ≡ definition.denominator score job.now.districts (total_votes job.now) }
+    ensures sound { IsJob job.now }
 {
-    // Called for its contract: the job is within its limits, and its start plan is legal.
-    let _units = job.units();
     denominator(score, job.districts(), job.votes())
 }
 
@@ -24,8 +24,6 @@ pub fn visits(job: &Job) -> u64
     ensures value { result ≡ job.now.setting.steps + 1 }
     ensures few { result ≤ 1000000001 }
 {
-    // Called for its contract: the job is within its limits, and its start plan is legal.
-    let _units = job.units();
     u64::from(job.setting().steps) + 1
 }
 
@@ -35,8 +33,6 @@ pub fn ranked_count(job: &Job) -> u64
     ensures value { result ≡ job.now.setting.ends + 1 }
     ensures few { result ≤ 100001 }
 {
-    // Called for its contract: the job is within its limits, and its start plan is legal.
-    let _units = job.units();
     u64::from(job.setting().ends) + 1
 }
 
@@ -46,7 +42,5 @@ pub fn asks_of(job: &Job) -> &[Ask]
     ensures value { result.now ≡ job.now.setting.asks }
     ensures few { length result.now ≤ 4 }
 {
-    // Called for its contract: the job is within its limits, and its start plan is legal.
-    let _units = job.units();
     job.setting().asks.as_slice()
 }

@@ -6,7 +6,7 @@ use Rattle.report.proofs.room.lines_room.Goals as goal
 pub returns : goal.returns
 returns c =
     let job = c.args.job.now in
-    let sound = c.units-units.ensures.sound in
+    let sound = c.setting.ensures.sound in
     let limits = small job sound in
     let walks : c.setting.result.now.walks ≡ job.setting.walks = ap (λ s. s.walks) c.setting.ensures.value in
     let asks : length c.asks_of.result.now ≡ length job.setting.asks = ap length c.asks_of.ensures.value in

@@ -1,0 +1,67 @@
+//! The diagnostics of checkpoints.
+
+ghost use Rattle.std.specs.Prelude.{◌≡◌, ◌∷◌, codes, []};
+ghost use Rattle.ckpt_store.specs.View.{slot_view};
+ghost use Rattle.hex.specs.Hex.{encode_lower};
+ghost use Rattle.audit_statement.specs.Endings.{AddsLine};
+ghost use Rattle.audit_statement.specs.Note as terms;
+
+use crate::note::output::say;
+use crate::piece::Piece::{Digest, Text};
+use audit_io::sink::Sink;
+use audit_model::fault::CkptFault;
+use ckpt_store::slots::{Slot, Slots};
+
+/// Writes the diagnostic of two slots of which none is valid and one is not empty.
+pub(crate) fn tell_damaged<N: Sink>(note: &mut N, slots: &Slots)
+    ensures { AddsLine (N.state note.old) (N.state note.new) (terms.as_line (codes "checkpoint: slot 0 " ∷ terms.slot_name (slot_view slots.now.zero) ∷ codes ", slot 1 " ∷ terms.slot_name (slot_view slots.now.one) ∷ [])) }
+{
+    say(
+        note,
+        &[Text("checkpoint: slot 0 ")],
+        &[
+            Text(slot_name(&slots.zero)),
+            Text(", slot 1 "),
+            Text(slot_name(&slots.one)),
+        ],
+    );
+}
+
+/// Writes the diagnostic of a newest slot that belongs to another job.
+pub(crate) fn tell_other<'x, N: Sink>(note: &mut N, found: &'x [u8; 32], wanted: &'x [u8; 32])
+    ensures { AddsLine (N.state note.old) (N.state note.new) (terms.as_line (codes "checkpoint: other job " ∷ encode_lower found.now ∷ codes ", this job " ∷ encode_lower wanted.now ∷ [])) }
+{
+    say(
+        note,
+        &[Text("checkpoint: other job ")],
+        &[Digest(found), Text(", this job "), Digest(wanted)],
+    );
+}
+
+/// Returns a short name for the fault of a slot's bytes.
+pub fn fault_name(fault: &CkptFault) -> &'static str
+    ensures { result.now ≡ terms.fault_name fault.now }
+{
+    match fault {
+        CkptFault::TooLong(_) => "too long",
+        CkptFault::TooShort(_) => "too short",
+        CkptFault::BadMagic => "bad magic",
+        CkptFault::BadVersion(_) => "bad version",
+        CkptFault::BadGeneration(_) => "bad generation",
+        CkptFault::BadCount { .. } => "bad count",
+        CkptFault::BadOrder(_) => "bad order",
+        CkptFault::BadDigest { .. } => "bad digest",
+        CkptFault::Unfit(_) => "unfit",
+        CkptFault::Memory => "memory",
+    }
+}
+
+fn slot_name(slot: &Slot) -> &'static str
+    ensures { result.now ≡ terms.slot_name (slot_view slot.now) }
+{
+    match slot {
+        Slot::Absent => "absent",
+        Slot::Broken(fault) => fault_name(fault),
+        Slot::Other { .. } | Slot::Ours(_) => "",
+    }
+}

@@ -1,0 +1,90 @@
+//! Lines that are written piece by piece.
+
+ghost use Rattle.std.specs.Prelude.{◌≡◌, ◌++◌, ◌∷◌, List, ℕ, flat_map, map, []};
+ghost use Rattle.hex.specs.Hex.{encode_lower};
+ghost use Rattle.report.specs.Pieces.{piece_text};
+ghost use Rattle.report.specs.Said.{AddsText, IsSaid};
+ghost use Rattle.audit_statement.specs.Endings.{AddsLine};
+ghost use Rattle.audit_model.specs.State.{Stream};
+ghost use Rattle.audit_statement.specs.Note as terms;
+
+use crate::piece::Piece;
+use crate::piece::Piece::{Digest, Number, Text};
+use crate::writing::write_all;
+use audit_io::sink::Sink;
+use hex::encode_to_slice;
+use itoa::Buffer;
+
+/// Writes the line of these pieces, unless an earlier write failed. Returns true if nothing failed.
+pub fn add_line<N: Sink>(note: &mut N, going: bool, first: &[Piece], pieces: &[Piece]) -> bool
+    ensures { AddsText (N.state note.old) (N.state note.new) going (terms.as_line (map piece_text first.now ++ map piece_text pieces.now)) result }
+{
+    let going = add_pieces(note, going, first);
+    let going = add_pieces(note, going, pieces);
+    add(note, going, b"\n")
+}
+
+/// Writes the line of these pieces.
+pub(crate) fn say<N: Sink>(note: &mut N, first: &[Piece], pieces: &[Piece])
+    ensures { AddsLine (N.state note.old) (N.state note.new) (terms.as_line (map piece_text first.now ++ map piece_text pieces.now)) }
+{
+    // Nothing follows the line, so a failure needs no answer.
+    let _ended = add_line(note, true, first, pieces);
+}
+
+/// Writes this text as a line.
+pub(crate) fn say_text<N: Sink>(note: &mut N, text: &str)
+    ensures { AddsLine (N.state note.old) (N.state note.new) (terms.as_line (text.now ∷ [])) }
+{
+    say(note, &[Text(text)], &[]);
+}
+
+// Writes these pieces of a line, unless an earlier piece failed.
+fn add_pieces<N: Sink>(note: &mut N, going: bool, pieces: &[Piece]) -> bool
+    ensures { (start : Stream) (said : List ℕ) → IsSaid start (N.state note.old) said going
+        → IsSaid start (N.state note.new) (said ++ flat_map piece_text pieces.now) result }
+{
+    let mut going = going;
+    for piece in pieces {
+        going = add_piece(note, going, piece);
+    }
+    going
+}
+
+// Writes this piece of a line, unless an earlier piece failed.
+fn add_piece<N: Sink>(note: &mut N, going: bool, piece: &Piece) -> bool
+    ensures { (start : Stream) (said : List ℕ) → IsSaid start (N.state note.old) said going
+        → IsSaid start (N.state note.new) (said ++ piece_text piece.now) result }
+{
+    match piece {
+        Text(text) => add(note, going, text.as_bytes()),
+        Number(number) => {
+            let mut buffer = Buffer::new();
+            add(note, going, buffer.format(*number).as_bytes())
+        }
+        Digest(digest) => add(note, going, &digits_of(digest)),
+    }
+}
+
+// Writes these bytes of a line, unless an earlier piece failed.
+fn add<N: Sink>(note: &mut N, going: bool, piece: &[u8]) -> bool
+    ensures { (start : Stream) (said : List ℕ) → IsSaid start (N.state note.old) said going
+        → IsSaid start (N.state note.new) (said ++ piece.now) result }
+{
+    if !going {
+        return false;
+    }
+    match write_all(note, piece) {
+        Ok(()) => true,
+        Err(_) => false,
+    }
+}
+
+fn digits_of(digest: &[u8; 32]) -> [u8; 64]
+    ensures { result ≡ encode_lower digest.now }
+{
+    let mut digits = [0; 64];
+    // Fails only if the buffer is not twice as long as the digest, which it is.
+    let _ = encode_to_slice(digest.as_slice(), &mut digits);
+    digits
+}
