@@ -30,7 +30,6 @@ use audit_words::read;
 use ckpt_format::origin::origin_of;
 use dual_graph::parsed::Parsed as ReadParsed;
 use dual_json::{read_graph, read_regions};
-use grid_maker::laws::grids_are_short;
 use grid_maker::made::read_made;
 use plan_core::job::Job;
 use report::ended::Ended;
@@ -141,8 +140,6 @@ fn judge_made(alloc: Global, setting: Setting, parsed: ReadParsed) -> Result<Job
     requires frozen { AreFrozen parsed.graph.units parsed.frozen }
     ensures { Judges setting (grid setting.size setting.key) result }
 {
-    // Called for its contract: the text of each grid is within the limit on a graph's bytes.
-    grids_are_short();
     match Job::new(alloc, parsed, setting) {
         Ok(job) => Ok(job),
         Err(fault) => Err(plan_end(fault)),

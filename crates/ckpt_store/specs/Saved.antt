@@ -16,7 +16,7 @@ use Rattle.ckpt_store.specs.Laws.{IsNewestForFitJobs}
 pub record SavesThese {C : Type 0} (state : C → Kept) (before now : C) (place : Place) (digest : List ℕ)
     (outcomes : List Outcome) (result : Result (Unit {0}) Failed) : Type 0 where
   pub sound : IsCheckpoint (checkpoint 2 digest place.generation outcomes) 2 digest place.generation outcomes
-  pub content : OnOk result (HoldsBytes (state now).slots place.slot (checkpoint 2 digest place.generation outcomes))
+  pub slot_bytes : OnOk result (HoldsBytes (state now).slots place.slot (checkpoint 2 digest place.generation outcomes))
   pub newest : OnOk result (IfObserved (state now).slots (IsNewestForFitJobs digest place.slot place.generation outcomes))
   pub other : KeepsOther (state before).slots (state now).slots place.slot
   pub cause : HasCause (state before).save_faults (state now).save_faults result

@@ -38,8 +38,6 @@ pub fn serial<J: Judge>(walker: &mut Walker<J>, job: &Job) -> Serial
     ensures legal { RunsStayLegal job.now }
     ensures made { walker.new.job ≡ job.now }
 {
-    // Called for its contract: the job is within its limits, and its start plan is legal.
-    let _units = job.units();
     let setting = job.setting();
     let steps = setting.steps;
     let mut draws = Draws::new(setting.key, PLACE_STREAM);

@@ -10,7 +10,7 @@ returns-clause-saves g c =
     let holds = subst (λ (bytes : List ℕ). HoldsBytes observed place.slot bytes) c.as_slice.ensures c.in_ok-save.ensures.saved in
     record {
       sound = search rules;
-      content = search rules;
+      slot_bytes = search rules;
       newest = newest_where_observed c.encode_with.new.out.items 2 c.args.digest.now place.slot place.generation c.args.outcomes.now observed c.requires.slot c.encode_with.ensures.sound holds;
       other = search rules;
       cause = search rules;
