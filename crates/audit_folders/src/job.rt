@@ -3,10 +3,10 @@
 use crate::exit_code::exit_code_of;
 use crate::gather::gather_job;
 use crate::slots::show_folder;
-use audit_start::prepare::prepare;
 use audit_io::std_adapters::ReadSource;
 use audit_model::fault::WordFault;
 use audit_model::text::Text;
+use audit_start::prepare::prepare;
 use plan_core::job::Job;
 use report::ended::Ended;
 use std::alloc::Global;

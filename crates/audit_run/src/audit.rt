@@ -15,7 +15,7 @@ use audit_io::keeper::Keeper;
 use audit_io::sink::Sink;
 use audit_io::source::Source;
 use audit_words::{Build, answer, question_of};
-use claim_counter::runtime::Runtime;
+use claim_counter::workers::Runtime;
 use std::sync::Wait;
 use std::thread::Threads;
 

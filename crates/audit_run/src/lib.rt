@@ -17,9 +17,9 @@ pub mod single;
 pub mod sure;
 pub mod trace;
 
-pub use claim_counter::runtime::Runtime;
+pub use claim_counter::workers::Runtime;
 pub use plain::audit_plainly;
-pub use run::finish_run;
+pub use run::run_job;
 pub use several::audit_plans;
 pub use single::audit_single;
 pub use sure::audit_surely;

@@ -16,7 +16,7 @@ use audit_io::source::Source;
 use audit_laws::plain_laws::{promised_calls_audit_plainly, promised_calls_end_plainly};
 use audit_words::Build;
 use audit_words::laws::questions_were_refused;
-use claim_counter::runtime::Runtime;
+use claim_counter::workers::Runtime;
 use std::sync::Wait;
 use std::thread::Threads;
 

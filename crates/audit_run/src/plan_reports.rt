@@ -10,7 +10,7 @@ use crate::judge_sets::{cut_judge_sets, ruled_judge_sets};
 use audit_io::gate::Gate;
 use audit_io::sink::Sink;
 use audit_model::outcome::SumsView;
-use claim_counter::runtime::Runtime;
+use claim_counter::workers::Runtime;
 use plan_core::job::Job;
 use plan_csv::named::Named;
 use plan_runs::plans::report_plans;

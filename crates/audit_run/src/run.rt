@@ -1,4 +1,4 @@
-//! The rest of a run of one plan: its start, its constraints, and its saves.
+//! A run of one plan: its start, its constraints, and its saves.
 
 ghost use Rattle.std.specs.Prelude.{◌≡◌, [], false};
 ghost use Rattle.audit_model.specs.State.{Kept};
@@ -15,20 +15,20 @@ use audit_io::keeper::Keeper;
 use audit_io::sink::Sink;
 use audit_model::outcome::{Outcome, SumsView};
 use audit_start::resume_state::{ResumeState, open};
-use claim_counter::runtime::Runtime;
+use claim_counter::workers::Runtime;
 use flip_guard::judge::Judge;
 use plan_core::job::Job;
 use plan_runs::judges::guards;
 use plan_runs::resources::make_resources;
-use plan_runs::saving::{finish_saved, make_saved_resources};
-use plan_runs::walking::finish_unsaved;
+use plan_runs::saving::{make_saved_resources, run_saved};
+use plan_runs::walking::run_unsaved;
 use region_guard::judges::region_guards;
 use report::ended::Ended;
 use std::sync::Wait;
 use std::thread::Threads;
 
-// Finishes a run that starts with these outcomes and saves nothing.
-fn run_unsaved<R: Threads + Sync, K: Sink, J: Judge + Send, G: Gate + Sync>(
+// Allocates the memory of a run that starts with these outcomes and saves nothing, and runs it.
+fn run_without_saves<R: Threads + Sync, K: Sink, J: Judge + Send, G: Gate + Sync>(
     rt: &Runtime<'_, R, G>,
     job: &Job,
     outcomes: &[Outcome],
@@ -41,13 +41,13 @@ fn run_unsaved<R: Threads + Sync, K: Sink, J: Judge + Send, G: Gate + Sync>(
     ensures { (k : Kept) → AreInitialOutcomes job.now k.slots outcomes.now → Finishes job.now (K.state out.old) (K.state out.new) k k result }
 {
     match make_resources(rt.alloc, job, outcomes, judges) {
-        Ok(resources) => finish_unsaved(rt, job, resources, out).ended(),
+        Ok(resources) => run_unsaved(rt, job, resources, out).ended(),
         Err(_) => Ended::NoMemory,
     }
 }
 
-// Finishes a run from this start, with a constraint for each worker and one for the serial test.
-fn finish_judged<
+// Runs a job from this start, with a constraint for each worker and one for the serial test.
+fn run_with_judges<
     R: Threads + Wait + Sync,
     K: Sink,
     C: Keeper + Send,
@@ -70,7 +70,7 @@ fn finish_judged<
     let ResumeState { outcomes, target } = resume_state;
     match target {
         None => (
-            run_unsaved(rt, job, outcomes.as_slice(), judges, out),
+            run_without_saves(rt, job, outcomes.as_slice(), judges, out),
             keeper,
         ),
         Some(target) => match make_saved_resources(
@@ -79,15 +79,16 @@ fn finish_judged<
             outcomes.as_slice(),
             target,
             judges,
+            keeper,
         ) {
-            Ok(resources) => finish_saved(rt, job, resources, out, keeper),
-            Err(_) => (Ended::NoMemory, keeper),
+            Ok(resources) => run_saved(rt, job, resources, out),
+            Err(keeper) => (Ended::NoMemory, keeper),
         },
     }
 }
 
-// Finishes a run from this start, for a job without regions and without required majorities.
-fn finish_cut<R: Threads + Wait + Sync, K: Sink, C: Keeper + Send, G: Gate + Sync>(
+// Runs a job without regions, required majorities or frozen units from this start.
+fn run_with_cut_limit<R: Threads + Wait + Sync, K: Sink, C: Keeper + Send, G: Gate + Sync>(
     rt: &Runtime<'_, R, G>,
     job: &Job,
     resume_state: ResumeState,
@@ -111,13 +112,13 @@ fn finish_cut<R: Threads + Wait + Sync, K: Sink, C: Keeper + Send, G: Gate + Syn
         rules,
         workers + 1,
     ) {
-        Ok(judges) => finish_judged(rt, job, resume_state, judges, out, keeper),
+        Ok(judges) => run_with_judges(rt, job, resume_state, judges, out, keeper),
         Err(_) => (Ended::NoMemory, keeper),
     }
 }
 
-// Finishes a run from this start, with the constraint of all rules of the job.
-fn finish_ruled<R: Threads + Wait + Sync, K: Sink, C: Keeper + Send, G: Gate + Sync>(
+// Runs a job from this start, with the constraint of all its rules.
+fn run_with_all_rules<R: Threads + Wait + Sync, K: Sink, C: Keeper + Send, G: Gate + Sync>(
     rt: &Runtime<'_, R, G>,
     job: &Job,
     resume_state: ResumeState,
@@ -141,14 +142,14 @@ fn finish_ruled<R: Threads + Wait + Sync, K: Sink, C: Keeper + Send, G: Gate + S
         job.districts(),
         workers + 1,
     ) {
-        Ok(judges) => finish_judged(rt, job, resume_state, judges, out, keeper),
+        Ok(judges) => run_with_judges(rt, job, resume_state, judges, out, keeper),
         Err(_) => (Ended::NoMemory, keeper),
     }
 }
 
 /// Runs the part of a job that its budget allows. It finds the initial outcomes, allocates all memory and walks. It
 /// saves at intervals and at the end if the setting asks for it, and writes the report if nothing is pending.
-pub fn finish_run<R: Threads + Wait + Sync, K: Sink, C: Keeper + Send, G: Gate + Sync>(
+pub fn run_job<R: Threads + Wait + Sync, K: Sink, C: Keeper + Send, G: Gate + Sync>(
     rt: &Runtime<'_, R, G>,
     job: &Job,
     out: &mut K,
@@ -167,8 +168,8 @@ pub fn finish_run<R: Threads + Wait + Sync, K: Sink, C: Keeper + Send, G: Gate +
         && job.rules().group_districts == 0
         && job.rules().frozen.len() == 0
     {
-        finish_cut(rt, job, resume_state, out, keeper)
+        run_with_cut_limit(rt, job, resume_state, out, keeper)
     } else {
-        finish_ruled(rt, job, resume_state, out, keeper)
+        run_with_all_rules(rt, job, resume_state, out, keeper)
     }
 }

@@ -13,7 +13,7 @@ use audit_io::gate::Gate;
 use audit_io::sink::Sink;
 use audit_io::source::Source;
 use audit_laws::step_laws::accepted_jobs_are_runs;
-use claim_counter::runtime::Runtime;
+use claim_counter::workers::Runtime;
 use report::ended::Ended;
 use report::note::tell;
 use std::thread::Threads;

@@ -11,8 +11,8 @@ ghost use Rattle.audit_model.specs.State.{Kept};
 ghost use Rattle.audit_statement.specs.World.{world};
 ghost use Rattle.audit_words.specs.Spoken.{spoken};
 
-use crate::run::finish_run;
-use crate::trace::finish_trace;
+use crate::run::run_job;
+use crate::trace::trace_job;
 use audit_io::gate::Gate;
 use audit_io::keeper::Keeper;
 use audit_io::sink::Sink;
@@ -22,7 +22,7 @@ use audit_laws::step_laws::accepted_jobs_are_runs;
 use audit_model::buffers::Bytes;
 use audit_model::setting::Command;
 use audit_start::prepare::prepare;
-use claim_counter::runtime::Runtime;
+use claim_counter::workers::Runtime;
 use plan_core::job::Job;
 use report::check::check_text;
 use report::ended::Ended;
@@ -32,7 +32,7 @@ use std::alloc::Global;
 use std::sync::Wait;
 use std::thread::Threads;
 
-fn finish_check<K: Sink>(alloc: Global, job: &Job, out: &mut K) -> Ended
+fn write_check<K: Sink>(alloc: Global, job: &Job, out: &mut K) -> Ended
     requires { job.now.setting.command ≡ Check }
     ensures { (keeper : Kept) → Finishes job.now (K.state out.old) (K.state out.new) keeper keeper result }
 {
@@ -47,7 +47,7 @@ fn finish_check<K: Sink>(alloc: Global, job: &Job, out: &mut K) -> Ended
 }
 
 // Runs the command with this job.
-fn finish<R: Threads + Wait + Sync, K: Sink, C: Keeper + Send, G: Gate + Sync>(
+fn run_command<R: Threads + Wait + Sync, K: Sink, C: Keeper + Send, G: Gate + Sync>(
     rt: &Runtime<'_, R, G>,
     job: &Job,
     out: &mut K,
@@ -59,9 +59,9 @@ fn finish<R: Threads + Wait + Sync, K: Sink, C: Keeper + Send, G: Gate + Sync>(
         (C.state keeper) (C.state result.1) result.0 }
 {
     match job.setting().command {
-        Command::Check => (finish_check(rt.alloc, job, out), keeper),
-        Command::Trace => (finish_trace(rt.alloc, job, out), keeper),
-        Command::Run | Command::Make | Command::Plans => finish_run(rt, job, out, keeper),
+        Command::Check => (write_check(rt.alloc, job, out), keeper),
+        Command::Trace => (trace_job(rt.alloc, job, out), keeper),
+        Command::Run | Command::Make | Command::Plans => run_job(rt, job, out, keeper),
     }
 }
 
@@ -105,7 +105,7 @@ pub fn audit_single<
     ended_calls_keep_their_promise();
     match prepare(rt.alloc, words, graph) {
         Ok(job) => {
-            let (why, keeper) = finish(rt, &job, out, keeper);
+            let (why, keeper) = run_command(rt, &job, out, keeper);
             drop(job);
             let status = tell(&why, note);
             drop(why);

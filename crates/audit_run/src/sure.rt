@@ -11,7 +11,7 @@ use audit_io::sure::{SureSink, SureSource};
 use audit_io::sure_keeper::SureKeeper;
 use audit_words::Build;
 use audit_words::laws::questions_were_refused;
-use claim_counter::runtime::Runtime;
+use claim_counter::workers::Runtime;
 use std::sync::Wait;
 use std::thread::Threads;
 

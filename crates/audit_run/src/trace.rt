@@ -71,7 +71,7 @@ fn trace_ruled<K: Sink>(alloc: Global, job: &Job, range: TraceRange, out: &mut K
 }
 
 // Allocates all memory of a trace, walks this range, and writes the plans while walking.
-fn trace_job<K: Sink>(alloc: Global, job: &Job, range: TraceRange, out: &mut K) -> Ended
+fn trace_range<K: Sink>(alloc: Global, job: &Job, range: TraceRange, out: &mut K) -> Ended
     requires thin { 0 < range.thin }
     requires order { range.first ≤ range.last }
     requires few { range.last < most_trajectories }
@@ -88,11 +88,11 @@ fn trace_job<K: Sink>(alloc: Global, job: &Job, range: TraceRange, out: &mut K) 
 }
 
 /// Allocates all memory of a trace, walks the range that the arguments name, and writes the plans while walking.
-pub fn finish_trace<K: Sink>(alloc: Global, job: &Job, out: &mut K) -> Ended
+pub fn trace_job<K: Sink>(alloc: Global, job: &Job, out: &mut K) -> Ended
     requires { job.now.setting.command ≡ Trace }
     ensures { (keeper : Kept) → Finishes job.now (K.state out.old) (K.state out.new) keeper keeper result }
 {
     // Called for its contract: the job is within its limits.
     let _units = job.units();
-    trace_job(alloc, job, range_of(job), out)
+    trace_range(alloc, job, range_of(job), out)
 }

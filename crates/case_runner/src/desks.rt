@@ -1,6 +1,6 @@
 //! Desks at which two passes claim the first three ids of a job in turn, and the results of closing them.
 
-ghost use Rattle.std.specs.Prelude.{◌≡◌, ℕ, ◌≤◌, List, [], IfOk, IfSome};
+ghost use Rattle.std.specs.Prelude.{◌≡◌, ℕ, ◌+◌, ◌≤◌, List, [], IfOk, IfSome, length};
 ghost use Rattle.case_runner.specs.Passes.{OwesNothing};
 ghost use Rattle.audit_model.specs.Job.{rules};
 ghost use Rattle.audit_model.specs.Run.{run_ids, total};
@@ -9,14 +9,15 @@ ghost use Rattle.ckpt_store.specs.Places.{IsPlace};
 ghost use Rattle.claim_counter.specs.Walks.{IsWithin};
 ghost use Rattle.audit_statement.specs.Checkpoint as definition;
 ghost use Rattle.flip_kernel.specs.Judged.{IsJudgeFor};
-ghost use Rattle.tally_desk.specs.Pools.{IsWalker, WalksAtDesk};
+ghost use Rattle.claim_counter.specs.Walkers.{IsWalker};
+ghost use Rattle.tally_desk.specs.Pools.{WalksAtDesk};
 ghost use Rattle.tally_desk.specs.Founded.{parts_of};
 ghost use Rattle.tally_desk.specs.Parts.{IsPlaceFor, MayFound};
 ghost use Rattle.tally_desk.specs.Passes.{IsFirstPass};
 
 use crate::test_stops::job_with;
 use audit_io::keeper::Keeper;
-use audit_model::buffers::Bytes;
+use audit_model::buffers::{Bytes, OutcomeList};
 use audit_model::fault::PlanFault;
 use audit_model::lists::UnitList;
 use audit_model::memory::Memory;
@@ -35,9 +36,9 @@ use std::alloc::{AllocError, Global};
 use std::sync::Wait;
 use std::{fs, io};
 use tally_desk::desk::Desk;
-use tally_desk::handing::{DeskPlan, InitialState, Kept};
 use tally_desk::laws::posts_stay_whole;
 use tally_desk::pass::DeskPass;
+use tally_desk::state::{DeskPlan, RunState};
 use walker::walker::Walker;
 
 /// The arguments of a run of twelve walks of eight steps.
@@ -100,7 +101,7 @@ fn serve<R: Wait, C: Keeper + Drop, J: Judge>(
     walker: &mut Walker<J>,
     desk: Desk<C>,
     pass: DeskPass,
-) -> Option<Kept<C>>
+) -> Option<RunState<C>>
     requires walks { IsWalker job.now walker.old }
     requires shared { WalksAtDesk job.now (parts_of C.state desk.table.shared.key) [] }
     requires pass { IsFirstPass desk.table.shared.table_id (parts_of C.state desk.table.shared.key) pass }
@@ -139,41 +140,43 @@ fn plan_of<C: Keeper>(alloc: Global, job: &Job, keeper: &mut C, every: u32) -> O
     }
 }
 
-// Makes an empty book, and the first ids of the job.
-fn ids_of(alloc: Global, job: &Job) -> Result<(Book, UnitList), Memory>
+// Makes an empty book, a list for all outcomes, and the first ids of the job.
+fn ids_of(alloc: Global, job: &Job) -> Result<(Book, OutcomeList, UnitList), Memory>
     ensures total { IfOk result (λ b. b.0.total ≡ total job.now) }
     ensures empty { IfOk result (λ b. b.0.outcomes ≡ []) }
-    ensures ids { IfOk result (λ b. b.1 ≡ run_ids job.now [] 3) }
-    ensures within { IfOk result (λ b. IsWithin job.now b.1) }
+    ensures room { IfOk result (λ b. total job.now ≤ length b.1.items + b.1.spare) }
+    ensures ids { IfOk result (λ b. b.2 ≡ run_ids job.now [] 3) }
+    ensures within { IfOk result (λ b. IsWithin job.now b.2) }
 {
     // Called for its contract: the job is within its limits.
     let _units = job.units();
     let book = Book::with_room(alloc, job.total())?;
+    let sorted = OutcomeList::with_room(alloc, job.total() as usize)?;
     let ids = todo_of(alloc, job, &book, IDS)?;
-    Ok((book, ids))
+    Ok((book, sorted, ids))
 }
 
-// Makes the initial state of a desk.
-fn initial_state_of<C: Keeper + Drop>(
+// Makes the state of a run with an empty book, and the first ids of the job.
+fn state_of<C: Keeper + Drop>(
     alloc: Global,
     job: &Job,
     mut keeper: C,
     every: u32,
-) -> Option<InitialState<C>>
+) -> Option<(RunState<C>, UnitList)>
     requires every { 1 ≤ every }
-    ensures initial_state { IfSome result (λ o. MayFound job.now (C.state o.keeper).slots o.plan o.todo o.book) }
-    ensures within { IfSome result (λ o. IsWithin job.now o.todo) }
+    ensures found { IfSome result (λ o. MayFound job.now (C.state o.0.keeper).slots o.0 o.1) }
+    ensures within { IfSome result (λ o. IsWithin job.now o.1) }
 {
     let Some(plan) = plan_of(alloc, job, &mut keeper, every) else {
         return None;
     };
     match ids_of(alloc, job) {
-        Ok((book, todo)) => Some(InitialState {
-            plan,
-            todo,
-            book,
-            keeper,
-        }),
+        Ok((book, sorted, todo)) => {
+            match RunState::new(alloc, job, plan, book, sorted, keeper) {
+                Ok(state) => Some((state, todo)),
+                Err(_) => None,
+            }
+        }
         Err(_) => None,
     }
 }
@@ -182,17 +185,18 @@ fn initial_state_of<C: Keeper + Drop>(
 fn open<C: Keeper + Drop>(
     alloc: Global,
     job: &Job,
-    initial_state: InitialState<C>,
+    state: RunState<C>,
+    todo: UnitList,
 ) -> Option<(Desk<C>, DeskPass)>
     requires lets { (kept : KeeperState) (slot : ℕ) (bytes : List ℕ) → C.lets kept slot bytes }
-    requires initial_state { MayFound job.now (C.state initial_state.keeper).slots initial_state.plan initial_state.todo initial_state.book }
-    requires within { IsWithin job.now initial_state.todo }
+    requires found { MayFound job.now (C.state state.keeper).slots state todo }
+    requires within { IsWithin job.now todo }
     requires no_ends { job.now.setting.ends ≡ 0 }
     ensures shared { IfSome result (λ d. WalksAtDesk job.now (parts_of C.state d.0.table.shared.key) []) }
     ensures pass { IfSome result (λ d. IsFirstPass d.0.table.shared.table_id (parts_of C.state d.0.table.shared.key) d.1) }
     ensures two { IfSome result (λ d. (parts_of C.state d.0.table.shared.key).seats ≡ 2) }
 {
-    match Desk::new(alloc, job, initial_state, 2) {
+    match Desk::new(alloc, job, state, todo, 2) {
         Ok(made) => Some(made),
         Err(_) => None,
     }
@@ -212,8 +216,8 @@ fn open_with<C: Keeper + Drop>(
     ensures pass { IfSome result (λ d. IsFirstPass d.0.table.shared.table_id (parts_of C.state d.0.table.shared.key) d.1) }
     ensures two { IfSome result (λ d. (parts_of C.state d.0.table.shared.key).seats ≡ 2) }
 {
-    match initial_state_of(alloc, job, keeper, every) {
-        Some(initial_state) => open(alloc, job, initial_state),
+    match state_of(alloc, job, keeper, every) {
+        Some((state, todo)) => open(alloc, job, state, todo),
         None => None,
     }
 }
@@ -226,7 +230,7 @@ fn run_walker<R: Wait, C: Keeper + Drop, J: Judge>(
     walker: &mut Walker<J>,
     keeper: C,
     every: u32,
-) -> Option<Kept<C>>
+) -> Option<RunState<C>>
     requires lets { (kept : KeeperState) (slot : ℕ) (bytes : List ℕ) → C.lets kept slot bytes }
     requires walks { IsWalker job.now walker.old }
     requires every { 1 ≤ every }
@@ -246,7 +250,7 @@ fn run_judge<R: Wait, C: Keeper + Drop, J: Judge>(
     judge: J,
     keeper: C,
     every: u32,
-) -> Option<Kept<C>>
+) -> Option<RunState<C>>
     requires lets { (kept : KeeperState) (slot : ℕ) (bytes : List ℕ) → C.lets kept slot bytes }
     requires judge { IsJudgeFor job.now (J.judging judge) }
     requires every { 1 ≤ every }
@@ -254,9 +258,9 @@ fn run_judge<R: Wait, C: Keeper + Drop, J: Judge>(
 {
     match Walker::new(alloc, job, judge) {
         Ok(mut walker) => {
-            let kept = run_walker(rt, alloc, job, &mut walker, keeper, every);
+            let state = run_walker(rt, alloc, job, &mut walker, keeper, every);
             drop(walker);
-            kept
+            state
         }
         Err(_) => None,
     }
@@ -270,7 +274,7 @@ fn run_ruled<R: Wait, C: Keeper + Drop>(
     of_job: Rules,
     keeper: C,
     every: u32,
-) -> Option<Kept<C>>
+) -> Option<RunState<C>>
     requires lets { (kept : KeeperState) (slot : ℕ) (bytes : List ℕ) → C.lets kept slot bytes }
     requires same { of_job ≡ rules job.now }
     requires no_regions { of_job.regions ≡ [] }
@@ -292,7 +296,7 @@ fn run_desk<R: Wait, C: Keeper + Drop>(
     job: &Job,
     keeper: C,
     every: u32,
-) -> Option<Kept<C>>
+) -> Option<RunState<C>>
     requires { (kept : KeeperState) (slot : ℕ) (bytes : List ℕ) → C.lets kept slot bytes }
 {
     let rules = job.rules();
@@ -318,22 +322,23 @@ fn show_id(rt: &HostRuntime, book: &Book, id: u32) -> io::Result<()> {
 
 // Prints the ids of the book, the numbers of outcomes, save attempts and failed saves, and whether the last post was
 // saved.
-fn show_kept(rt: &HostRuntime, every: u32, kept: &Kept<RunKeeper>) -> io::Result<()> {
+fn show_state(rt: &HostRuntime, every: u32, state: &RunState<RunKeeper>) -> io::Result<()> {
     print!(rt; "desk save-every {every} ids")?;
     for id in 0..12 {
-        show_id(rt, &kept.book, id)?;
+        show_id(rt, &state.book, id)?;
     }
-    let count = kept.book.len();
-    let saves = kept.keeper.saves().all;
+    let count = state.book.len();
+    let saves = state.keeper.saves().all;
     println!(rt;
         " count {count} saves {saves} failed {} last {}",
-        kept.failed_saves, kept.last_saved
+        state.failed_saves,
+        state.has_saved_last()
     )
 }
 
-fn show_closed(rt: &HostRuntime, every: u32, kept: Option<Kept<RunKeeper>>) -> io::Result<()> {
-    match kept {
-        Some(kept) => show_kept(rt, every, &kept),
+fn show_closed(rt: &HostRuntime, every: u32, state: Option<RunState<RunKeeper>>) -> io::Result<()> {
+    match state {
+        Some(state) => show_state(rt, every, &state),
         None => rt.println("no desk"),
     }
 }

@@ -9,7 +9,7 @@ use Rattle.audit_model.specs.contracts.outcome.Outcome as Outcome
 use Rattle.claim_counter.specs.contracts.pass.Pass as Pass
 use Rattle.flip_guard.specs.declared.judge.Judge.{Ghosts}
 use Rattle.walker.proofs.Crossing.{walker_send}
-use Rattle.claim_counter.specs.contracts.gated.GatedWalker as GatedWalker
+use Rattle.claim_counter.specs.contracts.workers.gated.GatedWalker as GatedWalker
 use Rattle.claim_counter.specs.contracts.worker.Worker as Worker
 
 -- an outcome may cross threads

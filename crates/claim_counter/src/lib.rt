@@ -1,21 +1,19 @@
-//! A counter that gives each number below a limit to one caller, across threads, and the workers that walk trajectories
-//! by it, in one part or in several.
+//! The worker runtime of all runs (`workers`). A counter that gives each number below a limit to one caller, across
+//! threads, and the workers that walk trajectories by it, in one part or in several.
 #![tactic(auto)]
 
 mod claims;
-pub mod gated;
 pub mod laws;
 pub mod parts;
 mod pass;
 pub mod pool;
 mod record;
 mod rule;
-pub mod runtime;
 pub mod walking;
 pub mod worker;
+pub mod workers;
 
 pub use claims::{Claims, Closed};
-pub use gated::{GatedWalker, StartToken};
 pub use laws::{
     count_is_bounded, end_keeps, join_keeps, number_keeps, sole_has_all, split_keeps,
     start_is_counted,
@@ -24,5 +22,5 @@ pub use parts::{PartCounter, PartWorkers, find_hub, make_part_workers, walk_part
 pub use pass::Pass;
 pub use pool::{WorkerPool, make_pool};
 pub use record::{PassRecord, Size};
-pub use runtime::Runtime;
 pub use walking::walk_run;
+pub use workers::{GatedWalker, Runtime, StartToken, make_walkers, run_workers};

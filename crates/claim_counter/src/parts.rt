@@ -7,16 +7,15 @@ ghost use Rattle.claim_counter.specs.Records.{fresh, joined_passes, AreDifferent
 ghost use Rattle.claim_counter.specs.Passes.{own, size_of, BelongsTo};
 ghost use Rattle.audit_statement.specs.Draw.{draw};
 ghost use Rattle.outcome_book.specs.Booked.{IsShareFor};
-ghost use Rattle.flip_kernel.specs.Judged.{IsJudgeFor};
+ghost use Rattle.claim_counter.specs.Walkers.{AreWalkers, IsWalker};
 ghost use Rattle.walker.specs.Judges.{AreJudges};
 ghost use Rattle.claim_counter.specs.Parts.{AreBack, AreResting, HasNoHub, HasPlace, IsBack, IsFreshPart, IsIdleWorker, IsLent, IsPartWorkers, MayRest};
 ghost use Rattle.claim_counter.specs.Workers.{IsShared};
 ghost use Rattle.claim_counter.specs.Walks.{found, found_at, MissesIds, ServesEnds};
 ghost use Rattle.audit_model.specs.Limits.{most_trajectories, most_workers};
 
-use crate::gated::GatedWalker;
-use crate::runtime::Runtime;
 use crate::worker::Worker;
+use crate::workers::{GatedWalker, Runtime, make_walkers, run_workers};
 use crate::{Claims, Pass};
 use audit_io::gate::Gate;
 use audit_model::buffers::OutcomeList;
@@ -27,8 +26,8 @@ use outcome_book::book::Book;
 use outcome_book::laws::outcomes_have_few_visits;
 use plan_core::job::Job;
 use std::alloc::Global;
-use std::thread;
 use std::thread::Threads;
+use walker::walker::Walker;
 
 /// The counter of one part, and the pass that has all its seats.
 #[derive(Drop)]
@@ -52,7 +51,7 @@ impl PartCounter {
 /// A worker between two parts: a walker, and an empty list with capacity for the outcomes of all trajectories.
 #[derive(Drop)]
 pub struct IdleWorker<J: Judge> {
-    pub(crate) walker: GatedWalker<J>,
+    pub(crate) walker: Walker<J>,
     pub(crate) share: OutcomeList,
 }
 
@@ -65,29 +64,32 @@ pub struct PartWorkers<J: Judge> {
 }
 
 // Makes a worker without a pass.
-fn make_idle_worker<J: Judge>(alloc: Global, job: &Job, judge: J) -> Result<IdleWorker<J>, Memory>
-    requires judge { IsJudgeFor job.now (J.judging judge) }
+fn make_idle_worker<J: Judge>(
+    alloc: Global,
+    job: &Job,
+    walker: Walker<J>,
+) -> Result<IdleWorker<J>, Memory>
+    requires walker { IsWalker job.now walker }
     ensures { IfOk result (IsIdleWorker job.now) }
 {
-    let walker = GatedWalker::new(alloc, job, judge)?;
     let share = OutcomeList::with_room(alloc, job.total() as usize)?;
     Ok(IdleWorker { walker, share })
 }
 
-// Makes a worker without a pass for each constraint.
-fn make_hands<J: Judge>(
+// Makes a worker without a pass of each walker.
+fn make_idle_workers<J: Judge>(
     alloc: Global,
     job: &Job,
-    mut judges: Vec<J>,
+    mut walkers: Vec<Walker<J>>,
 ) -> Result<Vec<IdleWorker<J>>, Memory>
-    requires judges { AreJudges job.now J.judging judges.items }
+    requires walkers { AreWalkers job.now walkers.items }
     ensures idle_workers { IfOk result (λ h. All (IsIdleWorker job.now) h.items) }
-    ensures count { IfOk result (λ h. vec_len h ≡ vec_len judges) }
-    ensures room { IfOk result (λ h. vec_len judges ≤ vec_capacity h) }
+    ensures count { IfOk result (λ h. vec_len h ≡ vec_len walkers) }
+    ensures room { IfOk result (λ h. vec_len walkers ≤ vec_capacity h) }
 {
-    let mut idle_workers = Vec::with_capacity(alloc, judges.len())?;
-    while let Some(judge) = judges.pop() {
-        idle_workers.push_reserved(make_idle_worker(alloc, job, judge)?);
+    let mut idle_workers = Vec::with_capacity(alloc, walkers.len())?;
+    while let Some(walker) = walkers.pop() {
+        idle_workers.push_reserved(make_idle_worker(alloc, job, walker)?);
     }
     Ok(idle_workers)
 }
@@ -105,7 +107,8 @@ pub fn make_part_workers<J: Judge>(
     ensures no_hub { IfOk result (HasNoHub job.now) }
 {
     let workers = Vec::with_capacity(alloc, judges.len())?;
-    let idle_workers = make_hands(alloc, job, judges)?;
+    let walkers = make_walkers(alloc, job, judges)?;
+    let idle_workers = make_idle_workers(alloc, job, walkers)?;
     let hub = UnitList::zeros(alloc, job.units() as usize)?;
     Ok(PartWorkers {
         idle_workers,
@@ -125,7 +128,7 @@ fn lend<J: Judge>(job: &Job, claims: &Claims, idle_worker: IdleWorker<J>, pass: 
     let _total = job.total();
     let IdleWorker { walker, share } = idle_worker;
     Worker {
-        walker,
+        walker: GatedWalker::new(walker),
         pass,
         share,
     }
@@ -171,12 +174,10 @@ fn run_all<R: Threads + Sync, J: Judge + Send, G: Gate + Sync>(
     requires shared { IsShared job.now todo.now hub.now claims.now }
     ensures { All (IsBack job.now todo.now claims.now) workers.new }
 {
-    let threads = workers.len().max(1);
     let gate = rt.gate;
-    thread::for_each_mut(
+    run_workers(
         rt.threads,
         workers,
-        threads,
         &|_, worker: &mut Worker<J>|
             requires lent { IsLent job.now claims.now worker.now }
             requires shared { IsShared job.now todo.now hub.now claims.now }
@@ -188,7 +189,7 @@ fn run_all<R: Threads + Sync, J: Judge + Send, G: Gate + Sync>(
 // Takes the pass from a worker and empties its list of outcomes.
 fn rest<J: Judge>(
     job: &Job,
-    walker: GatedWalker<J>,
+    walker: Walker<J>,
     mut share: OutcomeList,
     idle_workers: &mut Vec<IdleWorker<J>>,
 )
@@ -227,7 +228,7 @@ fn take_first<J: Judge>(
         share,
     } = worker;
     book.merge(share.as_slice());
-    rest(job, walker, share, idle_workers);
+    rest(job, walker.into_walker(), share, idle_workers);
     pass
 }
 
@@ -262,7 +263,7 @@ fn take_next<J: Judge>(
     } = worker;
     let both = claims.join(pass, other);
     book.merge(outcomes.as_slice());
-    rest(job, walker, outcomes, idle_workers);
+    rest(job, walker.into_walker(), outcomes, idle_workers);
     both
 }
 

@@ -10,7 +10,7 @@ ghost use Rattle.claim_counter.specs.Walks.{found, MissesIds, ServesEnds};
 
 use crate::parts::{PartWorkers, find_hub, walk_part};
 use crate::pool::WorkerPool;
-use crate::runtime::Runtime;
+use crate::workers::Runtime;
 use audit_io::gate::Gate;
 use audit_model::buffers::OutcomeList;
 use flip_guard::judge::Judge;

@@ -1,6 +1,6 @@
 //! One thread of a run.
 
-use crate::gated::{GatedWalker, StartToken};
+use crate::workers::{GatedWalker, StartToken};
 use crate::{Claims, Pass};
 use audit_io::gate::Gate;
 use audit_model::buffers::OutcomeList;
@@ -31,8 +31,8 @@ impl<J: Judge> Worker<J> {
         let share = &mut self.share;
         while let Some(place) = claims.claim(pass) {
             let id = todo[place as usize];
-            let observed = StartToken::tell(gate, id);
-            append(share, walker.walk(job, hub, observed));
+            let token = StartToken::tell(gate, id);
+            append(share, walker.walk(job, hub, token));
         }
     }
 }

@@ -16,7 +16,7 @@ use audit_io::sink::Sink;
 use audit_io::source::Failed;
 use audit_model::buffers::Bytes;
 use audit_model::memory::Memory;
-use claim_counter::runtime::Runtime;
+use claim_counter::workers::Runtime;
 use flip_guard::judge::Judge;
 use plan_core::job::Job;
 use plan_csv::named::Named;

@@ -16,8 +16,8 @@ use crate::resources::{Resources, Workers};
 use audit_io::gate::Gate;
 use audit_io::sink::Sink;
 use claim_counter::pool::WorkerPool;
-use claim_counter::runtime::Runtime;
 use claim_counter::walking::walk_run;
+use claim_counter::workers::Runtime;
 use flip_guard::judge::Judge;
 use plan_core::job::Job;
 use sequential_test::pool::StoppingPool;
@@ -90,8 +90,8 @@ pub fn walk<R: Threads + Sync, J: Judge + Send, G: Gate + Sync>(
     }
 }
 
-/// Walks a run that saves nothing, and writes the report. Allocates nothing.
-pub fn finish_unsaved<R: Threads + Sync, K: Sink, J: Judge + Send, G: Gate + Sync>(
+/// Runs the workers without saves, then writes the report if no trajectory is pending. Allocates nothing.
+pub fn run_unsaved<R: Threads + Sync, K: Sink, J: Judge + Send, G: Gate + Sync>(
     rt: &Runtime<'_, R, G>,
     job: &Job,
     resources: Resources<J>,

@@ -102,14 +102,6 @@ appends-two old mid new a b r first second = written-last old mid new (a ++ b) b
 pub appends-err : (old new : RoomyBytes) (a b : List ℕ) (e : Memory) → AppendsText old new a (Err e) → AppendsText old new (a ++ b) (Err e)
 appends-err old new a b e first = written-err old old new (a ++ b) a b e (written-none old (a ++ b) (a ++ b) refl) first
 
--- six texts appended in turn are appended at once
-pub appended-six : (start one two three four five last out new a b c d e f : List ℕ) → start ≡ [] → one ≡ start ++ a → two ≡ one ++ b → three ≡ two ++ c → four ≡ three ++ d
-    → five ≡ four ++ e → last ≡ five ++ f → new ≡ out ++ last → new ≡ out ++ (((((a ++ b) ++ c) ++ d) ++ e) ++ f)
-appended-six start one two three four five last out new a b c d e f hs h1 h2 h3 h4 h5 h6 h =
-    let whole : last ≡ (((((start ++ a) ++ b) ++ c) ++ d) ++ e) ++ f = cc in
-    let all : (((((start ++ a) ++ b) ++ c) ++ d) ++ e) ++ f ≡ ((((a ++ b) ++ c) ++ d) ++ e) ++ f = rw hs refl in
-    h ∙ ap (λ t. out ++ t) (whole ∙ all)
-
 -- the appended text may be replaced by an equal one
 pub appends-by : (old new : RoomyBytes) (a b : List ℕ) (r : Result (Unit {0}) Memory) → a ≡ b → AppendsText old new a r → AppendsText old new b r
 appends-by old new a b r e h = subst (λ t. AppendsText old new t r) e h

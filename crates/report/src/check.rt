@@ -18,13 +18,20 @@ pub fn check_text(alloc: Global, job: &Job, out: &mut Bytes) -> Result<(), Memor
     ensures err { OnErr result (out.new ≡ out.old) }
 {
     let mut text = Bytes::new(alloc);
-    push_line(&mut text, &[Word::Text("plan-check 1")])?;
-    push_origin_lines(job, &mut text)?;
-    push_graph_line(job, &mut text)?;
-    push_population_line(job, &mut text)?;
-    push_rule_lines(job, &mut text)?;
-    push_line(&mut text, &[Word::Text("end")])?;
+    push_check(job, &mut text)?;
     out.append(text.as_slice())
+}
+
+/// Appends the lines of a check.
+fn push_check(job: &Job, out: &mut Bytes) -> Result<(), Memory>
+    ensures { AppendsText out.old out.new (definition.check_text job.now) result }
+{
+    push_line(out, &[Word::Text("plan-check 1")])?;
+    push_origin_lines(job, out)?;
+    push_graph_line(job, out)?;
+    push_population_line(job, out)?;
+    push_rule_lines(job, out)?;
+    push_line(out, &[Word::Text("end")])
 }
 
 /// Appends the line with the numbers of units, edges and districts.

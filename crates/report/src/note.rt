@@ -18,10 +18,11 @@ use crate::ended::Ended;
 use crate::note::arguments::word_line;
 use crate::note::checkpoint::{tell_damaged, tell_other};
 use crate::note::graph::{graph_line, region_line};
+use crate::note::line::count_of_line;
 use crate::note::output::{say, say_text};
 use crate::note::plan::{plan_line, say_named};
 use crate::note::table::table_line;
-use crate::piece::Piece::{Number, Text};
+use crate::piece::Piece::Text;
 use audit_io::sink::Sink;
 pub use checkpoint::fault_name;
 pub use output::add_line;
@@ -70,16 +71,7 @@ fn tell_line<N: Sink>(why: &Ended, note: &mut N)
 fn tell_stopped<N: Sink>(note: &mut N, done: u32, total: u32)
     ensures { AddsLine (N.state note.old) (N.state note.new) (terms.as_line (codes "stopped: " ∷ decimal done ∷ codes " of " ∷ decimal total ∷ codes " done" ∷ [])) }
 {
-    say(
-        note,
-        &[Text("stopped: ")],
-        &[
-            Number(u64::from(done)),
-            Text(" of "),
-            Number(u64::from(total)),
-            Text(" done"),
-        ],
-    );
+    say(note, &[Text("stopped: ")], &count_of_line(done, total));
 }
 
 pub(crate) fn status(why: &Ended) -> u8

@@ -45,7 +45,6 @@ fn push_stops(job: &Job, stops: &[[u32; 3]], out: &mut Bytes) -> Result<(), Memo
 }
 
 /// Appends the line of an ask. `start` is the start plan's value, and `stop` the stop of its test.
-#[tactic(auto, using(crate::proofs::Limits::small))]
 fn push_stopped_line(
     job: &Job,
     ask: Ask,

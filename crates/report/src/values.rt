@@ -19,7 +19,6 @@ pub fn denominator_of(job: &Job, score: Score) -> u64
 }
 
 /// Returns the number of plans that an outlier walk visits.
-#[tactic(auto, using(crate::proofs::Limits::small))]
 pub fn visits(job: &Job) -> u64
     ensures value { result ≡ job.now.setting.steps + 1 }
     ensures few { result ≤ 1000000001 }
@@ -28,7 +27,6 @@ pub fn visits(job: &Job) -> u64
 }
 
 /// Returns the number of ranked values: the start plan's and those of the endpoints.
-#[tactic(auto, using(crate::proofs::Limits::small))]
 pub fn ranked_count(job: &Job) -> u64
     ensures value { result ≡ job.now.setting.ends + 1 }
     ensures few { result ≤ 100001 }
@@ -37,7 +35,6 @@ pub fn ranked_count(job: &Job) -> u64
 }
 
 /// Returns the asks in order, at most four.
-#[tactic(auto, using(crate::proofs::Limits::small))]
 pub fn asks_of(job: &Job) -> &[Ask]
     ensures value { result.now ≡ job.now.setting.asks }
     ensures few { length result.now ≤ 4 }

@@ -17,7 +17,7 @@ use crate::pool::{StoppingPool, after_round};
 use audit_io::gate::Gate;
 use audit_model::buffers::OutcomeList;
 use claim_counter::parts::{PartCounter, PartWorkers, find_hub, walk_part};
-use claim_counter::runtime::Runtime;
+use claim_counter::workers::Runtime;
 use flip_guard::judge::Judge;
 use outcome_book::book::Book;
 use plan_core::job::Job;

@@ -7,7 +7,7 @@ use Rattle.audit_model.specs.Below.{map_below}
 use Rattle.audit_model.specs.Machine.{Machine, state_after, step}
 use Rattle.claim_counter.specs.Records.{with_claim}
 use Rattle.tally_desk.specs.declared.entry.Entry.{Entry}
-use Rattle.tally_desk.specs.declared.home.Home.{Home}
+use Rattle.tally_desk.specs.declared.state.RunState.{RunState}
 use Rattle.tally_desk.specs.Counter.{CounterLaws}
 use Rattle.tally_desk.specs.Desks.{KeepsTally, KnowsPosts, ended_view, with_entry, with_own, with_turn}
 use Rattle.tally_desk.specs.Entries.{post_of}
@@ -28,7 +28,7 @@ first_set : (l : List ℕ) (n : ℕ) → length l ≡ 3 → get_or (set l 0 n) 0
 first_set [] n three = absurd (omega arith)
 first_set (x ∷ l) n three = refl
 
-module _ {C : Type 0} (HomeAs : Parts → Home C → List Entry → Type 0) (parts : Parts) (laws : CounterLaws) where
+module _ {C : Type 0} (HomeAs : Parts → RunState C → List Entry → Type 0) (parts : Parts) (laws : CounterLaws) where
   pub steps_are_events : StepsAreEvents HomeAs parts
   steps_are_events s _ _ m st (claims id v at is weighs below) =
       let k = st.rule in

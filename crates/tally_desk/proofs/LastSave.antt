@@ -20,8 +20,8 @@ use Rattle.audit_statement.specs.Due.{Lets}
 use Rattle.ckpt_store.specs.Laws.{IsNewestForFitJobs}
 use Rattle.outcome_book.specs.Booked.{Booked, IsBook}
 use Rattle.tally_desk.specs.declared.entry.Entry.{Entry}
-use Rattle.tally_desk.specs.declared.handing.Kept.{Kept}
-use Rattle.tally_desk.specs.Entries.{posted_id, ids_of, saves_made, tickets_of, up_to_save}
+use Rattle.tally_desk.specs.declared.state.RunState.{RunState}
+use Rattle.tally_desk.specs.Entries.{ends_saved, posted_id, ids_of, saves_made, tickets_of, up_to_save}
 use Rattle.tally_desk.specs.Homes.{IsSaveOf, SlotsAs, booked, attempts}
 use Rattle.audit_statement.specs.InOrder.{moved, failed_of}
 use Rattle.tally_desk.specs.InTurn.{AreUnfailed, EndsSaves, RunSavesInTurn, SavesRest, UnfailedRunsSaveInTurn}
@@ -32,7 +32,9 @@ use Rattle.tally_desk.proofs.Slotting.{other_is}
 use Rattle.tally_desk.proofs.Trying.{attempted_then}
 use Rattle.tally_desk.proofs.Turning.{counts_more}
 use Rattle.tally_desk.specs.RunResult.{BothSaved, HasRun, KeepsSome}
-use Rattle.tally_desk.specs.Saves.{IsClosedWith, LetsLastSave, MakesLastSave}
+use Rattle.tally_desk.specs.Passes.{IsClosed}
+use Rattle.tally_desk.specs.Saves.{MakesLastSave}
+use Rattle.tally_desk.specs.Saving.{LetsSave}
 use Rattle.tally_desk.proofs.Failing.{failed_run}
 use Rattle.tally_desk.proofs.Ordering.{are_saves, saves_with_last}
 use Rattle.tally_desk.proofs.Attempted.{are_run_attempts, rest_attempts, run_attempts}
@@ -99,82 +101,87 @@ cover last start failed now after false (Err why) covered le rose = omega arith
 
 -- ---- the slots
 
-module _ {C : Type 0} (state : C → KeeperState) (parts : Parts) (v : PassView) (kept : Kept C) (digest : List ℕ)
-    (k : IsClosedWith state parts v kept digest) where
+module _ {C : Type 0} (state : C → KeeperState) (parts : Parts) (v : PassView) (kept : RunState C) (k : IsClosed state parts v kept) where
   abbrev posted : List Entry
-  posted = k.closed.posted
+  posted = k.posted
+
+  abbrev last_saved : Bool
+  last_saved = ends_saved kept.posted.items
+
+  last_is : last_saved ≡ ends_saved posted
+  last_is = ap ends_saved k.entries
 
   same_times : (id : ℕ) → times id parts.todo ≡ times id (ids_of posted)
-  same_times id = sum_by-IsPermutation (λ (y : ℕ). cond (y == id) 1 0) (ids_of posted) parts.todo k.closed.all
+  same_times id = sum_by-IsPermutation (λ (y : ℕ). cond (y == id) 1 0) (ids_of posted) parts.todo k.all
 
   of_todo : (id : ℕ) → times id (ids_of posted) ≤ times id parts.todo
   of_todo id = omega (arith, same_times id)
 
   pub in_order : tickets_of posted ≡ range_with_len 0 (length posted)
-  in_order = k.closed.in_order ∙ ap (range_with_len 0) (length_permutation _ _ k.closed.all ∙ length-map posted posted_id)
+  in_order = k.in_order ∙ ap (range_with_len 0) (length_permutation _ _ k.all ∙ length-map posted posted_id)
 
   unfailed : kept.failed_saves ≡ 0 → AreUnfailed parts posted
   unfailed none = record {
     in_order = in_order;
     of_todo = of_todo;
-    due = k.closed.due;
-    none_missed = sym k.closed.kept.failed_is ∙ none;
+    due = k.due;
+    none_missed = sym k.kept.failed_is ∙ none;
   }
 
   -- a keeper that accepts the run's saves accepts the last save, which is the next of the run
-  pub lets_last : (lets : Lets) → LetsDesk lets parts → kept.last_saved ≡ false → LetsLastSave state lets kept digest
+  pub lets_last : (lets : Lets) → LetsDesk lets parts → last_saved ≡ false → LetsSave state lets kept
   lets_last lets desk none sound =
       let place = moved (saves_made posted) parts.place in
       let all = by_id (total parts.job) (booked parts posted) in
-      let same_all : by_id kept.book.total kept.book.outcomes ≡ all = ap (λ (x : Booked). by_id x.total x.outcomes) k.closed.kept.book_is in
+      let same_all : by_id kept.book.total kept.book.outcomes ≡ all = ap (λ (x : Booked). by_id x.total x.outcomes) k.kept.book_is in
       let rest_sound : IsCheckpoint (checkpoint 2 (job_digest parts.job) place.generation all) 2 (job_digest parts.job) place.generation all =
       subst (λ (x : List ℕ × Place × List Outcome). IsCheckpoint (checkpoint 2 x.0 x.1.generation x.2) 2 x.0 x.1.generation x.2)
-      (λ i. (k.digest_is i, k.closed.kept.place_is i, same_all i)) sound in
+      (λ i. (k.equipped.digest i, k.kept.place_is i, same_all i)) sound in
       subst (λ (x : Place × List ℕ × List Outcome). lets (state kept.keeper) x.0.slot (checkpoint 2 x.1 x.0.generation x.2))
-      (λ i. (sym k.closed.kept.place_is i, sym k.digest_is i, sym same_all i))
-      (desk (state kept.keeper) (attempts parts posted) (try_of place.slot (checkpoint 2 (job_digest parts.job) place.generation all) true) k.closed.kept.attempted_is
-      (saves_with_last parts k.closed.plan true posted of_todo in_order k.closed.kept.sound k.closed.due k.closed.all (sym none ∙ k.closed.last) rest_sound))
+      (λ i. (sym k.kept.place_is i, sym k.equipped.digest i, sym same_all i))
+      (desk (state kept.keeper) (attempts parts posted) (try_of place.slot (checkpoint 2 (job_digest parts.job) place.generation all) true) k.kept.attempted_is
+      (saves_with_last parts k.plan true posted of_todo in_order k.kept.sound k.due k.all (sym none ∙ last_is) rest_sound))
 
   at_moved : (a c : Pair) → SlotsAs parts a c kept.place posted → SlotsAs parts a c (moved (saves_made posted) parts.place) posted
-  at_moved a c = subst (λ (p : Place). SlotsAs parts a c p posted) k.closed.kept.place_is
+  at_moved a c = subst (λ (p : Place). SlotsAs parts a c p posted) k.kept.place_is
 
   -- the slots if the last post saved
-  saved_before : UnfailedRunsSaveInTurn → kept.failed_saves ≡ 0 → kept.last_saved ≡ true → (a c : Option Pair) → IsPlaceFor parts.job a parts.place
+  saved_before : UnfailedRunsSaveInTurn → kept.failed_saves ≡ 0 → last_saved ≡ true → (a c : Option Pair) → IsPlaceFor parts.job a parts.place
       → IfBothObserved a c (λ p q. SlotsAs parts p q kept.place posted) → IfBothObserved a c (λ p q. RunSavesInTurn parts p q posted)
   saved_before law none last None c first observed = tt
   saved_before law none last (Some p) None first observed = observed
   saved_before law none last (Some p) (Some q) first observed =
-      law parts p q q posted k.closed.plan first (unfailed none) (at_moved p q observed)
-      (subst (λ (b : Bool). EndsSaves b parts q q (moved (saves_made posted) parts.place) posted) (sym last ∙ k.closed.last) refl)
+      law parts p q q posted k.plan first (unfailed none) (at_moved p q observed)
+      (subst (λ (b : Bool). EndsSaves b parts q q (moved (saves_made posted) parts.place) posted) (sym last ∙ last_is) refl)
 
   -- the slots if the last save was made after the desk
-  saved_now : UnfailedRunsSaveInTurn → kept.failed_saves ≡ 0 → kept.last_saved ≡ false → (sorted : List Outcome) → sorted ≡ by_id kept.book.total kept.book.outcomes
-      → IsCheckpoint (checkpoint 2 digest kept.place.generation sorted) 2 digest kept.place.generation sorted → (a c d : Option Pair) → IsPlaceFor parts.job a parts.place
+  saved_now : UnfailedRunsSaveInTurn → kept.failed_saves ≡ 0 → last_saved ≡ false → (sorted : List Outcome) → sorted ≡ by_id kept.book.total kept.book.outcomes
+      → IsCheckpoint (checkpoint 2 kept.digest kept.place.generation sorted) 2 kept.digest kept.place.generation sorted → (a c d : Option Pair) → IsPlaceFor parts.job a parts.place
       → IfBothObserved a c (λ p q. SlotsAs parts p q kept.place posted) → KeepsOther c d kept.place.slot
-      → HoldsBytes d kept.place.slot (checkpoint 2 digest kept.place.generation sorted) → IfObserved d (IsNewestForFitJobs digest kept.place.slot kept.place.generation sorted)
+      → HoldsBytes d kept.place.slot (checkpoint 2 kept.digest kept.place.generation sorted) → IfObserved d (IsNewestForFitJobs kept.digest kept.place.slot kept.place.generation sorted)
       → IfBothObserved a d (λ p q. RunSavesInTurn parts p q posted)
   saved_now law none last sorted is sound None c d first observed other slot_bytes fresh = tt
   saved_now law none last sorted is sound (Some p) None d first observed other slot_bytes fresh = absurd observed
   saved_now law none last sorted is sound (Some p) (Some q) None first observed other slot_bytes fresh = other
   saved_now law none last sorted is sound (Some p) (Some q) (Some r) first observed other slot_bytes fresh =
       let all : List Outcome = by_id (total parts.job) (booked parts posted) in
-      let same : sorted ≡ all = is ∙ ap (λ (b : Booked). by_id b.total b.outcomes) k.closed.kept.book_is in
+      let same : sorted ≡ all = is ∙ ap (λ (b : Booked). by_id b.total b.outcomes) k.kept.book_is in
       let rest : SavesRest parts q r kept.place posted = record {
         saved = record {
-          bytes = slot_bytes ∙ (λ i. Some (checkpoint 2 (k.digest_is i) kept.place.generation (same i)));
-          sound = subst (λ (x : List ℕ × List Outcome). IsCheckpoint (checkpoint 2 x.0 kept.place.generation x.1) 2 x.0 kept.place.generation x.1) (λ i. (k.digest_is i, same i)) sound;
+          bytes = slot_bytes ∙ (λ i. Some (checkpoint 2 (k.equipped.digest i) kept.place.generation (same i)));
+          sound = subst (λ (x : List ℕ × List Outcome). IsCheckpoint (checkpoint 2 x.0 kept.place.generation x.1) 2 x.0 kept.place.generation x.1) (λ i. (k.equipped.digest i, same i)) sound;
         };
-        other = sym (other_is r kept.place.slot k.closed.slot) ∙ other ∙ other_is q kept.place.slot k.closed.slot;
-        fresh = subst (λ (x : List ℕ × List Outcome). IsNewestForFitJobs x.0 kept.place.slot kept.place.generation x.1 r) (λ i. (k.digest_is i, same i)) fresh;
+        other = sym (other_is r kept.place.slot k.slot) ∙ other ∙ other_is q kept.place.slot k.slot;
+        fresh = subst (λ (x : List ℕ × List Outcome). IsNewestForFitJobs x.0 kept.place.slot kept.place.generation x.1 r) (λ i. (k.equipped.digest i, same i)) fresh;
       } in
-      law parts p q r posted k.closed.plan first (unfailed none) (at_moved p q observed)
-      (subst (λ (b : Bool). EndsSaves b parts q r (moved (saves_made posted) parts.place) posted) (sym last ∙ k.closed.last)
-      (subst (λ (at : Place). SavesRest parts q r at posted) k.closed.kept.place_is rest))
+      law parts p q r posted k.plan first (unfailed none) (at_moved p q observed)
+      (subst (λ (b : Bool). EndsSaves b parts q r (moved (saves_made posted) parts.place) posted) (sym last ∙ last_is)
+      (subst (λ (at : Place). SavesRest parts q r at posted) k.kept.place_is rest))
 
   -- the slot beside the place is not written to after the desk is closed
   keeps_some : (p q r : Pair) (n : ℕ) → saves_made posted ≡ n → SlotsAs parts p q kept.place posted → stored r (1 - kept.place.slot) ≡ stored q (1 - kept.place.slot) → KeepsSome parts p r
   keeps_some p q r zero none s same =
-      let here : kept.place ≡ parts.place = k.closed.kept.place_is ∙ ap (λ (m : ℕ). moved m parts.place) none in
+      let here : kept.place ≡ parts.place = k.kept.place_is ∙ ap (λ (m : ℕ). moved m parts.place) none in
       inl (subst (λ (at : Place). stored r (1 - at.slot) ≡ stored p (1 - at.slot)) here (same ∙ s.last_unsaved none))
   keeps_some p q r (suc n) some_saves s same = inr (
     1 - kept.place.slot,
@@ -198,7 +205,7 @@ module _ {C : Type 0} (state : C → KeeperState) (parts : Parts) (v : PassView)
   keeps_by (Some p) None d observed other = absurd observed
   keeps_by (Some p) (Some q) None observed other = other
   keeps_by (Some p) (Some q) (Some r) observed other =
-      keeps_some p q r (saves_made posted) refl observed (sym (other_is r kept.place.slot k.closed.slot) ∙ other ∙ other_is q kept.place.slot k.closed.slot)
+      keeps_some p q r (saves_made posted) refl observed (sym (other_is r kept.place.slot k.slot) ∙ other ∙ other_is q kept.place.slot k.slot)
 
 -- slots that did not change keep every other slot
 keeps_itself : (c : Option Pair) (at : ℕ) → KeepsOther c c at
@@ -207,93 +214,96 @@ keeps_itself (Some q) at = refl
 
 -- ---- all of it
 
-module _ {C : Type 0} (state : C → KeeperState) (law : UnfailedRunsSaveInTurn) (parts : Parts) (v : PassView) (kept now : Kept C)
-    (digest : List ℕ) (k : IsClosedWith state parts v kept digest) (sorted : List Outcome) (rest result : Result (Unit {0}) Failed)
-    (s : MakesLastSave state kept now digest sorted rest) (b : BothSaved kept.failed_saves rest result)
-    (is : sorted ≡ by_id kept.book.total kept.book.outcomes) where
+module _ {C : Type 0} (state : C → KeeperState) (law : UnfailedRunsSaveInTurn) (parts : Parts) (v : PassView) (kept now : RunState C)
+    (k : IsClosed state parts v kept) (rest result : Result (Unit {0}) Failed)
+    (s : MakesLastSave state kept now rest) (b : BothSaved kept.failed_saves rest result)
+    (is : now.sorted.items ≡ by_id kept.book.total kept.book.outcomes) where
   abbrev all_posted : List Entry
-  all_posted = k.closed.posted
+  all_posted = k.posted
 
-  same : sorted ≡ by_id (total parts.job) (booked parts all_posted)
-  same = is ∙ ap (λ (x : Booked). by_id x.total x.outcomes) k.closed.kept.book_is
+  abbrev last_is_saved : Bool
+  last_is_saved = ends_saved kept.posted.items
+
+  same : now.sorted.items ≡ by_id (total parts.job) (booked parts all_posted)
+  same = is ∙ ap (λ (x : Booked). by_id x.total x.outcomes) k.kept.book_is
 
   rest_cause : HasCause (state kept.keeper).save_faults (state now.keeper).save_faults rest
-  rest_cause = by kept.last_saved refl
+  rest_cause = by last_is_saved refl
     where
-      by : (l : Bool) → kept.last_saved ≡ l → HasCause (state kept.keeper).save_faults (state now.keeper).save_faults rest
+      by : (l : Bool) → last_is_saved ≡ l → HasCause (state kept.keeper).save_faults (state now.keeper).save_faults rest
       by true e = let h = s.saved e in subst (λ (x : C). HasCause (state kept.keeper).save_faults (state x).save_faults rest) (sym h.0) (same_cause (state kept.keeper).save_faults rest h.1)
       by false e = (s.unsaved e).cause
 
   rest_loads : (state now.keeper).load_faults ≡ parts.keeper.load_faults
-  rest_loads = by kept.last_saved refl
+  rest_loads = by last_is_saved refl
     where
-      by : (l : Bool) → kept.last_saved ≡ l → (state now.keeper).load_faults ≡ parts.keeper.load_faults
-      by true e = ap (λ x. (state x).load_faults) (s.saved e).0 ∙ k.closed.kept.loads
-      by false e = (s.unsaved e).loads ∙ k.closed.kept.loads
+      by : (l : Bool) → last_is_saved ≡ l → (state now.keeper).load_faults ≡ parts.keeper.load_faults
+      by true e = ap (λ x. (state x).load_faults) (s.saved e).0 ∙ k.kept.loads
+      by false e = (s.unsaved e).loads ∙ k.kept.loads
 
   rest_other : KeepsOther (state kept.keeper).slots (state now.keeper).slots kept.place.slot
-  rest_other = by kept.last_saved refl
+  rest_other = by last_is_saved refl
     where
-      by : (l : Bool) → kept.last_saved ≡ l → KeepsOther (state kept.keeper).slots (state now.keeper).slots kept.place.slot
+      by : (l : Bool) → last_is_saved ≡ l → KeepsOther (state kept.keeper).slots (state now.keeper).slots kept.place.slot
       by true e = subst (λ (x : C). KeepsOther (state kept.keeper).slots (state x).slots kept.place.slot) (sym (s.saved e).0) (keeps_itself (state kept.keeper).slots kept.place.slot)
       by false e = (s.unsaved e).other
 
   rest_in_turn : (kept.failed_saves ≡ 0) × IsOk rest → IfBothObserved parts.keeper.slots (state now.keeper).slots (λ p q. RunSavesInTurn parts p q all_posted)
-  rest_in_turn both = by kept.last_saved refl
+  rest_in_turn both = by last_is_saved refl
     where
-      by : (l : Bool) → kept.last_saved ≡ l → IfBothObserved parts.keeper.slots (state now.keeper).slots (λ p q. RunSavesInTurn parts p q all_posted)
+      by : (l : Bool) → last_is_saved ≡ l → IfBothObserved parts.keeper.slots (state now.keeper).slots (λ p q. RunSavesInTurn parts p q all_posted)
       by true e =
           subst (λ (x : C). IfBothObserved parts.keeper.slots (state x).slots (λ p q. RunSavesInTurn parts p q all_posted)) (sym (s.saved e).0)
-          (saved_before state parts v kept digest k law both.0 e parts.keeper.slots (state kept.keeper).slots k.closed.plan.place k.closed.kept.observed)
+          (saved_before state parts v kept k law both.0 e parts.keeper.slots (state kept.keeper).slots k.plan.place k.kept.observed)
       by false e =
           let t = s.unsaved e in
-          saved_now state parts v kept digest k law both.0 e sorted is t.sound parts.keeper.slots (state kept.keeper).slots (state now.keeper).slots k.closed.plan.place
-          k.closed.kept.observed t.other (on_ok_at rest both.1 t.slot_bytes) (on_ok_at rest both.1 t.newest)
+          saved_now state parts v kept k law both.0 e now.sorted.items is t.sound parts.keeper.slots (state kept.keeper).slots (state now.keeper).slots k.plan.place
+          k.kept.observed t.other (on_ok_at rest both.1 t.slot_bytes) (on_ok_at rest both.1 t.newest)
 
-  rest_attempted : (state now.keeper).attempted ≡ attempted_all parts.keeper.attempted (run_attempts kept.last_saved (is_ok rest) parts all_posted)
-  rest_attempted = by kept.last_saved refl
+  rest_attempted : (state now.keeper).attempted ≡ attempted_all parts.keeper.attempted (run_attempts last_is_saved (is_ok rest) parts all_posted)
+  rest_attempted = by last_is_saved refl
     where
-      by : (l : Bool) → kept.last_saved ≡ l → (state now.keeper).attempted ≡ attempted_all parts.keeper.attempted (run_attempts kept.last_saved (is_ok rest) parts all_posted)
+      by : (l : Bool) → last_is_saved ≡ l → (state now.keeper).attempted ≡ attempted_all parts.keeper.attempted (run_attempts last_is_saved (is_ok rest) parts all_posted)
       by true e =
-          ap (λ x. (state x).attempted) (s.saved e).0 ∙ k.closed.kept.attempted_is ∙ ap (attempted_all parts.keeper.attempted) (sym (append-nil (attempts parts all_posted)))
+          ap (λ x. (state x).attempted) (s.saved e).0 ∙ k.kept.attempted_is ∙ ap (attempted_all parts.keeper.attempted) (sym (append-nil (attempts parts all_posted)))
           ∙ ap (λ (l : Bool). attempted_all parts.keeper.attempted (run_attempts l (is_ok rest) parts all_posted)) (sym e)
       by false e =
           (s.unsaved e).attempted
-          ∙ (λ i. attempted_too (k.closed.kept.attempted_is i) (k.closed.kept.place_is i).slot (checkpoint 2 (k.digest_is i) (k.closed.kept.place_is i).generation (same i)) (is_ok rest))
+          ∙ (λ i. attempted_too (k.kept.attempted_is i) (k.kept.place_is i).slot (checkpoint 2 (k.equipped.digest i) (k.kept.place_is i).generation (same i)) (is_ok rest))
           ∙ sym (attempted_then parts.keeper.attempted (attempts parts all_posted) (rest_attempts false (is_ok rest) parts all_posted))
           ∙ ap (λ (l : Bool). attempted_all parts.keeper.attempted (run_attempts l (is_ok rest) parts all_posted)) (sym e)
 
-  rest_sound : kept.last_saved ≡ false
+  rest_sound : last_is_saved ≡ false
       → IsCheckpoint (checkpoint 2 (job_digest parts.job) (moved (saves_made all_posted) parts.place).generation (by_id (total parts.job) (booked parts all_posted)))
       2 (job_digest parts.job) (moved (saves_made all_posted) parts.place).generation (by_id (total parts.job) (booked parts all_posted))
   rest_sound e =
       subst (λ (x : List ℕ × Place × List Outcome). IsCheckpoint (checkpoint 2 x.0 x.1.generation x.2) 2 x.0 x.1.generation x.2)
-      (λ i. (k.digest_is i, k.closed.kept.place_is i, same i)) (s.unsaved e).sound
+      (λ i. (k.equipped.digest i, k.kept.place_is i, same i)) (s.unsaved e).sound
 
-  rest_covered : min (parts.keeper.save_faults + failed_of (run_attempts kept.last_saved (is_ok rest) parts all_posted)) (2 ^ 64 - 1) ≤ (state now.keeper).save_faults
+  rest_covered : min (parts.keeper.save_faults + failed_of (run_attempts last_is_saved (is_ok rest) parts all_posted)) (2 ^ 64 - 1) ≤ (state now.keeper).save_faults
   rest_covered =
-      let count = failed_run parts kept.last_saved (is_ok rest) all_posted
-      ∙ ap (λ (n : ℕ). n + cond {A = ℕ} (not kept.last_saved && not (is_ok rest)) 1 0) (sym k.closed.kept.failed_is) in
+      let count = failed_run parts last_is_saved (is_ok rest) all_posted
+      ∙ ap (λ (n : ℕ). n + cond {A = ℕ} (not last_is_saved && not (is_ok rest)) 1 0) (sym k.kept.failed_is) in
       subst (λ (n : ℕ). min (parts.keeper.save_faults + n) (2 ^ 64 - 1) ≤ (state now.keeper).save_faults) (sym count)
-      (cover (2 ^ 64 - 1) parts.keeper.save_faults kept.failed_saves (state kept.keeper).save_faults (state now.keeper).save_faults kept.last_saved rest k.closed.kept.covered rest_cause.counts.later rest_cause.failed)
+      (cover (2 ^ 64 - 1) parts.keeper.save_faults kept.failed_saves (state kept.keeper).save_faults (state now.keeper).save_faults last_is_saved rest k.kept.covered rest_cause.counts.later rest_cause.failed)
 
-  pub has_run : IsBook kept.book → IsPermutation kept.book.outcomes sorted → AllPairs (λ a b. a.id < b.id) sorted
-      → HasRun parts (state now.keeper) sorted result
+  pub has_run : IsBook kept.book → IsPermutation kept.book.outcomes now.sorted.items → AllPairs (λ a b. a.id < b.id) now.sorted.items
+      → HasRun parts (state now.keeper) now.sorted.items result
   has_run book all rising = record {
-    plan = k.closed.plan;
+    plan = k.plan;
     posted = all_posted;
-    all = k.closed.all;
-    book = subst IsBook k.closed.kept.book_is book;
+    all = k.all;
+    book = subst IsBook k.kept.book_is book;
     sorted_is = same;
-    sorted_all = subst (λ (x : Booked). IsPermutation x.outcomes sorted) k.closed.kept.book_is all;
+    sorted_all = subst (λ (x : Booked). IsPermutation x.outcomes now.sorted.items) k.kept.book_is all;
     rising = rising;
-    cause = both_cause parts.keeper.save_faults kept.failed_saves (state kept.keeper).save_faults (state now.keeper).save_faults rest k.closed.kept.covered k.closed.kept.counts k.closed.kept.shown rest_cause result b;
+    cause = both_cause parts.keeper.save_faults kept.failed_saves (state kept.keeper).save_faults (state now.keeper).save_faults rest k.kept.covered k.kept.counts k.kept.shown rest_cause result b;
     loads = rest_loads;
     in_turn = on_ok_of result (λ ok. rest_in_turn (b.ok ok));
-    keeps = keeps_by state parts v kept digest k parts.keeper.slots (state kept.keeper).slots (state now.keeper).slots k.closed.kept.observed rest_other;
-    attempts = run_attempts kept.last_saved (is_ok rest) parts all_posted;
+    keeps = keeps_by state parts v kept k parts.keeper.slots (state kept.keeper).slots (state now.keeper).slots k.kept.observed rest_other;
+    attempts = run_attempts last_is_saved (is_ok rest) parts all_posted;
     attempted = rest_attempted;
-    are_attempts = are_run_attempts parts k.closed.plan kept.last_saved (is_ok rest) all_posted (of_todo state parts v kept digest k) k.closed.kept.sound k.closed.due rest_sound;
-    in_order = are_saves parts k.closed.plan kept.last_saved (is_ok rest) all_posted (of_todo state parts v kept digest k) (in_order state parts v kept digest k) k.closed.kept.sound k.closed.due k.closed.last rest_sound;
+    are_attempts = are_run_attempts parts k.plan last_is_saved (is_ok rest) all_posted (of_todo state parts v kept k) k.kept.sound k.due rest_sound;
+    in_order = are_saves parts k.plan last_is_saved (is_ok rest) all_posted (of_todo state parts v kept k) (in_order state parts v kept k) k.kept.sound k.due (last_is state parts v kept k) rest_sound;
     covered = rest_covered;
   }

@@ -1,6 +1,7 @@
 mod Rows
 pub mod Booking
 pub mod Bounds
+pub mod Counting
 pub mod Crossing
 pub mod Events
 pub mod Failing

@@ -2,7 +2,7 @@
 use Rattle.std.proofs.Common.{◌≡◌, ℕ, ◌<◌, ◌≤◌, List, [], ◌∷◌, length, get_or, sym, ap, ◌∙◌, subst, Some}
 use Rattle.atomic_table.specs.Table.{Me, Step}
 use Rattle.claim_counter.specs.Records.{with_claim}
-use Rattle.tally_desk.specs.declared.home.Home.{Home}
+use Rattle.tally_desk.specs.declared.state.RunState.{RunState}
 use Rattle.tally_desk.specs.Desks.{DrawsPlace, claimed_ids, ended_view, with_own}
 use Rattle.tally_desk.specs.Parts.{Parts}
 use Rattle.tally_desk.specs.Views.{PassView, view_in}
@@ -12,10 +12,10 @@ use Rattle.audit_model.specs.Times.{times}
 pub only_view : (views : List PassView) (v : PassView) → views ≡ v ∷ [] → views ≡ view_in views ∷ []
 only_view views v is = is ∙ ap (λ (u : PassView). u ∷ []) (sym (ap view_in is))
 
-module _ {C : Type 0} (parts : Parts) (v : PassView) (st : Step (Home C)) (me me' : Me (Home C) PassView) (found : ℕ) (was : me ≡ (v, [])) (is : v.parts ≡ Some parts)
+module _ {C : Type 0} (parts : Parts) (v : PassView) (st : Step (RunState C)) (me me' : Me (RunState C) PassView) (found : ℕ) (was : me ≡ (v, [])) (is : v.parts ≡ Some parts)
     (draws : DrawsPlace st me found me') where
   from_here : DrawsPlace st (v, []) found me'
-  from_here = subst (λ (m : Me (Home C) PassView). DrawsPlace st m found me') was draws
+  from_here = subst (λ (m : Me (RunState C) PassView). DrawsPlace st m found me') was draws
 
   pub still_empty : me'.1 ≡ []
   still_empty = from_here.slots

@@ -11,12 +11,12 @@ use Rattle.std.proofs.lemmas.List.{length-map, take_all}
 use Rattle.std.proofs.lemmas.List.Elements.{All-nil}
 use Rattle.std.proofs.lemmas.List.FromFn.{length-range_with_len}
 use Rattle.std.proofs.lemmas.List.Sorted.{IsPermutation-map, sum_by-IsPermutation}
-use Rattle.atomic_table.specs.Table.{State, Me, step, keeps, takes, gives, stepped, put_back, rest, Allows, Splits, Joins, Final, Seen, initial_outcomes}
+use Rattle.atomic_table.specs.Table.{State, Me, step, keeps, takes, gives, stepped, put_back, rest, Allows, Splits, Joins, Final, Seen, opening}
 use Rattle.atomic_table.proofs.Lists.{at_snoc, set_again, set_else, at_map}
 use Rattle.claim_counter.specs.declared.record.PassRecord.{PassRecord}
 use Rattle.claim_counter.specs.Records.{IsSole, with_claim, at_end}
 use Rattle.tally_desk.specs.declared.entry.Entry.{Entry}
-use Rattle.tally_desk.specs.declared.home.Home.{Home}
+use Rattle.tally_desk.specs.declared.state.RunState.{RunState}
 use Rattle.tally_desk.specs.Counter.{CounterLaws}
 use Rattle.tally_desk.specs.Desks.{BeginsTurn, CanPost, DrawsPlace, FitsDesk, IsInTurn, IsComplete, KeepsTally, IsWaiting, KnowsPosts, LooksForTurn, SeesSeats, Serves, TakesTicket, Tallied, TriesTicket, entry_sum, first_view, claimed_ids, is_in_turn, joined_view, left_view, own_of, right_view, with_entry, with_own, with_turn}
 use Rattle.tally_desk.specs.Entries.{post_of, posted_id, ids_of, is_due, ticket_of}
@@ -48,12 +48,12 @@ last_of_push : (l : List Entry) (e d : Entry) → last_of (l ++ e ∷ []) d ≡ 
 last_of_push [] e d = refl
 last_of_push (x ∷ l) e d = last_of_push l e x
 
-module _ {C : Type 0} (HomeAs : Parts → Home C → List Entry → Type 0) (parts : Parts) where
+module _ {C : Type 0} (HomeAs : Parts → RunState C → List Entry → Type 0) (parts : Parts) where
   abbrev St : Type 0
-  St = State (Home C) PassView
+  St = State (RunState C) PassView
 
   abbrev Mine : Type 0
-  Mine = Me (Home C) PassView
+  Mine = Me (RunState C) PassView
 
   after_first : (s : St) (k : Tallied HomeAs parts s) (n id : ℕ) (me : Mine) (w : PassView) → KeepsTally HomeAs parts n (get_or s.words 1 0) (get_or s.words 2 0) k.posted s.homes (set s.views id w)
       → Tallied HomeAs parts (stepped s 0 n id me.1 w keeps)
@@ -205,7 +205,7 @@ module _ {C : Type 0} (HomeAs : Parts → Home C → List Entry → Type 0) (par
       } in (
         w,
         takes 0 h.0,
-        ap (λ (l : List (maybe.Option (Home C))). get_elem? l 0) h.1,
+        ap (λ (l : List (maybe.Option (RunState C))). get_elem? l 0) h.1,
         record {
           three_words = length-set s.words 2 n ∙ k.three_words;
           one_slot = length-set s.homes 0 maybe.none ∙ k.one_slot;
@@ -230,16 +230,16 @@ module _ {C : Type 0} (HomeAs : Parts → Home C → List Entry → Type 0) (par
         },
       ))
 
-  one_home : (hs : List (maybe.Option (Home C))) (x : maybe.Option (Home C)) → length hs ≡ 1 → set hs 0 x ≡ x ∷ []
+  one_home : (hs : List (maybe.Option (RunState C))) (x : maybe.Option (RunState C)) → length hs ≡ 1 → set hs 0 x ≡ x ∷ []
   one_home [] x e = absurd (omega arith)
   one_home (h ∷ []) x e = refl
   one_home (h ∷ g ∷ hs) x e = absurd (omega arith)
 
-  abbrev home_in : List (ℕ × Home C) → Home C → Home C
+  abbrev home_in : List (ℕ × RunState C) → RunState C → RunState C
   home_in [] d = d
   home_in (x ∷ xs) d = x.1
 
-  pub serve : (slots id : ℕ) (me : Mine) (t i : ℕ) (l : List Entry) (y : Home C) (saved : Bool) → me.0.parts ≡ Some parts → 0 < me.0.own.weight → me.0.turn ≡ in_turn t i l → me.1 ≡ (0, y) ∷ []
+  pub serve : (slots id : ℕ) (me : Mine) (t i : ℕ) (l : List Entry) (y : RunState C) (saved : Bool) → me.0.parts ≡ Some parts → 0 < me.0.own.weight → me.0.turn ≡ in_turn t i l → me.1 ≡ (0, y) ∷ []
       → HomeAs parts y (l ++ post_of t i saved ∷ []) → y.posted.items ≡ l ++ post_of t i saved ∷ [] → (saved ≡ true → is_due parts.save_every (post_of t i saved) ≡ true)
       → Allows (Tallied HomeAs parts) slots id me 2 (λ _. t + 1) (λ _. Serves (step slots 2 (t + 1) 0 maybe.none) me (t + 1))
   serve slots id me t i l y saved is weighs turn carries holds entries due s k deep at _ =
@@ -265,12 +265,12 @@ module _ {C : Type 0} (HomeAs : Parts → Home C → List Entry → Type 0) (par
           one_slot = ap length back;
           posted = k.posted ++ e ∷ [];
           tallied = put_third (λ a b c. KeepsTally HomeAs parts a b c (k.posted ++ e ∷ []) (put_back s.homes me.1) (set s.views id w)) s.words (t + 1) k.three_words
-              (subst (λ (z : ℕ × List (maybe.Option (Home C))). KeepsTally HomeAs parts (get_or s.words 0 0) (get_or s.words 1 0) z.0 (k.posted ++ e ∷ []) z.1 (set s.views id w)) (λ j. (next j, sym back j)) after);
+              (subst (λ (z : ℕ × List (maybe.Option (RunState C))). KeepsTally HomeAs parts (get_or s.words 0 0) (get_or s.words 1 0) z.0 (k.posted ++ e ∷ []) z.1 (set s.views id w)) (λ j. (next j, sym back j)) after);
         },
         record {
           slots = λ z e'. ap rest e';
-          view = λ q y' l' e' carries' ends. let same_home : y ≡ y' = ap (λ (z : List (ℕ × Home C)). home_in z y) (sym carries ∙ carries') in
-              let same_end : post_of t i saved ≡ e' = sym (last_of_push l (post_of t i saved) e) ∙ ap (λ (z : List Entry). last_of z e) (sym entries ∙ ap (λ (z : Home C). z.posted.items) same_home ∙ ends) ∙ last_of_push l' e' e in
+          view = λ q y' l' e' carries' ends. let same_home : y ≡ y' = ap (λ (z : List (ℕ × RunState C)). home_in z y) (sym carries ∙ carries') in
+              let same_end : post_of t i saved ≡ e' = sym (last_of_push l (post_of t i saved) e) ∙ ap (λ (z : List Entry). last_of z e) (sym entries ∙ ap (λ (z : RunState C). z.posted.items) same_home ∙ ends) ∙ last_of_push l' e' e in
               ap (with_entry v) (ap (λ (z : ℕ). post_of z i saved) (sym knows.0) ∙ same_end);
         },
       )
@@ -292,7 +292,7 @@ module _ {C : Type 0} (HomeAs : Parts → Home C → List Entry → Type 0) (par
     tallied = merged HomeAs parts _ _ _ k.posted s.homes s.views k.tallied id v at laws is weighs other w apart (sym (set_else s.views id other (joined_view v w) apart) ∙ at_other) weighs' idle idle';
   }
 
-  pub opens : CounterLaws → (y : Home C) → IsPlan parts → HomeAs parts y [] → Tallied HomeAs parts (initial_outcomes (0 ∷ 0 ∷ 0 ∷ []) (y ∷ []) (first_view parts))
+  pub opens : CounterLaws → (y : RunState C) → IsPlan parts → HomeAs parts y [] → Tallied HomeAs parts (opening (0 ∷ 0 ∷ 0 ∷ []) (y ∷ []) (first_view parts))
   opens laws y plan holds = record {
     three_words = refl;
     one_slot = refl;
@@ -312,8 +312,8 @@ module _ {C : Type 0} (HomeAs : Parts → Home C → List Entry → Type 0) (par
     };
   }
 
-  pub completes : CounterLaws → (id : ℕ) (v : PassView) (ws : List ℕ) (xs : List (Home C)) → Final (Seen (Tallied HomeAs parts) id v) ws xs → 0 < v.own.weight → v.own.weight + v.own.spare ≡ parts.seats → v.turn ≡ no_turn
-      → (y : Home C) × (get_elem? xs 0 ≡ maybe.some y) × IsComplete HomeAs parts (get_or ws 0 0) y v
+  pub completes : CounterLaws → (id : ℕ) (v : PassView) (ws : List ℕ) (xs : List (RunState C)) → Final (Seen (Tallied HomeAs parts) id v) ws xs → 0 < v.own.weight → v.own.weight + v.own.spare ≡ parts.seats → v.turn ≡ no_turn
+      → (y : RunState C) × (get_elem? xs 0 ≡ maybe.some y) × IsComplete HomeAs parts (get_or ws 0 0) y v
   completes laws id v ws xs final weighs all idle =
       let s = final.0 in
       let k = final.1.0 in
@@ -330,7 +330,7 @@ module _ {C : Type 0} (HomeAs : Parts → Home C → List Entry → Type 0) (par
       let h = t.home (only is_in_turn refl ∙ none_there) in
       let len : length k.posted ≡ n = sym (length-map k.posted ticket_of) ∙ ap length t.in_order ∙ length-range_with_len 0 n in (
         h.0,
-        final.4 0 h.0 (ap (λ (l : List (maybe.Option (Home C))). get_elem? l 0) h.1),
+        final.4 0 h.0 (ap (λ (l : List (maybe.Option (RunState C))). get_elem? l 0) h.1),
         record {
           plan = t.plan;
           sole = subst (λ (z : List ℕ). IsSole (length parts.todo) (get_or z 0 0) v.own) final.2
@@ -344,14 +344,14 @@ module _ {C : Type 0} (HomeAs : Parts → Home C → List Entry → Type 0) (par
       )
 
   -- a pass in its turn knows the contents of the slot that it reads
-  pub posted_at_home : (t i : ℕ) (me : Mine) (now : Home C) (turn : IsInTurn HomeAs parts t i me) → me.1 ≡ (0, now) ∷ rest me.1 → HomeAs parts now turn.posted
-  posted_at_home t i me now turn is = subst (λ (h : Home C). HomeAs parts h turn.posted) (ap (λ (l : List (ℕ × Home C)). home_in l turn.home) (sym turn.slots ∙ is)) turn.holds
+  pub posted_at_home : (t i : ℕ) (me : Mine) (now : RunState C) (turn : IsInTurn HomeAs parts t i me) → me.1 ≡ (0, now) ∷ rest me.1 → HomeAs parts now turn.posted
+  posted_at_home t i me now turn is = subst (λ (h : RunState C). HomeAs parts h turn.posted) (ap (λ (l : List (ℕ × RunState C)). home_in l turn.home) (sym turn.slots ∙ is)) turn.holds
 
   pub posted_len : (t i : ℕ) (me : Mine) (turn : IsInTurn HomeAs parts t i me) → length turn.posted ≡ t
   posted_len t i me turn = sym (length-map turn.posted ticket_of) ∙ ap length turn.awaits.in_order ∙ length-range_with_len 0 t
 
-  pub carried_now : (t i : ℕ) (me : Mine) (y : Home C) → IsInTurn HomeAs parts t i me → (0, y) ∷ rest me.1 ≡ (0, y) ∷ []
-  carried_now t i me y turn = ap (λ (l : List (ℕ × Home C)). (0, y) ∷ rest l) turn.slots
+  pub carried_now : (t i : ℕ) (me : Mine) (y : RunState C) → IsInTurn HomeAs parts t i me → (0, y) ∷ rest me.1 ≡ (0, y) ∷ []
+  carried_now t i me y turn = ap (λ (l : List (ℕ × RunState C)). (0, y) ∷ rest l) turn.slots
 
   pub begun_turn : (t i : ℕ) (before after : Mine) (v : PassView) → before ≡ (with_turn v (waiting t i), []) → v.parts ≡ Some parts → 0 < v.own.weight → BeginsTurn HomeAs parts t i before after → IsInTurn HomeAs parts t i after
   begun_turn t i before after v was is weighs b = let fixed : after.0.parts ≡ v.parts = ap (λ (u : PassView). u.parts) b.view ∙ ap (λ (m : Mine). m.0.parts) was in
@@ -369,7 +369,7 @@ module _ {C : Type 0} (HomeAs : Parts → Home C → List Entry → Type 0) (par
       }
 
   -- once all is drawn and posted, the posts are the ids of the list, each once
-  pub complete : (drawn : ℕ) (y : Home C) (v : PassView) (k : IsComplete HomeAs parts drawn y v) → v.own.ended ≡ true → HasPostedAll parts v → IsPermutation (ids_of k.posted) parts.todo
+  pub complete : (drawn : ℕ) (y : RunState C) (v : PassView) (k : IsComplete HomeAs parts drawn y v) → v.own.ended ≡ true → HasPostedAll parts v → IsPermutation (ids_of k.posted) parts.todo
   complete drawn y v k is_ended all =
       let todo = parts.todo in
       let limit = length todo in

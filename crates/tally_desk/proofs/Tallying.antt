@@ -14,7 +14,7 @@ use Rattle.claim_counter.specs.declared.record.PassRecord.{PassRecord}
 use Rattle.claim_counter.specs.Records.{AreCounted, with_claim, at_end, with_less_spare, fresh, spent}
 use Rattle.claim_counter.specs.RecordLaws.{Has}
 use Rattle.tally_desk.specs.declared.entry.Entry.{Entry}
-use Rattle.tally_desk.specs.declared.home.Home.{Home}
+use Rattle.tally_desk.specs.declared.state.RunState.{RunState}
 use Rattle.tally_desk.specs.Counter.{CounterLaws}
 use Rattle.tally_desk.specs.Desks.{AwaitsPost, CanPost, FitsDesk, IsInUse, KeepsTally, KnowsPosts, entry_sum, holding, ids_at, claimed_ids, is_in_turn, joined_view, left_view, own_of, posting, right_view, turn_count, waiting_at, with_entry, with_own, with_turn}
 use Rattle.tally_desk.specs.Entries.{post_of, posted_id, ids_of, is_due, ticket_of}
@@ -102,7 +102,7 @@ two_at f none vs i j v u at at' apart = omega (arith, sum_set f vs i v spent_vie
 posting_idle : (v : PassView) → v.turn ≡ no_turn → posting v ≡ ids_of v.entries
 posting_idle v idle = ap (λ (x : Turn). ids_of v.entries ++ turn_ids x) idle ∙ append-nil (ids_of v.entries)
 
-module _ {C : Type 0} (HomeAs : Parts → Home C → List Entry → Type 0) (parts : Parts) (a b c : ℕ) (posted : List Entry) (homes : List (maybe.Option (Home C))) (vs : List PassView)
+module _ {C : Type 0} (HomeAs : Parts → RunState C → List Entry → Type 0) (parts : Parts) (a b c : ℕ) (posted : List Entry) (homes : List (maybe.Option (RunState C))) (vs : List PassView)
     (t : KeepsTally HomeAs parts a b c posted homes vs) where
   pub tickets_bounded : b ≤ length parts.todo
   tickets_bounded =
@@ -215,7 +215,7 @@ module _ {C : Type 0} (HomeAs : Parts → Home C → List Entry → Type 0) (par
     place_drawn place has_it = below_from_once place (min a (length parts.todo))
         (omega (arith, has_it, t.counted.claims place, sum_at (λ (p : PassRecord). times place p.claims) (map own_of vs) id v.own (at_map own_of vs id v at)))
 
-    pub served : (i : ℕ) (l : List Entry) (y : Home C) (saved : Bool) → v.parts ≡ Some parts → 0 < v.own.weight → v.turn ≡ in_turn c i l → l ≡ posted
+    pub served : (i : ℕ) (l : List Entry) (y : RunState C) (saved : Bool) → v.parts ≡ Some parts → 0 < v.own.weight → v.turn ≡ in_turn c i l → l ≡ posted
         → HomeAs parts y (posted ++ post_of c i saved ∷ []) → (saved ≡ true → is_due parts.save_every (post_of c i saved) ≡ true)
         → KeepsTally HomeAs parts a b (c + 1) (posted ++ post_of c i saved ∷ []) (maybe.some y ∷ []) (set vs id (with_entry v (post_of c i saved)))
     served i l y saved is weighs turn knows holds due =

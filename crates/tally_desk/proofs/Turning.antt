@@ -26,7 +26,7 @@ use Rattle.ckpt_store.specs.Laws.{CheckpointsAreOurs, IsNewestForFitJobs, SavedS
 use Rattle.audit_statement.specs.Draw.{draw}
 use Rattle.outcome_book.specs.Booked.{Booked, HasFewVisits}
 use Rattle.tally_desk.specs.declared.entry.Entry.{Entry}
-use Rattle.tally_desk.specs.declared.home.Home.{Home}
+use Rattle.tally_desk.specs.declared.state.RunState.{RunState}
 use Rattle.tally_desk.specs.Entries.{post_of, posted_id, ids_of, is_due, is_missed, saves_made, missed, ticket_of, tickets_of}
 use Rattle.tally_desk.specs.Homes.{HasTurned, IsSound, KeptAs, MayTurn, SlotsAs, booked, made, made_with, attempts, try_made}
 use Rattle.audit_statement.specs.InOrder.{moved, next_place}
@@ -114,7 +114,7 @@ module _ (newest : SavedSlotsAreNewest) (ours : CheckpointsAreOurs) where
 
 -- ---- the turn
 
-module _ {C : Type 0} (state : C → Kept) (lets : Lets) (parts : Parts) (y : Home C) (l : List Entry) (o : Outcome)
+module _ {C : Type 0} (state : C → Kept) (lets : Lets) (parts : Parts) (y : RunState C) (l : List Entry) (o : Outcome)
     (may : MayTurn state lets parts y l o) where
   abbrev next : Bool → List Entry
   next saved = l ++ post_of (length l) o.id saved ∷ []
@@ -159,7 +159,7 @@ module _ {C : Type 0} (state : C → Kept) (lets : Lets) (parts : Parts) (y : Ho
       subst HasFewVisits (sym (may.right ∙ found_is parts.job o.id)) (law parts.job (draw parts.job.setting.key) o.id may.plan.sound)
 
   -- the rest of the proof after the save
-  pub record Done (n : Home C) (saved : Bool) : Type 0 where
+  pub record Done (n : RunState C) (saved : Bool) : Type 0 where
     pub kept : KeptAs state parts n.book n.keeper n.place n.failed_saves (next saved)
     pub due : saved ≡ true → is_due parts.save_every (post_of (length l) o.id saved) ≡ true
     pub posted : n.posted ≡ y.posted
@@ -169,7 +169,7 @@ module _ {C : Type 0} (state : C → Kept) (lets : Lets) (parts : Parts) (y : Ho
     pub save_room : 84 + 80 * total parts.job ≤ length n.room.items + n.room.spare
 
   module _ (b : Booked) (total_kept : b.total ≡ y.book.total) (outcomes_more : b.outcomes ≡ y.book.outcomes ++ o ∷ []) where
-    abbrev m : Home C
+    abbrev m : RunState C
     m = record y { book = b }
 
     book_is : (saved : Bool) → b ≡ record { total = total parts.job; outcomes = booked parts (next saved) }
@@ -232,7 +232,7 @@ module _ {C : Type 0} (state : C → Kept) (lets : Lets) (parts : Parts) (y : Ho
           save_room = may.holds.equipped.save_room;
         }
 
-    module _ (newest : SavedSlotsAreNewest) (ours : CheckpointsAreOurs) (n : Home C) (was_due : (saved : Bool) → is_due parts.save_every (post_of (length l) o.id saved) ≡ true) where
+    module _ (newest : SavedSlotsAreNewest) (ours : CheckpointsAreOurs) (n : RunState C) (was_due : (saved : Bool) → is_due parts.save_every (post_of (length l) o.id saved) ≡ true) where
       -- the state after a save that was due
       rest_done : (saved : Bool) → AttemptedSave state m n saved → KeptAs state parts n.book n.keeper n.place n.failed_saves (next saved) → Done n saved
       rest_done saved attempted kept = record {
@@ -326,18 +326,18 @@ module _ {C : Type 0} (state : C → Kept) (lets : Lets) (parts : Parts) (y : Ho
       attempted_done true attempted = rest_done true attempted (saved_kept attempted)
       attempted_done false attempted = rest_done false attempted (failed_kept attempted)
 
-    pub done : SavedSlotsAreNewest → CheckpointsAreOurs → (n : Home C) (saved : Bool) → SavedWhereDue state (length l + 1) m n saved → Done n saved
+    pub done : SavedSlotsAreNewest → CheckpointsAreOurs → (n : RunState C) (saved : Bool) → SavedWhereDue state (length l + 1) m n saved → Done n saved
     done newest ours n saved s = by (is_due parts.save_every (post_of (length l) o.id false)) refl
       where
         due_by : (d : Bool) → is_due parts.save_every (post_of (length l) o.id false) ≡ d → ((length l + 1) % y.save_every == 0) ≡ d
         due_by d is = ap (λ (k : ℕ). (length l + 1) % k == 0) may.holds.equipped.every ∙ is
 
         by : (d : Bool) → is_due parts.save_every (post_of (length l) o.id false) ≡ d → Done n saved
-        by false not_due = let was = s.undue (due_by false not_due) in subst (λ (x : Home C × Bool). Done x.0 x.1) (λ k. (sym was.1 k, sym was.0 k)) (undone not_due)
+        by false not_due = let was = s.undue (due_by false not_due) in subst (λ (x : RunState C × Bool). Done x.0 x.1) (λ k. (sym was.1 k, sym was.0 k)) (undone not_due)
         by true was_due = attempted_done newest ours n (λ _. was_due) saved (s.due (due_by true was_due))
 
   -- the entry of the outcome was appended
-  pub turned : (n z : Home C) (saved : Bool) → Done n saved → z.posted.items ≡ n.posted.items ++ post_of (length l) o.id saved ∷ []
+  pub turned : (n z : RunState C) (saved : Bool) → Done n saved → z.posted.items ≡ n.posted.items ++ post_of (length l) o.id saved ∷ []
       → vec_capacity z.posted ≡ vec_capacity n.posted → z.book ≡ n.book → z.keeper ≡ n.keeper → z.place ≡ n.place → z.failed_saves ≡ n.failed_saves
       → z.save_every ≡ n.save_every → z.digest ≡ n.digest → z.sorted ≡ n.sorted → z.room ≡ n.room → HasTurned state lets parts z l o saved
   turned n z saved d items capacity book keeper place failed every digest sorted room = record {

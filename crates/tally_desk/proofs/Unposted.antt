@@ -1,6 +1,8 @@
 -- Each claim of a pass is posted or buffered.
-use Rattle.std.proofs.Common.{◌≡◌, ℕ, ◌+◌, ◌<◌, ◌≤◌, All, Bool, true, false, cond, List, [], ◌∷◌, ◌++◌, get_or, length, length-append, nat_lt, refl, ap, subst, sym, ◌∙◌, ⊎_elim, arith, Vec}
-use Rattle.std.specs.Prelude.{if◌then◌else◌}
+use Rattle.std.proofs.Common.{◌≡◌, ℕ, ◌+◌, ◌-◌, ◌*◌, ◌/◌, ◌<◌, ◌≤◌, All, Bool, true, false, cond, List, [], ◌∷◌, ◌++◌, get_or, length, length-append, nat_lt, refl, ap, subst, sym, ◌∙◌, ⊎_elim, arith, Vec}
+use Rattle.std.specs.Prelude.{if◌then◌else◌, max, min, nat_le}
+use Rattle.std.proofs.Math.Nat.{le-max_left, le_trans, min-le_right, mul-div-le}
+use Rattle.std.proofs.lemmas.Nat.{mul-le}
 use Rattle.std.proofs.lemmas.List.{get_or_append_left}
 use Rattle.std.proofs.lemmas.Bool.{cases_lt}
 use Rattle.std.proofs.Math.Seq.{get_or-append_seam}
@@ -20,7 +22,7 @@ use Rattle.tally_desk.specs.Desks.{claimed_ids, ended_view}
 use Rattle.tally_desk.specs.Entries.{post_of, posted_id, ids_of}
 use Rattle.tally_desk.specs.Parts.{Parts}
 use Rattle.tally_desk.specs.Passes.{Belongs, Claims, HasPostedAll, MayPost, Posts, view_of}
-use Rattle.tally_desk.specs.Unposted.{AreRooms, HoldsRest, IsHolding, IsRoomFor, IsRoomWithin, found_id, buffered_ids, buffer_room, holders, room_at}
+use Rattle.tally_desk.specs.Unposted.{AreRooms, HoldsRest, IsHolding, IsRoomFor, IsRoomWithin, found_id, buffered_ids, buffer_room, holders, long_steps, room_at}
 use Rattle.tally_desk.specs.Views.{PassView}
 use Rattle.tally_desk.proofs.Wholes.{claimed_more, same_entries}
 
@@ -99,6 +101,16 @@ pub holds_fewer : (table : TableId) (parts : Parts) (p q : DeskPass) (buffered :
 holds_fewer table parts p q buffered o h belongs posts = record { belongs = belongs; rest = posted_buffered parts (view_of p) (view_of q) buffered o h.rest posts }
 
 -- ---- buffer capacities by place
+
+-- buffers of which each has its share are together no larger than what is shared
+few_if : (long : Bool) (n every : ℕ) → n * (if long then 0 else min 4096 (every / max n 1)) ≤ every
+few_if true n every = omega arith
+few_if false n every =
+    le_trans (mul-le n (min 4096 (every / max n 1)) (max n 1) (every / max n 1) (le-max_left n 1) (min-le_right 4096 (every / max n 1))) (mul-div-le every (max n 1))
+
+-- all buffers together hold fewer outcomes than are posted between two saves
+pub few_held : (s : Setting) (workers : ℕ) → holders workers * buffer_room s workers ≤ s.save_every - 1
+few_held s workers = few_if (nat_le long_steps (max s.steps s.hub_steps)) (holders workers) (s.save_every - 1)
 
 module _ {A : Type 0} (s : Setting) (workers : ℕ) where
   -- an empty list has no buffers

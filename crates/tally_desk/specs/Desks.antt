@@ -8,7 +8,7 @@ use Rattle.atomic_table.specs.Table.{State, Me, Step}
 use Rattle.claim_counter.specs.declared.record.PassRecord.{PassRecord}
 use Rattle.claim_counter.specs.Records.{fresh, with_claim, at_end, with_less_spare, joined_passes, AreCounted, IsSole}
 use Rattle.tally_desk.specs.declared.entry.Entry.{Entry}
-use Rattle.tally_desk.specs.declared.home.Home.{Home}
+use Rattle.tally_desk.specs.declared.state.RunState.{RunState}
 use Rattle.tally_desk.specs.Entries.{ids_of, tickets_of, is_due, post_of}
 use Rattle.tally_desk.specs.Parts.{Parts, IsPlan}
 use Rattle.tally_desk.specs.Views.{PassView, Turn, no_turn, waiting, in_turn, turn_tickets, turn_ids, spent_view}
@@ -71,10 +71,10 @@ FitsDesk parts served posted v = (v ≡ spent_view) ⊎ IsInUse parts served pos
 abbrev pub AreDue : Parts → List Entry → Type 0
 AreDue parts posted = All (λ e. e.saved ≡ true → is_due parts.save_every e ≡ true) posted
 
-module _ {C : Type 0} (HomeAs : Parts → Home C → List Entry → Type 0) where
+module _ {C : Type 0} (HomeAs : Parts → RunState C → List Entry → Type 0) where
   -- `drawn`, `given` and `served` are the words, `posted` has the posts of all passes by rising ticket, and `views`
   -- every view that ever existed
-  pub record KeepsTally (parts : Parts) (drawn given served : ℕ) (posted : List Entry) (homes : List (maybe.Option (Home C))) (views : List PassView) : Type 0 where
+  pub record KeepsTally (parts : Parts) (drawn given served : ℕ) (posted : List Entry) (homes : List (maybe.Option (RunState C))) (views : List PassView) : Type 0 where
     pub plan : IsPlan parts
     -- the draws
     pub counted : AreCounted (length parts.todo) parts.seats drawn (map own_of views)
@@ -89,9 +89,9 @@ module _ {C : Type 0} (HomeAs : Parts → Home C → List Entry → Type 0) wher
     -- the passes
     pub each : (i : ℕ) (v : PassView) → get_elem? views i ≡ maybe.some v → FitsDesk parts served posted v
     -- if no pass is in its turn, the slot is home
-    pub home : sum_by is_in_turn views ≡ 0 → (y : Home C) × (homes ≡ maybe.some y ∷ []) × HomeAs parts y posted
+    pub home : sum_by is_in_turn views ≡ 0 → (y : RunState C) × (homes ≡ maybe.some y ∷ []) × HomeAs parts y posted
 
-  pub record Tallied (parts : Parts) (s : State (Home C) PassView) : Type 0 where
+  pub record Tallied (parts : Parts) (s : State (RunState C) PassView) : Type 0 where
     pub three_words : length s.words ≡ 3
     pub one_slot : length s.homes ≡ 1
     pub posted : List Entry
@@ -151,10 +151,10 @@ pub record AwaitsPost (parts : Parts) (t i : ℕ) (posted : List Entry) : Type 0
 
 module _ {C : Type 0} where
   -- the pass is in its turn and has the slot
-  pub record IsInTurn (HomeAs : Parts → Home C → List Entry → Type 0) (parts : Parts) (t i : ℕ) (me : Me (Home C) PassView) : Type 0 where
+  pub record IsInTurn (HomeAs : Parts → RunState C → List Entry → Type 0) (parts : Parts) (t i : ℕ) (me : Me (RunState C) PassView) : Type 0 where
     pub fixed : me.0.parts ≡ Some parts
     pub weighs : 0 < me.0.own.weight
-    pub home : Home C
+    pub home : RunState C
     pub posted : List Entry
     pub turn : me.0.turn ≡ in_turn t i posted
     pub slots : me.1 ≡ (0, home) ∷ []
@@ -164,19 +164,19 @@ module _ {C : Type 0} where
   -- ---- the effect of the steps
 
   -- the pass takes a ticket for a post of this id
-  pub record TakesTicket (id : ℕ) (st : Step (Home C)) (me : Me (Home C) PassView) (found : ℕ) (me' : Me (Home C) PassView) : Type 0 where
+  pub record TakesTicket (id : ℕ) (st : Step (RunState C)) (me : Me (RunState C) PassView) (found : ℕ) (me' : Me (RunState C) PassView) : Type 0 where
     pub slots : me'.1 ≡ me.1
     pub view : me'.0 ≡ with_turn me.0 (waiting found id)
 
   -- an attempt to take a ticket: it succeeds if the number of tickets given out is the expected one, and otherwise
   -- changes nothing
-  pub record TriesTicket (id : ℕ) (st : Step (Home C)) (me : Me (Home C) PassView) (found : ℕ) (me' : Me (Home C) PassView) : Type 0 where
+  pub record TriesTicket (id : ℕ) (st : Step (RunState C)) (me : Me (RunState C) PassView) (found : ℕ) (me' : Me (RunState C) PassView) : Type 0 where
     pub takes : found ≡ st.first → TakesTicket id st me found me'
     pub misses : found ≢ st.first → me' ≡ me
 
   -- the turn begins: the pass takes the slot
-  pub record BeginsTurn (HomeAs : Parts → Home C → List Entry → Type 0) (parts : Parts) (t i : ℕ) (me me' : Me (Home C) PassView) : Type 0 where
-    pub home : Home C
+  pub record BeginsTurn (HomeAs : Parts → RunState C → List Entry → Type 0) (parts : Parts) (t i : ℕ) (me me' : Me (RunState C) PassView) : Type 0 where
+    pub home : RunState C
     pub posted : List Entry
     pub view : me'.0 ≡ with_turn me.0 (in_turn t i posted)
     pub slots : me'.1 ≡ (0, home) ∷ me.1
@@ -184,17 +184,17 @@ module _ {C : Type 0} where
     pub awaits : AwaitsPost parts t i posted
 
   -- a read of the served ticket, which begins the turn of the pass that waits with it
-  pub record LooksForTurn (HomeAs : Parts → Home C → List Entry → Type 0) (st : Step (Home C)) (me : Me (Home C) PassView) (found : ℕ) (me' : Me (Home C) PassView) : Type 0 where
+  pub record LooksForTurn (HomeAs : Parts → RunState C → List Entry → Type 0) (st : Step (RunState C)) (me : Me (RunState C) PassView) (found : ℕ) (me' : Me (RunState C) PassView) : Type 0 where
     pub waits : (parts : Parts) (t i : ℕ) → me.0.parts ≡ Some parts → me.0.turn ≡ waiting t i → found ≢ t → me' ≡ me
     pub begins : (parts : Parts) (t i : ℕ) → me.0.parts ≡ Some parts → me.0.turn ≡ waiting t i → found ≡ t → BeginsTurn HomeAs parts t i me me'
 
   -- the turn becomes the last entry of the slot's posts, and the slot goes home
-  pub record Serves (st : Step (Home C)) (me : Me (Home C) PassView) (stored : ℕ) (me' : Me (Home C) PassView) : Type 0 where
-    pub slots : (y : ℕ × Home C) → me.1 ≡ y ∷ [] → me'.1 ≡ []
-    pub view : (k : ℕ) (y : Home C) (l : List Entry) (e : Entry) → me.1 ≡ (k, y) ∷ [] → y.posted.items ≡ l ++ e ∷ [] → me'.0 ≡ with_entry me.0 e
+  pub record Serves (st : Step (RunState C)) (me : Me (RunState C) PassView) (stored : ℕ) (me' : Me (RunState C) PassView) : Type 0 where
+    pub slots : (y : ℕ × RunState C) → me.1 ≡ y ∷ [] → me'.1 ≡ []
+    pub view : (k : ℕ) (y : RunState C) (l : List Entry) (e : Entry) → me.1 ≡ (k, y) ∷ [] → y.posted.items ≡ l ++ e ∷ [] → me'.0 ≡ with_entry me.0 e
 
   -- a draw gives a place and an id that the pass did not have, or ends the pass
-  pub record DrawsPlace (st : Step (Home C)) (me : Me (Home C) PassView) (found : ℕ) (me' : Me (Home C) PassView) : Type 0 where
+  pub record DrawsPlace (st : Step (RunState C)) (me : Me (RunState C) PassView) (found : ℕ) (me' : Me (RunState C) PassView) : Type 0 where
     pub slots : me'.1 ≡ me.1
     pub place : (parts : Parts) → me.0.parts ≡ Some parts → found < length parts.todo
         → (me'.0 ≡ with_own me.0 (with_claim found me.0.own)) × (times (slice_index parts.todo found) (claimed_ids parts me.0) ≡ 0)
@@ -202,13 +202,13 @@ module _ {C : Type 0} where
     pub few : (parts : Parts) → me.0.parts ≡ Some parts → length me'.0.own.claims ≤ length parts.todo
 
   -- a read of the draws changes nothing. The pass has at most all seats.
-  pub record SeesSeats (st : Step (Home C)) (me : Me (Home C) PassView) (found : ℕ) (me' : Me (Home C) PassView) : Type 0 where
+  pub record SeesSeats (st : Step (RunState C)) (me : Me (RunState C) PassView) (found : ℕ) (me' : Me (RunState C) PassView) : Type 0 where
     pub same : me' ≡ me
     pub seats : (parts : Parts) → me.0.parts ≡ Some parts → me.0.own.weight + me.0.own.spare ≤ parts.seats
     pub few : me.0.own.weight + me.0.own.spare ≤ 33
 
   -- the pass has a post of this id, and no ticket
-  pub record HasServed (t i : ℕ) (me me' : Me (Home C) PassView) : Type 0 where
+  pub record HasServed (t i : ℕ) (me me' : Me (RunState C) PassView) : Type 0 where
     pub saved : Bool
     pub view : me'.0 ≡ with_entry me.0 (post_of t i saved)
     pub slots : me'.1 ≡ []
@@ -216,7 +216,7 @@ module _ {C : Type 0} where
   -- ---- the end
 
   -- the knowledge of the only pass at the end: all posts are its own
-  pub record IsComplete (HomeAs : Parts → Home C → List Entry → Type 0) (parts : Parts) (drawn : ℕ) (y : Home C) (v : PassView) : Type 0 where
+  pub record IsComplete (HomeAs : Parts → RunState C → List Entry → Type 0) (parts : Parts) (drawn : ℕ) (y : RunState C) (v : PassView) : Type 0 where
     pub plan : IsPlan parts
     pub sole : IsSole (length parts.todo) drawn v.own
     pub posted : List Entry

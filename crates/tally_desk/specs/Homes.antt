@@ -16,7 +16,7 @@ use Rattle.audit_statement.specs.Slots.{newest_for}
 use Rattle.audit_statement.specs.Due.{Lets}
 use Rattle.outcome_book.specs.Booked.{Booked}
 use Rattle.tally_desk.specs.declared.entry.Entry.{Entry}
-use Rattle.tally_desk.specs.declared.home.Home.{Home}
+use Rattle.tally_desk.specs.declared.state.RunState.{RunState}
 use Rattle.tally_desk.specs.Entries.{post_of, ids_of, tickets_of, saves_made, up_to_save, after_save, ends_saved, is_due, missed}
 use Rattle.claim_counter.specs.Walks.{found}
 use Rattle.tally_desk.specs.Desks.{AreDue}
@@ -117,7 +117,7 @@ module _ {C : Type 0} (state : C → Kept) where
 
   -- the remaining fields: the save interval, the job's digest, and capacity for all posts, all outcomes by rising id
   -- and their checkpoint
-  pub record IsEquipped (parts : Parts) (home : Home C) : Type 0 where
+  pub record IsEquipped (parts : Parts) (home : RunState C) : Type 0 where
     pub every : home.save_every ≡ parts.save_every
     pub digest : home.digest ≡ job_digest parts.job
     pub entry_room : length parts.todo ≤ vec_capacity home.posted
@@ -126,7 +126,7 @@ module _ {C : Type 0} (state : C → Kept) where
 
 module _ {C : Type 0} (state : C → Kept) (lets : Lets) where
   -- the contents of the slot after these posts, with a keeper that accepts each due save of the run
-  pub record HomeAs (parts : Parts) (home : Home C) (posted : List Entry) : Type 0 where
+  pub record HomeAs (parts : Parts) (home : RunState C) (posted : List Entry) : Type 0 where
     pub entries : home.posted.items ≡ posted
     pub kept : KeptAs state parts home.book home.keeper home.place home.failed_saves posted
     pub equipped : IsEquipped state parts home
@@ -134,7 +134,7 @@ module _ {C : Type 0} (state : C → Kept) (lets : Lets) where
 
   -- The outcome may be posted after these posts. Their tickets are their places, their ids are different ids to do, and
   -- only those with which a save was due are marked. The outcome is that of an id to do which none of them has.
-  pub record MayTurn (parts : Parts) (home : Home C) (posted : List Entry) (o : Outcome) : Type 0 where
+  pub record MayTurn (parts : Parts) (home : RunState C) (posted : List Entry) (o : Outcome) : Type 0 where
     pub plan : IsPlan parts
     pub holds : HomeAs parts home posted
     pub in_order : tickets_of posted ≡ range_with_len 0 (length posted)
@@ -145,6 +145,6 @@ module _ {C : Type 0} (state : C → Kept) (lets : Lets) where
     pub unposted : times o.id (ids_of posted) ≡ 0
 
   -- the outcome was posted: its entry is the next one, marked only if a save was due
-  pub record HasTurned (parts : Parts) (home : Home C) (posted : List Entry) (o : Outcome) (saved : Bool) : Type 0 where
+  pub record HasTurned (parts : Parts) (home : RunState C) (posted : List Entry) (o : Outcome) (saved : Bool) : Type 0 where
     pub holds : HomeAs parts home (posted ++ post_of (length posted) o.id saved ∷ [])
     pub due : saved ≡ true → is_due parts.save_every (post_of (length posted) o.id saved) ≡ true

@@ -3,7 +3,6 @@ pub mod Pools
 pub mod Desks
 pub mod Entries
 pub mod Founded
-pub mod Furnished
 pub mod Holding
 pub mod Homes
 pub mod InTurn
@@ -12,6 +11,7 @@ pub mod Outlasting
 pub mod Parts
 pub mod Passes
 pub mod RunResult
+pub mod RunStates
 pub mod Righted
 pub mod Rooms
 pub mod Saves

@@ -11,7 +11,7 @@ use Rattle.audit_model.specs.Run.{total}
 use Rattle.audit_model.specs.Times.{times}
 use Rattle.claim_counter.specs.Records.{with_claim}
 use Rattle.tally_desk.specs.declared.entry.Entry.{Entry}
-use Rattle.tally_desk.specs.declared.home.Home.{Home}
+use Rattle.tally_desk.specs.declared.state.RunState.{RunState}
 use Rattle.tally_desk.specs.Desks.{CanPost, Tallied, ended_view, joined_view, left_view, right_view, with_entry, with_own, with_turn}
 use Rattle.tally_desk.specs.Entries.{post_of, ids_of, is_due, saves_made, up_to_save}
 use Rattle.tally_desk.specs.Parts.{Parts}
@@ -48,18 +48,18 @@ abbrev pub post_events : ℕ → Bool → List Event
 post_events place false = Post place ∷ []
 post_events place true = Post place ∷ Save ∷ []
 
-module _ {C : Type 0} (HomeAs : Parts → Home C → List Entry → Type 0) (parts : Parts) where
+module _ {C : Type 0} (HomeAs : Parts → RunState C → List Entry → Type 0) (parts : Parts) where
   -- the machine matches the state of the desk
-  pub record StandsForMachine (s : State (Home C) PassView) (m : Machine) : Type 0 where
+  pub record StandsForMachine (s : State (RunState C) PassView) (m : Machine) : Type 0 where
     pub rule : Tallied HomeAs parts s
     pub is : m ≡ machine_of parts (slice_index s.words 0) rule.posted
 
   -- the state after the words, the slot and the views have changed
-  abbrev pub becomes : List ℕ → List (maybe.Option (Home C)) → List PassView → State (Home C) PassView
+  abbrev pub becomes : List ℕ → List (maybe.Option (RunState C)) → List PassView → State (RunState C) PassView
   becomes words homes views = record { words = words; homes = homes; views = views }
 
   -- The kinds of step of a pass in use after these posts, with the state after each and its events.
-  pub data IsDeskStep (s : State (Home C) PassView) (posted : List Entry) : State (Home C) PassView → List Event → Type 0 where
+  pub data IsDeskStep (s : State (RunState C) PassView) (posted : List Entry) : State (RunState C) PassView → List Event → Type 0 where
     -- a draw of the next place
     claims : (id : ℕ) (v : PassView) → get_elem? s.views id ≡ maybe.some v → v.parts ≡ Some parts → 0 < v.own.weight
         → slice_index s.words 0 < length parts.todo
@@ -79,7 +79,7 @@ module _ {C : Type 0} (HomeAs : Parts → Home C → List Entry → Type 0) (par
         → v.turn ≡ waiting (slice_index s.words 2) i
         → IsDeskStep s posted (becomes s.words (slice_set s.homes 0 maybe.none) (slice_set s.views id (with_turn v (in_turn (slice_index s.words 2) i posted)))) []
     -- the end of a turn: it becomes a post of the id claimed at this place, and the slot goes home
-    serves : (id : ℕ) (v : PassView) (i place : ℕ) (l : List Entry) (y : Home C) (saved : Bool) → get_elem? s.views id ≡ maybe.some v → v.parts ≡ Some parts → 0 < v.own.weight
+    serves : (id : ℕ) (v : PassView) (i place : ℕ) (l : List Entry) (y : RunState C) (saved : Bool) → get_elem? s.views id ≡ maybe.some v → v.parts ≡ Some parts → 0 < v.own.weight
         → v.turn ≡ in_turn (slice_index s.words 2) i l → 0 < times place v.own.claims → i ≡ slice_index parts.todo place
         → HomeAs parts y (l ++ post_of (slice_index s.words 2) i saved ∷ [])
         → (saved ≡ true → is_due parts.save_every (post_of (slice_index s.words 2) i saved) ≡ true)
@@ -95,4 +95,4 @@ module _ {C : Type 0} (HomeAs : Parts → Home C → List Entry → Type 0) (par
 
   -- the law that each step keeps the rule, and takes the matching machine to the machine after its events
   abbrev pub StepsAreEvents : Type 0
-  StepsAreEvents = (s s' : State (Home C) PassView) (events : List Event) (m : Machine) (stands : StandsForMachine s m) → IsDeskStep s stands.rule.posted s' events → StandsForMachine s' (state_after m events)
+  StepsAreEvents = (s s' : State (RunState C) PassView) (events : List Event) (m : Machine) (stands : StandsForMachine s m) → IsDeskStep s stands.rule.posted s' events → StandsForMachine s' (state_after m events)

@@ -12,8 +12,9 @@ use Rattle.audit_statement.specs.Checkpoint.{job_digest}
 use Rattle.audit_model.specs.declared.place.Place.{Place}
 use Rattle.audit_statement.specs.Slots.{place_for}
 use Rattle.audit_statement.specs.Due.{Lets, LetsRun}
-use Rattle.tally_desk.specs.declared.handing.DeskPlan.{DeskPlan}
-use Rattle.outcome_book.specs.Booked.{Booked, IsBook}
+use Rattle.outcome_book.specs.Booked.{IsBook}
+use Rattle.tally_desk.specs.declared.state.RunState.{RunState}
+use Rattle.tally_desk.specs.Rooms.{HasSaveRoom}
 
 -- The job, the outcomes of the book and the ids to do. Then the number of posts between saves, the number of seats, the
 -- place of the first save, and the initial state of the keeper.
@@ -34,16 +35,17 @@ IsPlaceFor job slots place = IfObserved slots (λ p. place_for job (job_digest j
 abbrev pub IsTodoFor : Job → List Outcome → List ℕ → Type 0
 IsTodoFor job initial_outcomes todo = (budget : ℕ) × (todo ≡ run_ids job initial_outcomes budget)
 
--- the requirements on a desk of the job, given the known slots: a plan, ids to do and a book
-pub record MayFound (job : Job) (slots : Option Pair) (plan : DeskPlan) (ids : List ℕ) (b : Booked) : Type 0 where
-  pub digest : plan.digest ≡ job_digest job
-  pub every : 1 ≤ plan.save_every
-  pub slot : plan.place.slot < 2
-  pub generation : plan.place.generation < 3
-  pub place : IsPlaceFor job slots plan.place
-  pub whole : b.total ≡ total job
-  pub fit : All (λ o. IsTrue (fits job o)) b.outcomes
-  pub todo : IsTodoFor job b.outcomes ids
+-- the requirements on a desk of the job, given the known slots: the state of a run, and ids to do
+pub record MayFound {C : Type 0} (job : Job) (slots : Option Pair) (s : RunState C) (ids : List ℕ) : Type 0 where
+  pub digest : s.digest ≡ job_digest job
+  pub every : 1 ≤ s.save_every
+  pub slot : s.place.slot < 2
+  pub generation : s.place.generation < 3
+  pub place : IsPlaceFor job slots s.place
+  pub whole : s.book.total ≡ total job
+  pub fit : All (λ o. IsTrue (fits job o)) s.book.outcomes
+  pub todo : IsTodoFor job s.book.outcomes ids
+  pub room : HasSaveRoom (total job) s.sorted s.room
 
 -- the constants of a desk that meets its requirements
 pub record IsPlan (parts : Parts) : Type 0 where

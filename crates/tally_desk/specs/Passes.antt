@@ -4,14 +4,13 @@ use Rattle.std.specs.List.{range_with_len}
 use Rattle.std.specs.List.Sorted.{IsPermutation}
 use Rattle.atomic_table.specs.Seated.{TableId}
 use Rattle.audit_model.specs.State.{Kept}
-use Rattle.audit_model.specs.declared.place.Place.{Place}
 use Rattle.claim_counter.specs.Records.{with_claim}
-use Rattle.outcome_book.specs.Booked.{Booked}
 use Rattle.tally_desk.specs.declared.entry.Entry.{Entry}
 use Rattle.tally_desk.specs.declared.pass.DeskPass.{DeskPass}
+use Rattle.tally_desk.specs.declared.state.RunState.{RunState}
 use Rattle.tally_desk.specs.Desks.{AreDue, claimed_ids, ended_view, first_view, joined_view, left_view, right_view, with_entry, with_own}
-use Rattle.tally_desk.specs.Entries.{post_of, ends_saved, ids_of, tickets_of}
-use Rattle.tally_desk.specs.Homes.{KeptAs}
+use Rattle.tally_desk.specs.Entries.{post_of, ids_of, tickets_of}
+use Rattle.tally_desk.specs.Homes.{IsEquipped, KeptAs}
 use Rattle.tally_desk.specs.Parts.{IsPlan, Parts}
 use Rattle.tally_desk.specs.Views.{PassView, view_in}
 use Rattle.audit_model.specs.Times.{times}
@@ -48,20 +47,20 @@ pub record Posts (id : ℕ) (before now : PassView) : Type 0 where
 abbrev pub HasPostedAll : Parts → PassView → Type 0
 HasPostedAll parts v = (id : ℕ) → times id (ids_of v.entries) ≡ times id (claimed_ids parts v)
 
--- The result of closing a desk with its only pass, which posted all. `posted` has its posts by rising ticket: one for
--- each id to do, marked only if a save was due. The book and the keeper are those of a desk after these posts.
-pub record IsClosed {C : Type 0} (state : C → Kept) (parts : Parts) (v : PassView)
-    (book : Booked) (keeper : C) (place : Place) (failed : ℕ) (last_saved : Bool) : Type 0 where
+-- The state after a desk is closed with its only pass, which posted all. `posted` has its posts by rising ticket: one
+-- for each id to do, marked only if a save was due. The book and the keeper are those of a desk after these posts.
+pub record IsClosed {C : Type 0} (state : C → Kept) (parts : Parts) (v : PassView) (s : RunState C) : Type 0 where
   pub plan : IsPlan parts
-  pub slot : place.slot < 2
-  pub generation : place.generation < 3
+  pub slot : s.place.slot < 2
+  pub generation : s.place.generation < 3
   pub posted : List Entry
   pub own_posts : IsPermutation v.entries posted
   pub in_order : tickets_of posted ≡ range_with_len 0 (length parts.todo)
   pub all : IsPermutation (ids_of posted) parts.todo
   pub due : AreDue parts posted
-  pub kept : KeptAs state parts book keeper place failed posted
-  pub last : last_saved ≡ ends_saved posted
+  pub kept : KeptAs state parts s.book s.keeper s.place s.failed_saves posted
+  pub entries : s.posted.items ≡ posted
+  pub equipped : IsEquipped state parts s
 
 -- ---- invariants of a pass that posts what it claims
 

@@ -7,18 +7,12 @@ use Rattle.audit_model.specs.declared.outcome.Outcome.{Outcome}
 use Rattle.tally_desk.specs.declared.pass.DeskPass.{DeskPass}
 use Rattle.tally_desk.specs.Parts.{Parts}
 use Rattle.tally_desk.specs.Passes.{Belongs, HasPostedAll, view_of}
+use Rattle.claim_counter.specs.Walkers.{AreWalkers, IsWalker}
 use Rattle.claim_counter.specs.Walks.{IsWithin, ServesEnds}
 use Rattle.flip_kernel.specs.ChainState.{ChainState}
 use Rattle.tally_desk.specs.declared.pool.DeskPool.{DeskPool}
 use Rattle.tally_desk.specs.declared.worker.DeskWorker.{DeskWorker}
 use Rattle.tally_desk.specs.Unposted.{AreRooms, IsHolding, IsRoomWithin, buffer_room, holders}
-
--- a walker of the job, by its current plan
-abbrev pub IsWalker : Job → ChainState → Type 0
-IsWalker job w = w.job ≡ job
-
-abbrev pub AreWalkers : Job → List ChainState → Type 0
-AreWalkers job walkers = All (IsWalker job) walkers
 
 -- `count` walkers of the job, with capacity for as many workers, for the hub, and for the outcome buffers. All buffers
 -- together hold fewer outcomes than are posted between two saves.

@@ -10,10 +10,10 @@ use Rattle.audit_model.specs.Job.{Job}
 use Rattle.audit_model.specs.Run.{total, by_id}
 use Rattle.audit_model.specs.Times.{times}
 use Rattle.audit_statement.specs.Checkpoint.{IsCheckpoint, checkpoint, job_digest}
-use Rattle.audit_model.specs.declared.place.Place.{Place}
 use Rattle.audit_statement.specs.Histories.{AreInTurn}
 use Rattle.outcome_book.specs.Booked.{IsBook}
 use Rattle.tally_desk.specs.declared.entry.Entry.{Entry}
+use Rattle.tally_desk.specs.declared.state.RunState.{RunState}
 use Rattle.tally_desk.specs.Entries.{ids_of}
 use Rattle.audit_model.specs.State.{Kept}
 use Rattle.audit_statement.specs.InOrder.{AreSavesOf, failed_of}
@@ -22,16 +22,16 @@ use Rattle.tally_desk.specs.Homes.{booked}
 use Rattle.tally_desk.specs.InTurn.{IsPartSave, RunSavesInTurn}
 use Rattle.tally_desk.specs.Parts.{IsPlan, Parts}
 
--- the constants of a run's desk
-abbrev pub starts : {C : Type 0} → (C → Kept) → Job → List Outcome → List ℕ → ℕ → ℕ → Place → C → Parts
-starts state job initial_outcomes todo save_every seats place keeper = record {
+-- the constants of a desk that takes over this state
+abbrev pub starts : {C : Type 0} → (C → Kept) → Job → RunState C → List ℕ → ℕ → Parts
+starts state job s todo seats = record {
   job = job;
-  initial_outcomes = initial_outcomes;
+  initial_outcomes = s.book.outcomes;
   todo = todo;
-  save_every = save_every;
+  save_every = s.save_every;
   seats = seats;
-  place = place;
-  keeper = state keeper;
+  place = s.place;
+  keeper = state s.keeper;
 }
 
 -- the result is Ok exactly if no save failed, neither at the desk nor at the end

@@ -10,20 +10,20 @@ use Rattle.audit_statement.specs.Checkpoint.{IsCheckpoint, checkpoint}
 use Rattle.audit_statement.specs.Due.{Lets}
 use Rattle.ckpt_store.specs.Laws.{IsNewestForFitJobs}
 use Rattle.audit_model.specs.Run.{by_id}
-use Rattle.tally_desk.specs.declared.home.Home.{Home}
+use Rattle.tally_desk.specs.declared.state.RunState.{RunState}
 use Rattle.audit_statement.specs.InOrder.{next_place}
 
 module _ {C : Type 0} where
   -- the outcomes of the book by rising id
-  abbrev pub sorted_of : Home C → List Outcome
+  abbrev pub sorted_of : RunState C → List Outcome
   sorted_of home = by_id home.book.total home.book.outcomes
 
   -- the checkpoint of those outcomes for the place
-  abbrev pub bytes_of : Home C → List ℕ
+  abbrev pub bytes_of : RunState C → List ℕ
   bytes_of home = checkpoint 2 home.digest home.place.generation (sorted_of home)
 
   -- the fields that a save leaves unchanged
-  pub record KeepsRest (before now : Home C) : Type 0 where
+  pub record KeepsRest (before now : RunState C) : Type 0 where
     pub book : now.book ≡ before.book
     pub posted : now.posted ≡ before.posted
     pub every : now.save_every ≡ before.save_every
@@ -33,11 +33,11 @@ module _ {C : Type 0} where
 
   module _ (state : C → Kept) where
     -- the keeper accepts a save of the book, which is a checkpoint
-    abbrev pub LetsSave : Lets → Home C → Type 0
+    abbrev pub LetsSave : Lets → RunState C → Type 0
     LetsSave lets home = IsCheckpoint (bytes_of home) 2 home.digest home.place.generation (sorted_of home) → lets (state home.keeper) home.place.slot (bytes_of home)
 
     -- the save succeeded
-    pub record Saved (before now : Home C) : Type 0 where
+    pub record Saved (before now : RunState C) : Type 0 where
       pub place : now.place ≡ next_place before.place
       pub failed : now.failed_saves ≡ before.failed_saves
       pub faults : (state now.keeper).save_faults ≡ (state before.keeper).save_faults
@@ -45,13 +45,13 @@ module _ {C : Type 0} where
       pub newest : IfObserved (state now.keeper).slots (IsNewestForFitJobs before.digest before.place.slot before.place.generation (sorted_of before))
 
     -- the save failed
-    pub record FailedSave (before now : Home C) : Type 0 where
+    pub record FailedSave (before now : RunState C) : Type 0 where
       pub place : now.place ≡ before.place
       pub failed : now.failed_saves ≡ before.failed_saves + 1
       pub rose : Rose (state before.keeper).save_faults (state now.keeper).save_faults
 
     -- a save was attempted
-    pub record AttemptedSave (before now : Home C) (saved : Bool) : Type 0 where
+    pub record AttemptedSave (before now : RunState C) (saved : Bool) : Type 0 where
       pub rest : KeepsRest before now
       pub loads : (state now.keeper).load_faults ≡ (state before.keeper).load_faults
       pub counts : Counts (state before.keeper).save_faults (state now.keeper).save_faults
@@ -62,6 +62,6 @@ module _ {C : Type 0} where
       pub on_err : saved ≡ false → FailedSave before now
 
     -- a save was attempted if it was due after this number of posts, and otherwise nothing was done
-    pub record SavedWhereDue (posts : ℕ) (before now : Home C) (saved : Bool) : Type 0 where
+    pub record SavedWhereDue (posts : ℕ) (before now : RunState C) (saved : Bool) : Type 0 where
       pub undue : (posts % before.save_every == 0) ≡ false → (saved ≡ false) × (now ≡ before)
       pub due : (posts % before.save_every == 0) ≡ true → AttemptedSave before now saved

@@ -1,16 +1,16 @@
 //! The desk: a work queue with a checkpoint writer.
 ghost use Rattle.std.specs.Prelude.{◌≡◌, ◌≤◌};
 
-use crate::counter::counter_laws;
-use crate::handing::{InitialState, Kept, Refused, furnish, hand_over, open};
-use crate::home::Home;
+use crate::handing::{furnish, open};
 use crate::pass::{DeskPass, take_out};
 use crate::rule::{DeskSplit, NextPlace, OneTally, PollTicket, Posting, See, Serve, Take};
+use crate::state::RunState;
 use crate::view::{DeskView, Founding};
 use atomic_table::{Seat, Table};
 use audit_io::keeper::Keeper;
 use audit_model::lists::UnitList;
 use audit_model::outcome::Outcome;
+use claim_counter::walking::has_above;
 use plan_core::job::Job;
 use std::alloc::Global;
 use std::marker::Brand;
@@ -26,7 +26,7 @@ const LONGEST_SLEEP: u64 = 100;
 /// whenever the number of posts is a multiple of `save_every`. Claims are lock-free; only posts wait for each other.
 #[derive(Drop)]
 pub struct Desk<C: Keeper> {
-    pub(crate) table: Table<Home<C>, DeskView, Founding<C>, OneTally<C>, Global>,
+    pub(crate) table: Table<RunState<C>, DeskView, Founding<C>, OneTally<C>, Global>,
     todo: UnitList,
     save_every: u32,
     ghost three_words: { table.shared.table_id.words ≡ 3 },
@@ -36,7 +36,7 @@ pub struct Desk<C: Keeper> {
 }
 
 impl<C: Keeper> Desk<C> {
-    ghost use Rattle.std.specs.Prelude.{◌≡◌, ◌+◌, ◌-◌, ◌^◌, ◌<◌, ◌≤◌, ◌∷◌, [], ◌++◌, ℕ, IsTrue, All, IfOk, IfErr, IfSome, IfNone, true, false, length, vec_len};
+    ghost use Rattle.std.specs.Prelude.{◌≡◌, ◌+◌, ◌-◌, ◌^◌, ◌<◌, ◌≤◌, ◌∷◌, [], ◌++◌, ℕ, IsTrue, All, IfOk, IfErr, IfSome, IfNone, IsFalse, true, false, length, vec_len};
     ghost use Rattle.audit_model.specs.Times.{times};
     ghost use Rattle.claim_counter.specs.Views.{HasAllSeats};
     ghost use Rattle.claim_counter.specs.Walks.{found};
@@ -49,58 +49,45 @@ impl<C: Keeper> Desk<C> {
     ghost use Rattle.tally_desk.specs.RunResult.{starts};
     ghost use Rattle.tally_desk.specs.Views.{waiting};
 
-    /// Makes a desk for at most `seats` passes, and its first pass. The book must have no outcome whose id is in
-    /// `todo`.
+    /// Makes a desk for at most `seats` passes, and its first pass. The desk takes over the state of a run, whose book
+    /// must have no outcome whose id is in `todo`.
     ///
     /// # Errors
     ///
-    /// Out of memory. Nothing was saved, and the book and the keeper are returned.
+    /// Out of memory. Nothing was saved, and the state is returned.
     pub fn new(
         alloc: Global,
         job: &Job,
-        initial_state: InitialState<C>,
+        state: RunState<C>,
+        todo: UnitList,
         seats: u32,
-    ) -> Result<(Desk<C>, DeskPass), Refused<C>>
-        requires found { MayFound job.now (C.state initial_state.keeper).slots initial_state.plan initial_state.todo initial_state.book }
+    ) -> Result<(Desk<C>, DeskPass), RunState<C>>
+        requires found { MayFound job.now (C.state state.keeper).slots state todo }
         requires seats { (1 ≤ seats) × (seats ≤ 33) }
-        requires lets { LetsDesk C.lets (starts C.state job.now initial_state.book.outcomes initial_state.todo initial_state.plan.save_every seats initial_state.plan.place initial_state.keeper) }
-        ensures parts { IfOk result (λ d. parts_of C.state d.0.table.shared.key ≡ record {
-          job = job.now;
-          initial_outcomes = initial_state.book.outcomes;
-          todo = initial_state.todo;
-          save_every = initial_state.plan.save_every;
-          seats = seats;
-          place = initial_state.plan.place;
-          keeper = C.state initial_state.keeper;
-        }) }
+        requires lets { LetsDesk C.lets (starts C.state job.now state todo seats) }
+        ensures parts { IfOk result (λ d. parts_of C.state d.0.table.shared.key ≡ starts C.state job.now state todo seats) }
         ensures pass { IfOk result (λ d. let parts = parts_of C.state d.0.table.shared.key in
             Belongs d.0.table.shared.table_id parts d.1 × (view_of d.1 ≡ first_view parts)) }
-        ensures refused { IfErr result (λ r. (r.book ≡ initial_state.book) × (r.keeper ≡ initial_state.keeper)) }
+        ensures refused { IfErr result (λ r. (r.book ≡ state.book) × (r.keeper ≡ state.keeper)) }
     {
         // Called for their contracts: the job is within its limits, and the book is within its capacity.
         let _units = job.units();
-        let _len = initial_state.book.len();
+        let _len = state.book.len();
         let founding = Founding {
             job: Snapshot::of(job),
-            book: Snapshot::of(&initial_state.book),
-            todo: Snapshot::of(&initial_state.todo),
-            save_every: initial_state.plan.save_every,
+            book: Snapshot::of(&state.book),
+            todo: Snapshot::of(&todo),
+            save_every: state.save_every,
             seats,
-            place: initial_state.plan.place,
-            keeper: Snapshot::of(&initial_state.keeper),
+            place: state.place,
+            keeper: Snapshot::of(&state.keeper),
         };
-        let InitialState {
-            plan,
-            todo,
-            book,
-            keeper,
-        } = initial_state;
-        let save_every = plan.save_every;
-        let home = match furnish(alloc, job, plan, todo.len(), book, keeper) {
-            Ok(home) => home,
+        let save_every = state.save_every;
+        let state = match furnish(alloc, state, todo.len()) {
+            Ok(state) => state,
             Err(refused) => return Err(refused),
         };
-        match open(alloc, home, &founding) {
+        match open(alloc, state, &founding) {
             Ok((table, seat)) => Ok((
                 Desk {
                     table,
@@ -117,6 +104,14 @@ impl<C: Keeper> Desk<C> {
         }
     }
 
+    /// Returns true if the trajectory of an id to do starts from the hub, which is so from `walks` on.
+    pub fn needs_hub(&self, walks: u32) -> bool
+        ensures none { IsFalse result → All (λ id. id < walks) self.now.table.shared.key.todo.value }
+        ensures some { All (λ id. id < walks) self.now.table.shared.key.todo.value → IsFalse result }
+    {
+        has_above(self.todo.as_slice(), walks)
+    }
+
     /// Draws the next place of the list in one atomic step and returns its id. No other pass of this desk ever gets the
     /// same place. Returns `None` if no id was left. The pass has then ended.
     pub fn claim(&self, pass: &mut DeskPass) -> Option<u32>
@@ -127,8 +122,6 @@ impl<C: Keeper> Desk<C> {
         ensures end { IfNone result (view_of pass.new ≡ ended_view (view_of pass.old)) }
         ensures few { length (view_of pass.new).own.claims ≤ length self.now.table.shared.key.todo.value }
     {
-        // Called for their contracts: each kind of draw keeps the rule.
-        counter_laws();
         let mut seat = take_out(&mut pass.badge);
         let drawn = self.table.shared.fetch_add::<NextPlace>(&mut seat, 0, 1);
         pass.badge = seat.into_badge();
@@ -187,7 +180,7 @@ impl<C: Keeper> Desk<C> {
     fn take_ticket<R: Wait, B: Posting>(
         &self,
         rt: &R,
-        seat: &mut Seat<Home<C>, DeskView>,
+        seat: &mut Seat<RunState<C>, DeskView>,
         id: u32,
     ) -> u64
         requires name { B.id ≡ id }
@@ -236,7 +229,7 @@ impl<C: Keeper> Desk<C> {
     }
 
     // Takes a ticket for a post of this id, if none is out.
-    fn try_ticket<B: Posting>(&self, seat: &mut Seat<Home<C>, DeskView>, id: u32) -> Option<u64>
+    fn try_ticket<B: Posting>(&self, seat: &mut Seat<RunState<C>, DeskView>, id: u32) -> Option<u64>
         requires name { B.id ≡ id }
         requires table { seat.old.table_id ≡ self.now.table.shared.table_id }
         requires empty { seat.old.me.1 ≡ [] }
@@ -255,9 +248,15 @@ impl<C: Keeper> Desk<C> {
         if found == served { Some(served) } else { None }
     }
 
-    // Spins until the ticket is served. The pass then owns the table's only slot, with the book, the keeper and the
-    // buffers.
-    fn await_turn<R: Wait>(&self, rt: &R, seat: &mut Seat<Home<C>, DeskView>, ticket: u64, id: u32)
+    // Spins until the ticket is served. The pass then owns the table's only slot, with the state of the
+    // run.
+    fn await_turn<R: Wait>(
+        &self,
+        rt: &R,
+        seat: &mut Seat<RunState<C>, DeskView>,
+        ticket: u64,
+        id: u32,
+    )
         requires table { seat.old.table_id ≡ self.now.table.shared.table_id }
         requires empty { seat.old.me.1 ≡ [] }
         requires waits { IsWaiting (parts_of C.state self.now.table.shared.key) ticket id seat.old.me.0 }
@@ -274,15 +273,15 @@ impl<C: Keeper> Desk<C> {
     }
 
     // Posts the outcome and serves the next ticket.
-    fn serve(&self, seat: &mut Seat<Home<C>, DeskView>, ticket: u64, outcome: Outcome)
+    fn serve(&self, seat: &mut Seat<RunState<C>, DeskView>, ticket: u64, outcome: Outcome)
         requires table { seat.old.table_id ≡ self.now.table.shared.table_id }
         requires right { outcome ≡ found self.now.table.shared.key.job.value outcome.id }
         requires turn { IsInTurn (HomeAs C.state C.lets) (parts_of C.state self.now.table.shared.key) ticket outcome.id seat.old.me }
         ensures table { seat.new.table_id ≡ seat.old.table_id }
         ensures served { HasServed ticket outcome.id seat.old.me seat.new.me }
     {
-        let home = seat.slot_mut(&self.table.shared, 0);
-        home.turn(outcome, self.todo.as_slice());
+        let state = seat.slot_mut(&self.table.shared, 0);
+        state.turn(outcome, self.todo.as_slice());
         self.table.shared.store::<Serve>(seat, 2, ticket + 1);
         self.wake(ticket);
     }
@@ -294,8 +293,6 @@ impl<C: Keeper> Desk<C> {
         ensures rest { Belongs self.now.table.shared.table_id (parts_of C.state self.now.table.shared.key) pass.new × (view_of pass.new ≡ left_view (view_of pass.old)) }
         ensures new { Belongs self.now.table.shared.table_id (parts_of C.state self.now.table.shared.key) result × (view_of result ≡ right_view (view_of pass.old)) }
     {
-        // Called for their contracts: each kind of draw keeps the rule.
-        counter_laws();
         let mut seat = take_out(&mut pass.badge);
         let other = self.table.shared.split_seat::<DeskSplit>(&mut seat);
         pass.badge = seat.into_badge();
@@ -314,8 +311,6 @@ impl<C: Keeper> Desk<C> {
         ensures pass { Belongs self.now.table.shared.table_id (parts_of C.state self.now.table.shared.key) result }
         ensures both { view_of result ≡ joined_view (view_of first) (view_of second) }
     {
-        // Called for their contracts: each kind of draw keeps the rule.
-        counter_laws();
         let DeskPass {
             mut badge,
             spare,
@@ -338,17 +333,15 @@ impl<C: Keeper> Desk<C> {
         }
     }
 
-    /// Closes the desk with its only pass, which must have ended and have posted all its claims.
-    pub fn close(self, pass: DeskPass) -> Kept<C>
+    /// Closes the desk with its only pass, which must have ended and have posted all its claims. Returns the state of
+    /// the run.
+    pub fn close(self, pass: DeskPass) -> RunState<C>
         requires pass { Belongs self.table.shared.table_id (parts_of C.state self.table.shared.key) pass }
         requires only { HasAllSeats (parts_of C.state self.table.shared.key).seats (view_of pass).own }
         requires ended { (view_of pass).own.ended ≡ true }
         requires posted { HasPostedAll (parts_of C.state self.table.shared.key) (view_of pass) }
-        ensures { IsClosed C.state (parts_of C.state self.table.shared.key) (view_of pass)
-            result.book result.keeper result.place result.failed_saves result.last_saved }
+        ensures { IsClosed C.state (parts_of C.state self.table.shared.key) (view_of pass) result }
     {
-        // Called for their contracts: each kind of draw keeps the rule.
-        counter_laws();
         let Desk {
             table,
             todo: _,
@@ -361,8 +354,8 @@ impl<C: Keeper> Desk<C> {
         } = pass;
         let seat = take_out(&mut badge);
         let mut closed = table.close_with(seat);
-        let home = closed.take(0);
+        let state = closed.take(0);
         closed.free();
-        hand_over(home)
+        state
     }
 }

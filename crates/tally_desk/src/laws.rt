@@ -9,7 +9,6 @@ ghost use Rattle.tally_desk.specs.Parts.{Parts};
 ghost use Rattle.tally_desk.specs.Passes.{PostsStayWhole};
 ghost use Rattle.tally_desk.specs.Righted.{SavedOutcomesAreRight};
 
-use crate::counter::counter_laws;
 use audit_io::keeper::Keeper;
 use ckpt_store::laws::{
     checkpoints_are_ours, saved_slots_are_newest, saves_keep_the_newest,
@@ -21,9 +20,7 @@ use ckpt_store::laws::{
 /// it, by the step's events: a claim, a post, or a post and a save.
 pub fn steps_are_events<C: Keeper>()
     ensures { (parts : Parts) → StepsAreEvents (HomeAs C.state C.lets) parts }
-{
-    counter_laws();
-}
+{}
 
 /// Shows that a pass has still posted all its claims after it claims and posts one more, and after two such passes are
 /// joined.

@@ -2,11 +2,9 @@
 //! checkpoints at a fixed interval. Also the run of workers over such a desk, with a last save at its end.
 #![tactic(auto)]
 
-mod counter;
 pub mod desk;
 mod entry;
-pub mod handing;
-mod home;
+mod handing;
 mod hub;
 pub mod laws;
 mod next_save;
@@ -17,14 +15,15 @@ pub mod ran;
 mod rule;
 pub mod run_laws;
 mod saving;
+pub mod state;
 mod view;
 mod walking;
 mod worker;
 
 pub use desk::Desk;
-pub use handing::{DeskPlan, InitialState, Kept, Refused};
 pub use laws::{posts_stay_whole, unfailed_runs_save_in_turn};
 pub use pass::DeskPass;
 pub use pool::{DeskPool, make_pool};
 pub use ran::{RunResult, run_over};
 pub use run_laws::{run_attempts_are_right, saves_hold_parts};
+pub use state::{DeskPlan, RunState};

@@ -2,7 +2,7 @@
 ghost use Rattle.std.specs.Prelude.{◌≡◌, ◌<◌, ◌∷◌, []};
 ghost use Rattle.tally_desk.specs.Views.{no_turn, view_in};
 
-use crate::home::Home;
+use crate::state::RunState;
 use crate::view::DeskView;
 use atomic_table::{Badge, Seat};
 use std::mem;
@@ -40,7 +40,7 @@ impl DeskPass {
 }
 
 // Takes the seat out of a badge and leaves the badge empty.
-pub(crate) fn take_out<C>(badge: &mut Badge<DeskView>) -> Seat<Home<C>, DeskView>
+pub(crate) fn take_out<C>(badge: &mut Badge<DeskView>) -> Seat<RunState<C>, DeskView>
     requires { badge.old.views ≡ view_in badge.old.views ∷ [] }
     ensures table { result.table_id ≡ badge.old.table_id }
     ensures view { result.me ≡ (view_in badge.old.views, []) }

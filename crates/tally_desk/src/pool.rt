@@ -3,12 +3,11 @@
 ghost use Rattle.std.specs.Prelude.{◌≡◌, ◌+◌, ◌-◌, ◌*◌, ◌<◌, ◌≤◌, ◌∷◌, [], ◌++◌, All, IfOk, vec_len};
 ghost use Rattle.tally_desk.specs.Founded.{parts_of};
 ghost use Rattle.tally_desk.specs.Passes.{IsFirstPass};
-ghost use Rattle.tally_desk.specs.Pools.{AreWalkers, IsDeskPool, IsUnstartedAtDesk, MaySeat};
+ghost use Rattle.tally_desk.specs.Pools.{IsDeskPool, IsUnstartedAtDesk, MaySeat};
 ghost use Rattle.tally_desk.specs.Unposted.{AreRooms, buffer_room, holders, room_at};
 ghost use Rattle.walker.specs.Judges.{AreJudges};
 
 use crate::desk::Desk;
-use crate::laws::posts_stay_whole;
 use crate::pass::DeskPass;
 use crate::worker::DeskWorker;
 use audit_io::keeper::Keeper;
@@ -16,16 +15,17 @@ use audit_model::lists::UnitList;
 use audit_model::memory::Memory;
 use audit_model::outcome::Outcome;
 use audit_model::setting::Setting;
-use claim_counter::gated::GatedWalker;
+use claim_counter::workers::{GatedWalker, make_walkers};
 use flip_guard::judge::Judge;
 use plan_core::job::Job;
 use std::alloc::Global;
+use walker::walker::Walker;
 
 /// The workers of a run that saves, and their preallocated buffers: walkers, one outcome buffer per worker, and the
 /// hub.
 #[derive(Drop)]
 pub struct DeskPool<J: Judge> {
-    pub(crate) walkers: Vec<GatedWalker<J>>,
+    pub(crate) walkers: Vec<Walker<J>>,
     pub(crate) workers: Vec<DeskWorker<J>>,
     pub(crate) buffered: Vec<Vec<Outcome>>,
     pub(crate) hub: UnitList,
@@ -50,8 +50,6 @@ pub fn make_pool<J: Judge>(alloc: Global, job: &Job, judges: Vec<J>) -> Result<D
     let room = Vec::with_capacity(alloc, judges.len())?;
     let hub = UnitList::zeros(alloc, job.units() as usize)?;
     let setting = job.setting();
-    // Called for its contract: the workers together buffer few outcomes.
-    let _each = room_each(setting, judges.len());
     let buffered = make_rooms(alloc, setting, judges.len())?;
     let walkers = make_walkers(alloc, job, judges)?;
     Ok(DeskPool {
@@ -110,7 +108,7 @@ fn make_rooms(alloc: Global, setting: &Setting, workers: usize) -> Result<Vec<Ve
 pub(crate) fn seat<C: Keeper, J: Judge>(
     desk: &Desk<C>,
     mut pass: DeskPass,
-    mut walkers: Vec<GatedWalker<J>>,
+    mut walkers: Vec<Walker<J>>,
     mut workers: Vec<DeskWorker<J>>,
     mut lists: Vec<Vec<Outcome>>,
 ) -> Vec<DeskWorker<J>>
@@ -119,8 +117,6 @@ pub(crate) fn seat<C: Keeper, J: Judge>(
     ensures unstarted { All (IsUnstartedAtDesk desk.now.table.shared.table_id (parts_of C.state desk.now.table.shared.key)) result.items }
     ensures count { vec_len result ≡ vec_len walkers }
 {
-    // Called for its contract: a pass that posts what it claims has posted all its claims.
-    posts_stay_whole();
     let Some(last) = walkers.pop() else {
         unreachable!()
     };
@@ -128,14 +124,14 @@ pub(crate) fn seat<C: Keeper, J: Judge>(
         let part = desk.split(&mut pass);
         let buffered = take_last(&mut lists);
         workers.push_reserved(DeskWorker {
-            walker,
+            walker: GatedWalker::new(walker),
             pass: part,
             buffered,
         });
     }
     let buffered = take_last(&mut lists);
     workers.push_reserved(DeskWorker {
-        walker: last,
+        walker: GatedWalker::new(last),
         pass,
         buffered,
     });
@@ -151,21 +147,4 @@ fn take_last(lists: &mut Vec<Vec<Outcome>>) -> Vec<Outcome>
         unreachable!()
     };
     last
-}
-
-// Makes a walker for each constraint.
-fn make_walkers<J: Judge>(
-    alloc: Global,
-    job: &Job,
-    mut judges: Vec<J>,
-) -> Result<Vec<GatedWalker<J>>, Memory>
-    requires judges { AreJudges job.now J.judging judges.items }
-    ensures walkers { IfOk result (λ w. AreWalkers job.now w.items) }
-    ensures count { IfOk result (λ w. vec_len w ≡ vec_len judges) }
-{
-    let mut walkers = Vec::with_capacity(alloc, judges.len())?;
-    while let Some(judge) = judges.pop() {
-        walkers.push_reserved(GatedWalker::new(alloc, job, judge)?);
-    }
-    Ok(walkers)
 }

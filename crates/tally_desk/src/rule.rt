@@ -2,7 +2,7 @@
 
 ghost use Rattle.std.specs.Prelude.{ℕ};
 
-use crate::home::Home;
+use crate::state::RunState;
 use crate::view::{DeskView, Founding};
 use atomic_table::{Join, Play, Split, TableRule};
 use audit_io::keeper::Keeper;
@@ -13,7 +13,7 @@ pub struct OneTally<C> {
     keeper: PhantomData<C>,
 }
 
-impl<C: Keeper> TableRule<Home<C>, DeskView, Founding<C>> for OneTally<C> {
+impl<C: Keeper> TableRule<RunState<C>, DeskView, Founding<C>> for OneTally<C> {
     ghost use Rattle.tally_desk.specs.Desks.{Tallied, first_view};
     ghost use Rattle.tally_desk.specs.Founded.{parts_of};
     ghost use Rattle.tally_desk.specs.Homes.{HomeAs};
@@ -26,7 +26,7 @@ impl<C: Keeper> TableRule<Home<C>, DeskView, Founding<C>> for OneTally<C> {
 /// A draw of the next place.
 pub(crate) struct NextPlace;
 
-impl<C> Play<Home<C>, DeskView> for NextPlace {
+impl<C> Play<RunState<C>, DeskView> for NextPlace {
     ghost use Rattle.tally_desk.specs.Desks.{DrawsPlace};
 
     ghost then = { DrawsPlace };
@@ -46,7 +46,7 @@ pub(crate) struct Take<B> {
     id: PhantomData<B>,
 }
 
-impl<C, B: Posting> Play<Home<C>, DeskView> for Take<B> {
+impl<C, B: Posting> Play<RunState<C>, DeskView> for Take<B> {
     ghost use Rattle.tally_desk.specs.Desks.{TriesTicket};
 
     ghost then = { TriesTicket B.id };
@@ -55,7 +55,7 @@ impl<C, B: Posting> Play<Home<C>, DeskView> for Take<B> {
 /// A read of the ticket that is served.
 pub(crate) struct PollTicket;
 
-impl<C: Keeper> Play<Home<C>, DeskView> for PollTicket {
+impl<C: Keeper> Play<RunState<C>, DeskView> for PollTicket {
     ghost use Rattle.tally_desk.specs.Desks.{LooksForTurn};
     ghost use Rattle.tally_desk.specs.Homes.{HomeAs};
 
@@ -65,7 +65,7 @@ impl<C: Keeper> Play<Home<C>, DeskView> for PollTicket {
 /// The end of a turn.
 pub(crate) struct Serve;
 
-impl<C> Play<Home<C>, DeskView> for Serve {
+impl<C> Play<RunState<C>, DeskView> for Serve {
     ghost use Rattle.tally_desk.specs.Desks.{Serves};
 
     ghost then = { Serves };
@@ -74,7 +74,7 @@ impl<C> Play<Home<C>, DeskView> for Serve {
 /// A read of the number of draws, after two passes are joined.
 pub(crate) struct See;
 
-impl<C> Play<Home<C>, DeskView> for See {
+impl<C> Play<RunState<C>, DeskView> for See {
     ghost use Rattle.tally_desk.specs.Desks.{SeesSeats};
 
     ghost then = { SeesSeats };

@@ -4,46 +4,42 @@ ghost use Rattle.std.specs.Prelude.{◌≡◌, ◌<◌, AllPairs, IsPermutation,
 ghost use Rattle.outcome_book.specs.Booked.{IsBook};
 ghost use Rattle.audit_model.specs.Run.{by_id};
 ghost use Rattle.ckpt_store.specs.Places.{IsPlace};
+ghost use Rattle.tally_desk.specs.Entries.{ends_saved};
 ghost use Rattle.tally_desk.specs.Rooms.{HasSaveRoom};
-ghost use Rattle.tally_desk.specs.Saves.{LetsLastSave, MakesLastSave};
+ghost use Rattle.tally_desk.specs.Saves.{MakesLastSave};
+ghost use Rattle.tally_desk.specs.Saving.{LetsSave};
 
-use crate::handing::Kept;
+use crate::state::RunState;
 use audit_io::keeper::Keeper;
 use audit_io::source::Failed;
-use audit_model::buffers::{Bytes, OutcomeList};
 use ckpt_format::laws::rising_pairs_rise;
 use ckpt_store::save;
 
-/// Fills `sorted` with all outcomes by rising id, and saves their checkpoint unless the last post saved one. Only the
-/// keeper may allocate.
-pub fn save_rest<C: Keeper>(
-    kept: &mut Kept<C>,
-    digest: &[u8; 32],
-    sorted: &mut OutcomeList,
-    room: &mut Bytes,
-) -> Result<(), Failed>
-    requires place { IsPlace kept.old.place }
-    requires room { HasSaveRoom kept.old.book.total sorted.old room.old }
-    requires lets { kept.old.last_saved ≡ false → LetsLastSave C.state C.lets kept.old digest.now }
-    ensures book { IsBook kept.old.book }
-    ensures sorted { sorted.new.items ≡ by_id kept.old.book.total kept.old.book.outcomes }
-    ensures all { IsPermutation kept.old.book.outcomes sorted.new.items }
-    ensures rising { AllPairs (λ a b. a.id < b.id) sorted.new.items }
-    ensures rest { MakesLastSave C.state kept.old kept.new digest.now sorted.new.items result }
+/// Sorts all outcomes by rising id, and saves their checkpoint unless the last post saved one. Only the keeper may
+/// allocate.
+pub fn save_rest<C: Keeper>(state: &mut RunState<C>) -> Result<(), Failed>
+    requires place { IsPlace state.old.place }
+    requires room { HasSaveRoom state.old.book.total state.old.sorted state.old.room }
+    requires lets { ends_saved state.old.posted.items ≡ false → LetsSave C.state C.lets state.old }
+    ensures book { IsBook state.old.book }
+    ensures sorted { state.new.sorted.items ≡ by_id state.old.book.total state.old.book.outcomes }
+    ensures all { IsPermutation state.old.book.outcomes state.new.sorted.items }
+    ensures rising { AllPairs (λ a b. a.id < b.id) state.new.sorted.items }
+    ensures rest { MakesLastSave C.state state.old state.new result }
 {
     // Called for its contract: outcomes by rising id meet the precondition of a checkpoint.
     rising_pairs_rise();
     // Called for its contract: the book is within its capacity.
-    let _count = kept.book.len();
-    kept.book.sorted_into(sorted);
-    if kept.last_saved {
+    let _count = state.book.len();
+    state.book.sorted_into(&mut state.sorted);
+    if state.has_saved_last() {
         return Ok(());
     }
     save::save(
-        &mut kept.keeper,
-        &mut kept.place,
-        digest,
-        sorted.as_slice(),
-        room,
+        &mut state.keeper,
+        &mut state.place,
+        &state.digest,
+        state.sorted.as_slice(),
+        &mut state.room,
     )
 }

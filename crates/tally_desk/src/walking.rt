@@ -6,16 +6,14 @@ ghost use Rattle.tally_desk.specs.Passes.{Belongs, HasPostedAll, view_of};
 ghost use Rattle.tally_desk.specs.Pools.{IsDeskWorkerDone, IsUnstartedAtDesk, WalksAtDesk};
 
 use crate::desk::Desk;
-use crate::laws::posts_stay_whole;
 use crate::pass::DeskPass;
 use crate::worker::DeskWorker;
 use audit_io::gate::Gate;
 use audit_io::keeper::Keeper;
-use claim_counter::runtime::Runtime;
+use claim_counter::workers::{Runtime, run_workers};
 use flip_guard::judge::Judge;
 use plan_core::job::Job;
 use std::sync::Wait;
-use std::thread;
 use std::thread::Threads;
 
 /// Runs each worker in its own thread, if one can be started.
@@ -30,13 +28,11 @@ pub fn walk_each<R: Threads + Wait + Sync, C: Keeper + Send, J: Judge + Send, G:
     requires shared { WalksAtDesk job.now (parts_of C.state desk.now.table.shared.key) hub.now }
     ensures { All (IsDeskWorkerDone desk.now.table.shared.table_id (parts_of C.state desk.now.table.shared.key)) workers.new }
 {
-    let count = workers.len().max(1);
     let threads = rt.threads;
     let gate = rt.gate;
-    thread::for_each_mut(
+    run_workers(
         threads,
         workers,
-        count,
         &|_, worker: &mut DeskWorker<J>|
             requires unstarted { IsUnstartedAtDesk desk.now.table.shared.table_id (parts_of C.state desk.now.table.shared.key) worker.now }
             requires shared { WalksAtDesk job.now (parts_of C.state desk.now.table.shared.key) hub.now }
@@ -54,8 +50,6 @@ pub fn gather<C: Keeper, J: Judge>(desk: &Desk<C>, mut workers: Vec<DeskWorker<J
     ensures seats { (view_of result).own.weight + (view_of result).own.spare ≡ vec_len workers }
     ensures whole { HasPostedAll (parts_of C.state desk.now.table.shared.key) (view_of result) }
 {
-    // Called for its contract: a pass that posts what it claims has posted all its claims.
-    posts_stay_whole();
     let Some(first) = workers.pop() else {
         unreachable!()
     };

@@ -6,7 +6,7 @@ use crate::posting::{hand_in, post_all};
 use audit_io::gate::Gate;
 use audit_io::keeper::Keeper;
 use audit_model::outcome::Outcome;
-use claim_counter::gated::{GatedWalker, StartToken};
+use claim_counter::workers::{GatedWalker, StartToken};
 use flip_guard::judge::Judge;
 use plan_core::job::Job;
 use std::sync::Wait;
@@ -43,8 +43,8 @@ impl<J: Judge> DeskWorker<J> {
         let pass = &mut self.pass;
         let buffered = &mut self.buffered;
         while let Some(id) = desk.claim(pass) {
-            let observed = StartToken::tell(gate, id);
-            let outcome = walker.walk(job, hub, observed);
+            let token = StartToken::tell(gate, id);
+            let outcome = walker.walk(job, hub, token);
             hand_in(rt, desk, pass, buffered, outcome);
         }
         post_all(rt, desk, pass, buffered);

@@ -1,6 +1,6 @@
 //! The pieces of a diagnostic, before they are written.
 
-ghost use Rattle.std.specs.Prelude.{◌≡◌, ◌∷◌, ◌≤◌, decimal, length, map, []};
+ghost use Rattle.std.specs.Prelude.{◌≡◌, ◌∷◌, ◌≤◌, codes, decimal, length, map, []};
 ghost use Rattle.report.specs.Pieces.{piece_text};
 ghost use Rattle.audit_statement.specs.Note as terms;
 
@@ -39,4 +39,16 @@ pub(crate) fn numbered_line<'a>(noun: &'a str, number: u64, words: &'a str) -> L
     ensures { terms.as_line (map piece_text result) ≡ terms.as_line (noun.now ∷ decimal number ∷ words.now ∷ []) }
 {
     line_of(&[Text(noun), Number(number), Text(words)])
+}
+
+/// Makes a diagnostic of a count of finished trajectories out of all.
+pub(crate) fn count_of_line<'a>(done: u32, total: u32) -> Line<'a>
+    ensures { terms.as_line (map piece_text result) ≡ terms.as_line (decimal done ∷ codes " of " ∷ decimal total ∷ codes " done" ∷ []) }
+{
+    line_of(&[
+        Number(u64::from(done)),
+        Text(" of "),
+        Number(u64::from(total)),
+        Text(" done"),
+    ])
 }

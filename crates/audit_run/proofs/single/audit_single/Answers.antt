@@ -1,16 +1,16 @@
 use Rattle.audit_run.proofs.Ending.{ends_for}
 use Rattle.audit_run.proofs.single.audit_single.Goals as goal
 
-pub finish-why-requires-clause-run : goal.finish-why-requires-clause-run
-finish-why-requires-clause-run g c κs within = c.accepted_jobs_are_runs.ensures _ _ c.in-Ok.ensures.accepted.words_are c.in-Ok.ensures.sound
+pub run_command-why-requires-clause-run : goal.run_command-why-requires-clause-run
+run_command-why-requires-clause-run g c κs within = c.accepted_jobs_are_runs.ensures _ _ c.in-Ok.ensures.accepted.words_are c.in-Ok.ensures.sound
 
-pub finish-why-requires-clause-lets : goal.finish-why-requires-clause-lets
-finish-why-requires-clause-lets g c κs within = c.requires.lets _ c.in-Ok.ensures.accepted
+pub run_command-why-requires-clause-lets : goal.run_command-why-requires-clause-lets
+run_command-why-requires-clause-lets g c κs within = c.requires.lets _ c.in-Ok.ensures.accepted
 
 pub returns-in-Ok : goal.returns-in-Ok
 returns-in-Ok g c =
     c.ended_calls_keep_their_promise.ensures _ _ _ _ _ _
-    (ends_for _ _ _ _ _ _ _ (c.finish-why.ensures _ _ _ c.in-Ok.ensures) c.tell-status.ensures.status c.tell-status.ensures.observed)
+    (ends_for _ _ _ _ _ _ _ (c.run_command-why.ensures _ _ _ c.in-Ok.ensures) c.tell-status.ensures.status c.tell-status.ensures.observed)
 
 pub returns-in-Err : goal.returns-in-Err
 returns-in-Err g c =

@@ -1,5 +1,5 @@
 use Rattle.case_runner.specs.Passes.{OwesNothing}
-use Rattle.tally_desk.specs.Pools.{IsWalker}
+use Rattle.claim_counter.specs.Walkers.{IsWalker}
 use Rattle.tally_desk.specs.Founded.{parts_of}
 use Rattle.case_runner.proofs.desks.take_turns.Given as goal
 

@@ -1,6 +1,3 @@
-use Rattle.std.proofs.Common.{◌++◌, ◌∙◌, List, ℕ, ap, map}
-use Rattle.audit_statement.specs.Note.{as_line}
-use Rattle.report.specs.Pieces.{piece_text}
 use Rattle.folder_report.proofs.Texts.{adds_as}
 use Rattle.folder_report.proofs.lines.add_folder_line.Goals as goal
 
@@ -11,16 +8,16 @@ pub returns-in-Nothing : goal.returns-in-Nothing
 returns-in-Nothing g c = adds_as c.add_line-in-Nothing.ensures (rw (c.in-Nothing.is, c.named_pieces-line.ensures))
 
 pub returns-in-OtherJob : goal.returns-in-OtherJob
-returns-in-OtherJob g c = adds_as c.add_line-in-OtherJob.ensures (rw (c.in-OtherJob.is, c.named_pieces-in-OtherJob-line.ensures))
+returns-in-OtherJob g c = adds_as c.add_line-in-OtherJob.ensures (rw (c.in-OtherJob.is, c.named_pieces-line-in-OtherJob.ensures))
 
 pub returns-in-Damaged : goal.returns-in-Damaged
-returns-in-Damaged g c = adds_as c.add_line-in-Damaged.ensures (rw (c.in-Damaged.is, c.named_pieces-in-Damaged-line.ensures))
+returns-in-Damaged g c = adds_as c.add_line-in-Damaged.ensures (rw (c.in-Damaged.is, c.named_pieces-line-in-Damaged.ensures))
 
 pub returns-in-Unread : goal.returns-in-Unread
-returns-in-Unread g c = adds_as c.add_line-in-Unread.ensures (rw (c.in-Unread.is, c.named_pieces-in-Unread-line.ensures))
+returns-in-Unread g c = adds_as c.add_line-in-Unread.ensures (rw (c.in-Unread.is, c.named_pieces-line-in-Unread.ensures))
 
 pub returns-in-Taken : goal.returns-in-Taken
-returns-in-Taken g c = adds_as c.add_line-in-Taken.ensures (rw (c.in-Taken.is, c.named_pieces-in-Taken-line.ensures))
+returns-in-Taken g c = adds_as c.add_line-in-Taken.ensures (rw (c.in-Taken.is, c.named_pieces-line-in-Taken.ensures))
 
 pub returns-in-Differs : goal.returns-in-Differs
 returns-in-Differs g c = adds_as c.add_line-in-Differs.ensures (rw (c.in-Differs.is, c.differing_pieces-line.ensures, c.name_of.ensures))

@@ -20,5 +20,32 @@ returns-in-BadTable g c = rw c.in-BadTable.is (adds_line c.say-in-BadTable.ensur
 pub returns-in-OtherJob : goal.returns-in-OtherJob
 returns-in-OtherJob g c = rw c.in-OtherJob.is c.tell_other.ensures
 
+pub returns-in-TooManyBytes : goal.returns-in-TooManyBytes
+returns-in-TooManyBytes g c = rw c.in-TooManyBytes.is c.say_text.ensures
+
+pub returns-in-BadPlanNamed : goal.returns-in-BadPlanNamed
+returns-in-BadPlanNamed g c = rw c.in-BadPlanNamed.is c.say_named.ensures
+
+pub returns-in-NoMemory : goal.returns-in-NoMemory
+returns-in-NoMemory g c = rw c.in-NoMemory.is c.say_text-in-NoMemory.ensures
+
+pub returns-in-ReadFault : goal.returns-in-ReadFault
+returns-in-ReadFault g c = rw c.in-ReadFault.is c.say_text-in-ReadFault.ensures
+
+pub returns-in-WriteFault : goal.returns-in-WriteFault
+returns-in-WriteFault g c = rw c.in-WriteFault.is c.say_text-in-WriteFault.ensures
+
+pub returns-in-LoadFault : goal.returns-in-LoadFault
+returns-in-LoadFault g c = rw c.in-LoadFault.is c.say_text-in-LoadFault.ensures
+
+pub returns-in-FolderTaken : goal.returns-in-FolderTaken
+returns-in-FolderTaken g c = rw c.in-FolderTaken.is c.say_text-in-FolderTaken.ensures
+
+pub returns-in-Stopped : goal.returns-in-Stopped
+returns-in-Stopped g c = rw c.in-Stopped.is c.tell_stopped.ensures
+
+pub returns-in-Damaged : goal.returns-in-Damaged
+returns-in-Damaged g c = rw c.in-Damaged.is c.tell_damaged.ensures
+
 pub returns-in-SaveFault : goal.returns-in-SaveFault
 returns-in-SaveFault g c = rw c.in-SaveFault.is c.say_text-in-SaveFault.ensures

@@ -3,9 +3,11 @@ use Rattle.std.proofs.lemmas.List.Elements.{All-nil, All-push}
 use Rattle.tally_desk.specs.Founded.{parts_of}
 use Rattle.tally_desk.specs.Passes.{HasPostedAll, view_of}
 use Rattle.tally_desk.specs.Views.{PassView}
-use Rattle.tally_desk.specs.Pools.{IsUnstartedAtDesk, IsWalker}
+use Rattle.claim_counter.specs.Walkers.{IsWalker}
+use Rattle.tally_desk.specs.Pools.{IsUnstartedAtDesk}
 use Rattle.tally_desk.specs.Unposted.{IsRoomWithin, buffer_room}
 use Rattle.tally_desk.proofs.Unposted.{nothing_buffered}
+use Rattle.tally_desk.proofs.Wholes.{posts_stay_whole}
 use Rattle.tally_desk.proofs.pool.seat.Goals as goal
 use Rattle.audit_model.proofs.ListFacts.{popped_last, popped_rest}
 
@@ -22,7 +24,7 @@ loop-walker-init g c =
       going = ap (λ (v : PassView). v.own.ended) first;
       weight = ap (λ (v : PassView). v.own.weight) first;
       spare = let all = ap (λ (v : PassView). v.own.spare) first in omega (arith, all, c.requires.pool.seats_are, left);
-      whole = subst (HasPostedAll parts) (sym first) (c.posts_stay_whole.ensures.first parts);
+      whole = subst (HasPostedAll parts) (sym first) (posts_stay_whole.first parts);
       count = omega (arith, c.args.workers.ok.0, ap length c.requires.pool.blank, left);
       room = c.requires.pool.room;
       lists = omega (arith, c.requires.pool.buffer_count, left);
@@ -42,11 +44,11 @@ loop-walker-preserved g c =
       unstarted = subst (All (IsUnstartedAtDesk table parts)) (sym c.push_reserved.ensures.items)
           (All-push (IsUnstartedAtDesk table parts) c.loop-walker.workers.items _ was.unstarted (record {
             at_desk = record {
-              walks = popped_last (IsWalker parts.job) _ _ c.in-Some-pop.walker was.walkers c.in-Some-pop.ensures.items;
+              walks = subst (IsWalker parts.job) (sym c.new.ensures) (popped_last (IsWalker parts.job) _ _ c.in-Some-pop.walker was.walkers c.in-Some-pop.ensures.items);
               holds = record {
                 belongs = new.0;
                 rest = nothing_buffered parts (view_of c.split-part.result)
-                    (subst (HasPostedAll parts) (sym new.1) (c.posts_stay_whole.ensures.right parts (view_of c.loop-walker.pass)));
+                    (subst (HasPostedAll parts) (sym new.1) (posts_stay_whole.right parts (view_of c.loop-walker.pass)));
               };
               going = ap (λ (v : PassView). v.own.ended) new.1;
               weight = ap (λ (v : PassView). v.own.weight) new.1;
@@ -58,7 +60,7 @@ loop-walker-preserved g c =
       going = ap (λ (v : PassView). v.own.ended) rest.1 ∙ was.going;
       weight = ap (λ (v : PassView). v.own.weight) rest.1 ∙ was.weight;
       spare = omega (arith, ap (λ (v : PassView). v.own.spare) rest.1, was.spare, left);
-      whole = subst (HasPostedAll parts) (sym rest.1) (c.posts_stay_whole.ensures.left parts (view_of c.loop-walker.pass) was.whole);
+      whole = subst (HasPostedAll parts) (sym rest.1) (posts_stay_whole.left parts (view_of c.loop-walker.pass) was.whole);
       count = omega (arith, was.count, left, c.push_reserved.ensures.len);
       room = omega (arith, was.room, c.push_reserved.ensures.capacity);
       lists = omega (arith, was.lists, left, c.take_last-buffered.ensures.len);
@@ -73,7 +75,7 @@ returns-clause-unstarted g c =
     subst (All (IsUnstartedAtDesk table parts)) (sym c.push_reserved-2.ensures.items)
     (All-push (IsUnstartedAtDesk table parts) c.loop-walker.workers.items _ was.unstarted (record {
       at_desk = record {
-        walks = popped_last (IsWalker parts.job) _ _ c.in-Some.last c.requires.pool.walkers_are c.in-Some.ensures.items;
+        walks = subst (IsWalker parts.job) (sym c.new-2.ensures) (popped_last (IsWalker parts.job) _ _ c.in-Some.last c.requires.pool.walkers_are c.in-Some.ensures.items);
         holds = record { belongs = was.pass; rest = nothing_buffered parts (view_of c.loop-walker.pass) was.whole };
         going = was.going;
         weight = was.weight;

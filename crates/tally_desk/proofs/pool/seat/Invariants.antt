@@ -1,7 +1,8 @@
 use Rattle.std.proofs.Common.{◌≡◌, ◌+◌, ◌≤◌, All, vec_capacity, vec_len, false}
 use Rattle.tally_desk.specs.Founded.{parts_of}
 use Rattle.tally_desk.specs.Passes.{Belongs, HasPostedAll, view_of}
-use Rattle.tally_desk.specs.Pools.{AreWalkers, IsUnstartedAtDesk}
+use Rattle.claim_counter.specs.Walkers.{AreWalkers}
+use Rattle.tally_desk.specs.Pools.{IsUnstartedAtDesk}
 use Rattle.tally_desk.specs.Unposted.{IsRoomWithin, buffer_room}
 use Rattle.tally_desk.proofs.pool.seat.Given as goal
 

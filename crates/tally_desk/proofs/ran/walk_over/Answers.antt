@@ -1,14 +1,17 @@
-use Rattle.std.proofs.Common.{◌≡◌, ◌<◌, ℕ, All, List, ap, arith, slice_set, subst, sym, vec_len}
-use Rattle.std.specs.Prelude.{IsFalse}
+use Rattle.std.proofs.Common.{◌≡◌, ℕ, All, ap, arith, slice_set, subst, sym, vec_len}
 use Rattle.std.proofs.lemmas.List.Elements.{All-set}
 use Rattle.audit_model.specs.Job.{Job}
-use Rattle.audit_model.specs.declared.setting.Setting.{Setting}
 use Rattle.tally_desk.specs.Parts.{Parts}
-use Rattle.tally_desk.specs.Pools.{IsWalker}
+use Rattle.claim_counter.specs.Walkers.{IsWalker}
 use Rattle.tally_desk.specs.Unposted.{IsRoomWithin, buffer_room}
 use Rattle.tally_desk.proofs.Unposted.{rooms_within}
-use Rattle.claim_counter.specs.Walks.{IsWithin, ServesEnds}
+use Rattle.claim_counter.specs.Walks.{IsWithin}
 use Rattle.tally_desk.proofs.ran.walk_over.Goals as goal
+
+pub walk_hub-requires-clause-walks : goal.walk_hub-requires-clause-walks
+walk_hub-requires-clause-walks g c =
+    subst (IsWalker c.args.job.now) (sym c.index_mut.ensures.value)
+    (c.requires.pool.walkers_are 0 c.index_mut.result.now (omega (arith, c.requires.workers.0, c.args.pool.walkers.ok.0)))
 
 pub work-requires-clause-pool : goal.work-requires-clause-pool
 work-requires-clause-pool g c κs inside =
@@ -28,12 +31,8 @@ work-requires-clause-pool g c κs inside =
     }
 
 pub work-requires-clause-shared : goal.work-requires-clause-shared
-work-requires-clause-shared g c κs inside =
-    let below : IsFalse c.has_above-needed.result → All (λ id. id < c.args.job.now.setting.walks) c.args.initial_state.todo =
-    λ none. subst (λ (x : Setting × List ℕ). All (λ id. id < x.0.walks) x.1) (λ i. (c.setting.ensures.value i, c.as_slice.ensures i)) (c.has_above-needed.ensures.none none) in
-    let todo = sym (ap (λ (p : Parts). p.todo) c.in-Ok.ensures.parts) in
-    record {
-      same = sym (ap (λ (p : Parts). p.job) c.in-Ok.ensures.parts);
-      within = subst (IsWithin c.args.job.now) todo c.requires.within;
-      hub = subst (λ (x : List ℕ). ServesEnds c.args.job.now x c.walk_hub.new.hub) todo (c.walk_hub.ensures.hub c.args.initial_state.todo below);
-    }
+work-requires-clause-shared g c κs inside = record {
+  same = sym (ap (λ (p : Parts). p.job) c.in-Ok.ensures.parts);
+  within = subst (IsWithin c.args.job.now) (sym (ap (λ (p : Parts). p.todo) c.in-Ok.ensures.parts)) c.requires.within;
+  hub = c.walk_hub.ensures.hub;
+}

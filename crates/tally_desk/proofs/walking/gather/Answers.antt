@@ -4,6 +4,7 @@ use Rattle.tally_desk.specs.Founded.{parts_of}
 use Rattle.tally_desk.specs.Passes.{Belongs, HasPostedAll, view_of}
 use Rattle.tally_desk.specs.Views.{PassView}
 use Rattle.tally_desk.specs.Pools.{IsDeskWorkerDone}
+use Rattle.tally_desk.proofs.Wholes.{posts_stay_whole}
 use Rattle.tally_desk.proofs.walking.gather.Goals as goal
 use Rattle.std.proofs.lemmas.Bool.{and_from}
 use Rattle.audit_model.proofs.ListFacts.{popped_last, popped_rest}
@@ -48,5 +49,5 @@ loop-worker-preserved g c =
           let none : (view_of c.into_pass.result).own.spare ≡ 0 = subst (λ (p : DeskPass). (view_of p).own.spare ≡ 0) back done.spare in
           let left = c.in-Some-pop.ensures.len in
           omega (arith, was.seats, ap (λ (v : PassView). v.own.weight) both, ap (λ (v : PassView). v.own.spare) both, one, none, left);
-      whole = subst (HasPostedAll parts) (sym both) (c.posts_stay_whole.ensures.join parts (view_of c.loop-worker.pass) (view_of c.into_pass.result) was.whole whole);
+      whole = subst (HasPostedAll parts) (sym both) (posts_stay_whole.join parts (view_of c.loop-worker.pass) (view_of c.into_pass.result) was.whole whole);
     }

@@ -6,6 +6,7 @@ use Rattle.tally_desk.specs.Homes.{HomeAs}
 use Rattle.tally_desk.specs.Views.{PassView, view_in}
 use Rattle.tally_desk.proofs.Seating.{drew_end, drew_few, drew_new, drew_place, only_view, still_empty}
 use Rattle.tally_desk.proofs.Steps.{claim}
+use Rattle.tally_desk.proofs.Counting.{counter_laws}
 use Rattle.tally_desk.proofs.desk.Desk.claim.Goals as goal
 use Rattle.audit_model.specs.Times.{times}
 
@@ -16,7 +17,7 @@ fetch_add-drawn-requires g c =
     let live : 0 < c.take_out-seat.result.me.0.own.weight = subst (λ (n : ℕ). 0 < n) (sym (ap (λ m. m.0.own.weight) was)) c.args.pass.now.live in (
       c.take_out-seat.ensures.table ∙ c.requires.pass.of_table,
       search rules,
-      claim (HomeAs g.C.Keeper.state g.C.Keeper.lets) _ c.counter_laws.ensures _ _ _ (ap (λ m. m.0.parts) was ∙ c.requires.pass.of_parts) live (ap (λ m. m.0.own.ended) was ∙ c.requires.before_end),
+      claim (HomeAs g.C.Keeper.state g.C.Keeper.lets) _ counter_laws _ _ _ (ap (λ m. m.0.parts) was ∙ c.requires.pass.of_parts) live (ap (λ m. m.0.own.ended) was ∙ c.requires.before_end),
     )
 
 pub into_badge-requires : goal.into_badge-requires

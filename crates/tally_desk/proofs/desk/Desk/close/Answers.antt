@@ -1,25 +1,25 @@
-use Rattle.std.proofs.Common.{arith, sym, ap, subst, ◌∙◌, ◌≡◌, ◌<◌, ℕ, length, get_or}
+use Rattle.std.proofs.Common.{arith, sym, ap, subst, ◌∙◌, ◌≡◌, ◌<◌, length, get_or}
 use Rattle.std.specs.List.{range_with_len}
 use Rattle.std.specs.Slots.{slots_items}
 use Rattle.std.proofs.lemmas.List.{length-map}
 use Rattle.std.proofs.lemmas.List.Sorted.{length_permutation}
 use Rattle.atomic_table.specs.Table.{Final, Seen}
 use Rattle.audit_model.specs.declared.place.Place.{Place}
-use Rattle.outcome_book.specs.Booked.{Booked}
 use mathlib.Core.Option.{some-injective}
-use Rattle.tally_desk.specs.declared.home.Home.{Home}
+use Rattle.tally_desk.specs.declared.state.RunState.{RunState}
 use Rattle.tally_desk.specs.Desks.{IsComplete, Tallied}
 use Rattle.tally_desk.specs.Founded.{parts_of}
-use Rattle.tally_desk.specs.Homes.{HomeAs, KeptAs}
-use Rattle.tally_desk.specs.Entries.{ends_saved, posted_id, saves_made}
+use Rattle.tally_desk.specs.Homes.{HomeAs}
+use Rattle.tally_desk.specs.Entries.{posted_id, saves_made}
 use Rattle.tally_desk.specs.Views.{PassView, view_in}
 use Rattle.tally_desk.proofs.Permuting.{permutation_from_sums}
 use Rattle.tally_desk.proofs.Slotting.{moved_generation, moved_slot}
 use Rattle.tally_desk.proofs.Steps.{complete, completes}
+use Rattle.tally_desk.proofs.Counting.{counter_laws}
 use Rattle.tally_desk.proofs.desk.Desk.close.Goals as goal
 
-pub take-home-requires : goal.take-home-requires
-take-home-requires g c =
+pub take-state-requires : goal.take-state-requires
+take-state-requires g c =
     let slots = c.close_with-closed.ensures.counts.1 in
     let one = c.args.self.one_slot in
     let full = c.close_with-closed.ensures.values.1 0 (omega arith) (omega arith) in
@@ -31,13 +31,13 @@ returns g c =
     let v = view_in c.args.pass.badge.views in
     let final = subst (λ (u : PassView). Final (Seen (Tallied (HomeAs g.C.Keeper.state g.C.Keeper.lets) parts) c.take_out-seat.result.id u) (slots_items c.close_with-closed.result.words) (slots_items c.close_with-closed.result.slots))
     (ap (λ m. m.0) c.take_out-seat.ensures.view) c.close_with-closed.ensures.values.2 in
-    let s = completes (HomeAs g.C.Keeper.state g.C.Keeper.lets) parts c.counter_laws.ensures c.take_out-seat.result.id v _ _ final c.args.pass.live c.requires.only c.args.pass.idle in
-    let same : s.0 ≡ c.take-home.result = some-injective _ _ (sym s.1 ∙ c.take-home.ensures.value) in
+    let s = completes (HomeAs g.C.Keeper.state g.C.Keeper.lets) parts counter_laws c.take_out-seat.result.id v _ _ final c.args.pass.live c.requires.only c.args.pass.idle in
+    let same : s.0 ≡ c.take-state.result = some-injective _ _ (sym s.1 ∙ c.take-state.ensures.value) in
     let drawn = get_or (slots_items c.close_with-closed.result.words) 0 0 in
-    let k = subst (λ (h : Home g.row.C.Denot). IsComplete (HomeAs g.C.Keeper.state g.C.Keeper.lets) parts drawn h v) same s.2 in
-    let all = complete (HomeAs g.C.Keeper.state g.C.Keeper.lets) parts drawn c.take-home.result v k c.requires.ended c.requires.posted in
+    let k = subst (λ (h : RunState g.row.C.Denot). IsComplete (HomeAs g.C.Keeper.state g.C.Keeper.lets) parts drawn h v) same s.2 in
+    let all = complete (HomeAs g.C.Keeper.state g.C.Keeper.lets) parts drawn c.take-state.result v k c.requires.ended c.requires.posted in
     let count : length k.posted ≡ length parts.todo = sym (length_permutation _ _ all ∙ length-map k.posted posted_id) in
-    let place = c.hand_over.ensures.place ∙ k.holds.kept.place_is in
+    let place = k.holds.kept.place_is in
     record {
       plan = k.plan;
       slot = subst (λ (p : Place). p.slot < 2) (sym place) (moved_slot (saves_made k.posted) parts.place k.plan.slot);
@@ -47,7 +47,7 @@ returns g c =
       in_order = k.in_order ∙ ap (range_with_len 0) count;
       all = all;
       due = k.due;
-      kept = subst (λ (q : Booked × g.row.C.Denot × Place × ℕ). KeptAs g.C.Keeper.state parts q.0 q.1 q.2 q.3 k.posted)
-          (λ j. (sym c.hand_over.ensures.book j, sym c.hand_over.ensures.keeper j, sym c.hand_over.ensures.place j, sym c.hand_over.ensures.failed j)) k.holds.kept;
-      last = c.hand_over.ensures.last ∙ ap ends_saved k.holds.entries;
+      kept = k.holds.kept;
+      entries = k.holds.entries;
+      equipped = k.holds.equipped;
     }

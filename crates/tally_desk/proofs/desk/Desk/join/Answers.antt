@@ -1,6 +1,7 @@
 use Rattle.std.proofs.Common.{rules, sym, ap, subst, ◌∙◌, ◌<◌, ℕ}
 use Rattle.tally_desk.specs.Homes.{HomeAs}
 use Rattle.tally_desk.proofs.Steps.{join, see}
+use Rattle.tally_desk.proofs.Counting.{counter_laws}
 use Rattle.tally_desk.proofs.desk.Desk.join.Goals as goal
 
 pub join_seat-requires : goal.join_seat-requires
@@ -11,7 +12,7 @@ join_seat-requires g c =
       c.take_out-other.ensures.table ∙ c.requires.second.of_table,
       ap (λ m. m.1) was',
       search rules,
-      join (HomeAs g.C.Keeper.state g.C.Keeper.lets) _ c.counter_laws.ensures _ _ _ _ (ap (λ m. m.0.parts) was ∙ c.requires.first.of_parts) (subst (λ (n : ℕ). 0 < n) (sym (ap (λ m. m.0.own.weight) was)) c.args.first.live)
+      join (HomeAs g.C.Keeper.state g.C.Keeper.lets) _ counter_laws _ _ _ _ (ap (λ m. m.0.parts) was ∙ c.requires.first.of_parts) (subst (λ (n : ℕ). 0 < n) (sym (ap (λ m. m.0.own.weight) was)) c.args.first.live)
           (subst (λ (n : ℕ). 0 < n) (sym (ap (λ m. m.0.own.weight) was')) c.args.second.live) (ap (λ m. m.0.turn) was ∙ c.args.first.idle) (ap (λ m. m.0.turn) was' ∙ c.args.second.idle),
     )
 

@@ -1,7 +1,7 @@
 use Rattle.std.proofs.Common.{rules, arith, sym, subst, ap, ◌∙◌, ◌≡◌, ℕ, List, [], ◌∷◌, ◌++◌, length, true}
 use Rattle.atomic_table.specs.Table.{rest}
 use Rattle.std.specs.List.{range_with_len}
-use Rattle.tally_desk.specs.declared.home.Home.{Home}
+use Rattle.tally_desk.specs.declared.state.RunState.{RunState}
 use Rattle.tally_desk.specs.Entries.{post_of, is_due}
 use Rattle.tally_desk.specs.Founded.{parts_of}
 use Rattle.tally_desk.specs.Homes.{HomeAs, MayTurn}
@@ -10,17 +10,17 @@ use Rattle.tally_desk.proofs.Todo.{todo_small}
 use Rattle.tally_desk.proofs.Tallying.{posts_few}
 use Rattle.tally_desk.proofs.desk.Desk.serve.Goals as goal
 
-pub slot_mut-home-requires : goal.slot_mut-home-requires
-slot_mut-home-requires g c = let turn = c.requires.turn in (c.requires.table, (turn.home, turn.slots ∙ ap (λ (l : List (ℕ × Home g.row.C.Denot)). (0, turn.home) ∷ rest l) (sym turn.slots)))
+pub slot_mut-state-requires : goal.slot_mut-state-requires
+slot_mut-state-requires g c = let turn = c.requires.turn in (c.requires.table, (turn.home, turn.slots ∙ ap (λ (l : List (ℕ × RunState g.row.C.Denot)). (0, turn.home) ∷ rest l) (sym turn.slots)))
 
 pub turn-requires : goal.turn-requires
 turn-requires g c =
     let turn = c.requires.turn in
     let parts = parts_of g.C.Keeper.state c.args.self.now.table.shared.key in
     let len = posted_len (HomeAs g.C.Keeper.state g.C.Keeper.lets) parts _ _ _ turn in
-    let may : MayTurn g.C.Keeper.state g.C.Keeper.lets parts c.slot_mut-home.result.now turn.posted c.args.outcome = record {
+    let may : MayTurn g.C.Keeper.state g.C.Keeper.lets parts c.slot_mut-state.result.now turn.posted c.args.outcome = record {
       plan = turn.awaits.plan;
-      holds = posted_at_home (HomeAs g.C.Keeper.state g.C.Keeper.lets) parts _ _ _ _ turn c.slot_mut-home.ensures.value;
+      holds = posted_at_home (HomeAs g.C.Keeper.state g.C.Keeper.lets) parts _ _ _ _ turn c.slot_mut-state.ensures.value;
       in_order = turn.awaits.in_order ∙ ap (range_with_len 0) (sym len);
       of_todo = turn.awaits.of_todo;
       due = turn.awaits.due;
@@ -42,9 +42,9 @@ store-requires g c =
     let turn = c.requires.turn in
     let parts = parts_of g.C.Keeper.state c.args.self.now.table.shared.key in
     let len = posted_len (HomeAs g.C.Keeper.state g.C.Keeper.lets) parts _ _ _ turn in
-    let may : MayTurn g.C.Keeper.state g.C.Keeper.lets parts c.slot_mut-home.result.now turn.posted c.args.outcome = record {
+    let may : MayTurn g.C.Keeper.state g.C.Keeper.lets parts c.slot_mut-state.result.now turn.posted c.args.outcome = record {
       plan = turn.awaits.plan;
-      holds = posted_at_home (HomeAs g.C.Keeper.state g.C.Keeper.lets) parts _ _ _ _ turn c.slot_mut-home.ensures.value;
+      holds = posted_at_home (HomeAs g.C.Keeper.state g.C.Keeper.lets) parts _ _ _ _ turn c.slot_mut-state.ensures.value;
       in_order = turn.awaits.in_order ∙ ap (range_with_len 0) (sym len);
       of_todo = turn.awaits.of_todo;
       due = turn.awaits.due;
@@ -65,10 +65,10 @@ returns-clause-served g c =
     let turn = c.requires.turn in
     let parts = parts_of g.C.Keeper.state c.args.self.now.table.shared.key in
     let len = posted_len (HomeAs g.C.Keeper.state g.C.Keeper.lets) parts _ _ _ turn in
-    let at_home = posted_at_home (HomeAs g.C.Keeper.state g.C.Keeper.lets) parts _ _ _ _ turn c.slot_mut-home.ensures.value in
-    let home_len : length c.slot_mut-home.result.now.posted.items ≡ c.args.ticket = ap length at_home.entries ∙ len in
-    let entries : c.turn.new.self.posted.items ≡ c.slot_mut-home.result.now.posted.items ++ post_of c.args.ticket c.args.outcome.id c.turn.result ∷ [] =
-    c.turn.ensures.entry ∙ ap (λ (t : ℕ). c.slot_mut-home.result.now.posted.items ++ post_of t c.args.outcome.id c.turn.result ∷ []) home_len in
+    let at_home = posted_at_home (HomeAs g.C.Keeper.state g.C.Keeper.lets) parts _ _ _ _ turn c.slot_mut-state.ensures.value in
+    let home_len : length c.slot_mut-state.result.now.posted.items ≡ c.args.ticket = ap length at_home.entries ∙ len in
+    let entries : c.turn.new.self.posted.items ≡ c.slot_mut-state.result.now.posted.items ++ post_of c.args.ticket c.args.outcome.id c.turn.result ∷ [] =
+    c.turn.ensures.entry ∙ ap (λ (t : ℕ). c.slot_mut-state.result.now.posted.items ++ post_of t c.args.outcome.id c.turn.result ∷ []) home_len in
     let served = c.store.ensures.2 in
     record {
       saved = c.turn.result;

@@ -1,0 +1,17 @@
+use Rattle.std.proofs.Common.{List, sym, subst}
+use Rattle.audit_model.specs.declared.outcome.Outcome.{Outcome}
+use Rattle.report.specs.declared.ended.Ended.{Ended}
+use Rattle.audit_statement.specs.Endings.{AreInitialOutcomes}
+use Rattle.audit_laws.specs.Calls.{Finishes}
+use Rattle.audit_run.proofs.run.run_without_saves.Goals as goal
+
+pub returns-in-Ok : goal.returns-in-Ok
+returns-in-Ok g c = λ k opened.
+    let job = c.args.job.now in
+    let out = g.K.Sink.state c.args.out.now in
+    let later = g.K.Sink.state c.run_unsaved.new.out in
+    subst (λ (why : Ended). Finishes job out later k k why) (sym c.ended.ensures)
+    (c.run_unsaved.ensures k (subst (λ (os : List Outcome). AreInitialOutcomes job k.slots os) (sym c.in-Ok.ensures.outcomes) opened))
+
+pub run_unsaved-requires-clause-resources : goal.run_unsaved-requires-clause-resources
+run_unsaved-requires-clause-resources g c κs within = c.in-Ok.ensures.resources

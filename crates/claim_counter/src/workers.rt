@@ -1,0 +1,11 @@
+//! The worker runtime of all runs: the machine's resources, walkers, start tokens and threads.
+
+pub mod gated;
+pub mod runtime;
+pub mod spawn;
+pub mod walkers;
+
+pub use gated::{GatedWalker, StartToken};
+pub use runtime::Runtime;
+pub use spawn::run_workers;
+pub use walkers::make_walkers;

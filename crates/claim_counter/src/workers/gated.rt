@@ -1,0 +1,80 @@
+//! A walker that walks a trajectory only after the gate has learned its id.
+
+ghost use Rattle.std.specs.Prelude.{◌≡◌, ◌+◌, ◌<◌, ◌≤◌};
+ghost use Rattle.audit_statement.specs.Draw.{draw};
+ghost use Rattle.audit_model.specs.Trajectory.{hub as hub_of, outcome};
+
+use audit_io::gate::Gate;
+use audit_model::outcome::Outcome;
+use flip_guard::judge::Judge;
+use plan_core::job::Job;
+use std::marker::Model;
+use walker::walker::Walker;
+
+/// A start token: proof that the gate has learned an id and that nobody has walked the id since. Only `tell` makes one.
+/// It can be neither copied nor dropped.
+pub struct StartToken {
+    id: u32,
+}
+
+impl Model for StartToken {
+    ghost use Rattle.std.specs.Prelude.{ℕ};
+
+    ghost Value = { ℕ };
+
+    ghost view = { λ t. t.id };
+}
+
+impl StartToken {
+    /// Tells the gate that the trajectory with this id is about to start.
+    pub fn tell<G: Gate>(gate: &G, id: u32) -> StartToken
+        ensures { result ≡ id }
+    {
+        gate.before(id);
+        StartToken { id }
+    }
+}
+
+/// A walker that takes a start token for each trajectory.
+#[derive(Drop)]
+pub struct GatedWalker<J: Judge> {
+    walker: Walker<J>,
+}
+
+impl<J: Judge> Model for GatedWalker<J> {
+    ghost use Rattle.flip_kernel.specs.ChainState.{ChainState};
+
+    ghost Value = { ChainState };
+
+    ghost view = { λ w. w.walker };
+}
+
+impl<J: Judge> GatedWalker<J> {
+    /// Gates a walker: from now on, it takes a start token for each trajectory.
+    pub fn new(walker: Walker<J>) -> GatedWalker<J>
+        ensures { result ≡ walker }
+    {
+        GatedWalker { walker }
+    }
+
+    /// Walks the trajectory of the token and returns its outcome. Walks of the outlier test begin at the start plan.
+    /// Endpoint trajectories begin at `hub`, which no other trajectory reads. Allocates nothing.
+    pub fn walk(&mut self, job: &Job, hub: &[u32], token: StartToken) -> Outcome
+        requires made { self.old.job ≡ job.now }
+        requires id { token < job.now.setting.walks + job.now.setting.ends }
+        requires hub { job.now.setting.walks ≤ token → hub.now ≡ hub_of job.now (draw job.now.setting.key) }
+        ensures outcome { result ≡ outcome job.now (draw job.now.setting.key) token }
+        ensures made { self.new.job ≡ job.now }
+    {
+        let StartToken { id } = token;
+        self.walker.walk(job, hub, id)
+    }
+
+    /// Returns the walker, between two walks.
+    pub fn into_walker(self) -> Walker<J>
+        ensures { result ≡ self }
+    {
+        let GatedWalker { walker } = self;
+        walker
+    }
+}

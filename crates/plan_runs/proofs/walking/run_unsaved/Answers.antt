@@ -1,0 +1,11 @@
+use Rattle.std.proofs.Common.{Ok, refl, sym, subst}
+use Rattle.plan_runs.specs.Ending.{SavedBy}
+use Rattle.plan_runs.proofs.walking.run_unsaved.Goals as goal
+
+pub end_run-requires-clause-tellable : goal.end_run-requires-clause-tellable
+end_run-requires-clause-tellable g c = c.walk-found.ensures.tellable
+
+pub returns : goal.returns
+returns g c = λ k opened.
+    let initial_outcomes = c.args.resources.buffers.book.outcomes in
+    c.end_run.ensures initial_outcomes k k opened c.walk-found.ensures (subst (λ b. SavedBy b c.args.job.now initial_outcomes k k (Ok tt)) (sym c.requires.unsaved) (refl, refl))
