@@ -117,19 +117,21 @@ impl FaceCounts {
         }
     }
 
-    /// Updates the counts for a unit that is about to move to another district.
+    /// Updates the counts for a unit that is about to move to another district. `mates` are the
+    /// numbers of its neighbors in its own district and in the other one.
     ///
-    /// It costs one pass over the unit's neighbors and faces, and allocates nothing.
-    pub fn follow(&mut self, table: &FaceTable, leaving: Member, district: u32)
+    /// It costs one pass over the unit's faces, and allocates nothing.
+    pub fn follow(&mut self, table: &FaceTable, leaving: Member, district: u32, mates: (u64, u64))
         requires made { table.now.graph ≡ leaving.graph.now }
         requires home { slice_index leaving.plan.now leaving.unit < length self.old.edges }
         requires district { district < length self.old.edges }
         requires elsewhere { slice_index leaving.plan.now leaving.unit ≢ district }
+        requires home_mates { mates.0 ≡ count_mates leaving.graph.now (in_district leaving.plan.now (slice_index leaving.plan.now leaving.unit)) leaving.unit }
+        requires other_mates { mates.1 ≡ count_mates leaving.graph.now (in_district leaving.plan.now district) leaving.unit }
         requires counts { AreCounts leaving.graph.now table.now.faces (length self.old.edges) leaving.plan.now self.old }
         ensures { AreCounts leaving.entry.graph.now table.now.faces (length self.old.edges) (slice_set leaving.entry.plan.now leaving.entry.unit district) self.new }
     {
         let home = leaving.plan[leaving.unit as usize];
-        let mates = mates_of(leaving, home, district);
         let corners = corners_of(leaving, table, home, district);
         self.lower(home, mates.0, corners.0);
         self.raise(district, mates.1, corners.1);
@@ -189,23 +191,6 @@ fn corners_in(member: Member, table: &FaceTable, district: u32, end: u32) -> u64
     count
 }
 
-/// Counts the neighbors of a unit in one district, and those in another.
-#[inline]
-fn mates_of(member: Member, one: u32, other: u32) -> (u64, u64)
-    ensures one { result.0 ≡ count_mates member.entry.graph.now (in_district member.entry.plan.now one) member.entry.unit }
-    ensures other { result.1 ≡ count_mates member.entry.graph.now (in_district member.entry.plan.now other) member.entry.unit }
-{
-    let plan = member.plan;
-    let mut in_one = 0;
-    let mut in_other = 0;
-    for neighbour in member.graph.neighbours(member.unit) {
-        let district = plan[*neighbour as usize];
-        in_one = with_one(in_one, district == one);
-        in_other = with_one(in_other, district == other);
-    }
-    (in_one, in_other)
-}
-
 /// Counts the faces at a unit whose other units are all in one district, and those for another
 /// district.
 #[inline]
@@ -219,24 +204,30 @@ fn corners_of(member: Member, table: &FaceTable, one: u32, other: u32) -> (u64, 
     let mut in_one = 0;
     let mut in_other = 0;
     for corner in table.at(member.unit) {
-        in_one = with_one(in_one, is_inside(member, *corner, one));
-        in_other = with_one(in_other, is_inside(member, *corner, other));
+        let inside = are_inside(member, *corner, one, other);
+        in_one = with_one(in_one, inside.0);
+        in_other = with_one(in_other, inside.1);
     }
     (in_one, in_other)
 }
 
-/// Returns true if the other units of a face at a unit are all in a district.
+/// Returns if the other units of a face at a unit are all in one district, and if they are all in
+/// another.
+///
+/// Comparing the units with one another first leaves one comparison per district.
 #[inline]
-fn is_inside(member: Member, corner: Corner, district: u32) -> bool
+fn are_inside(member: Member, corner: Corner, one: u32, other: u32) -> (bool, bool)
     requires { IsOnRow member.graph.now (slice_index_or member.graph.now.neighbours member.unit []) corner }
-    ensures { result ≡ is_filled (in_district member.entry.plan.now district) (units_of (slice_index_or member.entry.graph.now.neighbours member.entry.unit []) corner) }
+    ensures one { result.0 ≡ is_filled (in_district member.entry.plan.now one) (units_of (slice_index_or member.entry.graph.now.neighbours member.entry.unit []) corner) }
+    ensures other { result.1 ≡ is_filled (in_district member.entry.plan.now other) (units_of (slice_index_or member.entry.graph.now.neighbours member.entry.unit []) corner) }
 {
     let plan = member.plan;
     let row = member.graph.neighbours(member.unit);
-    (plan[row[corner.one as usize] as usize] == district)
-        & (plan[row[corner.other as usize] as usize] == district)
+    let district = plan[row[corner.one as usize] as usize];
+    let whole = (plan[row[corner.other as usize] as usize] == district)
         & (plan[corner.far as usize] == district)
-        & (plan[corner.further as usize] == district)
+        & (plan[corner.further as usize] == district);
+    (whole & (district == one), whole & (district == other))
 }
 
 #[inline]

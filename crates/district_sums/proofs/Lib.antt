@@ -1,7 +1,6 @@
 pub mod Counting
 pub mod Summing
 pub mod Moving
-pub mod Filling
 pub mod Shifted
 pub mod Walking
 pub mod Standing

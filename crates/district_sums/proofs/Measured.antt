@@ -1,15 +1,14 @@
 -- The total length of cut edges, and its change when one unit moves.
-use Rattle.std.proofs.Common.{◌≡◌, ℕ, zero, suc, ◌+◌, ◌*◌, ◌^◌, ◌<◌, ◌≤◌, Bool, true, false, cond, not, ◌&&◌, ◌||◌, ◌==◌, List, [], ◌∷◌, ◌++◌, length, get_or, take, refl, sym, ap, ◌∙◌, subst, inl, inr, arith, take_all}
+use Rattle.std.proofs.Common.{◌≡◌, ℕ, zero, suc, ◌+◌, ◌*◌, ◌^◌, ◌<◌, ◌≤◌, Bool, true, false, cond, not, ◌&&◌, ◌==◌, List, [], ◌∷◌, ◌++◌, length, get_or, take, refl, sym, ap, ◌∙◌, subst, inl, inr, arith, take_all}
 use Rattle.std.specs.Prelude.{nat_lt}
 use Rattle.std.specs.List.{All, slice_index_or}
 use Rattle.std.proofs.Math.ListN.{set}
-use Rattle.std.proofs.lemmas.Bool.{cases_Bool, cases_eq, cases_lt, cond-false, cond-true, eq-eqb, eqb-true, false_from_ne_true, le-ltb, lt-ltb, ne_eqb, or_cases, or_left, or_right, and_left}
+use Rattle.std.proofs.lemmas.Bool.{cases_Bool, cases_eq, cases_lt, cond-false, cond-true, eq-eqb, le-ltb, lt-ltb, ne_eqb, and_left}
 use Rattle.std.proofs.lemmas.List.{get_or-set_same, get_or-set_other, get_or_past, take_more}
 use Rattle.audit_model.specs.Below.{sum_below}
-use Rattle.audit_model.specs.Graph.{Graph, IsGraph, has, adjacent, count_edges}
+use Rattle.audit_model.specs.Graph.{Graph, IsGraph, has, adjacent}
 use Rattle.audit_model.specs.Length.{AreLengths, arc_at, cut_length, degree, edge_length}
-use Rattle.audit_model.proofs.Lengths.{arc_to, degree_few, length_small, sums_within}
-use Rattle.audit_model.proofs.ListFacts.{at_has}
+use Rattle.audit_model.proofs.Lengths.{arc_to, length_small, sums_within}
 use Rattle.audit_model.proofs.Rows.{IsRising, row_rises}
 use Rattle.dual_graph.proofs.Counting.{sum_below_same}
 use Rattle.district_sums.specs.Following.{length_apart}

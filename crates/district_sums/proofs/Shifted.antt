@@ -1,5 +1,5 @@
 -- The sums, counts and cut edges of a plan after one unit has moved.
-use Rattle.std.proofs.Common.{◌≡◌, ℕ, ◌+◌, ◌*◌, ◌<◌, ◌≤◌, Bool, false, cond, not, ◌&&◌, ◌==◌, List, length, get_or, refl, sym, ap, ◌∙◌, inl, inr, arith}
+use Rattle.std.proofs.Common.{◌≡◌, ℕ, zero, suc, ◌+◌, ◌*◌, ◌<◌, ◌≤◌, Bool, true, false, cond, not, ◌&&◌, ◌==◌, List, length, get_or, refl, sym, ap, ◌∙◌, inl, inr, arith}
 use Rattle.std.proofs.Math.ListN.{set, length-set}
 use Rattle.std.proofs.lemmas.Bool.{cases_eq, eq-eqb, ne_eqb, and_left, cond-true, cond-false}
 use Rattle.std.proofs.lemmas.List.{ext_get_or, get_or-set_same, get_or-set_other}
@@ -7,10 +7,10 @@ use Rattle.audit_model.specs.Below.{count_below, sum_below, map_below}
 use Rattle.audit_model.specs.Graph.{Graph, IsGraph, adjacent}
 use Rattle.audit_model.specs.District.{in_district, district_sum}
 use Rattle.audit_model.specs.Plan.{cut_edges}
-use Rattle.audit_model.proofs.Below.{count_below_same, length-map_below, get_or-map_below}
+use Rattle.audit_model.proofs.Below.{count_below_same, count_below_zero, length-map_below, get_or-map_below}
 use Rattle.audit_model.proofs.ColumnFacts.{part_small}
-use Rattle.district_sums.specs.Following.{apart_of}
-use Rattle.district_sums.proofs.Moving.{sum_below_but_one, count_below_but_one, pairs_but_one}
+use Rattle.district_sums.specs.Following.{count_near}
+use Rattle.district_sums.proofs.Moving.{sum_below_but_one, count_below_more, pairs_but_one}
 
 -- a list of the values below n has length n
 pub places : (n : ℕ) (f : ℕ → ℕ) (xs : List ℕ) → xs ≡ map_below n f → length xs ≡ n
@@ -30,6 +30,28 @@ eqb_turned a b = elim (cases_eq a b) [
   | inl e ↦ eq-eqb a b e ∙ sym (eq-eqb b a (sym e))
   | inr off ↦ ne_eqb a b off ∙ sym (ne_eqb b a (λ e. off (sym e)))
 ]
+
+-- a count splits by a second test
+count_split : (n : ℕ) (p test : ℕ → Bool) → count_below n (λ v. p v && test v) + count_below n (λ v. p v && not (test v)) ≡ count_below n p
+count_split zero p test = omega (arith, count_below_zero (λ v. p v && test v), count_below_zero (λ v. p v && not (test v)), count_below_zero p)
+count_split (suc n) p test =
+    omega (
+      arith,
+      count_split n p test,
+      one (p n) (test n),
+      count_below_more n (λ v. p v && test v),
+      count_below_more n (λ v. p v && not (test v)),
+      count_below_more n p,
+    )
+  where
+    one : (a b : Bool) → cond {A = ℕ} (a && b) 1 0 + cond {A = ℕ} (a && not b) 1 0 ≡ cond {A = ℕ} a 1 0
+    one false b = refl
+    one true false = refl
+    one true true = refl
+
+-- the number of the unit's neighbors in other districts
+abbrev apart_of : Graph → List ℕ → ℕ → ℕ
+apart_of g plan u = count_below g.units (λ v. adjacent g u v && not (get_or plan v 0 == get_or plan u 0))
 
 module _ (plan : List ℕ) (u d : ℕ) (l : u < length plan) where
   -- the plan with the unit in the district
@@ -140,27 +162,8 @@ module _ (plan : List ℕ) (u d : ℕ) (l : u < length plan) where
       ]
 
   module _ (g : Graph) (sound : IsGraph g) (inside : u < g.units) where
-    -- another unit's count changes only through the unit that moves
-    pub shifted_apart : (w : ℕ) → (w ≡ u → ⊥)
-        → apart_of g after w + cond {A = ℕ} (adjacent g u w && not (get_or plan w 0 == get_or plan u 0)) 1 0
-        ≡ apart_of g plan w + cond {A = ℕ} (adjacent g u w && not (get_or plan w 0 == d)) 1 0
-    shifted_apart w off =
-        let test : List ℕ → ℕ → Bool = λ p v. adjacent g w v && not (get_or p v 0 == get_or p w 0) in
-        let but_one = count_below_but_one g.units u (test after) (test plan) inside
-        (λ v under apart. ap (λ (x : ℕ). adjacent g w v && not (x == get_or after w 0)) (elsewhere v apart) ∙ ap (λ (x : ℕ). adjacent g w v && not (get_or plan v 0 == x)) (elsewhere w off)) in
-        let was : test plan u ≡ (adjacent g u w && not (get_or plan w 0 == get_or plan u 0)) =
-        ap (λ b. b && not (get_or plan u 0 == get_or plan w 0)) (sound.symmetric w u) ∙ ap (λ b. adjacent g u w && not b) (eqb_turned (get_or plan u 0) (get_or plan w 0)) in
-        let is : test after u ≡ (adjacent g u w && not (get_or plan w 0 == d)) =
-        ap (λ b. b && not (get_or after u 0 == get_or after w 0)) (sound.symmetric w u)
-        ∙ ap (λ (x : ℕ). adjacent g u w && not (x == get_or after w 0)) here
-        ∙ ap (λ (x : ℕ). adjacent g u w && not (d == x)) (elsewhere w off)
-        ∙ ap (λ b. adjacent g u w && not b) (eqb_turned d (get_or plan w 0)) in
-        let one : cond {A = ℕ} (test plan u) 1 0 ≡ cond {A = ℕ} (adjacent g u w && not (get_or plan w 0 == get_or plan u 0)) 1 0 = ap (λ b. cond {A = ℕ} b 1 0) was in
-        let other : cond {A = ℕ} (test after u) 1 0 ≡ cond {A = ℕ} (adjacent g u w && not (get_or plan w 0 == d)) 1 0 = ap (λ b. cond {A = ℕ} b 1 0) is in
-        omega (arith, but_one, one, other)
-
     -- the unit's own count after the move
-    pub own_apart : apart_of g after u ≡ count_below g.units (λ v. adjacent g u v && not (get_or plan v 0 == d))
+    own_apart : apart_of g after u ≡ count_below g.units (λ v. adjacent g u v && not (get_or plan v 0 == d))
     own_apart = count_below_same g.units (λ v. adjacent g u v && not (get_or after v 0 == get_or after u 0)) (λ v. adjacent g u v && not (get_or plan v 0 == d))
         (λ v under. elim (cases_eq v u) [
           | inl e ↦
@@ -172,7 +175,7 @@ module _ (plan : List ℕ) (u d : ℕ) (l : u < length plan) where
         ])
 
     -- the cut edges change by as much as the unit's own count
-    pub shifted_cut : cut_edges g after + apart_of g plan u ≡ cut_edges g plan + apart_of g after u
+    shifted_cut : cut_edges g after + apart_of g plan u ≡ cut_edges g plan + apart_of g after u
     shifted_cut =
         let cut : List ℕ → ℕ → ℕ → Bool = λ p a b. adjacent g a b && not (get_or p a 0 == get_or p b 0) in
         let turned : (p : List ℕ) (a b : ℕ) → cut p a b ≡ cut p b a = λ p a b.
@@ -188,3 +191,13 @@ module _ (plan : List ℕ) (u d : ℕ) (l : u < length plan) where
           other_none = none plan;
         }) inside in
         omega (arith, but_one, row after, row plan)
+
+    -- a move cuts the edges to the unit's old district, and joins those to its new one
+    pub moved_cut : cut_edges g after + count_near g plan u d ≡ cut_edges g plan + count_near g plan u (get_or plan u 0)
+    moved_cut = omega (
+      arith,
+      shifted_cut,
+      own_apart,
+      count_split g.units (adjacent g u) (in_district plan d),
+      count_split g.units (adjacent g u) (in_district plan (get_or plan u 0)),
+    )

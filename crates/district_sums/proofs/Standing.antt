@@ -8,13 +8,10 @@ use Rattle.audit_model.specs.District.{district_sum}
 use Rattle.audit_model.specs.Length.{cut_length}
 use Rattle.audit_model.specs.Plan.{cut_edges}
 use Rattle.audit_model.specs.Score.{sums_of}
-use Rattle.district_sums.specs.Following.{Following, AreAdded, StandsFor, districts_in, apart_of}
+use Rattle.district_sums.specs.Following.{Following, AreAdded, StandsFor, districts_in}
 use Rattle.district_sums.proofs.Shifted.{places}
 
 module _ (g : Graph) (counts : Counts) (plan : List ℕ) (sums : Following) (stands : StandsFor g counts plan sums) where
-  pub apart_width : length sums.apart ≡ g.units
-  apart_width = places g.units (apart_of g plan) sums.apart stands.apart
-
   pub first_width : length sums.view.first ≡ length sums.view.population
   first_width = places (districts_in sums) (district_sum counts.first plan) sums.view.first (ap (λ (v : SumsView). v.first) stands.view)
 
@@ -32,28 +29,23 @@ pub as_many : (g : Graph) (counts : Counts) (n : ℕ) (plan : List ℕ) (view : 
 as_many g counts n plan view is = places n (district_sum counts.population plan) view.population (ap (λ (v : SumsView). v.population) is)
 
 -- sums computed from scratch stand for their plan
-pub stand_anew : (g : Graph) (counts : Counts) (n : ℕ) (plan : List ℕ) (view : SumsView) (apart : List ℕ) → view ≡ sums_of g counts n plan
-    → apart ≡ map_below g.units (apart_of g plan) → StandsFor g counts plan (record { view = view; apart = apart })
-stand_anew g counts n plan view apart is apart_is = record {
-  view = is ∙ ap (λ (k : ℕ). sums_of g counts k plan) (sym (as_many g counts n plan view is));
-  apart = apart_is;
-}
+pub stand_anew : (g : Graph) (counts : Counts) (n : ℕ) (plan : List ℕ) (view : SumsView) → view ≡ sums_of g counts n plan
+    → StandsFor g counts plan (record { view = view })
+stand_anew g counts n plan view is = record { view = is ∙ ap (λ (k : ℕ). sums_of g counts k plan) (sym (as_many g counts n plan view is)) }
 
 abbrev view_of : List ℕ → List ℕ → List ℕ → ℕ → ℕ → SumsView
 view_of population first second cut long = record { population = population; first = first; second = second; cut = cut; length = long }
 
 -- updated parts stand for the plan
-pub all_stand : (g : Graph) (counts : Counts) (n : ℕ) (plan : List ℕ) (view : SumsView) (cut : ℕ) (apart : List ℕ) → AreAdded counts n plan view
-    → cut ≡ cut_edges g plan → view.length ≡ cut_length g counts.lengths plan → apart ≡ map_below g.units (apart_of g plan)
-    → StandsFor g counts plan (record { view = record view { cut = cut }; apart = apart })
-all_stand g counts n plan view cut apart added cut_is long_is apart_is =
+pub all_stand : (g : Graph) (counts : Counts) (n : ℕ) (plan : List ℕ) (view : SumsView) → AreAdded counts n plan view
+    → view.cut ≡ cut_edges g plan → view.length ≡ cut_length g counts.lengths plan → StandsFor g counts plan (record { view = view })
+all_stand g counts n plan view added cut_is long_is =
     let population : List ℕ = map_below n (district_sum counts.population plan) in
     let first : List ℕ = map_below n (district_sum counts.first plan) in
     let second : List ℕ = map_below n (district_sum counts.second plan) in
-    stand_anew g counts n plan (record view { cut = cut }) apart
-    (ap (λ (x : List ℕ). view_of x view.first view.second cut view.length) added.population
-    ∙ ap (λ (x : List ℕ). view_of population x view.second cut view.length) added.first
-    ∙ ap (λ (x : List ℕ). view_of population first x cut view.length) added.second
+    stand_anew g counts n plan view
+    (ap (λ (x : List ℕ). view_of x view.first view.second view.cut view.length) added.population
+    ∙ ap (λ (x : List ℕ). view_of population x view.second view.cut view.length) added.first
+    ∙ ap (λ (x : List ℕ). view_of population first x view.cut view.length) added.second
     ∙ ap (λ (x : ℕ). view_of population first second x view.length) cut_is
     ∙ ap (λ (x : ℕ). view_of population first second (cut_edges g plan) x) long_is)
-    apart_is

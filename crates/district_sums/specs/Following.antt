@@ -6,17 +6,16 @@ use Rattle.audit_model.specs.Below.{count_below, map_below, sum_below}
 use Rattle.audit_model.specs.Graph.{Graph, adjacent}
 use Rattle.audit_model.specs.Length.{AreLengths, edge_length}
 use Rattle.audit_model.specs.Limits.{IsColumn}
-use Rattle.audit_model.specs.District.{district_sum}
+use Rattle.audit_model.specs.District.{in_district, district_sum}
 use Rattle.audit_model.specs.Score.{sums_of}
 
--- the sums of the districts and, for each unit, the number of its neighbors in other districts
+-- the sums of the districts
 pub record Following : Type 0 where
   pub view : SumsView
-  pub apart : List ℕ
 
--- the number of the unit's neighbors in other districts
-abbrev pub apart_of : Graph → List ℕ → ℕ → ℕ
-apart_of g plan u = count_below g.units (λ v. adjacent g u v && not (slice_index plan v == slice_index plan u))
+-- the number of the unit's neighbors in the district
+abbrev pub count_near : Graph → List ℕ → ℕ → ℕ → ℕ
+count_near g plan unit district = count_below g.units (λ v. adjacent g unit v && in_district plan district v)
 
 -- the number of districts
 abbrev pub districts_in : Following → ℕ
@@ -34,10 +33,9 @@ pub record AreAdded (counts : Counts) (districts : ℕ) (plan : List ℕ) (view 
   pub first : view.first ≡ map_below districts (district_sum counts.first plan)
   pub second : view.second ≡ map_below districts (district_sum counts.second plan)
 
--- the sums and the counts of neighbors are those of the plan
+-- the sums are those of the plan
 pub record StandsFor (g : Graph) (counts : Counts) (plan : List ℕ) (sums : Following) : Type 0 where
   pub view : sums.view ≡ sums_of g counts (districts_in sums) plan
-  pub apart : sums.apart ≡ map_below g.units (apart_of g plan)
 
 -- the sums are those of some plan
 abbrev pub StandsForSome : Graph → Counts → Following → Type 0

@@ -2,6 +2,7 @@
 #![tactic(auto)]
 
 pub mod lengths;
+pub mod mates;
 pub mod scratch;
 mod shifting;
 pub mod sums;

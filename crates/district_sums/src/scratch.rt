@@ -6,11 +6,11 @@ ghost use Rattle.audit_model.specs.Graph.{adjacent};
 ghost use Rattle.audit_model.specs.District.{district_sum};
 ghost use Rattle.audit_model.specs.Plan.{cut_edges};
 ghost use Rattle.audit_model.specs.Score.{sums_of};
-ghost use Rattle.district_sums.specs.Following.{AreInputs, apart_of};
+ghost use Rattle.district_sums.specs.Following.{AreInputs};
 ghost use Rattle.audit_model.specs.Limits.{IsColumn, most_units};
 
 use crate::lengths::measure_cut;
-use audit_model::lists::{NumList, UnitList};
+use audit_model::lists::NumList;
 use audit_model::outcome::{Counts, SumsView};
 use dual_graph::graph::Graph;
 use dual_graph::member::Member;
@@ -79,24 +79,4 @@ fn others_below(member: Member, bound: u32) -> u32
         }
     }
     others as u32
-}
-
-/// Writes, for each unit, the number of its neighbors in other districts.
-fn count_apart(graph: &Graph, plan: &[u32], apart: &mut [u32])
-    requires plan { length plan.now ≡ graph.now.units }
-    requires width { length apart.old ≡ graph.now.units }
-    ensures { apart.new ≡ map_below graph.now.units (apart_of graph.now plan.now) }
-{
-    let units = graph.units();
-    for unit in 0..units {
-        apart[unit as usize] = others_below(Member { graph, plan, unit }, units);
-    }
-}
-
-pub(crate) fn refill_apart(graph: &Graph, plan: &[u32], apart: &mut UnitList)
-    requires plan { length plan.now ≡ graph.now.units }
-    requires width { length apart.old ≡ graph.now.units }
-    ensures { apart.new ≡ map_below graph.now.units (apart_of graph.now plan.now) }
-{
-    count_apart(graph, plan, apart.as_mut_slice());
 }

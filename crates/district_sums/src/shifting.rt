@@ -1,13 +1,13 @@
 //! Changes to the sums when one unit moves.
 
-ghost use Rattle.std.specs.Prelude.{◌≡◌, ◌≢◌, ℕ, ◌+◌, ◌^◌, ◌<◌, ◌≤◌, ◌==◌, ◌&&◌, not, cond, IsTrue, length, slice_index, slice_set, All};
-ghost use Rattle.audit_model.specs.Below.{count_below, map_below};
-ghost use Rattle.audit_model.specs.Graph.{adjacent};
-ghost use Rattle.audit_model.specs.Limits.{IsColumn, most_units, most_people};
+ghost use Rattle.std.specs.Prelude.{◌≡◌, ◌≢◌, ◌+◌, ◌^◌, ◌<◌, ◌≤◌, length, slice_index, slice_set, All};
+ghost use Rattle.audit_model.specs.Below.{map_below};
+ghost use Rattle.audit_model.specs.Limits.{IsColumn, most_people};
 ghost use Rattle.audit_model.specs.District.{district_sum};
-ghost use Rattle.district_sums.specs.Following.{AreAdded, AreInputs, MovesWithin, apart_of};
+ghost use Rattle.audit_model.specs.Plan.{cut_edges};
+ghost use Rattle.district_sums.specs.Following.{AreAdded, AreInputs, MovesWithin, count_near};
 
-use audit_model::lists::{NumList, UnitList};
+use audit_model::lists::NumList;
 use audit_model::outcome::{Counts, SumsView};
 use dual_graph::member::Member;
 
@@ -25,19 +25,16 @@ pub(crate) fn shift_counts(counts: &Counts, member: Member, district: u32, view:
     shift_list(&counts.second, member, district, &mut view.second);
 }
 
-/// Counts the neighbors of a unit that are not in `district`.
+/// Returns the number of cut edges after a move, from the number before it. `mates` are the numbers
+/// of the unit's neighbors in its own district and in the other one.
 #[inline]
-pub(crate) fn others_than(member: Member, district: u32) -> u32
-    ensures { result ≡ count_below member.entry.graph.now.units (λ v. adjacent member.entry.graph.now member.entry.unit v && not (slice_index member.entry.plan.now v == district)) }
+pub(crate) fn cut_with(member: Member, before: u32, district: u32, mates: (u64, u64)) -> u32
+    requires before { before ≡ cut_edges member.graph.now member.plan.now }
+    requires home_mates { mates.0 ≡ count_near member.graph.now member.plan.now member.unit (slice_index member.plan.now member.unit) }
+    requires other_mates { mates.1 ≡ count_near member.graph.now member.plan.now member.unit district }
+    ensures { result ≡ cut_edges member.entry.graph.now (slice_set member.entry.plan.now member.entry.unit district) }
 {
-    let plan = member.plan;
-    let mut others = 0usize;
-    for other in member.graph.neighbours(member.unit) {
-        if plan[*other as usize] != district {
-            others += 1;
-        }
-    }
-    others as u32
+    (u64::from(before) + mates.0 - mates.1) as u32
 }
 
 /// Moves a unit's entry of a column from its district's sum to another district's sum.
@@ -59,51 +56,4 @@ fn shift_list(column: &NumList, member: Member, district: u32, sums: &mut NumLis
     ensures { sums.new ≡ map_below (length sums.old) (district_sum column.now (slice_set member.entry.plan.now member.entry.unit district)) }
 {
     shift_column(column.as_slice(), member, district, sums.as_mut_slice());
-}
-
-#[inline]
-fn with_one(count: u32, counts: bool) -> u32
-    requires few { count ≤ most_units }
-    ensures { result ≡ count + cond counts 1 0 }
-{
-    if counts { count + 1 } else { count }
-}
-
-/// Updates a count for one neighbor, which `counted` before and `counts` now.
-#[inline]
-fn count_after(count: u32, counted: bool, counts: bool) -> u32
-    requires some { IsTrue counted → 0 < count }
-    requires few { count ≤ most_units }
-    ensures { result + cond counted 1 0 ≡ count + cond counts 1 0 }
-{
-    match (counted, counts) {
-        (true, false) => count - 1,
-        (false, true) => count + 1,
-        _ => count,
-    }
-}
-
-/// Updates the counts of neighbors in other districts, for the unit that moves and for its
-/// neighbors.
-fn recount(member: Member, into: u32, apart: &mut [u32])
-    requires { apart.old ≡ map_below member.graph.now.units (apart_of member.graph.now member.plan.now) }
-    ensures { apart.new ≡ map_below member.entry.graph.now.units (apart_of member.entry.graph.now (slice_set member.entry.plan.now member.entry.unit into)) }
-{
-    let plan = member.plan;
-    let home = plan[member.unit as usize];
-    let mut others = 0;
-    for other in member.graph.neighbours(member.unit) {
-        let v = *other as usize;
-        let district = plan[v];
-        apart[v] = count_after(apart[v], district != home, district != into);
-        others = with_one(others, district != into);
-    }
-    apart[member.unit as usize] = others;
-}
-
-pub(crate) fn shift_apart(member: Member, into: u32, apart: &mut UnitList)
-    requires { apart.old ≡ map_below member.graph.now.units (apart_of member.graph.now member.plan.now) }
-    ensures { apart.new ≡ map_below member.entry.graph.now.units (apart_of member.entry.graph.now (slice_set member.entry.plan.now member.entry.unit into)) }
-{
-    recount(member, into, apart.as_mut_slice());
 }

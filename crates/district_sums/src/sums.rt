@@ -1,14 +1,14 @@
 //! Sums that follow a plan.
 
-ghost use Rattle.std.specs.Prelude.{◌≡◌, ◌<◌, length, slice_set, IfOk};
-ghost use Rattle.audit_model.specs.Below.{map_below};
+ghost use Rattle.std.specs.Prelude.{◌≡◌, ◌<◌, length, slice_index, slice_set, IfOk};
 ghost use Rattle.audit_model.specs.Plan.{cut_edges};
-ghost use Rattle.district_sums.specs.Following.{AreInputs, MovesWithin, StandsFor, StandsForSome, apart_of, districts_in};
+ghost use Rattle.district_sums.specs.Following.{AreInputs, StandsFor, StandsForSome, count_near, districts_in};
 
 use crate::lengths::length_after;
-use crate::scratch::{refill_apart, refill_view};
-use crate::shifting::{others_than, shift_apart, shift_counts};
-use audit_model::lists::{NumList, UnitList};
+use crate::mates::scan_mates;
+use crate::scratch::refill_view;
+use crate::shifting::{cut_with, shift_counts};
+use audit_model::lists::NumList;
 use audit_model::memory::Memory;
 use audit_model::outcome::{Counts, SumsView};
 use dual_graph::graph::Graph;
@@ -16,12 +16,10 @@ use dual_graph::member::Member;
 use std::alloc::Global;
 use std::marker::Model;
 
-/// The sums of a plan's districts and, for each unit, the number of its neighbors in other
-/// districts.
+/// The sums of a plan's districts.
 #[derive(Drop)]
 pub struct Sums {
     view: SumsView,
-    apart: UnitList,
 }
 
 impl Model for Sums {
@@ -29,7 +27,7 @@ impl Model for Sums {
 
     ghost Value = { Following };
 
-    ghost view = { λ s. record { view = s.view; apart = s.apart } };
+    ghost view = { λ s. record { view = s.view } };
 }
 
 impl Sums {
@@ -52,15 +50,14 @@ impl Sums {
             cut: 0,
             length: 0,
         };
-        let mut apart = UnitList::zeros(alloc, graph.units() as usize)?;
         refill_view(graph, counts, plan, &mut view);
-        refill_apart(graph, plan, &mut apart);
-        Ok(Sums { view, apart })
+        Ok(Sums { view })
     }
 
     /// Moves a unit to a district, in the plan and in the sums.
     ///
-    /// It costs one pass over the unit's neighbors, and allocates nothing.
+    /// It costs one pass over the unit's neighbors, and a second one if edges have lengths. It allocates
+    /// nothing.
     pub fn shift(
         &mut self,
         graph: &Graph,
@@ -77,40 +74,43 @@ impl Sums {
         ensures districts { districts_in self.new ≡ districts_in self.old }
         ensures stands { StandsFor graph.now counts.now plan.new self.new }
     {
-        if plan[unit as usize] == district {
-            return;
-        }
-        self.follow(counts, graph.member(plan, unit), district);
+        let member = graph.member(plan, unit);
+        let mates = scan_mates(member, plan[unit as usize], district);
+        self.follow(member, counts, district, mates);
         plan[unit as usize] = district;
     }
 
-    // Updates the sums for a unit that is about to move to another district.
-    #[inline]
-    fn follow(&mut self, counts: &Counts, member: Member, district: u32)
+    /// Updates the sums for a unit that is about to move to a district. `mates` are the numbers of
+    /// its neighbors in its own district and in that one.
+    ///
+    /// It costs a pass over the unit's neighbors if edges have lengths, and allocates nothing.
+    pub fn follow(&mut self, member: Member, counts: &Counts, district: u32, mates: (u64, u64))
         requires inputs { AreInputs member.graph.now counts.now (districts_in self.old) member.plan.now }
         requires stands { StandsFor member.graph.now counts.now member.plan.now self.old }
-        requires moves { MovesWithin (districts_in self.old) member.plan.now member.unit district }
+        requires district { district < districts_in self.old }
+        requires home_mates { mates.0 ≡ count_near member.graph.now member.plan.now member.unit (slice_index member.plan.now member.unit) }
+        requires other_mates { mates.1 ≡ count_near member.graph.now member.plan.now member.unit district }
         ensures districts { districts_in self.new ≡ districts_in self.old }
         ensures stands { StandsFor member.entry.graph.now counts.now (slice_set member.entry.plan.now member.entry.unit district) self.new }
     {
-        let before = self.apart.as_slice()[member.unit as usize];
+        if member.plan[member.unit as usize] == district {
+            return;
+        }
         self.view.length = length_after(member, &counts.lengths, self.view.length, district);
+        self.view.cut = cut_with(member, self.view.cut, district, mates);
         shift_counts(counts, member, district, &mut self.view);
-        shift_apart(member, district, &mut self.apart);
-        let after = self.apart.as_slice()[member.unit as usize];
-        self.view.cut = self.view.cut + after - before;
     }
 
-    /// Returns the number of cut edges after a move of the unit to `district`, in one pass over its
-    /// neighbors.
+    /// Returns the number of cut edges after a move of the unit to `district`. `mates` are the numbers
+    /// of its neighbors in its own district and in that one.
     #[inline]
-    pub fn cut_after(&self, member: Member, district: u32) -> u32
+    pub fn cut_after(&self, member: Member, district: u32, mates: (u64, u64)) -> u32
         requires cut { self.now.view.cut ≡ cut_edges member.graph.now member.plan.now }
-        requires apart { self.now.apart ≡ map_below member.graph.now.units (apart_of member.graph.now member.plan.now) }
+        requires home_mates { mates.0 ≡ count_near member.graph.now member.plan.now member.unit (slice_index member.plan.now member.unit) }
+        requires other_mates { mates.1 ≡ count_near member.graph.now member.plan.now member.unit district }
         ensures { result ≡ cut_edges member.entry.graph.now (slice_set member.entry.plan.now member.entry.unit district) }
     {
-        let before = self.apart.as_slice()[member.unit as usize];
-        self.view.cut + others_than(member, district) - before
+        cut_with(member, self.view.cut, district, mates)
     }
 
     /// Overwrites the number of cut edges. A constraint is asked with the number after a move while
@@ -130,7 +130,6 @@ impl Sums {
         ensures stands { StandsFor graph.now counts.now plan.now self.new }
     {
         refill_view(graph, counts, plan, &mut self.view);
-        refill_apart(graph, plan, &mut self.apart);
     }
 
     /// Returns the sums of the districts.

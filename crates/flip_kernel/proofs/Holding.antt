@@ -18,13 +18,13 @@ use Rattle.flip_kernel.specs.declared.proposal.Pairs.{Pairs}
 use Rattle.flip_kernel.specs.ChainState.{IsUpToDate, KeepsBounds}
 
 -- the invariant, for equal jobs and plans
-pub up_to_date_for : (j job : Job) (p plan : List ℕ) (sums : Following) (marks : ℕ) (table : List Bool) (pairs : Pairs) (low high : ℕ) (faced : Faced) (counted : Counted) → j ≡ job → p ≡ plan
-    → IsUpToDate j p sums marks table pairs low high faced counted → IsUpToDate job plan sums marks table pairs low high faced counted
-up_to_date_for j job p plan sums marks table pairs low high faced counted made at current =
-    subst (λ (x : Job). IsUpToDate x plan sums marks table pairs low high faced counted) made (subst (λ (x : List ℕ). IsUpToDate j x sums marks table pairs low high faced counted) at current)
+pub up_to_date_for : (j job : Job) (p plan : List ℕ) (sums : Following) (marks : ℕ) (table : List Bool) (pairs : Pairs) (low high : ℕ) (faced : Faced) (counted : Counted) (nearby : List ℕ) → j ≡ job → p ≡ plan
+    → IsUpToDate j p sums marks table pairs low high faced counted nearby → IsUpToDate job plan sums marks table pairs low high faced counted nearby
+up_to_date_for j job p plan sums marks table pairs low high faced counted nearby made at current =
+    subst (λ (x : Job). IsUpToDate x plan sums marks table pairs low high faced counted nearby) made (subst (λ (x : List ℕ). IsUpToDate j x sums marks table pairs low high faced counted nearby) at current)
 
-module _ (job : Job) (plan : List ℕ) (sums : Following) (marks : ℕ) (table : List Bool) (pairs : Pairs) (low high : ℕ) (faced : Faced) (counted : Counted)
-    (current : IsUpToDate job plan sums marks table pairs low high faced counted) where
+module _ (job : Job) (plan : List ℕ) (sums : Following) (marks : ℕ) (table : List Bool) (pairs : Pairs) (low high : ℕ) (faced : Faced) (counted : Counted) (nearby : List ℕ)
+    (current : IsUpToDate job plan sums marks table pairs low high faced counted nearby) where
   -- the population of a district
   pub population_at : (view : SumsView) (populations : List ℕ) (e : ℕ) → view ≡ sums.view → populations ≡ view.population → e < job.districts
       → get_or populations e 0 ≡ district_sum job.counts.population plan e

@@ -5,6 +5,8 @@ pub mod Holding
 pub mod Judging
 pub mod Leaving
 pub mod Moves
+pub mod NearPairs
+pub mod OneMate
 pub mod Proposing
 pub mod Tables
 pub mod Words

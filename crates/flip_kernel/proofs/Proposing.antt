@@ -45,8 +45,8 @@ proposed_some units districts size draw found is of =
     ∙ ap (λ (n : ℕ). Some (draw % n / districts, draw % n % districts)) (sym is)
     ∙ ap (λ (n : ℕ). Some (n / districts, n % districts)) (sym of.place)
 
-module _ (job : Job) (plan : List ℕ) (sums : Following) (marks : ℕ) (table : List Bool) (pairs : Pairs) (low high : ℕ) (faced : Faced) (counted : Counted)
-    (current : IsUpToDate job plan sums marks table pairs low high faced counted) (draw : ℕ) where
+module _ (job : Job) (plan : List ℕ) (sums : Following) (marks : ℕ) (table : List Bool) (pairs : Pairs) (low high : ℕ) (faced : Faced) (counted : Counted) (nearby : List ℕ)
+    (current : IsUpToDate job plan sums marks table pairs low high faced counted nearby) (draw : ℕ) where
   -- a draw after the last whole block changes nothing
   pub still_rejected : None ≡ place_in pairs.count draw → next job plan draw ≡ plan
   still_rejected is = next_rejected job plan draw (proposed_none job.graph.units job.districts pairs.count draw current.numbers.count is)

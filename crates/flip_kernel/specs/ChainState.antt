@@ -14,6 +14,7 @@ use Rattle.contig.specs.Counts.{Counted, AreCounts}
 use Rattle.contig.specs.Table.{Faced}
 use Rattle.flip_kernel.specs.declared.proposal.Pairs.{Pairs}
 use Rattle.flip_kernel.specs.Blocks.{AreNumbersOf}
+use Rattle.flip_kernel.specs.Nearby.{TellsNear}
 use Rattle.flip_kernel.specs.OpenPairs.{is_open, TellsOpen}
 
 pub record ChainState : Type 0 where
@@ -30,15 +31,17 @@ pub record IsSummed (job : Job) (plan : List ℕ) (sums : Following) : Type 0 wh
   pub places : districts_in sums ≡ job.districts
   pub stands : StandsFor job.graph job.counts plan sums
 
--- the plan is legal, and the sums, open pairs, numbers, faces and counts are those of the job and the plan
+-- the plan is legal, and the sums, open pairs, numbers, faces, and counts of faces and neighbors are those of the job
+-- and the plan
 pub record IsUpToDate (job : Job) (plan : List ℕ) (sums : Following) (marks : ℕ) (table : List Bool) (pairs : Pairs) (low high : ℕ)
-    (faced : Faced) (counted : Counted) : Type 0 where
+    (faced : Faced) (counted : Counted) (nearby : List ℕ) : Type 0 where
   pub summed : IsSummed job plan sums
   pub marked : marks ≡ job.graph.units
   pub opened : TellsOpen job.graph plan job.districts table
   pub numbers : AreNumbersOf job pairs low high
   pub made : faced.graph ≡ job.graph
   pub counts : AreCounts job.graph faced.faces job.districts plan counted
+  pub near : TellsNear job.graph plan job.districts nearby
 
 -- the draw proposes the unit for the district, the pair is open, and the job is sound
 pub record ProposesOpen (job : Job) (plan : List ℕ) (draw unit district : ℕ) : Type 0 where

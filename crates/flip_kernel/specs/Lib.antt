@@ -2,4 +2,5 @@ pub mod Blocks
 pub mod Flags
 pub mod ChainState
 pub mod Judged
+pub mod Nearby
 pub mod OpenPairs

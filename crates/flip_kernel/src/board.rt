@@ -9,12 +9,14 @@ ghost use Rattle.audit_model.specs.Meets.{meets_rules};
 ghost use Rattle.audit_model.specs.District.{district_sum};
 ghost use Rattle.audit_model.specs.Plan.{IsLegal, cut_edges, least_population, greatest_population};
 ghost use Rattle.audit_model.specs.Step.{next};
-ghost use Rattle.district_sums.specs.Following.{StandsFor, districts_in};
+ghost use Rattle.district_sums.specs.Following.{StandsFor, count_near, districts_in};
 ghost use Rattle.flip_kernel.specs.ChainState.{IsMove, IsSummed, KeepsBounds, KeepsBoundsIn, ProposesOpen, allows, sums_in};
 ghost use Rattle.flip_kernel.specs.Judged.{IsSeated};
+ghost use Rattle.flip_kernel.specs.Nearby.{TellsNear};
 ghost use Rattle.flip_kernel.specs.OpenPairs.{is_open};
 
 use crate::moving::Flip;
+use crate::nearby::NeighborCounts;
 use crate::open_pairs::OpenPairs;
 use crate::proposal::Pairs;
 use audit_model::lists::UnitList;
@@ -37,8 +39,8 @@ use std::sync::ledger::Ledger;
 
 /// A current plan that is legal for its job, with everything that a step reads or updates.
 ///
-/// This is the sums of the districts, the open pairs, the counts of faces in each district, and
-/// marks for a search. `low` and `high` are the population bounds.
+/// This is the sums of the districts, the open pairs, the counts of faces in each district and of
+/// neighbors in each, and marks for a search. `low` and `high` are the population bounds.
 pub struct Board {
     job: Snapshot<Job>,
     plan: UnitList,
@@ -46,6 +48,7 @@ pub struct Board {
     marks: Marks,
     faces: FaceTable,
     counts: FaceCounts,
+    near: NeighborCounts,
     open_pairs: OpenPairs,
     pairs: Pairs,
     low: u64,
@@ -62,6 +65,7 @@ impl Drop for Board {
             marks: _marks,
             faces: _faces,
             counts: _counts,
+            near: _near,
             open_pairs: _open_pairs,
             pairs: _pairs,
             low: _,
@@ -77,7 +81,7 @@ impl Model for Board {
 
     ghost view = { λ s. record { job = s.job.value; plan = s.plan } };
 
-    ghost invariant = { λ s. IsUpToDate s.job.value s.plan s.sums s.marks.units s.open_pairs s.pairs s.low s.high s.faces s.counts };
+    ghost invariant = { λ s. IsUpToDate s.job.value s.plan s.sums s.marks.units s.open_pairs s.pairs s.low s.high s.faces s.counts s.near };
 }
 
 impl Board {
@@ -91,6 +95,8 @@ impl Board {
         let plan = job.start().copy()?;
         let sums = Sums::of(alloc, job.graph(), job.counts(), districts, plan.as_slice())?;
         let marks = Marks::new(alloc, units)?;
+        let mut near = NeighborCounts::zeros(alloc, units, districts)?;
+        near.refill(job.graph(), plan.as_slice(), districts);
         let mut open_pairs = OpenPairs::none(alloc, units, districts)?;
         open_pairs.refill(job.graph(), plan.as_slice(), districts);
         let faces = FaceTable::of(alloc, job.graph())?;
@@ -103,6 +109,7 @@ impl Board {
             marks,
             faces,
             counts,
+            near,
             open_pairs,
             pairs: Pairs::of(units, districts),
             low,
@@ -118,6 +125,7 @@ impl Board {
     {
         self.plan.as_mut_slice().copy_from_slice(plan);
         self.sums.refill(job.graph(), job.counts(), plan);
+        self.near.refill(job.graph(), plan, self.pairs.districts);
         self.open_pairs
             .refill(job.graph(), plan, self.pairs.districts);
         self.counts.reset(job.graph(), &self.faces, plan);
@@ -194,7 +202,7 @@ impl Board {
         if judge.limits_nothing() {
             return true;
         }
-        is_permitted(judge, flip, &mut self.sums, &mut self.plan)
+        is_permitted(judge, flip, &self.near, &mut self.sums, &mut self.plan)
     }
 
     /// Returns true if the total length of the cut edges after the flip is at most the limit. Computes it from the
@@ -223,8 +231,8 @@ impl Board {
         self.permits(judge, flip)
     }
 
-    /// Decides, by the faces that link the unit's neighbors in its district and by counts of faces, if the unit may
-    /// leave its district. `None` means that a search is needed.
+    /// Decides, by counts of neighbors, by the faces that link the unit's neighbors in its district and by counts of
+    /// faces, if the unit may leave its district. `None` means that a search is needed.
     fn counting_tells(&self, job: &Job, unit: u32) -> Option<bool>
         requires made { self.now.job ≡ job.now }
         requires unit { unit < job.now.graph.units }
@@ -238,6 +246,9 @@ impl Board {
             plan: self.plan.as_slice(),
             unit,
         };
+        if self.near.has_one_mate(leaving, self.pairs.districts) {
+            return Some(true);
+        }
         counting_tells(leaving, &self.faces, &self.counts)
     }
 
@@ -363,32 +374,38 @@ impl Board {
             plan: self.plan.as_slice(),
             unit: flip.unit,
         };
-        self.counts.follow(&self.faces, leaving, flip.district);
-        shift(flip, &mut self.sums, &mut self.plan);
-        self.open_pairs.update(
+        let districts = self.pairs.districts;
+        let mates = self.near.mates(leaving, districts, home, flip.district);
+        self.counts
+            .follow(&self.faces, leaving, flip.district, mates);
+        self.near.follow(leaving, districts, flip.district);
+        shift(flip, mates, &mut self.sums, &mut self.plan);
+        let moved = Member {
             graph,
-            self.plan.as_slice(),
-            self.pairs.districts,
-            flip.unit,
-            home,
-        );
+            plan: self.plan.as_slice(),
+            unit: flip.unit,
+        };
+        self.open_pairs.update(moved, districts, home, &self.near);
     }
 }
 
-/// Moves a unit to a district, in the plan and in its sums.
-fn shift(flip: Flip, sums: &mut Sums, plan: &mut UnitList)
+/// Moves a unit to a district, in the plan and in its sums. `mates` are the numbers of its neighbors in
+/// its old district and in the new one.
+fn shift(flip: Flip, mates: (u64, u64), sums: &mut Sums, plan: &mut UnitList)
     requires summed { IsSummed flip.job.now plan.old sums.old }
+    requires home_mates { mates.0 ≡ count_near flip.job.now.graph plan.old flip.unit (slice_index plan.old flip.unit) }
+    requires other_mates { mates.1 ≡ count_near flip.job.now.graph plan.old flip.unit flip.district }
     ensures plan { plan.new ≡ slice_set plan.old flip.entry.unit flip.entry.district }
     ensures places { districts_in sums.new ≡ flip.entry.job.now.districts }
     ensures stands { StandsFor flip.entry.job.now.graph flip.entry.job.now.counts plan.new sums.new }
 {
-    sums.shift(
-        flip.job.graph(),
-        flip.job.counts(),
-        plan.as_mut_slice(),
-        flip.unit,
-        flip.district,
-    );
+    let member = Member {
+        graph: flip.job.graph(),
+        plan: plan.as_slice(),
+        unit: flip.unit,
+    };
+    sums.follow(member, flip.job.counts(), flip.district, mates);
+    put_unit(plan, flip.unit, flip.district);
 }
 
 /// Writes a unit's district in the plan, without updating the sums.
@@ -423,8 +440,15 @@ fn is_short(flip: Flip, sums: &Sums, plan: &UnitList) -> bool
 /// The constraint is shown that plan and its number of cut edges. The plan and its sums are
 /// restored afterwards.
 #[inline(never)]
-fn is_permitted<J: Judge>(judge: &J, flip: Flip, sums: &mut Sums, plan: &mut UnitList) -> bool
+fn is_permitted<J: Judge>(
+    judge: &J,
+    flip: Flip,
+    near: &NeighborCounts,
+    sums: &mut Sums,
+    plan: &mut UnitList,
+) -> bool
     requires summed { IsSummed flip.job.now plan.old sums.old }
+    requires near { TellsNear flip.job.now.graph plan.old flip.job.now.districts near.now }
     requires judge { IsSeated flip.job.now plan.old (J.judging judge.now) }
     requires elsewhere { slice_index plan.old flip.unit ≢ flip.district }
     ensures meets { let after = slice_set plan.old flip.entry.unit flip.entry.district in
@@ -439,7 +463,8 @@ fn is_permitted<J: Judge>(judge: &J, flip: Flip, sums: &mut Sums, plan: &mut Uni
         plan: plan.as_slice(),
         unit: flip.unit,
     };
-    let after = sums.cut_after(member, flip.district);
+    let mates = near.mates(member, flip.job.districts(), home, flip.district);
+    let after = sums.cut_after(member, flip.district, mates);
     sums.put_cut(after);
     put_unit(plan, flip.unit, flip.district);
     let permitted = judge.permits(plan.as_slice(), sums.view(), flip.unit, home);

@@ -5,6 +5,7 @@ mod board;
 pub mod flip;
 pub mod laws;
 mod moving;
+mod nearby;
 mod open_pairs;
 pub mod proposal;
 pub mod state;

@@ -4,10 +4,13 @@ ghost use Rattle.std.specs.Int.{bit_at};
 ghost use Rattle.std.specs.Prelude.{◌≡◌, ◌≢◌, ℕ, ◌+◌, ◌*◌, ◌/◌, ◌<◌, ◌≤◌, cond, false, [], length, slice_index, slice_set, replicate, IfOk, IsTrue};
 ghost use Rattle.std.specs.List.{slice_index_or};
 ghost use Rattle.flip_kernel.specs.Flags.{bit_of, flags_of};
+ghost use Rattle.flip_kernel.specs.Nearby.{TellsNear};
 ghost use Rattle.flip_kernel.specs.OpenPairs.{is_open, flag_of, TellsOpen, HasOpened};
 
+use crate::nearby::NeighborCounts;
 use audit_model::memory::Memory;
 use dual_graph::graph::Graph;
+use dual_graph::member::Member;
 use std::alloc::Global;
 use std::marker::Model;
 
@@ -107,24 +110,34 @@ impl OpenPairs {
 
     /// Updates the open pairs after a unit has moved away from `home`, where it has a neighbor.
     ///
-    /// It costs one pass over the unit's neighbors and theirs, and allocates nothing.
-    pub fn update(&mut self, graph: &Graph, plan: &[u32], districts: u32, unit: u32, home: u32)
-        requires plan { length plan.now ≡ graph.now.units }
-        requires in_range { (u : ℕ) → u < graph.now.units → slice_index plan.now u < districts }
-        requires unit { unit < graph.now.units }
+    /// It costs one pass over the unit's neighbors, and one over theirs if these are not counted. It
+    /// allocates nothing.
+    pub fn update(&mut self, moved: Member, districts: u32, home: u32, near: &NeighborCounts)
+        requires in_range { (u : ℕ) → u < moved.graph.now.units → slice_index moved.plan.now u < districts }
         requires home { home < districts }
-        requires beside { IsTrue (is_open graph.now plan.now unit home) }
-        requires table { TellsOpen graph.now (slice_set plan.now unit home) districts self.old }
-        ensures { TellsOpen graph.now plan.now districts self.new }
+        requires beside { IsTrue (is_open moved.graph.now moved.plan.now moved.unit home) }
+        requires near { TellsNear moved.graph.now moved.plan.now districts near.now }
+        requires table { TellsOpen moved.graph.now (slice_set moved.plan.now moved.unit home) districts self.old }
+        ensures { TellsOpen moved.entry.graph.now moved.entry.plan.now districts self.new }
     {
-        // Called for its contract: the graph is sound and has at most 100,000 units.
-        let _units = graph.units();
+        let graph = moved.graph;
+        let plan = moved.plan;
+        let unit = moved.unit;
         let district = plan[unit as usize];
         for other in graph.neighbours(unit) {
             let v = *other;
             let there = plan[v as usize];
+            let opens = near.opens(
+                Member {
+                    graph,
+                    plan,
+                    unit: v,
+                },
+                districts,
+                home,
+            );
             self.put(districts, v, district, there != district);
-            self.put_elsewhere(districts, v, home, there, is_open(graph, plan, v, home));
+            self.put_elsewhere(districts, v, home, there, opens);
         }
         self.put(districts, unit, district, false);
         self.put(districts, unit, home, true);
@@ -171,7 +184,7 @@ const SHORT: usize = 16;
 ///
 /// A short row is scanned to its end, so that no branch depends on the districts. A long row is
 /// scanned up to the first hit.
-fn is_open(graph: &Graph, plan: &[u32], unit: u32, district: u32) -> bool
+pub(crate) fn scan_open(graph: &Graph, plan: &[u32], unit: u32, district: u32) -> bool
     requires plan { length plan.now ≡ graph.now.units }
     requires unit { unit < graph.now.units }
     ensures { result ≡ is_open graph.now plan.now unit district }

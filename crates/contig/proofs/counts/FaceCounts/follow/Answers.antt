@@ -18,9 +18,9 @@ lower-requires-clause-edges c =
     let faces = c.args.table.now.faces in
     let are : AreFaces g faces = subst (λ (t : Graph). AreFaces t c.args.table.now.faces) c.requires.made c.corners_of-corners.ensures.faces in
     let sum = lowered_edges g c.args.leaving.sound faces are
-    (in_district plan) (between plan u) home u n c.mates_of-mates.result.0 c.corners_of-corners.result.0 (in_district plan home) c.args.self.now c.args.leaving.within c.requires.home
+    (in_district plan) (between plan u) home u n c.args.mates.0 c.corners_of-corners.result.0 (in_district plan home) c.args.self.now c.args.leaving.within c.requires.home
     (λ x v l other. left_out plan u x v other) (λ v l off. refl)
-    c.mates_of-mates.ensures.one c.corners_of-corners.ensures.one c.requires.counts (eq-eqb home home refl) (between_itself plan u home) in
+    c.requires.home_mates c.corners_of-corners.ensures.one c.requires.counts (eq-eqb home home refl) (between_itself plan u home) in
     omega (arith, sum)
 
 pub lower-requires-clause-filled : goal.lower-requires-clause-filled
@@ -33,9 +33,9 @@ lower-requires-clause-filled c =
     let faces = c.args.table.now.faces in
     let are : AreFaces g faces = subst (λ (t : Graph). AreFaces t c.args.table.now.faces) c.requires.made c.corners_of-corners.ensures.faces in
     let sum = lowered_filled g c.args.leaving.sound faces are
-    (in_district plan) (between plan u) home u n c.mates_of-mates.result.0 c.corners_of-corners.result.0 (in_district plan home) c.args.self.now c.args.leaving.within c.requires.home
+    (in_district plan) (between plan u) home u n c.args.mates.0 c.corners_of-corners.result.0 (in_district plan home) c.args.self.now c.args.leaving.within c.requires.home
     (λ x v l other. left_out plan u x v other) (λ v l off. refl)
-    c.mates_of-mates.ensures.one c.corners_of-corners.ensures.one c.requires.counts (eq-eqb home home refl) (between_itself plan u home) in
+    c.requires.home_mates c.corners_of-corners.ensures.one c.requires.counts (eq-eqb home home refl) (between_itself plan u home) in
     omega (arith, sum)
 
 pub raise-requires-clause-edges : goal.raise-requires-clause-edges
@@ -48,16 +48,16 @@ raise-requires-clause-edges c =
     let faces = c.args.table.now.faces in
     let are : AreFaces g faces = subst (λ (t : Graph). AreFaces t c.args.table.now.faces) c.requires.made c.corners_of-corners.ensures.faces in
     let between_counts : AreCountsOf g faces (between plan u) n c.lower.new.self = lowered g c.args.leaving.sound faces are
-    (in_district plan) (between plan u) home u n c.mates_of-mates.result.0 c.corners_of-corners.result.0 (in_district plan home) c.args.self.now c.args.leaving.within c.requires.home
+    (in_district plan) (between plan u) home u n c.args.mates.0 c.corners_of-corners.result.0 (in_district plan home) c.args.self.now c.args.leaving.within c.requires.home
     (λ x v l other. left_out plan u x v other) (λ v l off. refl)
-    c.mates_of-mates.ensures.one c.corners_of-corners.ensures.one c.requires.counts (eq-eqb home home refl) (between_itself plan u home) c.lower.new.self c.lower.ensures.edges c.lower.ensures.filled in
+    c.requires.home_mates c.corners_of-corners.ensures.one c.requires.counts (eq-eqb home home refl) (between_itself plan u home) c.lower.new.self c.lower.ensures.edges c.lower.ensures.filled in
     let inside : u < length plan = subst (λ t. u < t) (sym c.args.leaving.complete) c.args.leaving.within in
     let sum = raised_edges g c.args.leaving.sound faces are
-    (between plan u) (in_district (set plan u c.args.district)) c.args.district u n c.mates_of-mates.result.1 c.corners_of-corners.result.1 (in_district plan c.args.district)
+    (between plan u) (in_district (set plan u c.args.district)) c.args.district u n c.args.mates.1 c.corners_of-corners.result.1 (in_district plan c.args.district)
     c.lower.new.self c.args.leaving.within c.requires.district
     (λ x v l other. put_in plan u c.args.district x v inside other)
     (λ v l off. tests_between plan u c.args.district v off)
-    c.mates_of-mates.ensures.other c.corners_of-corners.ensures.other between_counts (put_there plan u c.args.district inside) (between_itself plan u c.args.district) in
+    c.requires.other_mates c.corners_of-corners.ensures.other between_counts (put_there plan u c.args.district inside) (between_itself plan u c.args.district) in
     omega (arith, sum, edges_few g (in_district (set plan u c.args.district) c.args.district), c.args.leaving.few_edges)
 
 pub raise-requires-clause-filled : goal.raise-requires-clause-filled
@@ -70,16 +70,16 @@ raise-requires-clause-filled c =
     let faces = c.args.table.now.faces in
     let are : AreFaces g faces = subst (λ (t : Graph). AreFaces t c.args.table.now.faces) c.requires.made c.corners_of-corners.ensures.faces in
     let between_counts : AreCountsOf g faces (between plan u) n c.lower.new.self = lowered g c.args.leaving.sound faces are
-    (in_district plan) (between plan u) home u n c.mates_of-mates.result.0 c.corners_of-corners.result.0 (in_district plan home) c.args.self.now c.args.leaving.within c.requires.home
+    (in_district plan) (between plan u) home u n c.args.mates.0 c.corners_of-corners.result.0 (in_district plan home) c.args.self.now c.args.leaving.within c.requires.home
     (λ x v l other. left_out plan u x v other) (λ v l off. refl)
-    c.mates_of-mates.ensures.one c.corners_of-corners.ensures.one c.requires.counts (eq-eqb home home refl) (between_itself plan u home) c.lower.new.self c.lower.ensures.edges c.lower.ensures.filled in
+    c.requires.home_mates c.corners_of-corners.ensures.one c.requires.counts (eq-eqb home home refl) (between_itself plan u home) c.lower.new.self c.lower.ensures.edges c.lower.ensures.filled in
     let inside : u < length plan = subst (λ t. u < t) (sym c.args.leaving.complete) c.args.leaving.within in
     let sum = raised_filled g c.args.leaving.sound faces are
-    (between plan u) (in_district (set plan u c.args.district)) c.args.district u n c.mates_of-mates.result.1 c.corners_of-corners.result.1 (in_district plan c.args.district)
+    (between plan u) (in_district (set plan u c.args.district)) c.args.district u n c.args.mates.1 c.corners_of-corners.result.1 (in_district plan c.args.district)
     c.lower.new.self c.args.leaving.within c.requires.district
     (λ x v l other. put_in plan u c.args.district x v inside other)
     (λ v l off. tests_between plan u c.args.district v off)
-    c.mates_of-mates.ensures.other c.corners_of-corners.ensures.other between_counts (put_there plan u c.args.district inside) (between_itself plan u c.args.district) in
+    c.requires.other_mates c.corners_of-corners.ensures.other between_counts (put_there plan u c.args.district inside) (between_itself plan u c.args.district) in
     omega (arith, sum, filled_few g (in_district (set plan u c.args.district) c.args.district) faces, c.corners_of-corners.ensures.few, c.args.leaving.few)
 
 pub returns : goal.returns
@@ -92,13 +92,13 @@ returns c =
     let faces = c.args.table.now.faces in
     let are : AreFaces g faces = subst (λ (t : Graph). AreFaces t c.args.table.now.faces) c.requires.made c.corners_of-corners.ensures.faces in
     let between_counts : AreCountsOf g faces (between plan u) n c.lower.new.self = lowered g c.args.leaving.sound faces are
-    (in_district plan) (between plan u) home u n c.mates_of-mates.result.0 c.corners_of-corners.result.0 (in_district plan home) c.args.self.now c.args.leaving.within c.requires.home
+    (in_district plan) (between plan u) home u n c.args.mates.0 c.corners_of-corners.result.0 (in_district plan home) c.args.self.now c.args.leaving.within c.requires.home
     (λ x v l other. left_out plan u x v other) (λ v l off. refl)
-    c.mates_of-mates.ensures.one c.corners_of-corners.ensures.one c.requires.counts (eq-eqb home home refl) (between_itself plan u home) c.lower.new.self c.lower.ensures.edges c.lower.ensures.filled in
+    c.requires.home_mates c.corners_of-corners.ensures.one c.requires.counts (eq-eqb home home refl) (between_itself plan u home) c.lower.new.self c.lower.ensures.edges c.lower.ensures.filled in
     let inside : u < length plan = subst (λ t. u < t) (sym c.args.leaving.complete) c.args.leaving.within in
     raised g c.args.leaving.sound faces are
-    (between plan u) (in_district (set plan u c.args.district)) c.args.district u n c.mates_of-mates.result.1 c.corners_of-corners.result.1 (in_district plan c.args.district)
+    (between plan u) (in_district (set plan u c.args.district)) c.args.district u n c.args.mates.1 c.corners_of-corners.result.1 (in_district plan c.args.district)
     c.lower.new.self c.args.leaving.within c.requires.district
     (λ x v l other. put_in plan u c.args.district x v inside other)
     (λ v l off. tests_between plan u c.args.district v off)
-    c.mates_of-mates.ensures.other c.corners_of-corners.ensures.other between_counts (put_there plan u c.args.district inside) (between_itself plan u c.args.district) c.raise.new.self c.raise.ensures.edges c.raise.ensures.filled
+    c.requires.other_mates c.corners_of-corners.ensures.other between_counts (put_there plan u c.args.district inside) (between_itself plan u c.args.district) c.raise.new.self c.raise.ensures.edges c.raise.ensures.filled

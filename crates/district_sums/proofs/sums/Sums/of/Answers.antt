@@ -10,5 +10,4 @@ returns-clause-districts c =
 
 pub returns-clause-stands : goal.returns-clause-stands
 returns-clause-stands c =
-    stand_anew c.args.graph.now c.args.counts.now (length c.in_ok-zeros.field-0) c.args.plan.now c.refill_view.new.view c.refill_apart.new.apart
-    c.refill_view.ensures c.refill_apart.ensures
+    stand_anew c.args.graph.now c.args.counts.now (length c.in_ok-zeros.field-0) c.args.plan.now c.refill_view.new.view c.refill_view.ensures

@@ -12,11 +12,11 @@ are_kept-requires-clause-people c =
     let plan : List ℕ = c.args.self.now.plan in
     let populations : List ℕ = c.as_slice-populations.result.now in
     let at = ap (λ (h : ChainState). h.plan) c.self.view_is in
-    let current = up_to_date_for s.job.value job s.plan plan s.sums s.marks.units s.open_pairs s.pairs s.low s.high s.faces s.counts
+    let current = up_to_date_for s.job.value job s.plan plan s.sums s.marks.units s.open_pairs s.pairs s.low s.high s.faces s.counts s.near
     (ap (λ (h : ChainState). h.job) c.self.view_is ∙ c.requires.made) at c.self.invariant in
     let people = ap (λ (xs : List ℕ). get_or xs c.args.flip.unit 0) (c.as_slice.ensures ∙ ap (λ (k : Counts). k.population) c.counts.ensures.value) in
     let home = ap (λ (p : List ℕ). get_or p c.args.flip.unit 0) (c.as_slice-2.ensures ∙ at) in
-    let from = population_at job plan s.sums s.marks.units s.open_pairs s.pairs s.low s.high s.faces s.counts current c.view.result.now populations (get_or plan c.args.flip.unit 0)
+    let from = population_at job plan s.sums s.marks.units s.open_pairs s.pairs s.low s.high s.faces s.counts s.near current c.view.result.now populations (get_or plan c.args.flip.unit 0)
     c.view.ensures c.as_slice-populations.ensures (current.summed.legal.in_range c.args.flip.unit c.args.flip.unit_below) in
     let fit = people_fit job plan c.args.flip.unit c.args.flip.district current.numbers.sound current.summed.legal c.args.flip.unit_below c.args.flip.district_below c.requires.elsewhere in
     omega (arith, people, ap (λ (e : ℕ). get_or populations e 0) home, from, fit.0)
@@ -28,10 +28,10 @@ are_kept-requires-clause-from c =
     let plan : List ℕ = c.args.self.now.plan in
     let populations : List ℕ = c.as_slice-populations.result.now in
     let at = ap (λ (h : ChainState). h.plan) c.self.view_is in
-    let current = up_to_date_for s.job.value job s.plan plan s.sums s.marks.units s.open_pairs s.pairs s.low s.high s.faces s.counts
+    let current = up_to_date_for s.job.value job s.plan plan s.sums s.marks.units s.open_pairs s.pairs s.low s.high s.faces s.counts s.near
     (ap (λ (h : ChainState). h.job) c.self.view_is ∙ c.requires.made) at c.self.invariant in
     let home = ap (λ (p : List ℕ). get_or p c.args.flip.unit 0) (c.as_slice-2.ensures ∙ at) in
-    let from = population_at job plan s.sums s.marks.units s.open_pairs s.pairs s.low s.high s.faces s.counts current c.view.result.now populations (get_or plan c.args.flip.unit 0)
+    let from = population_at job plan s.sums s.marks.units s.open_pairs s.pairs s.low s.high s.faces s.counts s.near current c.view.result.now populations (get_or plan c.args.flip.unit 0)
     c.view.ensures c.as_slice-populations.ensures (current.summed.legal.in_range c.args.flip.unit c.args.flip.unit_below) in
     let fit = people_fit job plan c.args.flip.unit c.args.flip.district current.numbers.sound current.summed.legal c.args.flip.unit_below c.args.flip.district_below c.requires.elsewhere in
     omega (arith, ap (λ (e : ℕ). get_or populations e 0) home, from, fit.1.0, fit.1.1, current.numbers.least, current.numbers.greatest)
@@ -42,9 +42,9 @@ are_kept-requires-clause-to c =
     let job = c.args.flip.job.now in
     let plan : List ℕ = c.args.self.now.plan in
     let at = ap (λ (h : ChainState). h.plan) c.self.view_is in
-    let current = up_to_date_for s.job.value job s.plan plan s.sums s.marks.units s.open_pairs s.pairs s.low s.high s.faces s.counts
+    let current = up_to_date_for s.job.value job s.plan plan s.sums s.marks.units s.open_pairs s.pairs s.low s.high s.faces s.counts s.near
     (ap (λ (h : ChainState). h.job) c.self.view_is ∙ c.requires.made) at c.self.invariant in
-    let to = population_at job plan s.sums s.marks.units s.open_pairs s.pairs s.low s.high s.faces s.counts current c.view.result.now c.as_slice-populations.result.now
+    let to = population_at job plan s.sums s.marks.units s.open_pairs s.pairs s.low s.high s.faces s.counts s.near current c.view.result.now c.as_slice-populations.result.now
     c.args.flip.district c.view.ensures c.as_slice-populations.ensures c.args.flip.district_below in
     let fit = people_fit job plan c.args.flip.unit c.args.flip.district current.numbers.sound current.summed.legal c.args.flip.unit_below c.args.flip.district_below c.requires.elsewhere in
     omega (arith, to, fit.2, current.numbers.greatest)
@@ -53,7 +53,7 @@ pub are_kept-requires-clause-high : goal.are_kept-requires-clause-high
 are_kept-requires-clause-high c =
     let s = c.self.inside in
     let job = c.args.flip.job.now in
-    let current = up_to_date_for s.job.value job s.plan c.args.self.now.plan s.sums s.marks.units s.open_pairs s.pairs s.low s.high s.faces s.counts
+    let current = up_to_date_for s.job.value job s.plan c.args.self.now.plan s.sums s.marks.units s.open_pairs s.pairs s.low s.high s.faces s.counts s.near
     (ap (λ (h : ChainState). h.job) c.self.view_is ∙ c.requires.made) (ap (λ (h : ChainState). h.plan) c.self.view_is) c.self.invariant in
     omega (arith, current.numbers.greatest, greatest_small job current.numbers.sound)
 
@@ -64,12 +64,12 @@ returns-clause-value c =
     let plan : List ℕ = c.args.self.now.plan in
     let populations : List ℕ = c.as_slice-populations.result.now in
     let at = ap (λ (h : ChainState). h.plan) c.self.view_is in
-    let current = up_to_date_for s.job.value job s.plan plan s.sums s.marks.units s.open_pairs s.pairs s.low s.high s.faces s.counts
+    let current = up_to_date_for s.job.value job s.plan plan s.sums s.marks.units s.open_pairs s.pairs s.low s.high s.faces s.counts s.near
     (ap (λ (h : ChainState). h.job) c.self.view_is ∙ c.requires.made) at c.self.invariant in
     let people = ap (λ (xs : List ℕ). get_or xs c.args.flip.unit 0) (c.as_slice.ensures ∙ ap (λ (k : Counts). k.population) c.counts.ensures.value) in
     let home = ap (λ (p : List ℕ). get_or p c.args.flip.unit 0) (c.as_slice-2.ensures ∙ at) in
-    let from = population_at job plan s.sums s.marks.units s.open_pairs s.pairs s.low s.high s.faces s.counts current c.view.result.now populations (get_or plan c.args.flip.unit 0)
+    let from = population_at job plan s.sums s.marks.units s.open_pairs s.pairs s.low s.high s.faces s.counts s.near current c.view.result.now populations (get_or plan c.args.flip.unit 0)
     c.view.ensures c.as_slice-populations.ensures (current.summed.legal.in_range c.args.flip.unit c.args.flip.unit_below) in
-    let to = population_at job plan s.sums s.marks.units s.open_pairs s.pairs s.low s.high s.faces s.counts current c.view.result.now populations c.args.flip.district
+    let to = population_at job plan s.sums s.marks.units s.open_pairs s.pairs s.low s.high s.faces s.counts s.near current c.view.result.now populations c.args.flip.district
     c.view.ensures c.as_slice-populations.ensures c.args.flip.district_below in
     keeps_same c.are_kept.result s.low s.high _ _ _ _ _ _ _ _ current.numbers.least current.numbers.greatest people (ap (λ (e : ℕ). get_or populations e 0) home ∙ from) to c.are_kept.ensures

@@ -27,7 +27,7 @@ update-requires-clause-beside c =
     let job = flip.job.now in
     let plan : List ℕ = c.args.self.now.plan in
     let at = ap (λ (h : ChainState). h.plan) c.self.view_is in
-    let current = up_to_date_for s.job.value job s.plan plan s.sums s.marks.units s.open_pairs s.pairs s.low s.high s.faces s.counts
+    let current = up_to_date_for s.job.value job s.plan plan s.sums s.marks.units s.open_pairs s.pairs s.low s.high s.faces s.counts s.near
     (ap (λ (h : ChainState). h.job) c.self.view_is ∙ c.requires.made) at c.self.invariant in
     ap (λ (g : Graph). is_open g c.as_slice-3.result.now flip.unit (get_or c.as_slice.result.now flip.unit 0)) c.graph-graph.ensures.value
     ∙ ap (λ (p : List ℕ). is_open job.graph p flip.unit (get_or c.as_slice.result.now flip.unit 0))

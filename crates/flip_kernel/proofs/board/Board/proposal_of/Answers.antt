@@ -10,14 +10,14 @@ pub returns-then-not-has : goal.returns-then-not-has
 returns-then-not-has c =
     let s = c.self.inside in
     let now = c.args.self.now in
-    let current = up_to_date_for s.job.value now.job s.plan now.plan s.sums s.marks.units s.open_pairs s.pairs s.low s.high s.faces s.counts
+    let current = up_to_date_for s.job.value now.job s.plan now.plan s.sums s.marks.units s.open_pairs s.pairs s.low s.high s.faces s.counts s.near
     (ap (λ (h : ChainState). h.job) c.self.view_is) (ap (λ (h : ChainState). h.plan) c.self.view_is) c.self.invariant in
     elim c.then-not-has.branch [
       | then-not-has-via-then-not-has w ↦
-          closed_stays now.job now.plan s.sums s.marks.units s.open_pairs s.pairs s.low s.high s.faces s.counts current c.args.draw c.rest-place.result c.rest-place.ensures
+          closed_stays now.job now.plan s.sums s.marks.units s.open_pairs s.pairs s.low s.high s.faces s.counts s.near current c.args.draw c.rest-place.result c.rest-place.ensures
           (sym c.has.ensures ∙ w.if-not-has.true)
       | then-not-has-via-else-not-has+then-is_past w ↦
-          still_rejected now.job now.plan s.sums s.marks.units s.open_pairs s.pairs s.low s.high s.faces s.counts current c.args.draw
+          still_rejected now.job now.plan s.sums s.marks.units s.open_pairs s.pairs s.low s.high s.faces s.counts s.near current c.args.draw
           (sym (w.is_past.ensures ∙ cond-true _ _ _ w.if-is_past.true))
     ]
 
@@ -25,9 +25,9 @@ pub returns : goal.returns
 returns c =
     let s = c.self.inside in
     let now = c.args.self.now in
-    let current = up_to_date_for s.job.value now.job s.plan now.plan s.sums s.marks.units s.open_pairs s.pairs s.low s.high s.faces s.counts
+    let current = up_to_date_for s.job.value now.job s.plan now.plan s.sums s.marks.units s.open_pairs s.pairs s.low s.high s.faces s.counts s.near
     (ap (λ (h : ChainState). h.job) c.self.view_is) (ap (λ (h : ChainState). h.plan) c.self.view_is) c.self.invariant in
     subst (λ (pair : ℕ × ℕ). ProposesOpen now.job now.plan c.args.draw pair.0 pair.1) (sym c.at.ensures)
-    (is_proposed now.job now.plan s.sums s.marks.units s.open_pairs s.pairs s.low s.high s.faces s.counts current c.args.draw c.rest-place.result
+    (is_proposed now.job now.plan s.sums s.marks.units s.open_pairs s.pairs s.low s.high s.faces s.counts s.near current c.args.draw c.rest-place.result
     (sym (c.is_past.ensures ∙ cond-false _ _ _ c.if-is_past.false))
     s.pairs.districts current.numbers.districts (sym c.has.ensures ∙ c.if-not-has.false))

@@ -10,7 +10,7 @@ returns-clause-leaves g c =
     let job = c.args.job.now in
     let plan : List ℕ = c.args.self.now.plan in
     let at = ap (λ (h : ChainState). h.plan) c.self.view_is in
-    let current = up_to_date_for s.job.value job s.plan plan s.sums s.marks.units s.open_pairs s.pairs s.low s.high s.faces s.counts
+    let current = up_to_date_for s.job.value job s.plan plan s.sums s.marks.units s.open_pairs s.pairs s.low s.high s.faces s.counts s.near
     (ap (λ (h : ChainState). h.job) c.self.view_is ∙ c.requires.made) at c.self.invariant in
     leaves_of c.may_leave.result c.graph.result.now job.graph c.as_slice.result.now plan c.args.unit c.graph.ensures.value (c.as_slice.ensures ∙ at)
     (c.may_leave.ensures.leaves

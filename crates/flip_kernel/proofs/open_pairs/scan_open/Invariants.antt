@@ -1,7 +1,7 @@
 use Rattle.std.proofs.Common.{◌≡◌, false, take}
 use Rattle.std.specs.List.{list_any}
 use Rattle.audit_model.specs.District.{in_district}
-use Rattle.flip_kernel.proofs.open_pairs.is_open.Given as goal
+use Rattle.flip_kernel.proofs.open_pairs.scan_open.Given as goal
 
 abbrev pub invariant-loop-one : goal.invariant-loop-one
 invariant-loop-one l = list_any (in_district l.plan l.district) (take l.one-index l.row) ≡ false

@@ -1,0 +1,34 @@
+use Rattle.std.proofs.Common.{ℕ, ◌*◌, ◌<◌, ◌≤◌, List, length, get_or, refl, arith}
+use Rattle.std.proofs.lemmas.List.Elements.{All-get_or}
+use Rattle.audit_model.specs.District.{in_district}
+use Rattle.district_sums.proofs.Walking.{row_few}
+use Rattle.flip_kernel.proofs.NearPairs.{counting_more}
+use Rattle.flip_kernel.proofs.Tables.{place_within}
+use Rattle.flip_kernel.proofs.nearby.count_beside.Goals as goal
+
+pub overflow_add-table : goal.overflow_add-table
+overflow_add-table c =
+    let plan : List ℕ = c.args.member.plan.now in
+    let row : List ℕ = c.neighbours-other-items.result.now in
+    let i : ℕ = c.loop-other.other-index in
+    let there : get_or plan (get_or row i 0) 0 < c.args.districts =
+    c.requires.in_range (get_or row i 0) (All-get_or (λ v. v < c.args.member.graph.now.units) row i 0 c.loop-other-test.true c.neighbours-other-items.ensures.below) in
+    omega (
+      arith,
+      c.loop-other.invariant.own (get_or plan (get_or row i 0) 0) there,
+      row_few c.args.member.graph.now c.args.member.unit i (in_district plan (get_or plan (get_or row i 0) 0)) row c.args.member.sound c.neighbours-other-items.ensures.list,
+      c.args.member.few,
+    )
+
+pub loop-other-preserved : goal.loop-other-preserved
+loop-other-preserved c =
+    let plan : List ℕ = c.args.member.plan.now in
+    let row : List ℕ = c.neighbours-other-items.result.now in
+    let i : ℕ = c.loop-other.other-index in
+    let units : ℕ = c.args.member.graph.now.units in
+    let there : get_or plan (get_or row i 0) 0 < c.args.districts =
+    c.requires.in_range (get_or row i 0) (All-get_or (λ v. v < units) row i 0 c.loop-other-test.true c.neighbours-other-items.ensures.below) in
+    let wide : units * c.args.districts ≤ length c.loop-other.table = omega (arith, c.requires.width, c.loop-other.invariant.width) in
+    counting_more plan c.args.districts c.args.member.unit _ row i c.args.table.now c.loop-other.table c.loop-other-test.true there refl
+    (place_within units c.args.districts c.args.member.unit (get_or plan (get_or row i 0) 0) (length c.loop-other.table) c.args.member.within there wide)
+    c.loop-other.invariant
