@@ -12,7 +12,6 @@ use crate::plan_reports::report_all;
 use audit_io::gate::Gate;
 use audit_io::sink::Sink;
 use audit_io::source::Source;
-use audit_laws::step_laws::accepted_jobs_are_runs;
 use claim_counter::workers::Runtime;
 use report::ended::Ended;
 use report::note::tell;
@@ -30,7 +29,6 @@ fn run_plans<R: Threads + Sync, S: Source, K: Sink, G: Gate + Sync>(
         (world (S.state graph.old) (K.state out.old) keeper)
         (world (S.state graph.new) (K.state out.new) keeper) result }
 {
-    accepted_jobs_are_runs();
     match prepare_plans(rt.alloc, words, graph) {
         Ok(plans) => report_all(rt, plans, out),
         Err(why) => why,

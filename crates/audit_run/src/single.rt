@@ -18,7 +18,6 @@ use audit_io::keeper::Keeper;
 use audit_io::sink::Sink;
 use audit_io::source::Source;
 use audit_laws::laws::ended_calls_keep_their_promise;
-use audit_laws::step_laws::accepted_jobs_are_runs;
 use audit_model::buffers::Bytes;
 use audit_model::setting::Command;
 use audit_start::prepare::prepare;
@@ -99,9 +98,7 @@ pub fn audit_single<
         let after = world (S.state graph.new) (K.state out.new) (C.state result.1) in
         KeepsItsPromise (spoken words.now) before after (N.state note.old) (N.state note.new) result.0 }
 {
-    // Called for their contracts: an accepted job is within its limits, and a call with a correct ending meets the top
-    // contract.
-    accepted_jobs_are_runs();
+    // Called for its contract: a call with a correct ending meets the top contract.
     ended_calls_keep_their_promise();
     match prepare(rt.alloc, words, graph) {
         Ok(job) => {

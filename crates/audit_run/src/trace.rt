@@ -2,6 +2,7 @@
 
 ghost use Rattle.std.specs.Prelude.{◌≡◌, ◌<◌, ◌≤◌, []};
 ghost use Rattle.audit_laws.specs.Calls.{Finishes};
+ghost use Rattle.audit_model.specs.JobOf.{IsJob};
 ghost use Rattle.audit_model.specs.Limits.{most_trajectories};
 ghost use Rattle.audit_model.specs.State.{Kept};
 ghost use Rattle.audit_model.specs.declared.setting.Command.TheVariants.{Trace};
@@ -17,7 +18,8 @@ use report::ended::Ended;
 use std::alloc::Global;
 
 fn range_of(job: &Job) -> TraceRange
-    ensures { result ≡ record { first = job.now.setting.first_id; last = job.now.setting.last_id; thin = job.now.setting.thin } }
+    ensures value { result ≡ record { first = job.now.setting.first_id; last = job.now.setting.last_id; thin = job.now.setting.thin } }
+    ensures sound { IsJob job.now }
 {
     let setting = job.setting();
     TraceRange {
@@ -52,8 +54,6 @@ fn trace_ruled<K: Sink>(alloc: Global, job: &Job, range: TraceRange, out: &mut K
     requires few { range.last < most_trajectories }
     ensures { TracesJob job.now range (K.state out.old) (K.state out.new) result }
 {
-    // Called for its contract: the job is within its limits.
-    let _units = job.units();
     let rules = job.rules();
     let cut_limit = rules.max_cut;
     let split_limit = rules.max_split;
@@ -92,7 +92,5 @@ pub fn trace_job<K: Sink>(alloc: Global, job: &Job, out: &mut K) -> Ended
     requires { job.now.setting.command ≡ Trace }
     ensures { (keeper : Kept) → Finishes job.now (K.state out.old) (K.state out.new) keeper keeper result }
 {
-    // Called for its contract: the job is within its limits.
-    let _units = job.units();
     trace_range(alloc, job, range_of(job), out)
 }

@@ -3,10 +3,19 @@ use Rattle.std.proofs.Common.{◌≡◌, ℕ, Bool, true, false, List, [], ◌�
 use Rattle.std.proofs.lemmas.Slice.Eq.{bytes_eq-Decides}
 use Rattle.std.specs.Prelude.{bytes_eq, codes, cond, option_map, IsErr}
 use Rattle.audit_model.specs.declared.setting.Command.{Command}
+use Rattle.audit_model.specs.declared.setting.Command.TheVariants.{Check, Run, Make, Plans, Trace}
 use Rattle.audit_statement.specs.Words.{command_of, of_command, pairs, setting_of}
 use Rattle.audit_words.specs.declared.question.Question.{Question}
 use Rattle.audit_words.specs.declared.question.Question.TheVariants.{Usage, Version, Arguments}
 use Rattle.audit_words.specs.Laws.{QuestionsWereRefused}
+
+-- each command refuses `--help`, which is no name of its arguments
+refused_of : (word : List ℕ) (command : Command) → IsErr (of_command word (pairs (codes "--help" ∷ [])) (Some command))
+refused_of word Check = refl
+refused_of word Run = refl
+refused_of word Make = refl
+refused_of word Plans = refl
+refused_of word Trace = refl
 
 -- a single argument `--help` or `--version` is refused
 by_word : (word : List ℕ) (help version : Bool) (question : Question) → bytes_eq word (codes "--help") ≡ help → bytes_eq word (codes "--version") ≡ version

@@ -11,7 +11,7 @@ ghost use Rattle.audit_statement.specs.Checkpoint as definition;
 ghost use Rattle.flip_kernel.specs.Judged.{IsJudgeFor};
 ghost use Rattle.claim_counter.specs.Walkers.{IsWalker};
 ghost use Rattle.tally_desk.specs.Pools.{WalksAtDesk};
-ghost use Rattle.tally_desk.specs.Founded.{parts_of};
+ghost use Rattle.tally_desk.specs.Tables.{parts_at, table_of};
 ghost use Rattle.tally_desk.specs.Parts.{IsPlaceFor, MayFound};
 ghost use Rattle.tally_desk.specs.Passes.{IsFirstPass};
 
@@ -36,7 +36,6 @@ use std::alloc::{AllocError, Global};
 use std::sync::Wait;
 use std::{fs, io};
 use tally_desk::desk::Desk;
-use tally_desk::laws::posts_stay_whole;
 use tally_desk::pass::DeskPass;
 use tally_desk::state::{DeskPlan, RunState};
 use walker::walker::Walker;
@@ -57,13 +56,11 @@ fn take_turn<R: Wait, C: Keeper, J: Judge>(
     pass: &mut DeskPass,
 )
     requires walks { IsWalker job.now walker.old }
-    requires shared { WalksAtDesk job.now (parts_of C.state desk.now.table.shared.key) [] }
-    requires pass { OwesNothing desk.now.table.shared.table_id (parts_of C.state desk.now.table.shared.key) pass.old }
+    requires shared { WalksAtDesk job.now (parts_at C.state desk.now) [] }
+    requires pass { OwesNothing (table_of desk.now) (parts_at C.state desk.now) pass.old }
     ensures walks { IsWalker job.now walker.new }
-    ensures pass { OwesNothing desk.now.table.shared.table_id (parts_of C.state desk.now.table.shared.key) pass.new }
+    ensures pass { OwesNothing (table_of desk.now) (parts_at C.state desk.now) pass.new }
 {
-    // Called for its contract: a pass that posts what it claims has posted all its claims.
-    posts_stay_whole();
     if pass.ended() {
         return;
     }
@@ -82,11 +79,11 @@ fn take_turns<R: Wait, C: Keeper, J: Judge>(
     second: &mut DeskPass,
 )
     requires walks { IsWalker job.now walker.old }
-    requires shared { WalksAtDesk job.now (parts_of C.state desk.now.table.shared.key) [] }
-    requires first { OwesNothing desk.now.table.shared.table_id (parts_of C.state desk.now.table.shared.key) first.old }
-    requires second { OwesNothing desk.now.table.shared.table_id (parts_of C.state desk.now.table.shared.key) second.old }
-    ensures first { OwesNothing desk.now.table.shared.table_id (parts_of C.state desk.now.table.shared.key) first.new }
-    ensures second { OwesNothing desk.now.table.shared.table_id (parts_of C.state desk.now.table.shared.key) second.new }
+    requires shared { WalksAtDesk job.now (parts_at C.state desk.now) [] }
+    requires first { OwesNothing (table_of desk.now) (parts_at C.state desk.now) first.old }
+    requires second { OwesNothing (table_of desk.now) (parts_at C.state desk.now) second.old }
+    ensures first { OwesNothing (table_of desk.now) (parts_at C.state desk.now) first.new }
+    ensures second { OwesNothing (table_of desk.now) (parts_at C.state desk.now) second.new }
 {
     for _ in 0..IDS {
         take_turn(rt, job, walker, desk, first);
@@ -103,12 +100,10 @@ fn serve<R: Wait, C: Keeper + Drop, J: Judge>(
     pass: DeskPass,
 ) -> Option<RunState<C>>
     requires walks { IsWalker job.now walker.old }
-    requires shared { WalksAtDesk job.now (parts_of C.state desk.table.shared.key) [] }
-    requires pass { IsFirstPass desk.table.shared.table_id (parts_of C.state desk.table.shared.key) pass }
-    requires two { (parts_of C.state desk.table.shared.key).seats ≡ 2 }
+    requires shared { WalksAtDesk job.now (parts_at C.state desk) [] }
+    requires pass { IsFirstPass (table_of desk) (parts_at C.state desk) pass }
+    requires two { (parts_at C.state desk).seats ≡ 2 }
 {
-    // Called for its contract: a pass that posts what it claims has posted all its claims.
-    posts_stay_whole();
     let mut first = pass;
     let mut second = desk.split(&mut first);
     take_turns(rt, job, walker, &desk, &mut first, &mut second);
@@ -148,8 +143,6 @@ fn ids_of(alloc: Global, job: &Job) -> Result<(Book, OutcomeList, UnitList), Mem
     ensures ids { IfOk result (λ b. b.2 ≡ run_ids job.now [] 3) }
     ensures within { IfOk result (λ b. IsWithin job.now b.2) }
 {
-    // Called for its contract: the job is within its limits.
-    let _units = job.units();
     let book = Book::with_room(alloc, job.total())?;
     let sorted = OutcomeList::with_room(alloc, job.total() as usize)?;
     let ids = todo_of(alloc, job, &book, IDS)?;
@@ -192,9 +185,9 @@ fn open<C: Keeper + Drop>(
     requires found { MayFound job.now (C.state state.keeper).slots state todo }
     requires within { IsWithin job.now todo }
     requires no_ends { job.now.setting.ends ≡ 0 }
-    ensures shared { IfSome result (λ d. WalksAtDesk job.now (parts_of C.state d.0.table.shared.key) []) }
-    ensures pass { IfSome result (λ d. IsFirstPass d.0.table.shared.table_id (parts_of C.state d.0.table.shared.key) d.1) }
-    ensures two { IfSome result (λ d. (parts_of C.state d.0.table.shared.key).seats ≡ 2) }
+    ensures shared { IfSome result (λ d. WalksAtDesk job.now (parts_at C.state d.0) []) }
+    ensures pass { IfSome result (λ d. IsFirstPass (table_of d.0) (parts_at C.state d.0) d.1) }
+    ensures two { IfSome result (λ d. (parts_at C.state d.0).seats ≡ 2) }
 {
     match Desk::new(alloc, job, state, todo, 2) {
         Ok(made) => Some(made),
@@ -212,9 +205,9 @@ fn open_with<C: Keeper + Drop>(
     requires lets { (kept : KeeperState) (slot : ℕ) (bytes : List ℕ) → C.lets kept slot bytes }
     requires every { 1 ≤ every }
     requires no_ends { job.now.setting.ends ≡ 0 }
-    ensures shared { IfSome result (λ d. WalksAtDesk job.now (parts_of C.state d.0.table.shared.key) []) }
-    ensures pass { IfSome result (λ d. IsFirstPass d.0.table.shared.table_id (parts_of C.state d.0.table.shared.key) d.1) }
-    ensures two { IfSome result (λ d. (parts_of C.state d.0.table.shared.key).seats ≡ 2) }
+    ensures shared { IfSome result (λ d. WalksAtDesk job.now (parts_at C.state d.0) []) }
+    ensures pass { IfSome result (λ d. IsFirstPass (table_of d.0) (parts_at C.state d.0) d.1) }
+    ensures two { IfSome result (λ d. (parts_at C.state d.0).seats ≡ 2) }
 {
     match state_of(alloc, job, keeper, every) {
         Some((state, todo)) => open(alloc, job, state, todo),

@@ -66,7 +66,8 @@ impl Finding {
     }
 }
 
-/// Looks at the slots of a folder, and adds their outcomes unless they differ.
+/// Looks at the slots of a folder, and adds the outcomes of the newest slot unless an earlier folder has another
+/// outcome for one of their ids.
 ///
 /// # Errors
 ///

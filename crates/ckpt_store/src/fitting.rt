@@ -56,8 +56,8 @@ fn steps_of(job: &Job, is_walk: bool) -> u32
     }
 }
 
-/// Returns true if all values after those of the asks are 0. An outcome has four values, the first
-/// of them one for each ask.
+/// Returns true if all values but the first `asks` are 0. An outcome has four values: one for each
+/// ask (a score and its tail), followed by zeros.
 fn ends_in_zeros(job: &Job, outcome: &Outcome) -> bool
     ensures { result ≡ list_all (λ v. int_eq v (pos 0)) (drop (length job.now.setting.asks) outcome.now.values) }
 {

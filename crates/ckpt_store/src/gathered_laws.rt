@@ -5,8 +5,8 @@ ghost use Rattle.ckpt_store.specs.GatheredLaws.{GatheredSlotsAreConsistent, Cons
 use crate::laws::{a_stop_in_a_save_leaves_consistent_slots, checkpoints_are_ours};
 use outcome_book::union_laws::unions_are_right;
 
-/// Slots are consistent if the outcomes in them are those of the job's trajectories. Shows that this is then true of
-/// the outcomes in the newest slot.
+/// Slots are consistent if the outcomes in them are those of the job's trajectories. Shows that the outcomes that a
+/// gathering takes from two consistent slots are those of the job's trajectories.
 pub fn consistent_slots_give_consistent_outcomes()
     ensures { ConsistentSlotsGiveConsistentOutcomes }
 {}

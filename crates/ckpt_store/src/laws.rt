@@ -12,8 +12,8 @@ pub fn checkpoints_are_ours()
 {}
 
 /// Shows that a slot matches its bytes. If the state is `Ours`, the slot's bytes are a checkpoint with the job's digest
-/// and the outcomes in that state. A slot of another job is a checkpoint of another digest. A broken slot is no
-/// checkpoint of the job's digest with plausible outcomes.
+/// and the outcomes in that state. A slot of another job is a checkpoint of another digest. The bytes of a broken slot
+/// are no checkpoint, or they are a checkpoint of the job with an outcome that is not plausible.
 pub fn slots_are_what_they_are()
     ensures { SlotsAreWhatTheyAre }
 {
@@ -27,29 +27,29 @@ pub fn written_slots_are_newest()
     ensures { WrittenSlotsAreNewest }
 {}
 
-/// Shows that after a job's checkpoint is written to the place of the next checkpoint, the newest slot is the one with
-/// this checkpoint.
+/// Shows the same for a checkpoint with the job's digest: after it is written to that place, the newest slot is the
+/// job's and has the checkpoint's outcomes.
 pub fn saved_slots_are_newest()
     ensures { SavedSlotsAreNewest }
 {}
 
-/// Shows that the outcomes of a job's trajectories are consistent, with or without a histogram.
+/// Outcomes are consistent if each is that of its trajectory, with its histogram or without it. Shows that the
+/// trajectories' own outcomes are consistent.
 pub fn right_outcomes_are_consistent()
     ensures { RightIsConsistent }
 {
     outcomes_without_histogram_match();
 }
 
-/// Shows that if slots are consistent and a run may start with their outcomes, these outcomes are those of the job's
-/// trajectories.
+/// Shows that a run that starts from consistent slots takes from them outcomes of the job's trajectories.
 pub fn consistent_slots_open_right()
     ensures { ConsistentSlotsOpenRight }
 {
     consistent_runs_go_on_rightly();
 }
 
-/// Shows that a stop within a save leaves consistent slots if its slot is unchanged, does not belong to the job, or is
-/// consistent.
+/// Shows that consistent slots stay consistent when a save is stopped, if the slot of that save is then unchanged, has
+/// no checkpoint of the job, or is consistent.
 pub fn a_stop_in_a_save_leaves_consistent_slots()
     ensures { StopsLeaveConsistentSlots }
 {}
@@ -62,7 +62,8 @@ pub fn saves_leave_consistent_slots()
     right_outcomes_are_consistent();
 }
 
-/// Shows that saves in turn keep the newest slot from before or make a newer one, wherever each failed or was stopped.
+/// Shows that after a series of saves the newest slot is the one from before the series or a newer one, wherever each
+/// save failed or was stopped.
 pub fn saves_keep_the_newest()
     ensures { SavesKeepTheNewest }
 {}

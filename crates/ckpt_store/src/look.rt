@@ -39,9 +39,9 @@ impl From<Memory> for LookFault {
     }
 }
 
-/// Loads both slots, slot 0 first, and returns their states for the job with this digest. No slot is changed. If proofs
-/// cannot observe the keeper's slots, the contract still says that the result is the state of some contents of two
-/// slots.
+/// Loads both slots, slot 0 first, and returns their states for the job with this digest. No slot is changed. A keeper
+/// may hide its slots from proofs. The contract then says only that some contents of two slots have the returned
+/// states.
 ///
 /// # Errors
 ///

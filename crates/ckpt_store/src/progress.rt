@@ -35,7 +35,8 @@ fn slot_for(alloc: Global, job: &Job, digest: &[u8; 32], loaded: &Loaded) -> Res
         Loaded::Absent => Ok(Slot::Absent),
         Loaded::Long => Ok(Slot::Broken(CkptFault::TooLong(LIMIT))),
         Loaded::Bytes(bytes) => {
-            // This arm is not reached with the bytes of `load_slot`, which refuses a longer file.
+            // This condition is never true for the bytes of `load_slot`, which returns `Long` for a
+            // longer file.
             if bytes.len() as u64 > LIMIT {
                 return Ok(Slot::Broken(CkptFault::TooLong(LIMIT)));
             }

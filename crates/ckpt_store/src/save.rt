@@ -16,8 +16,8 @@ use ckpt_format::ahead::Ahead;
 use ckpt_format::encode::encode_with;
 
 /// Saves a checkpoint of outcomes in the slot of a place, in the second version of the format. The keeper's relation
-/// `lets`, which only proofs use, must allow this save. The save may still fail. Afterwards the place moves on to the
-/// other slot and the next generation. Only the keeper may allocate.
+/// `lets`, which only proofs use, must allow this save. The save may still fail. After a save that succeeds, the place
+/// moves on to the other slot and the next generation. Only the keeper may allocate.
 ///
 /// # Errors
 ///

@@ -6,7 +6,7 @@ ghost use Rattle.audit_model.specs.Trajectory.{hub as hub_of};
 ghost use Rattle.claim_counter.specs.Records.{fresh, joined_passes, AreDifferentBelow};
 ghost use Rattle.claim_counter.specs.Passes.{own, size_of, BelongsTo};
 ghost use Rattle.audit_statement.specs.Draw.{draw};
-ghost use Rattle.outcome_book.specs.Booked.{IsShareFor};
+ghost use Rattle.outcome_book.specs.Booked.{IsBook, IsShareFor};
 ghost use Rattle.claim_counter.specs.Walkers.{AreWalkers, IsWalker};
 ghost use Rattle.walker.specs.Judges.{AreJudges};
 ghost use Rattle.claim_counter.specs.Parts.{AreBack, AreResting, HasNoHub, HasPlace, IsBack, IsFreshPart, IsIdleWorker, IsLent, IsPartWorkers, MayRest};
@@ -23,7 +23,6 @@ use audit_model::lists::UnitList;
 use audit_model::memory::Memory;
 use flip_guard::judge::Judge;
 use outcome_book::book::Book;
-use outcome_book::laws::outcomes_have_few_visits;
 use plan_core::job::Job;
 use std::alloc::Global;
 use std::thread::Threads;
@@ -124,8 +123,6 @@ fn lend<J: Judge>(job: &Job, claims: &Claims, idle_worker: IdleWorker<J>, pass: 
     requires idle_worker { IsIdleWorker job.now idle_worker }
     ensures { IsLent job.now claims.now result }
 {
-    // Called for its contract: the job's total fits 32 bits.
-    let _total = job.total();
     let IdleWorker { walker, share } = idle_worker;
     Worker {
         walker: GatedWalker::new(walker),
@@ -199,8 +196,6 @@ fn rest<J: Judge>(
     ensures count { vec_len idle_workers.new ≡ vec_len idle_workers.old + 1 }
     ensures room { vec_capacity idle_workers.new ≡ vec_capacity idle_workers.old }
 {
-    // Called for its contract: the job's total fits 32 bits.
-    let _total = job.total();
     share.clear();
     idle_workers.push_reserved(IdleWorker { walker, share });
 }
@@ -218,6 +213,7 @@ fn take_first<J: Judge>(
     ensures pass { result ≡ worker.pass }
     ensures total { book.new.total ≡ book.old.total }
     ensures outcomes { book.new.outcomes ≡ book.old.outcomes ++ worker.share.items }
+    ensures sound { IsBook book.new }
     ensures idle_workers { All (IsIdleWorker job.now) idle_workers.new.items }
     ensures count { vec_len idle_workers.new ≡ vec_len idle_workers.old + 1 }
     ensures room { vec_capacity idle_workers.new ≡ vec_capacity idle_workers.old }
@@ -252,6 +248,7 @@ fn take_next<J: Judge>(
     ensures different { AreDifferentBelow (size_of claims.now).limit (own result).claims }
     ensures total { book.new.total ≡ book.old.total }
     ensures outcomes { book.new.outcomes ≡ book.old.outcomes ++ worker.share.items }
+    ensures sound { IsBook book.new }
     ensures idle_workers { All (IsIdleWorker job.now) idle_workers.new.items }
     ensures count { vec_len idle_workers.new ≡ vec_len idle_workers.old + 1 }
     ensures room { vec_capacity idle_workers.new ≡ vec_capacity idle_workers.old }
@@ -284,14 +281,14 @@ fn take_all<J: Judge>(
     ensures seats { (own result).weight + (own result).spare ≡ vec_len workers.old }
     ensures total { book.new.total ≡ book.old.total }
     ensures outcomes { book.new.outcomes ≡ book.old.outcomes ++ map (found_at job.now todo.now) (own result).claims }
+    ensures sound { IsBook book.new }
     ensures idle_workers { All (IsIdleWorker job.now) idle_workers.new.items }
     ensures count { vec_len idle_workers.new ≡ vec_len workers.old }
     ensures room { vec_capacity idle_workers.new ≡ vec_capacity idle_workers.old }
     ensures none { vec_len workers.new ≡ 0 }
     ensures workers_room { vec_capacity workers.new ≡ vec_capacity workers.old }
 {
-    // Called for their contracts: histograms are small enough for a book, and the job is within its limits.
-    outcomes_have_few_visits();
+    // Called for its contract: the job is within its limits.
     let _units = job.units();
     let Some(first) = workers.pop() else {
         unreachable!()
@@ -334,6 +331,7 @@ pub fn walk_part<R: Threads + Sync, J: Judge + Send, G: Gate + Sync>(
     ensures hub { part_workers.new.hub ≡ part_workers.old.hub }
     ensures total { book.new.total ≡ book.old.total }
     ensures outcomes { IsPermutation book.new.outcomes (book.old.outcomes ++ map (found job.now) todo.now) }
+    ensures sound { IsBook book.new }
 {
     let PartCounter { claims, pass } = part;
     let idle_workers = &mut part_workers.idle_workers;

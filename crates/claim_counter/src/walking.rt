@@ -7,6 +7,7 @@ ghost use Rattle.audit_statement.specs.Draw.{draw};
 ghost use Rattle.claim_counter.specs.Pools.{IsPool};
 ghost use Rattle.claim_counter.specs.Parts.{IsPartWorkers};
 ghost use Rattle.claim_counter.specs.Walks.{found, MissesIds, ServesEnds};
+ghost use Rattle.outcome_book.specs.Booked.{IsBook};
 
 use crate::parts::{PartWorkers, find_hub, walk_part};
 use crate::pool::WorkerPool;
@@ -15,7 +16,6 @@ use audit_io::gate::Gate;
 use audit_model::buffers::OutcomeList;
 use flip_guard::judge::Judge;
 use outcome_book::book::Book;
-use outcome_book::laws::outcomes_by_id_are_mapped;
 use plan_core::job::Job;
 use std::thread::Threads;
 
@@ -56,6 +56,7 @@ fn walk_all<R: Threads + Sync, J: Judge + Send, G: Gate + Sync>(
     requires todo { MissesIds job.now book.old todo.now }
     ensures total { book.new.total ≡ book.old.total }
     ensures outcomes { IsPermutation book.new.outcomes (book.old.outcomes ++ map (found job.now) todo.now) }
+    ensures sound { IsBook book.new }
 {
     let WorkerPool {
         part,
@@ -87,12 +88,8 @@ pub fn walk_run<R: Threads + Sync, J: Judge + Send, G: Gate + Sync>(
     ensures all { IsPermutation out.new.items (book.old.outcomes ++ map (found job.now) todo.now) }
     ensures room { length out.new.items + out.new.spare ≡ length out.old.items + out.old.spare }
 {
-    // Called for its contract: the book holds no more than its capacity.
+    // Called for its contract: the book's outcomes have different ids.
     let _kept = book.len();
     walk_all(rt, job, todo, pool, book);
-    // Called for their contracts: the book is within its capacity, and its outcomes by id are all those that were
-    // walked.
-    let _all = book.len();
-    outcomes_by_id_are_mapped();
     book.sorted_into(out);
 }

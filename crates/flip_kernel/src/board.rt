@@ -39,8 +39,9 @@ use std::sync::ledger::Ledger;
 
 /// A current plan that is legal for its job, with everything that a step reads or updates.
 ///
-/// This is the sums of the districts, the open pairs, the counts of faces in each district and of
-/// neighbors in each, and marks for a search. `low` and `high` are the population bounds.
+/// These are the sums of the districts, the open pairs, the faces of the graph and their counts in each district, the
+/// number of each unit's neighbors in each district, and marks for a search. `low` and `high` are the population
+/// bounds.
 pub struct Board {
     job: Snapshot<Job>,
     plan: UnitList,
@@ -231,8 +232,8 @@ impl Board {
         self.permits(judge, flip)
     }
 
-    /// Decides, by counts of neighbors, by the faces that link the unit's neighbors in its district and by counts of
-    /// faces, if the unit may leave its district. `None` means that a search is needed.
+    /// Decides if the unit may leave its district. It uses the number of the unit's neighbors in its own district, then
+    /// the faces that link these neighbors, then the counts of faces. `None` means that a search is needed.
     fn counting_tells(&self, job: &Job, unit: u32) -> Option<bool>
         requires made { self.now.job ≡ job.now }
         requires unit { unit < job.now.graph.units }

@@ -1,4 +1,5 @@
-//! Laws of the chain of plans. Each is the contract of a function with an empty body.
+//! Laws of the chain of plans. Each is the contract of a function that does nothing but call other
+//! laws.
 
 ghost use Rattle.std.specs.Prelude.{◌≡◌, ℕ, List};
 ghost use Rattle.audit_model.specs.Job.{Job};

@@ -15,7 +15,8 @@ use dual_graph::member::Member;
 use std::alloc::Global;
 use std::marker::Model;
 
-/// The maximum number of pairs of a unit and a district that have a table.
+/// The maximum number of pairs of a unit and a district for which a table is kept. With more pairs
+/// there is no table.
 ///
 /// A larger table costs more in cache misses than it saves in passes over neighbors.
 const MOST_PAIRS: u64 = 131072;
@@ -172,7 +173,8 @@ fn count_beside(member: Member, districts: u32, table: &mut [u32])
     }
 }
 
-/// Updates the numbers of the neighbors of a unit that is about to move.
+/// Updates the entries of each neighbor of a unit that is about to move: one less for the old
+/// district, one more for the new district.
 fn pass_neighbor(leaving: Member, districts: u32, district: u32, table: &mut [u32])
     requires in_range { (u : ℕ) → u < leaving.graph.now.units → slice_index leaving.plan.now u < districts }
     requires district { district < districts }

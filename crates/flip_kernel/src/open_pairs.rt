@@ -110,8 +110,8 @@ impl OpenPairs {
 
     /// Updates the open pairs after a unit has moved away from `home`, where it has a neighbor.
     ///
-    /// It costs one pass over the unit's neighbors, and one over theirs if these are not counted. It
-    /// allocates nothing.
+    /// It costs one pass over the unit's neighbors. If the table of `near` is empty, it also scans
+    /// the neighbors of these neighbors. It allocates nothing.
     pub fn update(&mut self, moved: Member, districts: u32, home: u32, near: &NeighborCounts)
         requires in_range { (u : ℕ) → u < moved.graph.now.units → slice_index moved.plan.now u < districts }
         requires home { home < districts }

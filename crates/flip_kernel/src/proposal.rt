@@ -85,7 +85,7 @@ impl Pairs {
 /// Returns the quotient and the remainder of a number, given the inverse of the divisor: 2^64 - 1
 /// divided by it and rounded down.
 ///
-/// The high half of the product is the quotient or one less.
+/// The high half of the product of `number` and `inverse` is the quotient or one less.
 #[inline]
 fn divide(number: u64, divisor: u64, inverse: u64) -> (u64, u64)
     requires some { 0 < divisor }

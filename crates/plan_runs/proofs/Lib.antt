@@ -1,9 +1,9 @@
+pub mod CurrentLine
 pub mod EarlyStops
 pub mod Plain
 pub mod Splitting
 pub mod Strides
 pub mod Telling
-pub mod Tracing
 mod Desked
 mod Finished
 mod Placing

@@ -10,7 +10,6 @@ use audit_model::lists::UnitList;
 use audit_model::memory::Memory;
 use audit_model::outcome::Outcome;
 use outcome_book::book::Book;
-use outcome_book::laws::outcomes_have_few_visits;
 use plan_core::job::Job;
 use std::alloc::Global;
 
@@ -30,8 +29,6 @@ fn book_of(alloc: Global, job: &Job, outcomes: &[Outcome]) -> Result<Book, Memor
     ensures total { IfOk result (λ b. b.total ≡ total job.now) }
     ensures outcomes { IfOk result (λ b. b.outcomes ≡ outcomes.now) }
 {
-    // Called for its contract: the histograms of plausible outcomes are small enough for a book.
-    outcomes_have_few_visits();
     let mut book = Book::with_room(alloc, job.total())?;
     book.merge(outcomes);
     Ok(book)

@@ -60,8 +60,6 @@ pub fn put_plan<J: Judge>(job: &Job, walker: &mut Walker<J>, step: u32, moved: u
     ensures before { pen.new.before ≡ walker.old.plan }
     ensures same { walker.new ≡ walker.old }
 {
-    // Called for its contract: the job is within its limits.
-    let _units = job.units();
     let values = walker.values(job);
     let asks = job.setting().asks.len();
     let plan = walker.plan().as_slice();

@@ -24,10 +24,8 @@ use audit_model::lists::UnitList;
 use audit_model::memory::Memory;
 use audit_model::outcome::Outcome;
 use audit_start::resume_state::Target;
-use ckpt_store::laws::checkpoints_are_ours;
 use claim_counter::workers::Runtime;
 use flip_guard::judge::Judge;
-use outcome_book::laws::outcomes_by_id_are_mapped;
 use plan_core::job::Job;
 use report::ended::Ended;
 use std::alloc::Global;
@@ -35,7 +33,6 @@ use std::sync::Wait;
 use std::thread::Threads;
 use tally_desk::pool::DeskPool;
 use tally_desk::ran::{RunResult, run_over};
-use tally_desk::run_laws::{run_attempts_are_right, saves_hold_parts};
 use tally_desk::state::{DeskPlan, RunState};
 use walker::walker::Walker;
 
@@ -102,8 +99,9 @@ pub fn make_saved_resources<J: Judge, C>(
         sorted,
         text,
     } = buffers;
+    let digest = target.digest;
     let plan = DeskPlan {
-        digest: target.digest,
+        digest,
         save_every: job.setting().save_every,
         place: target.place,
     };
@@ -136,11 +134,6 @@ pub fn run_saved<
     ensures { Finishes job.now (K.state out.old) (K.state out.new)
         (C.state resources.state.keeper) (C.state result.1) result.0 }
 {
-    // Called for their contracts: save attempts are correct and belong to the job, and the outcomes by id are complete.
-    run_attempts_are_right();
-    saves_hold_parts();
-    checkpoints_are_ours();
-    outcomes_by_id_are_mapped();
     let SavedResources {
         state,
         todo,

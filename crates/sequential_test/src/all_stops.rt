@@ -4,7 +4,6 @@ ghost use Rattle.std.specs.Prelude.{◌≡◌, ◌≤◌, length, IfNone, IfSome
 ghost use Rattle.std.specs.List.{AllPairs};
 ghost use Rattle.sequential_test.specs.Rounds.{AreParts, AreDecided, AreDecidedBelow};
 
-use crate::limits::setting_of;
 use crate::settle::settle;
 use audit_model::outcome::Outcome;
 use plan_core::job::Job;
@@ -19,7 +18,7 @@ pub fn find_stops(job: &Job, outcomes: &[Outcome]) -> Option<[[u32; 3]; 4]>
     ensures four { IfSome result (λ stops. length stops ≡ 4) }
     ensures none { IfNone result (AreDecided job.now outcomes.now → ⊥) }
 {
-    let enough = setting_of(job).stop;
+    let enough = job.setting().stop;
     let mut stops = [[0; 3]; 4];
     for place in 0..job.setting().asks.len() {
         match settle(job, place as u32, enough, outcomes) {

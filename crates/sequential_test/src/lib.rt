@@ -3,7 +3,6 @@
 
 pub mod all_stops;
 pub mod laws;
-mod limits;
 pub mod pool;
 pub mod settle;
 pub mod walking;

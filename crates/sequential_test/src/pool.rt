@@ -6,7 +6,6 @@ ghost use Rattle.sequential_test.specs.Rounds.{ends_after};
 ghost use Rattle.walker.specs.Judges.{AreJudges};
 ghost use Rattle.audit_model.specs.Limits.{most_trajectories, most_workers};
 
-use crate::limits::setting_of;
 use audit_model::memory::Memory;
 use claim_counter::parts::{PartCounter, PartWorkers, make_part_workers};
 use flip_guard::judge::Judge;
@@ -66,8 +65,8 @@ pub fn make_pool<J: Judge>(
     ensures no_hub { IfOk result (HasStartedNothing job.now) }
 {
     let seats = judges.len() as u32;
-    let walks = PartCounter::new(alloc, setting_of(job).walks, seats)?;
-    let rounds = make_rounds(alloc, setting_of(job).ends, seats)?;
+    let walks = PartCounter::new(alloc, job.setting().walks, seats)?;
+    let rounds = make_rounds(alloc, job.setting().ends, seats)?;
     let part_workers = make_part_workers(alloc, job, judges)?;
     Ok(StoppingPool {
         part_workers,

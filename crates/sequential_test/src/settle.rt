@@ -9,7 +9,6 @@ ghost use Rattle.audit_model.specs.declared.setting.Ask.{Ask};
 ghost use Rattle.sequential_test.specs.Ranks.{ends_below, tails_below};
 ghost use Rattle.audit_model.specs.Limits.{most_trajectories};
 
-use crate::limits::setting_of;
 use audit_model::outcome::{Outcome, Stop};
 use audit_model::setting::Tail;
 use outlier_tests::in_tail;
@@ -48,7 +47,7 @@ pub fn settle(job: &Job, ask: u32, hits: u32, posted: &[Outcome]) -> Option<Stop
     ensures stop_of_known { IfSome (slice_get job.now.setting.asks ask) (λ asked. result ≡ stop_of_known job.now (ask, asked) hits posted.now) }
     ensures part { IfSome result (λ s. (s.place ≤ job.now.setting.ends) × (1 ≤ s.top) × (s.top ≤ s.of) × (s.of ≤ job.now.setting.ends + 1)) }
 {
-    let setting = setting_of(job);
+    let setting = job.setting();
     let place = ask as usize;
     let tail = setting.asks.as_slice()[place].tail;
     let span = Span {

@@ -12,7 +12,6 @@ ghost use Rattle.sequential_test.specs.Pools.{AreRounds, HasWalkedTo, IsStopping
 ghost use Rattle.sequential_test.specs.Rounds.{ends_after, found_below, AreIds, AreParts, AreDecidedBelow, StopsInTime};
 
 use crate::all_stops::find_stops;
-use crate::limits::setting_of;
 use crate::pool::{StoppingPool, after_round};
 use audit_io::gate::Gate;
 use audit_model::buffers::OutcomeList;
@@ -65,8 +64,6 @@ fn walk_to<R: Threads + Sync, J: Judge + Send, G: Gate + Sync>(
     ensures rising { AllPairs (λ a b. a.id ≡ b.id → ⊥) sorted.new.items }
 {
     walk_part(rt, job, stretch.ids, stretch.part, part_workers, book);
-    // Called for its contract: the book holds no more than its capacity.
-    let _all = book.len();
     book.sorted_into(sorted);
 }
 
@@ -90,8 +87,8 @@ fn walk_rounds<R: Threads + Sync, J: Judge + Send, G: Gate + Sync>(
     ensures parts { AreParts job.now.setting.ends (length job.now.setting.asks) result }
     ensures four { length result ≡ 4 }
 {
-    let walks = setting_of(job).walks;
-    let ends = setting_of(job).ends;
+    let walks = job.setting().walks;
+    let ends = job.setting().ends;
     let Rounds { todo, mut parts } = rounds;
     let mut walked = 0;
     while let Some(part) = parts.pop() {
@@ -146,7 +143,7 @@ pub fn walk_to_stops<R: Threads + Sync, J: Judge + Send, G: Gate + Sync>(
         rounds,
     } = pool;
     find_hub(job, &mut part_workers);
-    let to = setting_of(job).walks;
+    let to = job.setting().walks;
     let stretch = Stretch {
         ids: ids_from(todo, 0, to),
         from: 0,

@@ -31,7 +31,7 @@ use Rattle.tally_desk.specs.Entries.{post_of, posted_id, ids_of, is_due, is_miss
 use Rattle.tally_desk.specs.Homes.{HasTurned, IsSound, KeptAs, MayTurn, SlotsAs, booked, made, made_with, attempts, try_made}
 use Rattle.audit_statement.specs.InOrder.{moved, next_place}
 use Rattle.tally_desk.specs.Parts.{Parts, IsPlan, IsPlaceFor}
-use Rattle.tally_desk.specs.Saving.{LetsSave, SavedWhereDue, AttemptedSave, bytes_of, sorted_of}
+use Rattle.tally_desk.specs.Saving.{LetsSave, SavedWhereDue, AttemptedSave, sorted_of}
 use Rattle.tally_desk.proofs.Bounds.{range_push}
 use Rattle.tally_desk.proofs.Booking.{absent_of_book, booked-push, booked_fit, by_id_fit}
 use Rattle.claim_counter.proofs.Sharing.{found_is}

@@ -109,8 +109,8 @@ few_if false n every =
     le_trans (mul-le n (min 4096 (every / max n 1)) (max n 1) (every / max n 1) (le-max_left n 1) (min-le_right 4096 (every / max n 1))) (mul-div-le every (max n 1))
 
 -- all buffers together hold fewer outcomes than are posted between two saves
-pub few_held : (s : Setting) (workers : ℕ) → holders workers * buffer_room s workers ≤ s.save_every - 1
-few_held s workers = few_if (nat_le long_steps (max s.steps s.hub_steps)) (holders workers) (s.save_every - 1)
+pub few_are_buffered : (s : Setting) (workers : ℕ) → holders workers * buffer_room s workers ≤ s.save_every - 1
+few_are_buffered s workers = few_if (nat_le long_steps (max s.steps s.hub_steps)) (holders workers) (s.save_every - 1)
 
 module _ {A : Type 0} (s : Setting) (workers : ℕ) where
   -- an empty list has no buffers

@@ -16,5 +16,6 @@ pub mod Righted
 pub mod Rooms
 pub mod Saves
 pub mod Saving
+pub mod Tables
 pub mod Unposted
 pub mod Views

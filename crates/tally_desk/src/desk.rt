@@ -42,7 +42,7 @@ impl<C: Keeper> Desk<C> {
     ghost use Rattle.claim_counter.specs.Walks.{found};
     ghost use Rattle.tally_desk.specs.Desks.{BeginsTurn, CanPost, HasServed, IsInTurn, IsWaiting, claimed_ids, ended_view, first_view, joined_view, left_view, right_view, with_turn};
     ghost use Rattle.tally_desk.specs.Entries.{ids_of};
-    ghost use Rattle.tally_desk.specs.Founded.{parts_of};
+    ghost use Rattle.tally_desk.specs.Tables.{parts_at, table_of};
     ghost use Rattle.tally_desk.specs.Homes.{HomeAs};
     ghost use Rattle.tally_desk.specs.Parts.{LetsDesk, MayFound};
     ghost use Rattle.tally_desk.specs.Passes.{Belongs, Claims, HasPostedAll, IsClosed, Posts, view_of};
@@ -65,9 +65,9 @@ impl<C: Keeper> Desk<C> {
         requires found { MayFound job.now (C.state state.keeper).slots state todo }
         requires seats { (1 ≤ seats) × (seats ≤ 33) }
         requires lets { LetsDesk C.lets (starts C.state job.now state todo seats) }
-        ensures parts { IfOk result (λ d. parts_of C.state d.0.table.shared.key ≡ starts C.state job.now state todo seats) }
-        ensures pass { IfOk result (λ d. let parts = parts_of C.state d.0.table.shared.key in
-            Belongs d.0.table.shared.table_id parts d.1 × (view_of d.1 ≡ first_view parts)) }
+        ensures parts { IfOk result (λ d. parts_at C.state d.0 ≡ starts C.state job.now state todo seats) }
+        ensures pass { IfOk result (λ d. let parts = parts_at C.state d.0 in
+            Belongs (table_of d.0) parts d.1 × (view_of d.1 ≡ first_view parts)) }
         ensures refused { IfErr result (λ r. (r.book ≡ state.book) × (r.keeper ≡ state.keeper)) }
     {
         // Called for their contracts: the job is within its limits, and the book is within its capacity.
@@ -104,10 +104,10 @@ impl<C: Keeper> Desk<C> {
         }
     }
 
-    /// Returns true if the trajectory of an id to do starts from the hub, which is so from `walks` on.
+    /// Returns true if the list has an id of `walks` or above: the trajectories of these ids start from the hub.
     pub fn needs_hub(&self, walks: u32) -> bool
-        ensures none { IsFalse result → All (λ id. id < walks) self.now.table.shared.key.todo.value }
-        ensures some { All (λ id. id < walks) self.now.table.shared.key.todo.value → IsFalse result }
+        ensures none { IsFalse result → All (λ id. id < walks) (parts_at C.state self.now).todo }
+        ensures some { All (λ id. id < walks) (parts_at C.state self.now).todo → IsFalse result }
     {
         has_above(self.todo.as_slice(), walks)
     }
@@ -115,12 +115,12 @@ impl<C: Keeper> Desk<C> {
     /// Draws the next place of the list in one atomic step and returns its id. No other pass of this desk ever gets the
     /// same place. Returns `None` if no id was left. The pass has then ended.
     pub fn claim(&self, pass: &mut DeskPass) -> Option<u32>
-        requires pass { Belongs self.now.table.shared.table_id (parts_of C.state self.now.table.shared.key) pass.old }
+        requires pass { Belongs (table_of self.now) (parts_at C.state self.now) pass.old }
         requires before_end { (view_of pass.old).own.ended ≡ false }
-        ensures pass { Belongs self.now.table.shared.table_id (parts_of C.state self.now.table.shared.key) pass.new }
-        ensures claimed { IfSome result (λ id. Claims (parts_of C.state self.now.table.shared.key) id (view_of pass.old) (view_of pass.new)) }
+        ensures pass { Belongs (table_of self.now) (parts_at C.state self.now) pass.new }
+        ensures claimed { IfSome result (λ id. Claims (parts_at C.state self.now) id (view_of pass.old) (view_of pass.new)) }
         ensures end { IfNone result (view_of pass.new ≡ ended_view (view_of pass.old)) }
-        ensures few { length (view_of pass.new).own.claims ≤ length self.now.table.shared.key.todo.value }
+        ensures few { length (view_of pass.new).own.claims ≤ length (parts_at C.state self.now).todo }
     {
         let mut seat = take_out(&mut pass.badge);
         let drawn = self.table.shared.fetch_add::<NextPlace>(&mut seat, 0, 1);
@@ -136,11 +136,11 @@ impl<C: Keeper> Desk<C> {
     /// Posts the outcome of a claim. Retries until it gets a ticket and its turn comes, and sleeps while another pass
     /// saves. Only the keeper may allocate.
     pub fn post<R: Wait>(&self, rt: &R, pass: &mut DeskPass, outcome: Outcome)
-        requires pass { Belongs self.now.table.shared.table_id (parts_of C.state self.now.table.shared.key) pass.old }
-        requires claimed { 0 < times outcome.id (claimed_ids (parts_of C.state self.now.table.shared.key) (view_of pass.old)) }
+        requires pass { Belongs (table_of self.now) (parts_at C.state self.now) pass.old }
+        requires claimed { 0 < times outcome.id (claimed_ids (parts_at C.state self.now) (view_of pass.old)) }
         requires unposted { times outcome.id (ids_of (view_of pass.old).entries) ≡ 0 }
-        requires right { outcome ≡ found self.now.table.shared.key.job.value outcome.id }
-        ensures pass { Belongs self.now.table.shared.table_id (parts_of C.state self.now.table.shared.key) pass.new }
+        requires right { outcome ≡ found (parts_at C.state self.now).job outcome.id }
+        ensures pass { Belongs (table_of self.now) (parts_at C.state self.now) pass.new }
         ensures posted { Posts outcome.id (view_of pass.old) (view_of pass.new) }
     {
         let mut seat = take_out(&mut pass.badge);
@@ -152,11 +152,11 @@ impl<C: Keeper> Desk<C> {
 
     /// Posts the outcome of a claim, as `post` does, unless another pass has its turn. Returns true if it was posted.
     pub fn try_post<R: Wait>(&self, rt: &R, pass: &mut DeskPass, outcome: Outcome) -> bool
-        requires pass { Belongs self.now.table.shared.table_id (parts_of C.state self.now.table.shared.key) pass.old }
-        requires claimed { 0 < times outcome.id (claimed_ids (parts_of C.state self.now.table.shared.key) (view_of pass.old)) }
+        requires pass { Belongs (table_of self.now) (parts_at C.state self.now) pass.old }
+        requires claimed { 0 < times outcome.id (claimed_ids (parts_at C.state self.now) (view_of pass.old)) }
         requires unposted { times outcome.id (ids_of (view_of pass.old).entries) ≡ 0 }
-        requires right { outcome ≡ found self.now.table.shared.key.job.value outcome.id }
-        ensures pass { Belongs self.now.table.shared.table_id (parts_of C.state self.now.table.shared.key) pass.new }
+        requires right { outcome ≡ found (parts_at C.state self.now).job outcome.id }
+        ensures pass { Belongs (table_of self.now) (parts_at C.state self.now) pass.new }
         ensures posted { result ≡ true → Posts outcome.id (view_of pass.old) (view_of pass.new) }
         ensures missed { result ≡ false → view_of pass.new ≡ view_of pass.old }
     {
@@ -175,8 +175,9 @@ impl<C: Keeper> Desk<C> {
         }
     }
 
-    // Takes a ticket for a post of this id once no other ticket is out. The ticket taken is then the one served. Turns
-    // go to whichever pass asks first, so none waits for a pass whose thread is descheduled.
+    // Takes a ticket for a post of this id once no other ticket is out. The turn of the ticket then begins at once.
+    // Passes do not queue: after a turn, the first pass that asks gets the next turn. So no turn is kept for a pass
+    // whose thread is not running.
     fn take_ticket<R: Wait, B: Posting>(
         &self,
         rt: &R,
@@ -184,9 +185,9 @@ impl<C: Keeper> Desk<C> {
         id: u32,
     ) -> u64
         requires name { B.id ≡ id }
-        requires table { seat.old.table_id ≡ self.now.table.shared.table_id }
+        requires table { seat.old.table_id ≡ table_of self.now }
         requires empty { seat.old.me.1 ≡ [] }
-        requires post { CanPost (parts_of C.state self.now.table.shared.key) seat.old.me.0 id }
+        requires post { CanPost (parts_at C.state self.now) seat.old.me.0 id }
         ensures table { seat.new.table_id ≡ seat.old.table_id }
         ensures seat { seat.new.me ≡ (with_turn seat.old.me.0 (waiting result id), []) }
     {
@@ -231,9 +232,9 @@ impl<C: Keeper> Desk<C> {
     // Takes a ticket for a post of this id, if none is out.
     fn try_ticket<B: Posting>(&self, seat: &mut Seat<RunState<C>, DeskView>, id: u32) -> Option<u64>
         requires name { B.id ≡ id }
-        requires table { seat.old.table_id ≡ self.now.table.shared.table_id }
+        requires table { seat.old.table_id ≡ table_of self.now }
         requires empty { seat.old.me.1 ≡ [] }
-        requires post { CanPost (parts_of C.state self.now.table.shared.key) seat.old.me.0 id }
+        requires post { CanPost (parts_at C.state self.now) seat.old.me.0 id }
         ensures table { seat.new.table_id ≡ seat.old.table_id }
         ensures taken { IfSome result (λ t. seat.new.me ≡ (with_turn seat.old.me.0 (waiting t id), [])) }
         ensures missed { IfNone result (seat.new.me ≡ seat.old.me) }
@@ -257,11 +258,11 @@ impl<C: Keeper> Desk<C> {
         ticket: u64,
         id: u32,
     )
-        requires table { seat.old.table_id ≡ self.now.table.shared.table_id }
+        requires table { seat.old.table_id ≡ table_of self.now }
         requires empty { seat.old.me.1 ≡ [] }
-        requires waits { IsWaiting (parts_of C.state self.now.table.shared.key) ticket id seat.old.me.0 }
+        requires waits { IsWaiting (parts_at C.state self.now) ticket id seat.old.me.0 }
         ensures table { seat.new.table_id ≡ seat.old.table_id }
-        ensures begins { BeginsTurn (HomeAs C.state C.lets) (parts_of C.state self.now.table.shared.key) ticket id seat.old.me seat.new.me }
+        ensures begins { BeginsTurn (HomeAs C.state C.lets) (parts_at C.state self.now) ticket id seat.old.me seat.new.me }
     {
         for _ in rt.forever() {
             if self.table.shared.load::<PollTicket>(seat, 2) == ticket {
@@ -274,9 +275,9 @@ impl<C: Keeper> Desk<C> {
 
     // Posts the outcome and serves the next ticket.
     fn serve(&self, seat: &mut Seat<RunState<C>, DeskView>, ticket: u64, outcome: Outcome)
-        requires table { seat.old.table_id ≡ self.now.table.shared.table_id }
-        requires right { outcome ≡ found self.now.table.shared.key.job.value outcome.id }
-        requires turn { IsInTurn (HomeAs C.state C.lets) (parts_of C.state self.now.table.shared.key) ticket outcome.id seat.old.me }
+        requires table { seat.old.table_id ≡ table_of self.now }
+        requires right { outcome ≡ found (parts_at C.state self.now).job outcome.id }
+        requires turn { IsInTurn (HomeAs C.state C.lets) (parts_at C.state self.now) ticket outcome.id seat.old.me }
         ensures table { seat.new.table_id ≡ seat.old.table_id }
         ensures served { HasServed ticket outcome.id seat.old.me seat.new.me }
     {
@@ -288,10 +289,10 @@ impl<C: Keeper> Desk<C> {
 
     /// Splits off a pass that has claimed nothing. `pass` can then be split once less.
     pub fn split(&self, pass: &mut DeskPass) -> DeskPass
-        requires pass { Belongs self.now.table.shared.table_id (parts_of C.state self.now.table.shared.key) pass.old }
+        requires pass { Belongs (table_of self.now) (parts_at C.state self.now) pass.old }
         requires spare { 0 < (view_of pass.old).own.spare }
-        ensures rest { Belongs self.now.table.shared.table_id (parts_of C.state self.now.table.shared.key) pass.new × (view_of pass.new ≡ left_view (view_of pass.old)) }
-        ensures new { Belongs self.now.table.shared.table_id (parts_of C.state self.now.table.shared.key) result × (view_of result ≡ right_view (view_of pass.old)) }
+        ensures rest { Belongs (table_of self.now) (parts_at C.state self.now) pass.new × (view_of pass.new ≡ left_view (view_of pass.old)) }
+        ensures new { Belongs (table_of self.now) (parts_at C.state self.now) result × (view_of result ≡ right_view (view_of pass.old)) }
     {
         let mut seat = take_out(&mut pass.badge);
         let other = self.table.shared.split_seat::<DeskSplit>(&mut seat);
@@ -306,9 +307,9 @@ impl<C: Keeper> Desk<C> {
 
     /// Joins two passes into one with the claims and posts of both. The result has ended if both have.
     pub fn join(&self, first: DeskPass, second: DeskPass) -> DeskPass
-        requires first { Belongs self.now.table.shared.table_id (parts_of C.state self.now.table.shared.key) first }
-        requires second { Belongs self.now.table.shared.table_id (parts_of C.state self.now.table.shared.key) second }
-        ensures pass { Belongs self.now.table.shared.table_id (parts_of C.state self.now.table.shared.key) result }
+        requires first { Belongs (table_of self.now) (parts_at C.state self.now) first }
+        requires second { Belongs (table_of self.now) (parts_at C.state self.now) second }
+        ensures pass { Belongs (table_of self.now) (parts_at C.state self.now) result }
         ensures both { view_of result ≡ joined_view (view_of first) (view_of second) }
     {
         let DeskPass {
@@ -324,7 +325,8 @@ impl<C: Keeper> Desk<C> {
         let mut seat = take_out(&mut badge);
         let other = take_out(&mut other_badge);
         self.table.shared.join_seat::<DeskSplit>(&mut seat, other);
-        // Joining gives no fact about both passes together. Reading the counter afterwards does.
+        // From the join the prover learns nothing about both passes together. It learns it from this read of the
+        // counter.
         self.table.shared.load::<See>(&mut seat, 0);
         DeskPass {
             badge: seat.into_badge(),
@@ -336,11 +338,11 @@ impl<C: Keeper> Desk<C> {
     /// Closes the desk with its only pass, which must have ended and have posted all its claims. Returns the state of
     /// the run.
     pub fn close(self, pass: DeskPass) -> RunState<C>
-        requires pass { Belongs self.table.shared.table_id (parts_of C.state self.table.shared.key) pass }
-        requires only { HasAllSeats (parts_of C.state self.table.shared.key).seats (view_of pass).own }
+        requires pass { Belongs (table_of self) (parts_at C.state self) pass }
+        requires only { HasAllSeats (parts_at C.state self).seats (view_of pass).own }
         requires ended { (view_of pass).own.ended ≡ true }
-        requires posted { HasPostedAll (parts_of C.state self.table.shared.key) (view_of pass) }
-        ensures { IsClosed C.state (parts_of C.state self.table.shared.key) (view_of pass) result }
+        requires posted { HasPostedAll (parts_at C.state self) (view_of pass) }
+        ensures { IsClosed C.state (parts_at C.state self) (view_of pass) result }
     {
         let Desk {
             table,

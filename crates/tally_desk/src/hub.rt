@@ -1,6 +1,7 @@
 //! The hub of a run that saves.
 
 ghost use Rattle.std.specs.Prelude.{◌≡◌, ◌<◌, All, length};
+ghost use Rattle.tally_desk.specs.Tables.{parts_at};
 ghost use Rattle.claim_counter.specs.Walkers.{IsWalker};
 ghost use Rattle.claim_counter.specs.Walks.{ServesEnds};
 
@@ -11,8 +12,8 @@ use flip_guard::judge::Judge;
 use plan_core::job::Job;
 use walker::walker::Walker;
 
-/// Computes the hub exactly if an id to do at the desk starts from it. Only the desk knows that, so the hub is computed
-/// after the desk's memory is allocated.
+/// Computes the hub if the desk's list has an id whose trajectory starts from it, and only then. The list belongs to
+/// the desk, so the hub is computed after the desk's memory is allocated.
 pub fn walk_hub<C: Keeper, J: Judge>(
     desk: &Desk<C>,
     job: &Job,
@@ -22,8 +23,8 @@ pub fn walk_hub<C: Keeper, J: Judge>(
     requires walks { IsWalker job.now walker.old }
     requires units { length hub.old ≡ job.now.graph.units }
     ensures walks { IsWalker job.now walker.new }
-    ensures hub { ServesEnds job.now desk.now.table.shared.key.todo.value hub.new }
-    ensures unneeded { All (λ id. id < job.now.setting.walks) desk.now.table.shared.key.todo.value → hub.new ≡ hub.old }
+    ensures hub { ServesEnds job.now (parts_at C.state desk.now).todo hub.new }
+    ensures unneeded { All (λ id. id < job.now.setting.walks) (parts_at C.state desk.now).todo → hub.new ≡ hub.old }
 {
     if desk.needs_hub(job.setting().walks) {
         walker.hub_into(job, hub.as_mut_slice());

@@ -15,15 +15,15 @@ use ckpt_store::laws::{
     saves_leave_consistent_slots,
 };
 
-/// Shows that each step of a pass keeps the rule of the desk. In the model of a run as a machine (`Machine` of
-/// `audit_model`), the state that matches the desk before the step goes over to the state that matches the desk after
-/// it, by the step's events: a claim, a post, or a post and a save.
+/// Shows that each step of a pass keeps the rule of the desk. The events of a step are a claim, a post, or a post and a
+/// save. In the model of a run as a machine (`Machine` of `audit_model`), they lead from the state that matches the
+/// desk before the step to the one that matches it afterwards.
 pub fn steps_are_events<C: Keeper>()
     ensures { (parts : Parts) → StepsAreEvents (HomeAs C.state C.lets) parts }
 {}
 
-/// Shows that a pass has still posted all its claims after it claims and posts one more, and after two such passes are
-/// joined.
+/// Shows that if a pass has posted all its claims, this is true again after one more claim and its post. It is also
+/// true of the join of two such passes.
 pub fn posts_stay_whole()
     ensures { PostsStayWhole }
 {}
@@ -57,8 +57,8 @@ pub fn stops_leave_consistent_slots()
     saves_leave_consistent_slots();
 }
 
-/// Shows that a stop anywhere in a run keeps the newest slot from before or leaves a newer one: the last save that
-/// succeeded, or a later one.
+/// Shows that after a stop anywhere in a run the newest slot is the one from before the run or a newer one: the last
+/// save that succeeded, or a later save that was stopped or failed after it wrote its slot.
 pub fn stops_keep_the_newest()
     ensures { RunStopsKeepTheNewest }
 {

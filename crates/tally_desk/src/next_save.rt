@@ -7,8 +7,8 @@ use audit_model::place::Place;
 use ckpt_format::ahead::Ahead;
 use std::alloc::Global;
 
-/// The largest number of outcomes hashed with one post. If more were needed, saves come so often that workers wait for
-/// hashing in any case.
+/// The largest number of outcomes hashed with one post. If a post would have to hash more, no outcome is hashed ahead:
+/// saves are then so frequent that workers wait for hashing in any case.
 const MOST_EACH: usize = 32;
 
 /// The prefix of the next checkpoint: the first outcomes of the last checkpoint, up to the least id still to do.

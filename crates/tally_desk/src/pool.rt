@@ -1,7 +1,7 @@
 //! The workers of a run that saves while it walks.
 
 ghost use Rattle.std.specs.Prelude.{◌≡◌, ◌+◌, ◌-◌, ◌*◌, ◌<◌, ◌≤◌, ◌∷◌, [], ◌++◌, All, IfOk, vec_len};
-ghost use Rattle.tally_desk.specs.Founded.{parts_of};
+ghost use Rattle.tally_desk.specs.Tables.{parts_at, table_of};
 ghost use Rattle.tally_desk.specs.Passes.{IsFirstPass};
 ghost use Rattle.tally_desk.specs.Pools.{IsDeskPool, IsUnstartedAtDesk, MaySeat};
 ghost use Rattle.tally_desk.specs.Unposted.{AreRooms, buffer_room, holders, room_at};
@@ -112,9 +112,9 @@ pub(crate) fn seat<C: Keeper, J: Judge>(
     mut workers: Vec<DeskWorker<J>>,
     mut lists: Vec<Vec<Outcome>>,
 ) -> Vec<DeskWorker<J>>
-    requires pass { IsFirstPass desk.now.table.shared.table_id (parts_of C.state desk.now.table.shared.key) pass }
-    requires pool { MaySeat (parts_of C.state desk.now.table.shared.key) walkers workers lists }
-    ensures unstarted { All (IsUnstartedAtDesk desk.now.table.shared.table_id (parts_of C.state desk.now.table.shared.key)) result.items }
+    requires pass { IsFirstPass (table_of desk.now) (parts_at C.state desk.now) pass }
+    requires pool { MaySeat (parts_at C.state desk.now) walkers workers lists }
+    ensures unstarted { All (IsUnstartedAtDesk (table_of desk.now) (parts_at C.state desk.now)) result.items }
     ensures count { vec_len result ≡ vec_len walkers }
 {
     let Some(last) = walkers.pop() else {

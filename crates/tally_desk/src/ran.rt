@@ -5,7 +5,7 @@ ghost use Rattle.audit_model.specs.Limits.{most_workers};
 ghost use Rattle.ckpt_store.specs.Places.{IsPlace};
 ghost use Rattle.claim_counter.specs.Walks.{IsWithin};
 ghost use Rattle.tally_desk.specs.Pools.{IsDeskPool, MaySeat, WalksAtDesk};
-ghost use Rattle.tally_desk.specs.Founded.{parts_of};
+ghost use Rattle.tally_desk.specs.Tables.{parts_at, table_of};
 ghost use Rattle.tally_desk.specs.Parts.{LetsDesk, MayFound, Parts};
 ghost use Rattle.tally_desk.specs.Passes.{IsClosed, IsFirstPass};
 ghost use Rattle.tally_desk.specs.RunResult.{BothSaved, HasRun, starts};
@@ -14,7 +14,6 @@ ghost use Rattle.tally_desk.specs.Views.{PassView};
 
 use crate::desk::Desk;
 use crate::hub::walk_hub;
-use crate::laws::unfailed_runs_save_in_turn;
 use crate::pass::DeskPass;
 use crate::pool::{DeskPool, seat};
 use crate::saving::save_rest;
@@ -39,8 +38,8 @@ pub struct RunResult<C> {
 
 /// Walks the trajectories with these ids. Saves a checkpoint of all outcomes after each `save_every` posts and at the
 /// end. A failed save stops nothing, and the next save goes to the place of the failed one. Each worker is a thread, if
-/// one can be started. An id goes to the next worker that asks, and the gate learns each id before its walk. The state
-/// then has all outcomes by rising id.
+/// one can be started. An id goes to the next worker that asks, and the gate learns each id before its walk. At the end
+/// the state's list `sorted` has all outcomes by rising id.
 ///
 /// # Errors
 ///
@@ -85,10 +84,10 @@ fn work<R: Threads + Wait + Sync, C: Keeper + Send, J: Judge + Send, G: Gate + S
     pass: DeskPass,
     pool: DeskPool<J>,
 ) -> RunState<C>
-    requires pass { IsFirstPass desk.table.shared.table_id (parts_of C.state desk.table.shared.key) pass }
-    requires pool { MaySeat (parts_of C.state desk.table.shared.key) pool.walkers pool.workers pool.buffered }
-    requires shared { WalksAtDesk job.now (parts_of C.state desk.table.shared.key) pool.hub }
-    ensures { (v : PassView) × IsClosed C.state (parts_of C.state desk.table.shared.key) v result }
+    requires pass { IsFirstPass (table_of desk) (parts_at C.state desk) pass }
+    requires pool { MaySeat (parts_at C.state desk) pool.walkers pool.workers pool.buffered }
+    requires shared { WalksAtDesk job.now (parts_at C.state desk) pool.hub }
+    ensures { (v : PassView) × IsClosed C.state (parts_at C.state desk) v result }
 {
     let DeskPool {
         walkers,
@@ -137,8 +136,6 @@ fn save_last<C: Keeper>(mut state: RunState<C>) -> RunResult<C>
     ensures { (parts : Parts) (v : PassView) → IsClosed C.state parts v state
         → HasRun parts (C.state result.state.keeper) result.state.sorted.items result.saved }
 {
-    // Called for its contract: if no save failed, the last save is complete and follows the one before.
-    unfailed_runs_save_in_turn();
     let rest = save_rest(&mut state);
     let saved = both(state.failed_saves, rest);
     RunResult { state, saved }

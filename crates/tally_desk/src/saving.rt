@@ -12,7 +12,6 @@ ghost use Rattle.tally_desk.specs.Saving.{LetsSave};
 use crate::state::RunState;
 use audit_io::keeper::Keeper;
 use audit_io::source::Failed;
-use ckpt_format::laws::rising_pairs_rise;
 use ckpt_store::save;
 
 /// Sorts all outcomes by rising id, and saves their checkpoint unless the last post saved one. Only the keeper may
@@ -27,8 +26,6 @@ pub fn save_rest<C: Keeper>(state: &mut RunState<C>) -> Result<(), Failed>
     ensures rising { AllPairs (λ a b. a.id < b.id) state.new.sorted.items }
     ensures rest { MakesLastSave C.state state.old state.new result }
 {
-    // Called for its contract: outcomes by rising id meet the precondition of a checkpoint.
-    rising_pairs_rise();
     // Called for its contract: the book is within its capacity.
     let _count = state.book.len();
     state.book.sorted_into(&mut state.sorted);

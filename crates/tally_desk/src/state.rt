@@ -10,11 +10,8 @@ use audit_io::keeper::Keeper;
 use audit_model::buffers::{Bytes, OutcomeList};
 use audit_model::outcome::Outcome;
 use audit_model::place::Place;
-use ckpt_format::laws::rising_pairs_rise;
-use ckpt_store::laws::{checkpoints_are_ours, saved_slots_are_newest};
 use ckpt_store::save;
 use outcome_book::book::Book;
-use outcome_book::laws::outcomes_have_few_visits;
 use plan_core::job::Job;
 use std::alloc::Global;
 
@@ -148,8 +145,6 @@ impl<C: Keeper> RunState<C> {
         // Called for its contract: the book is within its capacity.
         let _count = self.book.len();
         self.book.sorted_into(&mut self.sorted);
-        // Called for its contract: outcomes by rising id meet the precondition of a checkpoint.
-        rising_pairs_rise();
         let saved = save::save_with(
             &mut self.keeper,
             &mut self.place,
@@ -191,11 +186,6 @@ impl<C: Keeper> RunState<C> {
             → HasTurned C.state C.lets parts self.new posted outcome result }
         ensures entry { self.new.posted.items ≡ self.old.posted.items ++ post_of (length self.old.posted.items) outcome.id result ∷ [] }
     {
-        // Called for their contracts: a saved checkpoint is the newest slot and belongs to the job, and histograms are
-        // small enough for the book.
-        saved_slots_are_newest();
-        checkpoints_are_ours();
-        outcomes_have_few_visits();
         let ticket = self.posted.len() as u64;
         self.book.post(outcome);
         let saved = self.save_where_due(ticket + 1);

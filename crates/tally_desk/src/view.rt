@@ -1,4 +1,5 @@
-//! The knowledge of a pass at a desk, and the desk's constants.
+//! A pass at a desk as proofs know it (`DeskView`), and the values that a desk was made with (`Founding`).
+//! (`Founding`).
 
 use audit_model::lists::UnitList;
 use audit_model::place::Place;
@@ -7,7 +8,8 @@ use plan_core::job::Job;
 use std::marker::Model;
 use std::snapshot::Snapshot;
 
-/// The knowledge of a pass, for proofs only. No value is ever made at run time.
+/// The claims, the posts and the turn of a pass, as proofs know them. No value is ever made at run
+/// time.
 pub struct DeskView {
     nothing: (),
 }

@@ -1,7 +1,7 @@
 //! Walks the trajectories of a run that saves, in several threads.
 
 ghost use Rattle.std.specs.Prelude.{◌≡◌, ◌+◌, ◌<◌, ℕ, All, true, vec_len};
-ghost use Rattle.tally_desk.specs.Founded.{parts_of};
+ghost use Rattle.tally_desk.specs.Tables.{parts_at, table_of};
 ghost use Rattle.tally_desk.specs.Passes.{Belongs, HasPostedAll, view_of};
 ghost use Rattle.tally_desk.specs.Pools.{IsDeskWorkerDone, IsUnstartedAtDesk, WalksAtDesk};
 
@@ -24,9 +24,9 @@ pub fn walk_each<R: Threads + Wait + Sync, C: Keeper + Send, J: Judge + Send, G:
     desk: &Desk<C>,
     workers: &mut [DeskWorker<J>],
 )
-    requires unstarted { All (IsUnstartedAtDesk desk.now.table.shared.table_id (parts_of C.state desk.now.table.shared.key)) workers.old }
-    requires shared { WalksAtDesk job.now (parts_of C.state desk.now.table.shared.key) hub.now }
-    ensures { All (IsDeskWorkerDone desk.now.table.shared.table_id (parts_of C.state desk.now.table.shared.key)) workers.new }
+    requires unstarted { All (IsUnstartedAtDesk (table_of desk.now) (parts_at C.state desk.now)) workers.old }
+    requires shared { WalksAtDesk job.now (parts_at C.state desk.now) hub.now }
+    ensures { All (IsDeskWorkerDone (table_of desk.now) (parts_at C.state desk.now)) workers.new }
 {
     let threads = rt.threads;
     let gate = rt.gate;
@@ -34,21 +34,21 @@ pub fn walk_each<R: Threads + Wait + Sync, C: Keeper + Send, J: Judge + Send, G:
         threads,
         workers,
         &|_, worker: &mut DeskWorker<J>|
-            requires unstarted { IsUnstartedAtDesk desk.now.table.shared.table_id (parts_of C.state desk.now.table.shared.key) worker.now }
-            requires shared { WalksAtDesk job.now (parts_of C.state desk.now.table.shared.key) hub.now }
-            ensures { IsDeskWorkerDone desk.entry.now.table.shared.table_id (parts_of C.state desk.entry.now.table.shared.key) worker.new }
+            requires unstarted { IsUnstartedAtDesk (table_of desk.now) (parts_at C.state desk.now) worker.now }
+            requires shared { WalksAtDesk job.now (parts_at C.state desk.now) hub.now }
+            ensures { IsDeskWorkerDone (table_of desk.entry.now) (parts_at C.state desk.entry.now) worker.new }
         { worker.run(threads, job, hub, gate, desk) },
     );
 }
 
 /// Joins the passes of all workers into one.
 pub fn gather<C: Keeper, J: Judge>(desk: &Desk<C>, mut workers: Vec<DeskWorker<J>>) -> DeskPass
-    requires workers { All (IsDeskWorkerDone desk.now.table.shared.table_id (parts_of C.state desk.now.table.shared.key)) workers.items }
+    requires workers { All (IsDeskWorkerDone (table_of desk.now) (parts_at C.state desk.now)) workers.items }
     requires some { 0 < vec_len workers }
-    ensures pass { Belongs desk.now.table.shared.table_id (parts_of C.state desk.now.table.shared.key) result }
+    ensures pass { Belongs (table_of desk.now) (parts_at C.state desk.now) result }
     ensures ended { (view_of result).own.ended ≡ true }
     ensures seats { (view_of result).own.weight + (view_of result).own.spare ≡ vec_len workers }
-    ensures whole { HasPostedAll (parts_of C.state desk.now.table.shared.key) (view_of result) }
+    ensures whole { HasPostedAll (parts_at C.state desk.now) (view_of result) }
 {
     let Some(first) = workers.pop() else {
         unreachable!()

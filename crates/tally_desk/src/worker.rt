@@ -21,7 +21,7 @@ pub struct DeskWorker<J: Judge> {
 
 impl<J: Judge> DeskWorker<J> {
     ghost use Rattle.std.specs.Prelude.{◌≡◌, vec_capacity};
-    ghost use Rattle.tally_desk.specs.Founded.{parts_of};
+    ghost use Rattle.tally_desk.specs.Tables.{parts_at, table_of};
     ghost use Rattle.tally_desk.specs.Pools.{IsDeskWorkerDone, IsUnstartedAtDesk, WalksAtDesk};
 
     /// Claims ids at the desk until none is left, walks each trajectory and posts its outcome. While another worker has
@@ -34,9 +34,9 @@ impl<J: Judge> DeskWorker<J> {
         gate: &G,
         desk: &Desk<C>,
     )
-        requires unstarted { IsUnstartedAtDesk desk.now.table.shared.table_id (parts_of C.state desk.now.table.shared.key) self.old }
-        requires shared { WalksAtDesk job.now (parts_of C.state desk.now.table.shared.key) hub.now }
-        ensures done { IsDeskWorkerDone desk.now.table.shared.table_id (parts_of C.state desk.now.table.shared.key) self.new }
+        requires unstarted { IsUnstartedAtDesk (table_of desk.now) (parts_at C.state desk.now) self.old }
+        requires shared { WalksAtDesk job.now (parts_at C.state desk.now) hub.now }
+        ensures done { IsDeskWorkerDone (table_of desk.now) (parts_at C.state desk.now) self.new }
         ensures room { vec_capacity self.new.buffered ≡ vec_capacity self.old.buffered }
     {
         let walker = &mut self.walker;

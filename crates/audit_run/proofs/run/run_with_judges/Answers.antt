@@ -5,6 +5,7 @@ use Rattle.audit_start.specs.ResumeState.{IsTargetFor}
 use Rattle.audit_statement.specs.Due.{LetsSavesOf}
 use Rattle.audit_statement.specs.Endings.{AreInitialOutcomes}
 use Rattle.plan_runs.specs.RunBuffers.{IsStartOf}
+use Rattle.audit_laws.specs.Calls.{Finishes}
 use Rattle.audit_run.proofs.Placing.{no_target_observed, starts_so, target_observed}
 use Rattle.audit_run.proofs.run.run_with_judges.Goals as goal
 
@@ -42,3 +43,10 @@ run_saved-requires-clause-lets g c κs within =
 pub returns-in-None : goal.returns-in-None
 returns-in-None g c =
     c.run_without_saves.ensures _ (subst (λ (os : List Outcome). AreInitialOutcomes c.args.job.now (g.C.Keeper.state c.args.keeper).slots os) (sym c.as_slice.ensures) c.requires.opened.opened)
+
+pub returns-in-Ok : goal.returns-in-Ok
+returns-in-Ok g c =
+    let before = g.K.Sink.state c.args.out.now in
+    let after = g.K.Sink.state c.run_saved.new.out in
+    let end = c.run_saved.result in
+    subst (λ (x : g.row.C.Denot). Finishes c.args.job.now before after (g.C.Keeper.state x) (g.C.Keeper.state end.1) end.0) c.in-Ok.ensures.keeper c.run_saved.ensures

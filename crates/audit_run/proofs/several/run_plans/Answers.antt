@@ -1,3 +1,4 @@
+use Rattle.audit_laws.proofs.Running.{accepted_jobs_are_runs}
 use Rattle.audit_run.proofs.Preparing.{reported_run}
 use Rattle.audit_run.proofs.Words.{run_alone, same_key}
 use Rattle.audit_run.proofs.several.run_plans.Goals as goal
@@ -6,7 +7,7 @@ pub report_all-requires-after_bounds : goal.report_all-requires-after_bounds
 report_all-requires-after_bounds g c κs within = record {
   setting = c.in-Ok.ensures.setting;
   shared = c.in-Ok.ensures.shared;
-  alone = run_alone c.accepted_jobs_are_runs.ensures _ _ _ c.in-Ok.plans.items c.requires c.in-Ok.ensures;
+  alone = run_alone accepted_jobs_are_runs _ _ _ c.in-Ok.plans.items c.requires c.in-Ok.ensures;
 }
 
 pub returns-in-Ok : goal.returns-in-Ok

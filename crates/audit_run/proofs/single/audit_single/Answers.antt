@@ -1,8 +1,9 @@
+use Rattle.audit_laws.proofs.Running.{accepted_jobs_are_runs}
 use Rattle.audit_run.proofs.Ending.{ends_for}
 use Rattle.audit_run.proofs.single.audit_single.Goals as goal
 
 pub run_command-why-requires-clause-run : goal.run_command-why-requires-clause-run
-run_command-why-requires-clause-run g c κs within = c.accepted_jobs_are_runs.ensures _ _ c.in-Ok.ensures.accepted.words_are c.in-Ok.ensures.sound
+run_command-why-requires-clause-run g c κs within = accepted_jobs_are_runs _ _ c.in-Ok.ensures.accepted.words_are c.in-Ok.ensures.sound
 
 pub run_command-why-requires-clause-lets : goal.run_command-why-requires-clause-lets
 run_command-why-requires-clause-lets g c κs within = c.requires.lets _ c.in-Ok.ensures.accepted

@@ -5,16 +5,16 @@ use Rattle.audit_run.proofs.trace.trace_job.Goals as goal
 
 pub trace_range-requires-clause-thin : goal.trace_range-requires-clause-thin
 trace_range-requires-clause-thin g c =
-    subst (λ (r : TraceRange). 0 < r.thin) (sym c.range_of.ensures) (good_range c.args.job.now c.units-units.ensures.sound c.requires).some_thin
+    subst (λ (r : TraceRange). 0 < r.thin) (sym c.range_of.ensures.value) (good_range c.args.job.now c.range_of.ensures.sound c.requires).some_thin
 
 pub trace_range-requires-clause-order : goal.trace_range-requires-clause-order
 trace_range-requires-clause-order g c =
-    subst (λ (r : TraceRange). r.first ≤ r.last) (sym c.range_of.ensures) (good_range c.args.job.now c.units-units.ensures.sound c.requires).in_order
+    subst (λ (r : TraceRange). r.first ≤ r.last) (sym c.range_of.ensures.value) (good_range c.args.job.now c.range_of.ensures.sound c.requires).in_order
 
 pub trace_range-requires-clause-few : goal.trace_range-requires-clause-few
 trace_range-requires-clause-few g c =
-    subst (λ (r : TraceRange). r.last < 100000) (sym c.range_of.ensures) (good_range c.args.job.now c.units-units.ensures.sound c.requires).few
+    subst (λ (r : TraceRange). r.last < 100000) (sym c.range_of.ensures.value) (good_range c.args.job.now c.range_of.ensures.sound c.requires).few
 
 pub returns : goal.returns
 returns g c = λ keeper.
-    traced_ends c.args.job.now c.requires c.range_of.result c.range_of.ensures (g.K.Sink.state c.args.out.now) (g.K.Sink.state c.trace_range.new.out) keeper c.trace_range.result c.trace_range.ensures
+    traced_ends c.args.job.now c.requires c.range_of.result c.range_of.ensures.value (g.K.Sink.state c.args.out.now) (g.K.Sink.state c.trace_range.new.out) keeper c.trace_range.result c.trace_range.ensures

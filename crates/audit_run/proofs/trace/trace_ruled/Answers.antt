@@ -6,18 +6,18 @@ use Rattle.plan_runs.proofs.Splitting.{own_group, takes_plans}
 use Rattle.audit_run.proofs.trace.trace_ruled.Goals as goal
 
 pub region_guards-requires-clause-group : goal.region_guards-requires-clause-group
-region_guards-requires-clause-group g c = rw c.rules-rules.ensures.value (own_group _ _ c.units-units.ensures.sound.within.group).0
+region_guards-requires-clause-group g c = rw c.rules-rules.ensures.value (own_group _ _ c.rules-rules.ensures.sound.within.group).0
 
 pub region_guards-requires-clause-few_units : goal.region_guards-requires-clause-few_units
 region_guards-requires-clause-few_units g c =
-    let within = c.units-units.ensures.sound.within in
+    let within = c.rules-rules.ensures.sound.within in
     rw c.rules-rules.ensures.value (omega (arith, (own_group _ _ within.group).1, within.input.units))
 
 pub region_guards-requires-clause-share : goal.region_guards-requires-clause-share
-region_guards-requires-clause-share g c = rw c.rules-rules.ensures.value c.units-units.ensures.sound.within.setting.few_shares
+region_guards-requires-clause-share g c = rw c.rules-rules.ensures.value c.rules-rules.ensures.sound.within.setting.few_shares
 
 pub region_guards-requires-clause-homes : goal.region_guards-requires-clause-homes
-region_guards-requires-clause-homes g c = rw c.rules-rules.ensures.value (frozen_home c.args.job.now c.units-units.ensures.sound.within)
+region_guards-requires-clause-homes g c = rw c.rules-rules.ensures.value (frozen_home c.args.job.now c.rules-rules.ensures.sound.within)
 
 pub trace-requires-clause-judge : goal.trace-requires-clause-judge
 trace-requires-clause-judge g c =
@@ -36,5 +36,5 @@ trace-requires-clause-judge g c =
         rw is.rules_are is.homes,
       );
       ruled = ruled;
-      taken = takes_plans c.args.job.now _ _ c.units-units.ensures.sound.within ruled (is.districts_are ∙ c.districts.ensures.value);
+      taken = takes_plans c.args.job.now _ _ c.rules-rules.ensures.sound.within ruled (is.districts_are ∙ c.districts.ensures.value);
     })

@@ -1,6 +1,7 @@
 use Rattle.std.proofs.Common.{◌≡◌, ◌∙◌, sym, ap, subst, ◌&&◌, Bool, true, ◌++◌, List, map, arith}
 use Rattle.audit_model.specs.declared.outcome.Outcome.{Outcome}
 use Rattle.audit_model.proofs.ListFacts.{popped_last, popped_rest}
+use Rattle.outcome_book.proofs.AddingUp.{found_has_few}
 use Rattle.claim_counter.specs.declared.pass.Pass.{Pass}
 use Rattle.claim_counter.specs.declared.record.PassRecord.{PassRecord}
 use Rattle.claim_counter.specs.Records.{AreDifferentBelow}
@@ -13,7 +14,7 @@ use Rattle.claim_counter.proofs.parts.take_all.Goals as goal
 pub take_first-pass-requires-clause-share : goal.take_first-pass-requires-clause-share
 take_first-pass-requires-clause-share g c =
     let back = popped_last (IsBack c.args.job.now c.args.todo.now c.args.claims.now) _ _ c.in-Some.first c.requires.back.workers_are c.in-Some.ensures.items in
-    first_share _ _ _ _ back.done c.requires.limit c.args.book.now c.requires.todo (λ id. c.outcomes_have_few_visits.ensures.found c.args.job.now _ id c.units-units.ensures.sound)
+    first_share _ _ _ _ back.done c.requires.limit c.args.book.now c.requires.todo (λ id. found_has_few c.args.job.now _ id c.units-units.ensures.sound)
 
 pub take_first-pass-requires-clause-idle_worker : goal.take_first-pass-requires-clause-idle_worker
 take_first-pass-requires-clause-idle_worker g c =
@@ -45,6 +46,7 @@ loop-worker-init g c =
       outcomes = c.take_first-pass.ensures.outcomes
           ∙ ap (λ (os : List Outcome). c.args.book.now.outcomes ++ os) done.shared
           ∙ ap (λ (p : Pass). c.args.book.now.outcomes ++ map (found_at c.args.job.now c.args.todo.now) (own p).claims) same;
+      sound = c.take_first-pass.ensures.sound;
       idle_workers = c.take_first-pass.ensures.idle_workers;
       count =
           let left = c.in-Some.ensures.len in
@@ -64,7 +66,7 @@ take_next-pass-requires-clause-share g c together =
     let was = c.loop-worker.invariant in
     let back = popped_last (IsBack c.args.job.now c.args.todo.now c.args.claims.now) _ _ c.in-Some-pop.worker was.workers c.in-Some-pop.ensures.items in
     more_share _ _ _ _ back.done c.requires.limit c.args.book.now c.loop-worker.book (own c.loop-worker.pass).claims c.requires.todo was.total was.different was.outcomes
-    (λ id. c.outcomes_have_few_visits.ensures.found c.args.job.now _ id c.units-units.ensures.sound) together
+    (λ id. found_has_few c.args.job.now _ id c.units-units.ensures.sound) together
 
 pub take_next-pass-requires-clause-idle_worker : goal.take_next-pass-requires-clause-idle_worker
 take_next-pass-requires-clause-idle_worker g c =
@@ -102,6 +104,7 @@ loop-worker-preserved g c =
       total = c.take_next-pass.ensures.total ∙ was.total;
       outcomes = holds_more _ _ _ _ done c.requires.limit c.args.book.now.outcomes c.loop-worker.book.outcomes _ (own c.loop-worker.pass).claims _
           was.outcomes c.take_next-pass.ensures.outcomes (ap (λ (p : PassRecord). p.claims) both);
+      sound = c.take_next-pass.ensures.sound;
       idle_workers = c.take_next-pass.ensures.idle_workers;
       count =
           let left = c.in-Some-pop.ensures.len in

@@ -1,4 +1,5 @@
 use Rattle.std.proofs.Common.{◌≡◌, ◌+◌, ◌++◌, All, map, vec_capacity, vec_len, true}
+use Rattle.outcome_book.specs.Booked.{IsBook}
 use Rattle.claim_counter.specs.Records.{AreDifferentBelow}
 use Rattle.claim_counter.specs.Passes.{own, size_of, BelongsTo}
 use Rattle.claim_counter.specs.Parts.{IsBack, IsIdleWorker}
@@ -15,6 +16,7 @@ invariant-loop-worker g l = record {
   different : AreDifferentBelow (size_of l.claims).limit (own l.pass).claims;
   total : l.book.total ≡ l.fn.book.total;
   outcomes : l.book.outcomes ≡ l.fn.book.outcomes ++ map (found_at l.job l.todo) (own l.pass).claims;
+  sound : IsBook l.book;
   count : vec_len l.idle_workers + vec_len l.workers ≡ vec_len l.fn.workers;
   room : vec_capacity l.idle_workers ≡ vec_capacity l.fn.idle_workers;
   workers_room : vec_capacity l.workers ≡ vec_capacity l.fn.workers;

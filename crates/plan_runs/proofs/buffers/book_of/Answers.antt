@@ -1,5 +1,6 @@
 use Rattle.std.proofs.Common.{get_or, refl, arith}
 use Rattle.audit_laws.proofs.Running.{all_below_total, rising_apart}
+use Rattle.outcome_book.proofs.AddingUp.{fitting_has_few}
 use Rattle.plan_runs.proofs.buffers.book_of.Goals as goal
 
 pub merge-requires : goal.merge-requires
@@ -9,5 +10,5 @@ merge-requires c =
       below = λ k d inside. omega (arith, all_below_total c.args.job.now c.args.outcomes.now fit.fit k d inside, c.in_ok-book.ensures.total, c.total.ensures.value);
       absent = rw c.in_ok-book.ensures.empty (λ k d inside. refl);
       apart = rising_apart c.args.outcomes.now fit.rising;
-      bins = λ k d inside. c.outcomes_have_few_visits.ensures.fit c.args.job.now (get_or c.args.outcomes.now k d) c.requires.run.sound (fit.fit k d inside);
+      bins = λ k d inside. fitting_has_few c.args.job.now (get_or c.args.outcomes.now k d) c.requires.run.sound (fit.fit k d inside);
     }

@@ -1,7 +1,7 @@
 use Rattle.std.proofs.Common.{◌≤◌, ◌++◌, ℕ, List, length, take, ap, sym, subst, ◌∙◌, arith}
 use Rattle.audit_model.specs.declared.setting.Setting.{Setting}
 use Rattle.audit_statement.specs.Trace.{plan_line}
-use Rattle.plan_runs.proofs.Tracing.{legal_current, line_observed}
+use Rattle.plan_runs.proofs.CurrentLine.{legal_current, line_observed}
 use Rattle.plan_runs.proofs.pen.put_plan.Goals as goal
 
 pub plan_line-requires-clause-room : goal.plan_line-requires-clause-room
@@ -10,7 +10,7 @@ plan_line-requires-clause-room g c =
     let current = c.args.walker.now in
     let now = c.values-values.new.self in
     let observed = line_observed job current now c.values-values.ensures.same c.requires.made c.args.step c.args.moved c.len-asks.result c.values-values.result c.args.pen.now.before c.as_slice.result.now c.as_slice-plan.result.now
-    c.units-units.ensures.sound (c.len-asks.ensures ∙ ap (λ (s : Setting). length s.asks) c.setting.ensures.value) c.values-values.ensures.values c.as_slice.ensures
+    c.setting.ensures.sound (c.len-asks.ensures ∙ ap (λ (s : Setting). length s.asks) c.setting.ensures.value) c.values-values.ensures.values c.as_slice.ensures
     (c.as_slice-plan.ensures ∙ c.plan.ensures.value) in
     let fits = c.requires.pen.room.plan c.args.step c.args.moved c.args.pen.now.before current.plan (legal_current job current now c.values-values.ensures.same c.requires.made c.plan.ensures.legal) in
     omega (arith, ap length observed, fits, c.clear.ensures.spare)
@@ -21,7 +21,7 @@ returns-clause-line g c =
     let current = c.args.walker.now in
     let now = c.values-values.new.self in
     let observed = line_observed job current now c.values-values.ensures.same c.requires.made c.args.step c.args.moved c.len-asks.result c.values-values.result c.args.pen.now.before c.as_slice.result.now c.as_slice-plan.result.now
-    c.units-units.ensures.sound (c.len-asks.ensures ∙ ap (λ (s : Setting). length s.asks) c.setting.ensures.value) c.values-values.ensures.values c.as_slice.ensures
+    c.setting.ensures.sound (c.len-asks.ensures ∙ ap (λ (s : Setting). length s.asks) c.setting.ensures.value) c.values-values.ensures.values c.as_slice.ensures
     (c.as_slice-plan.ensures ∙ c.plan.ensures.value) in
     c.plan_line.ensures.items
     ∙ ap (λ (t : List ℕ). t ++ plan_line c.args.step c.args.moved (take c.len-asks.result c.values-values.result) c.as_slice.result.now c.as_slice-plan.result.now) c.clear.ensures.items

@@ -5,6 +5,9 @@ use Rattle.audit_laws.specs.Calls.{Finishes}
 use Rattle.audit_laws.proofs.Leaving.{no_memory_ends}
 use Rattle.audit_laws.proofs.Running.{run_setting}
 use Rattle.audit_statement.specs.Due.{LetsRun}
+use Rattle.ckpt_store.proofs.Ours.{checkpoints_are_ours}
+use Rattle.outcome_book.proofs.ById.{by_id-mapped}
+use Rattle.tally_desk.proofs.Holding.{run_attempts_are_right, saves_hold_parts}
 use Rattle.plan_runs.specs.Ending.{SavedBy, SavesLast}
 use Rattle.plan_runs.specs.Saving.{target_of}
 use Rattle.plan_runs.proofs.Telling.{all_found}
@@ -56,9 +59,9 @@ pub end_run-finished-requires-clause-tellable : goal.end_run-finished-requires-c
 end_run-finished-requires-clause-tellable g c =
     let job = c.args.job.now in
     let buffers = c.requires.resources.buffers in
-    let all = all_outcomes _ _ _ _ c.in-Ok.ensures.ran buffers.ids c.outcomes_by_id_are_mapped.ensures buffers.start.run buffers.start.fit buffers.todo.within buffers.todo.absent in
+    let all = all_outcomes _ _ _ _ c.in-Ok.ensures.ran buffers.ids by_id-mapped buffers.start.run buffers.start.fit buffers.todo.within buffers.todo.absent in
     let found = c.all-found.ensures in
-    (all_found job buffers.start.run (saved_plain job buffers.start.run c.requires.saved) c.args.resources.state.book.outcomes c.all-found.result (rw (found.sorted, c.into_outcomes.ensures.sorted) all) (rw found.sorted found.listed)
+    (all_found job buffers.start.run (saved_plain job buffers.start.run c.requires.saved) c.args.resources.state.book.outcomes c.all-found.result (rw (found.sorted, c.into_outcomes-keeper.ensures.sorted) all) (rw found.sorted found.listed)
     found.observed (rw found.text buffers.blank) (rw found.text buffers.report_room)).tellable
 
 pub returns-in-Ok : goal.returns-in-Ok
@@ -67,24 +70,24 @@ returns-in-Ok g c =
     let buffers = c.requires.resources.buffers in
     let initial_outcomes = c.args.resources.state.book.outcomes in
     let before = g.C.Keeper.state c.args.resources.state.keeper in
-    let after = g.C.Keeper.state c.into_outcomes.result.0 in
+    let after = g.C.Keeper.state c.into_outcomes-keeper.result.0 in
     let h = c.in-Ok.ensures.ran in
-    let all = all_outcomes _ _ _ _ h buffers.ids c.outcomes_by_id_are_mapped.ensures buffers.start.run buffers.start.fit buffers.todo.within buffers.todo.absent in
-    let last = saves_last _ _ _ _ h buffers.ids c.checkpoints_are_ours.ensures c.saves_hold_parts.ensures c.run_attempts_are_right.ensures c.requires.resources.every
+    let all = all_outcomes _ _ _ _ h buffers.ids by_id-mapped buffers.start.run buffers.start.fit buffers.todo.within buffers.todo.absent in
+    let last = saves_last _ _ _ _ h buffers.ids checkpoints_are_ours saves_hold_parts run_attempts_are_right c.requires.resources.every
     (placed_known job (g.C.Keeper.state c.args.resources.state.keeper).slots (target_of c.args.resources.state) c.requires.placed) all.full in
-    let saved = subst (λ (x : g.row.C.Denot). SavesLast job initial_outcomes before (g.C.Keeper.state x) c.in-Ok.done.saved) (sym c.into_outcomes.ensures.keeper) last in
+    let saved = subst (λ (x : g.row.C.Denot). SavesLast job initial_outcomes before (g.C.Keeper.state x) c.in-Ok.done.saved) (sym c.into_outcomes-keeper.ensures.keeper) last in
     let found = c.all-found.ensures in
-    let has = all_found job buffers.start.run (saved_plain job buffers.start.run c.requires.saved) initial_outcomes c.all-found.result (rw (found.sorted, c.into_outcomes.ensures.sorted) all) (rw found.sorted found.listed)
+    let has = all_found job buffers.start.run (saved_plain job buffers.start.run c.requires.saved) initial_outcomes c.all-found.result (rw (found.sorted, c.into_outcomes-keeper.ensures.sorted) all) (rw found.sorted found.listed)
     found.observed (rw found.text buffers.blank) (rw found.text buffers.report_room) in
     let out = g.K.Sink.state c.args.out.now in
     let later = g.K.Sink.state c.end_run-finished.new.out in
     subst (λ (why : Ended). Finishes job out later before after why) (sym c.ended.ensures)
     (c.end_run-finished.ensures initial_outcomes before after c.requires.opened has (subst (λ b. SavedBy b job initial_outcomes before after c.in-Ok.done.saved) (sym c.requires.saved) saved))
 
-pub returns : goal.returns
-returns g c =
-    let same = c.into_outcomes-in-Err.ensures.keeper ∙ c.in-Err.ensures.refused.1 in
+pub returns-in-Err : goal.returns-in-Err
+returns-in-Err g c =
+    let same = c.into_outcomes-keeper-in-Err.ensures.keeper ∙ c.in-Err.ensures.refused.1 in
     no_memory_ends c.args.job.now (g.K.Sink.state c.args.out.now)
     (g.C.Keeper.state c.args.resources.state.keeper)
-    (g.C.Keeper.state c.into_outcomes-in-Err.result.0)
+    (g.C.Keeper.state c.into_outcomes-keeper-in-Err.result.0)
     (ap (λ x. (g.C.Keeper.state x).slots) same) (ap (λ x. (g.C.Keeper.state x).attempted) same) (ap (λ x. (g.C.Keeper.state x).save_faults) same) (ap (λ x. (g.C.Keeper.state x).load_faults) same)

@@ -1,6 +1,6 @@
 use Rattle.std.proofs.Common.{ℕ, List, subst, ◌∙◌}
 use Rattle.report.specs.Said.{WritesAllOf}
-use Rattle.plan_runs.proofs.Tracing.{line_at_is}
+use Rattle.plan_runs.proofs.CurrentLine.{line_at_is}
 use Rattle.plan_runs.proofs.tracing.write_line.Goals as goal
 
 pub returns-clause-written : goal.returns-clause-written

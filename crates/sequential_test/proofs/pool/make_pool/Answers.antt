@@ -9,7 +9,7 @@ pub returns-clause-pool : goal.returns-clause-pool
 returns-clause-pool g c = record {
   workers_are = c.len-seats.ensures;
   part_workers = subst (λ (n : ℕ). IsPartWorkers c.args.job.now n c.in_ok-part_workers.part_workers) (sym c.len-seats.ensures) c.in_ok-part_workers.ensures.part_workers;
-  walks = subst (λ (s : Setting). IsFreshPart s.walks c.len-seats.result c.in_ok-walks.walks) c.setting_of.ensures.value c.in_ok-walks.ensures;
-  rounds = subst (λ (s : Setting). AreRounds s.ends c.len-seats.result 0 c.in_ok-rounds.rounds.items) c.setting_of-2.ensures.value c.in_ok-rounds.ensures.rounds;
-  all = subst (λ (s : Setting). ends_after s.ends (vec_len c.in_ok-rounds.rounds) ≡ s.ends) c.setting_of-2.ensures.value c.in_ok-rounds.ensures.all;
+  walks = subst (λ (s : Setting). IsFreshPart s.walks c.len-seats.result c.in_ok-walks.walks) c.setting.ensures.value c.in_ok-walks.ensures;
+  rounds = subst (λ (s : Setting). AreRounds s.ends c.len-seats.result 0 c.in_ok-rounds.rounds.items) c.setting-2.ensures.value c.in_ok-rounds.ensures.rounds;
+  all = subst (λ (s : Setting). ends_after s.ends (vec_len c.in_ok-rounds.rounds) ≡ s.ends) c.setting-2.ensures.value c.in_ok-rounds.ensures.all;
 }

@@ -26,8 +26,8 @@ ids_from-ids-requires g c =
     let job = c.args.job.now in
     let at = c.loop-part.invariant.round in
     let few : c.loop-part.walked ≤ job.setting.ends = subst (λ (n : ℕ). n ≤ job.setting.ends) (sym at.walked_is) (few_after job.setting.ends at.done) in
-    let next = c.after_round-next.ensures ∙ ap (λ (s : Setting). min s.ends (2 * c.loop-part.walked + 64)) c.setting_of-2.ensures.value in
-    let walks = ap (λ (s : Setting). s.walks) c.setting_of.ensures.value in
+    let next = c.after_round-next.ensures ∙ ap (λ (s : Setting). min s.ends (2 * c.loop-part.walked + 64)) c.setting-2.ensures.value in
+    let walks = ap (λ (s : Setting). s.walks) c.setting.ensures.value in
     record {
       order = (
         omega (arith, few, next),
@@ -41,13 +41,13 @@ walk_to-requires-clause-ids g c κs within = c.ids_from-ids.ensures (whole_ids (
 pub walk_to-requires-clause-walked : goal.walk_to-requires-clause-walked
 walk_to-requires-clause-walked g c κs within =
     same_walked c.args.job.now _ _ _ _ _ c.loop-part.invariant.walked_is _ _ c.loop-part.invariant.walked_is.part_workers.count
-    (ap (λ (s : Setting). s.walks + c.loop-part.walked) c.setting_of.ensures.value)
+    (ap (λ (s : Setting). s.walks + c.loop-part.walked) c.setting.ensures.value)
 
 pub walk_to-requires-clause-part : goal.walk_to-requires-clause-part
 walk_to-requires-clause-part g c κs within =
     same_part _ _ _ _
-    (part_is _ _ _ _ _ c.loop-part.invariant.round c.pop.new.self.items c.in-Some.part c.after_round-next.result _ _ c.in-Some.ensures.items (c.after_round-next.ensures ∙ ap (λ (s : Setting). min s.ends (2 * c.loop-part.walked + 64)) c.setting_of-2.ensures.value)
-    (ap (λ (s : Setting). s.walks + c.loop-part.walked) c.setting_of.ensures.value) (ap (λ (s : Setting). s.walks + c.after_round-next.result) c.setting_of.ensures.value))
+    (part_is _ _ _ _ _ c.loop-part.invariant.round c.pop.new.self.items c.in-Some.part c.after_round-next.result _ _ c.in-Some.ensures.items (c.after_round-next.ensures ∙ ap (λ (s : Setting). min s.ends (2 * c.loop-part.walked + 64)) c.setting-2.ensures.value)
+    (ap (λ (s : Setting). s.walks + c.loop-part.walked) c.setting.ensures.value) (ap (λ (s : Setting). s.walks + c.after_round-next.result) c.setting.ensures.value))
     c.loop-part.invariant.walked_is.part_workers.count
 
 pub loop-part-preserved : goal.loop-part-preserved
@@ -56,16 +56,16 @@ loop-part-preserved g c =
     let done = c.walk_to.ensures in
     record {
       round = round_done _ _ _ _ _ was.round c.pop.new.self.items c.in-Some.part c.after_round-next.result c.in-Some.ensures.items
-          (c.after_round-next.ensures ∙ ap (λ (s : Setting). min s.ends (2 * c.loop-part.walked + 64)) c.setting_of-2.ensures.value)
-          (λ decided. c.in-None.ensures.none (subst (AreDecided c.args.job.now) (sym (c.as_slice.ensures ∙ done.sorted ∙ ap (λ (s : Setting). found_below c.args.job.now (s.walks + c.after_round-next.result)) c.setting_of.ensures.value)) decided));
+          (c.after_round-next.ensures ∙ ap (λ (s : Setting). min s.ends (2 * c.loop-part.walked + 64)) c.setting-2.ensures.value)
+          (λ decided. c.in-None.ensures.none (subst (AreDecided c.args.job.now) (sym (c.as_slice.ensures ∙ done.sorted ∙ ap (λ (s : Setting). found_below c.args.job.now (s.walks + c.after_round-next.result)) c.setting.ensures.value)) decided));
       walked_is = same_walked c.args.job.now _ _ _ _ _ done.walked _ _ (sym was.walked_is.part_workers.count)
-          (sym (ap (λ (s : Setting). s.walks + c.after_round-next.result) c.setting_of.ensures.value));
+          (sym (ap (λ (s : Setting). s.walks + c.after_round-next.result) c.setting.ensures.value));
     }
 
 pub returns-in-Some-find_stops-clause-in_time : goal.returns-in-Some-find_stops-clause-in_time
 returns-in-Some-find_stops-clause-in_time g c =
-    stops_in_time _ _ _ _ _ c.loop-part.invariant.round c.after_round-next.result _ (c.after_round-next.ensures ∙ ap (λ (s : Setting). min s.ends (2 * c.loop-part.walked + 64)) c.setting_of-2.ensures.value)
-    (c.walk_to.ensures.sorted ∙ ap (λ (s : Setting). found_below c.args.job.now (s.walks + c.after_round-next.result)) c.setting_of.ensures.value)
+    stops_in_time _ _ _ _ _ c.loop-part.invariant.round c.after_round-next.result _ (c.after_round-next.ensures ∙ ap (λ (s : Setting). min s.ends (2 * c.loop-part.walked + 64)) c.setting-2.ensures.value)
+    (c.walk_to.ensures.sorted ∙ ap (λ (s : Setting). found_below c.args.job.now (s.walks + c.after_round-next.result)) c.setting.ensures.value)
 
 pub unreachable-requires : goal.unreachable-requires
 unreachable-requires g c =

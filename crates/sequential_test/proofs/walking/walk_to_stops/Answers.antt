@@ -14,7 +14,7 @@ use Rattle.sequential_test.proofs.walking.walk_to_stops.Goals as goal
 
 pub ids_from-requires : goal.ids_from-requires
 ids_from-requires g c =
-    let walks = ap (λ (s : Setting). s.walks) c.setting_of.ensures.value in
+    let walks = ap (λ (s : Setting). s.walks) c.setting.ensures.value in
     record { order = (omega arith, omega (arith, walks, ap length c.requires.ids, length-map_below (total c.args.job.now) (λ id. id))) }
 
 pub walk_to-requires-clause-ids : goal.walk_to-requires-clause-ids
@@ -37,7 +37,7 @@ walk_rounds-requires-clause-rounds g c κs within =
 pub walk_rounds-requires-clause-walked : goal.walk_rounds-requires-clause-walked
 walk_rounds-requires-clause-walked g c κs within =
     same_walked c.args.job.now _ _ _ _ _ c.walk_to.ensures.walked _ _ c.walk_to.ensures.walked.part_workers.count
-    (sym (ap (λ (s : Setting). s.walks) c.setting_of.ensures.value))
+    (sym (ap (λ (s : Setting). s.walks) c.setting.ensures.value))
 
 pub returns-clause-stops : goal.returns-clause-stops
 returns-clause-stops g c =
@@ -46,4 +46,4 @@ returns-clause-stops g c =
     let right = subst (λ (os : List Outcome). IsRight job (draw job.setting.key) os) (sym time.found_are)
     (found_right job (job.setting.walks + ends_after job.setting.ends time.rounds) (omega (arith, few_after job.setting.ends time.rounds))) in
     final_stops (λ job draws place ask enough outcomes s right h. decided_is_final job draws place outcomes right ask enough s h) job (draw job.setting.key) c.walk_rounds.new.sorted.items c.walk_rounds.result right c.requires.some
-    (omega (arith, (few_job job c.setting_of.ensures.sound).1, c.walk_rounds.ensures.four)) c.walk_rounds.ensures.stops
+    (omega (arith, (few_job job c.setting.ensures.sound).1, c.walk_rounds.ensures.four)) c.walk_rounds.ensures.stops

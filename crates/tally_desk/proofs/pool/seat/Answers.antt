@@ -1,6 +1,6 @@
 use Rattle.std.proofs.Common.{◌∙◌, All, ap, arith, length, subst, sym}
 use Rattle.std.proofs.lemmas.List.Elements.{All-nil, All-push}
-use Rattle.tally_desk.specs.Founded.{parts_of}
+use Rattle.tally_desk.specs.Tables.{parts_at, table_of}
 use Rattle.tally_desk.specs.Passes.{HasPostedAll, view_of}
 use Rattle.tally_desk.specs.Views.{PassView}
 use Rattle.claim_counter.specs.Walkers.{IsWalker}
@@ -13,8 +13,8 @@ use Rattle.audit_model.proofs.ListFacts.{popped_last, popped_rest}
 
 pub loop-walker-init : goal.loop-walker-init
 loop-walker-init g c =
-    let parts = parts_of g.C.Keeper.state c.args.desk.now.table.shared.key in
-    let table = c.args.desk.now.table.shared.table_id in
+    let parts = parts_at g.C.Keeper.state c.args.desk.now in
+    let table = table_of c.args.desk.now in
     let first = c.requires.pass.first in
     let left = c.in-Some.ensures.len in
     record {
@@ -33,8 +33,8 @@ loop-walker-init g c =
 
 pub loop-walker-preserved : goal.loop-walker-preserved
 loop-walker-preserved g c =
-    let parts = parts_of g.C.Keeper.state c.args.desk.now.table.shared.key in
-    let table = c.args.desk.now.table.shared.table_id in
+    let parts = parts_at g.C.Keeper.state c.args.desk.now in
+    let table = table_of c.args.desk.now in
     let was = c.loop-walker.invariant in
     let rest = c.split-part.ensures.rest in
     let new = c.split-part.ensures.new in
@@ -69,8 +69,8 @@ loop-walker-preserved g c =
 
 pub returns-clause-unstarted : goal.returns-clause-unstarted
 returns-clause-unstarted g c =
-    let parts = parts_of g.C.Keeper.state c.args.desk.now.table.shared.key in
-    let table = c.args.desk.now.table.shared.table_id in
+    let parts = parts_at g.C.Keeper.state c.args.desk.now in
+    let table = table_of c.args.desk.now in
     let was = c.loop-walker.invariant in
     subst (All (IsUnstartedAtDesk table parts)) (sym c.push_reserved-2.ensures.items)
     (All-push (IsUnstartedAtDesk table parts) c.loop-walker.workers.items _ was.unstarted (record {

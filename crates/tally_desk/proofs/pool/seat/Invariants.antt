@@ -1,5 +1,5 @@
 use Rattle.std.proofs.Common.{◌≡◌, ◌+◌, ◌≤◌, All, vec_capacity, vec_len, false}
-use Rattle.tally_desk.specs.Founded.{parts_of}
+use Rattle.tally_desk.specs.Tables.{parts_at, table_of}
 use Rattle.tally_desk.specs.Passes.{Belongs, HasPostedAll, view_of}
 use Rattle.claim_counter.specs.Walkers.{AreWalkers}
 use Rattle.tally_desk.specs.Pools.{IsUnstartedAtDesk}
@@ -8,17 +8,17 @@ use Rattle.tally_desk.proofs.pool.seat.Given as goal
 
 abbrev pub invariant-loop-walker : goal.invariant-loop-walker
 invariant-loop-walker g l = record {
-  walkers : AreWalkers l.desk.table.shared.key.job.value l.walkers.items;
-  unstarted : All (IsUnstartedAtDesk l.desk.table.shared.table_id (parts_of g.C.Keeper.state l.desk.table.shared.key)) l.workers.items;
-  pass : Belongs l.desk.table.shared.table_id (parts_of g.C.Keeper.state l.desk.table.shared.key) l.pass;
+  walkers : AreWalkers (parts_at g.C.Keeper.state l.desk).job l.walkers.items;
+  unstarted : All (IsUnstartedAtDesk (table_of l.desk) (parts_at g.C.Keeper.state l.desk)) l.workers.items;
+  pass : Belongs (table_of l.desk) (parts_at g.C.Keeper.state l.desk) l.pass;
   going : (view_of l.pass).own.ended ≡ false;
   weight : (view_of l.pass).own.weight ≡ 1;
   spare : (view_of l.pass).own.spare ≡ vec_len l.walkers;
-  whole : HasPostedAll (parts_of g.C.Keeper.state l.desk.table.shared.key) (view_of l.pass);
+  whole : HasPostedAll (parts_at g.C.Keeper.state l.desk) (view_of l.pass);
   count : vec_len l.workers + vec_len l.walkers + 1 ≡ vec_len l.fn.walkers;
   room : vec_len l.fn.walkers ≤ vec_capacity l.workers;
   lists : vec_len l.lists ≡ vec_len l.walkers + 1;
-  rooms : All (IsRoomWithin (buffer_room l.desk.table.shared.key.job.value.setting l.desk.table.shared.key.seats)) l.lists.items;
+  rooms : All (IsRoomWithin (buffer_room (parts_at g.C.Keeper.state l.desk).job.setting (parts_at g.C.Keeper.state l.desk).seats)) l.lists.items;
 }
 
 abbrev pub decreases-loop-walker : goal.decreases-loop-walker

@@ -1,5 +1,5 @@
 use Rattle.std.proofs.Common.{◌∙◌, ap}
-use Rattle.tally_desk.specs.Founded.{parts_of}
+use Rattle.tally_desk.specs.Tables.{parts_at, table_of}
 use Rattle.tally_desk.specs.Passes.{view_of}
 use Rattle.tally_desk.specs.Views.{PassView}
 use Rattle.tally_desk.proofs.Unposted.{holds_fewer, may_post_buffered, same_buffered}
@@ -7,20 +7,20 @@ use Rattle.tally_desk.proofs.posting.post_all.Goals as goal
 
 pub post-requires-clause-claimed : goal.post-requires-clause-claimed
 post-requires-clause-claimed g c =
-    let parts = parts_of g.C.Keeper.state c.args.desk.now.table.shared.key in
-    let buffered = same_buffered c.args.desk.now.table.shared.table_id parts c.loop-outcome.pass _ _ c.in-Some.ensures.items c.loop-outcome.invariant.holds in
+    let parts = parts_at g.C.Keeper.state c.args.desk.now in
+    let buffered = same_buffered (table_of c.args.desk.now) parts c.loop-outcome.pass _ _ c.in-Some.ensures.items c.loop-outcome.invariant.holds in
     (may_post_buffered parts (view_of c.loop-outcome.pass) c.pop.new.self.items c.in-Some.outcome buffered.rest).claimed
 
 pub post-requires-clause-unposted : goal.post-requires-clause-unposted
 post-requires-clause-unposted g c =
-    let parts = parts_of g.C.Keeper.state c.args.desk.now.table.shared.key in
-    let buffered = same_buffered c.args.desk.now.table.shared.table_id parts c.loop-outcome.pass _ _ c.in-Some.ensures.items c.loop-outcome.invariant.holds in
+    let parts = parts_at g.C.Keeper.state c.args.desk.now in
+    let buffered = same_buffered (table_of c.args.desk.now) parts c.loop-outcome.pass _ _ c.in-Some.ensures.items c.loop-outcome.invariant.holds in
     (may_post_buffered parts (view_of c.loop-outcome.pass) c.pop.new.self.items c.in-Some.outcome buffered.rest).unposted
 
 pub loop-outcome-preserved : goal.loop-outcome-preserved
 loop-outcome-preserved g c =
-    let table = c.args.desk.now.table.shared.table_id in
-    let parts = parts_of g.C.Keeper.state c.args.desk.now.table.shared.key in
+    let table = table_of c.args.desk.now in
+    let parts = parts_at g.C.Keeper.state c.args.desk.now in
     let was = c.loop-outcome.invariant in
     let buffered = same_buffered table parts c.loop-outcome.pass _ _ c.in-Some.ensures.items was.holds in
     record {

@@ -1,5 +1,8 @@
 use Rattle.std.proofs.Common.{ℕ, subst}
+use Rattle.ckpt_store.proofs.Ours.{checkpoints_are_ours}
+use Rattle.ckpt_store.proofs.Turns.{saved_slots_are_newest}
 use Rattle.tally_desk.specs.RunResult.{BothSaved}
+use Rattle.tally_desk.proofs.InTurn.{unfailed_runs_save_in_turn}
 use Rattle.tally_desk.proofs.LastSave.{has_run, lets_last}
 use Rattle.tally_desk.proofs.ran.save_last.Goals as goal
 
@@ -11,6 +14,6 @@ save_rest-rest-requires-clause-lets g c = λ none.
 pub returns : goal.returns
 returns g c = λ parts v k.
     let last = c.save_rest-rest.ensures in
-    has_run g.C.Keeper.state c.unfailed_runs_save_in_turn.ensures parts v c.args.state c.save_rest-rest.new.state k
+    has_run g.C.Keeper.state (unfailed_runs_save_in_turn saved_slots_are_newest checkpoints_are_ours) parts v c.args.state c.save_rest-rest.new.state k
     c.save_rest-rest.result c.both-saved.result last.rest
     (subst (λ (n : ℕ). BothSaved n c.save_rest-rest.result c.both-saved.result) last.rest.failed c.both-saved.ensures) last.sorted last.book last.all last.rising

@@ -6,6 +6,7 @@ use Rattle.claim_counter.specs.Walkers.{IsWalker}
 use Rattle.tally_desk.specs.Unposted.{IsRoomWithin, buffer_room}
 use Rattle.tally_desk.proofs.Unposted.{rooms_within}
 use Rattle.claim_counter.specs.Walks.{IsWithin}
+use Rattle.tally_desk.specs.Tables.{parts_at}
 use Rattle.tally_desk.proofs.ran.walk_over.Goals as goal
 
 pub walk_hub-requires-clause-walks : goal.walk_hub-requires-clause-walks
@@ -16,7 +17,7 @@ walk_hub-requires-clause-walks g c =
 pub work-requires-clause-pool : goal.work-requires-clause-pool
 work-requires-clause-pool g c κs inside =
     let job = sym (ap (λ (p : Parts). p.job) c.in-Ok.ensures.parts) in
-    let seats : c.in-Ok.desk.table.shared.key.seats ≡ vec_len c.args.pool.walkers = omega (arith, ap (λ (p : Parts). p.seats) c.in-Ok.ensures.parts, c.len-seats.ensures) in
+    let seats : (parts_at g.C.Keeper.state c.in-Ok.desk).seats ≡ vec_len c.args.pool.walkers = omega (arith, ap (λ (p : Parts). p.seats) c.in-Ok.ensures.parts, c.len-seats.ensures) in
     record {
       seats_are = omega (arith, seats);
       some = omega (arith, c.requires.workers.0);
@@ -25,7 +26,7 @@ work-requires-clause-pool g c κs inside =
       blank = c.requires.pool.blank;
       room = c.requires.pool.room;
       buffer_count = c.requires.pool.buffer_count;
-      buffer_rooms = subst (λ (j : Job). All (IsRoomWithin (buffer_room j.setting c.in-Ok.desk.table.shared.key.seats)) c.args.pool.buffered.items) job
+      buffer_rooms = subst (λ (j : Job). All (IsRoomWithin (buffer_room j.setting (parts_at g.C.Keeper.state c.in-Ok.desk).seats)) c.args.pool.buffered.items) job
           (subst (λ (n : ℕ). All (IsRoomWithin (buffer_room c.args.job.now.setting n)) c.args.pool.buffered.items) (sym seats)
           (rooms_within c.args.job.now.setting (vec_len c.args.pool.walkers) c.args.pool.buffered.items c.requires.pool.buffer_rooms));
     }

@@ -1,7 +1,7 @@
 use Rattle.std.proofs.Common.{rules, arith, sym, ap, subst, ◌∙◌, ◌≡◌, ◌<◌, ◌≤◌, List, ℕ, length, get_or}
 use Rattle.claim_counter.specs.Records.{with_claim}
 use Rattle.tally_desk.specs.Desks.{claimed_ids, ended_view, with_own}
-use Rattle.tally_desk.specs.Founded.{parts_of}
+use Rattle.tally_desk.specs.Tables.{parts_at}
 use Rattle.tally_desk.specs.Homes.{HomeAs}
 use Rattle.tally_desk.specs.Views.{PassView, view_in}
 use Rattle.tally_desk.proofs.Seating.{drew_end, drew_few, drew_new, drew_place, only_view, still_empty}
@@ -22,11 +22,11 @@ fetch_add-drawn-requires g c =
 
 pub into_badge-requires : goal.into_badge-requires
 into_badge-requires g c =
-    still_empty (parts_of g.C.Keeper.state c.args.self.now.table.shared.key) (view_in c.args.pass.now.badge.views) _ _ _ _ c.take_out-seat.ensures.view c.requires.pass.of_parts c.fetch_add-drawn.ensures.2
+    still_empty (parts_at g.C.Keeper.state c.args.self.now) (view_in c.args.pass.now.badge.views) _ _ _ _ c.take_out-seat.ensures.view c.requires.pass.of_parts c.fetch_add-drawn.ensures.2
 
 pub invariant_of-pass : goal.invariant_of-pass
 invariant_of-pass g c =
-    let parts = parts_of g.C.Keeper.state c.args.self.now.table.shared.key in
+    let parts = parts_at g.C.Keeper.state c.args.self.now in
     let v = view_in c.args.pass.now.badge.views in
     let below : c.fetch_add-drawn.result < length parts.todo = omega (arith, c.if-drawn-len.true, c.len.ensures, ap length c.args.self.now.todo_is) in
     let views = c.into_badge.ensures.2 in
@@ -42,7 +42,7 @@ invariant_of-pass g c =
 
 pub invariant_of-pass-else-drawn-len : goal.invariant_of-pass-else-drawn-len
 invariant_of-pass-else-drawn-len g c =
-    let parts = parts_of g.C.Keeper.state c.args.self.now.table.shared.key in
+    let parts = parts_at g.C.Keeper.state c.args.self.now in
     let v = view_in c.args.pass.now.badge.views in
     let past : length parts.todo ≤ c.fetch_add-drawn.result = omega (arith, c.if-drawn-len.false, c.len.ensures, ap length c.args.self.now.todo_is) in
     let views = c.into_badge.ensures.2 in
@@ -58,7 +58,7 @@ invariant_of-pass-else-drawn-len g c =
 
 pub returns-then-drawn-len-clause-pass : goal.returns-then-drawn-len-clause-pass
 returns-then-drawn-len-clause-pass g c =
-    let parts = parts_of g.C.Keeper.state c.args.self.now.table.shared.key in
+    let parts = parts_at g.C.Keeper.state c.args.self.now in
     let v = view_in c.args.pass.now.badge.views in
     let below : c.fetch_add-drawn.result < length parts.todo = omega (arith, c.if-drawn-len.true, c.len.ensures, ap length c.args.self.now.todo_is) in
     let is : view_in c.into_badge.result.views ≡ with_own v (with_claim c.fetch_add-drawn.result v.own) =
@@ -70,7 +70,7 @@ returns-then-drawn-len-clause-pass g c =
 
 pub returns-then-drawn-len-clause-claimed : goal.returns-then-drawn-len-clause-claimed
 returns-then-drawn-len-clause-claimed g c =
-    let parts = parts_of g.C.Keeper.state c.args.self.now.table.shared.key in
+    let parts = parts_at g.C.Keeper.state c.args.self.now in
     let v = view_in c.args.pass.now.badge.views in
     let below : c.fetch_add-drawn.result < length parts.todo = omega (arith, c.if-drawn-len.true, c.len.ensures, ap length c.args.self.now.todo_is) in
     let id_is = ap (λ (l : List ℕ). get_or l c.fetch_add-drawn.result 0) (c.as_slice.ensures ∙ c.args.self.now.todo_is) in
@@ -85,7 +85,7 @@ returns-then-drawn-len-clause-claimed g c =
 
 pub returns-else-drawn-len-clause-pass : goal.returns-else-drawn-len-clause-pass
 returns-else-drawn-len-clause-pass g c =
-    let parts = parts_of g.C.Keeper.state c.args.self.now.table.shared.key in
+    let parts = parts_at g.C.Keeper.state c.args.self.now in
     let v = view_in c.args.pass.now.badge.views in
     let past : length parts.todo ≤ c.fetch_add-drawn.result = omega (arith, c.if-drawn-len.false, c.len.ensures, ap length c.args.self.now.todo_is) in
     let is : view_in c.into_badge.result.views ≡ ended_view v =
@@ -97,19 +97,19 @@ returns-else-drawn-len-clause-pass g c =
 
 pub returns-else-drawn-len-clause-end : goal.returns-else-drawn-len-clause-end
 returns-else-drawn-len-clause-end g c =
-    let parts = parts_of g.C.Keeper.state c.args.self.now.table.shared.key in
+    let parts = parts_at g.C.Keeper.state c.args.self.now in
     let v = view_in c.args.pass.now.badge.views in
     let past : length parts.todo ≤ c.fetch_add-drawn.result = omega (arith, c.if-drawn-len.false, c.len.ensures, ap length c.args.self.now.todo_is) in
     ap view_in c.into_badge.ensures.2 ∙ drew_end parts v _ _ _ _ c.take_out-seat.ensures.view c.requires.pass.of_parts c.fetch_add-drawn.ensures.2 past
 
 pub returns-then-drawn-len-clause-few : goal.returns-then-drawn-len-clause-few
 returns-then-drawn-len-clause-few g c =
-    let parts = parts_of g.C.Keeper.state c.args.self.now.table.shared.key in
+    let parts = parts_at g.C.Keeper.state c.args.self.now in
     subst (λ (u : PassView). length u.own.claims ≤ length parts.todo) (sym (ap view_in c.into_badge.ensures.2))
     (drew_few parts (view_in c.args.pass.now.badge.views) _ _ _ _ c.take_out-seat.ensures.view c.requires.pass.of_parts c.fetch_add-drawn.ensures.2)
 
 pub returns-else-drawn-len-clause-few : goal.returns-else-drawn-len-clause-few
 returns-else-drawn-len-clause-few g c =
-    let parts = parts_of g.C.Keeper.state c.args.self.now.table.shared.key in
+    let parts = parts_at g.C.Keeper.state c.args.self.now in
     subst (λ (u : PassView). length u.own.claims ≤ length parts.todo) (sym (ap view_in c.into_badge.ensures.2))
     (drew_few parts (view_in c.args.pass.now.badge.views) _ _ _ _ c.take_out-seat.ensures.view c.requires.pass.of_parts c.fetch_add-drawn.ensures.2)

@@ -8,7 +8,7 @@ use Rattle.audit_model.specs.declared.place.Place.{Place}
 use mathlib.Core.Option.{some-injective}
 use Rattle.tally_desk.specs.declared.state.RunState.{RunState}
 use Rattle.tally_desk.specs.Desks.{IsComplete, Tallied}
-use Rattle.tally_desk.specs.Founded.{parts_of}
+use Rattle.tally_desk.specs.Tables.{parts_at}
 use Rattle.tally_desk.specs.Homes.{HomeAs}
 use Rattle.tally_desk.specs.Entries.{posted_id, saves_made}
 use Rattle.tally_desk.specs.Views.{PassView, view_in}
@@ -27,7 +27,7 @@ take-state-requires g c =
 
 pub returns : goal.returns
 returns g c =
-    let parts = parts_of g.C.Keeper.state c.args.self.table.shared.key in
+    let parts = parts_at g.C.Keeper.state c.args.self in
     let v = view_in c.args.pass.badge.views in
     let final = subst (λ (u : PassView). Final (Seen (Tallied (HomeAs g.C.Keeper.state g.C.Keeper.lets) parts) c.take_out-seat.result.id u) (slots_items c.close_with-closed.result.words) (slots_items c.close_with-closed.result.slots))
     (ap (λ m. m.0) c.take_out-seat.ensures.view) c.close_with-closed.ensures.values.2 in

@@ -3,7 +3,7 @@ use Rattle.atomic_table.specs.Table.{rest}
 use Rattle.std.specs.List.{range_with_len}
 use Rattle.tally_desk.specs.declared.state.RunState.{RunState}
 use Rattle.tally_desk.specs.Entries.{post_of, is_due}
-use Rattle.tally_desk.specs.Founded.{parts_of}
+use Rattle.tally_desk.specs.Tables.{parts_at}
 use Rattle.tally_desk.specs.Homes.{HomeAs, MayTurn}
 use Rattle.tally_desk.proofs.Steps.{carried_now, posted_at_home, posted_len, serve}
 use Rattle.tally_desk.proofs.Todo.{todo_small}
@@ -16,7 +16,7 @@ slot_mut-state-requires g c = let turn = c.requires.turn in (c.requires.table, (
 pub turn-requires : goal.turn-requires
 turn-requires g c =
     let turn = c.requires.turn in
-    let parts = parts_of g.C.Keeper.state c.args.self.now.table.shared.key in
+    let parts = parts_at g.C.Keeper.state c.args.self.now in
     let len = posted_len (HomeAs g.C.Keeper.state g.C.Keeper.lets) parts _ _ _ turn in
     let may : MayTurn g.C.Keeper.state g.C.Keeper.lets parts c.slot_mut-state.result.now turn.posted c.args.outcome = record {
       plan = turn.awaits.plan;
@@ -32,7 +32,7 @@ turn-requires g c =
 pub overflow_add-ticket : goal.overflow_add-ticket
 overflow_add-ticket g c =
     let turn = c.requires.turn in
-    let parts = parts_of g.C.Keeper.state c.args.self.now.table.shared.key in
+    let parts = parts_at g.C.Keeper.state c.args.self.now in
     let len = posted_len (HomeAs g.C.Keeper.state g.C.Keeper.lets) parts _ _ _ turn in
     let left = todo_small parts turn.awaits.plan in
     omega (arith, len, left, posts_few parts _ _ turn.posted turn.awaits)
@@ -40,7 +40,7 @@ overflow_add-ticket g c =
 pub store-requires : goal.store-requires
 store-requires g c =
     let turn = c.requires.turn in
-    let parts = parts_of g.C.Keeper.state c.args.self.now.table.shared.key in
+    let parts = parts_at g.C.Keeper.state c.args.self.now in
     let len = posted_len (HomeAs g.C.Keeper.state g.C.Keeper.lets) parts _ _ _ turn in
     let may : MayTurn g.C.Keeper.state g.C.Keeper.lets parts c.slot_mut-state.result.now turn.posted c.args.outcome = record {
       plan = turn.awaits.plan;
@@ -63,7 +63,7 @@ store-requires g c =
 pub returns-clause-served : goal.returns-clause-served
 returns-clause-served g c =
     let turn = c.requires.turn in
-    let parts = parts_of g.C.Keeper.state c.args.self.now.table.shared.key in
+    let parts = parts_at g.C.Keeper.state c.args.self.now in
     let len = posted_len (HomeAs g.C.Keeper.state g.C.Keeper.lets) parts _ _ _ turn in
     let at_home = posted_at_home (HomeAs g.C.Keeper.state g.C.Keeper.lets) parts _ _ _ _ turn c.slot_mut-state.ensures.value in
     let home_len : length c.slot_mut-state.result.now.posted.items ≡ c.args.ticket = ap length at_home.entries ∙ len in

@@ -1,5 +1,8 @@
-use Rattle.std.proofs.Common.{◌≡◌, ap, length, arith}
+use Rattle.std.proofs.Common.{◌≡◌, List, ap, length, map, subst, sym, arith}
 use Rattle.std.proofs.lemmas.List.Sorted.{length_permutation}
+use Rattle.audit_model.specs.declared.outcome.Outcome.{Outcome}
+use Rattle.audit_statement.specs.Checkpoint.{AreRising}
+use Rattle.ckpt_format.proofs.Stated.{rising_pairs_rise}
 use Rattle.tally_desk.proofs.state.RunState.save_book.Goals as goal
 
 pub save_with-saved-requires-clause-few : goal.save_with-saved-requires-clause-few
@@ -11,3 +14,7 @@ pub save_with-saved-requires-clause-room : goal.save_with-saved-requires-clause-
 save_with-saved-requires-clause-room g c =
     let same : length c.as_slice.result.now ≡ length c.sorted_into.new.out.items = ap length c.as_slice.ensures in
     omega (arith, same, length_permutation _ _ c.sorted_into.ensures.all, c.len-count.ensures.sound.few, c.requires.room.save_room)
+
+pub save_with-saved-requires-clause-rising : goal.save_with-saved-requires-clause-rising
+save_with-saved-requires-clause-rising g c =
+    subst (λ (os : List Outcome). AreRising (map (λ o. o.id) os)) (sym c.as_slice.ensures) (rising_pairs_rise c.sorted_into.new.out.items c.sorted_into.ensures.rising)

@@ -1,4 +1,7 @@
-use Rattle.std.proofs.Common.{◌≡◌, ◌∙◌, ◌+◌, ◌%◌, ◌<◌, ◌==◌, ◌∷◌, [], ◌++◌, ap, arith, refl, sym, subst, length, true, vec_len, vec_capacity, ℕ}
+use Rattle.std.proofs.Common.{◌≡◌, ◌∙◌, ◌+◌, ◌%◌, ◌<◌, ◌==◌, ◌∷◌, [], ◌++◌, ap, arith, sym, subst, length, true, vec_len, vec_capacity, ℕ}
+use Rattle.ckpt_store.proofs.Ours.{checkpoints_are_ours}
+use Rattle.ckpt_store.proofs.Turns.{saved_slots_are_newest}
+use Rattle.outcome_book.proofs.AddingUp.{found_has_few}
 use Rattle.tally_desk.specs.Entries.{is_due, post_of}
 use Rattle.tally_desk.specs.Saving.{SavedWhereDue}
 use Rattle.tally_desk.proofs.Turning.{done, few_failed, few_visits, generation_below, id_absent, id_below, lets_next, slot_below, some_left, total_is, turned}
@@ -15,7 +18,7 @@ post-requires-clause-absent g c =
 pub post-requires-clause-bins : goal.post-requires-clause-bins
 post-requires-clause-bins g c =
     few_visits g.C.Keeper.state g.C.Keeper.lets c.requires.0 c.args.self.now c.requires.1.0 c.args.outcome c.requires.1.1
-    c.outcomes_have_few_visits.ensures.found
+    found_has_few
 
 pub save_where_due-saved-requires-clause-every : goal.save_where_due-saved-requires-clause-every
 save_where_due-saved-requires-clause-every g c = let may = c.requires.1.1 in omega (arith, may.holds.equipped.every, may.plan.every)
@@ -61,7 +64,7 @@ push_reserved-requires g c =
     let effect = subst (λ (k : ℕ). SavedWhereDue g.C.Keeper.state (k + 1) (record y { book = c.post.new.self }) c.save_where_due-saved.new.self c.save_where_due-saved.result)
     ticket c.save_where_due-saved.ensures in
     let d = done g.C.Keeper.state g.C.Keeper.lets c.requires.0 y posted c.args.outcome may c.post.new.self c.post.ensures.total c.post.ensures.outcomes
-    c.saved_slots_are_newest.ensures c.checkpoints_are_ours.ensures c.save_where_due-saved.new.self c.save_where_due-saved.result effect in
+    saved_slots_are_newest checkpoints_are_ours c.save_where_due-saved.new.self c.save_where_due-saved.result effect in
     subst (λ v. vec_len v < vec_capacity v) (sym d.posted) room
 
 pub returns-clause-turned : goal.returns-clause-turned
@@ -73,7 +76,7 @@ returns-clause-turned g c = λ parts posted may.
     let effect = subst (λ (k : ℕ). SavedWhereDue g.C.Keeper.state (k + 1) (record y { book = c.post.new.self }) c.save_where_due-saved.new.self saved)
     ticket c.save_where_due-saved.ensures in
     let d = done g.C.Keeper.state g.C.Keeper.lets parts y posted c.args.outcome may c.post.new.self c.post.ensures.total c.post.ensures.outcomes
-    c.saved_slots_are_newest.ensures c.checkpoints_are_ours.ensures c.save_where_due-saved.new.self saved effect in
+    saved_slots_are_newest checkpoints_are_ours c.save_where_due-saved.new.self saved effect in
     let same = c.look_ahead.ensures in
     turned g.C.Keeper.state g.C.Keeper.lets parts y posted c.args.outcome may c.save_where_due-saved.new.self _ saved d
     (ap (λ h. h.posted.items) same ∙ c.push_reserved.ensures.items
