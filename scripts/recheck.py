@@ -386,6 +386,8 @@ class Walk:
             return sum(f > s for f, s in votes)
         if name == "gap":
             return sum(2 * s - (f - s) if f > s else s - f - 2 * f for f, s in votes)
+        if name != "mean-median":
+            raise ValueError(f"unknown score {name}")
         shares = sorted(f * BILLION // (f + s) if f + s else BILLION // 2 for f, s in votes)
         return d * (shares[(d - 1) // 2] + shares[d // 2]) - 2 * sum(shares)
 

@@ -72,15 +72,18 @@ give_up() {
     exit 1
 }
 
-# Prints the path of a program: the one that is given, or the one that rt ci and rt run leave in the folder of the crate, where it is
-# built if it is not there.
+# Prints the path of a program: the one that is given, or the one that rt ci and rt run leave in the folder of the crate. If it is
+# missing there, it is proved and built, after a line on standard error that says so.
 program() {
     local built=$top/crates/$1/out/$1
     if [ -n "${2:-}" ]; then
         realpath "$2"
         return
     fi
-    [ -x "$built" ] || (cd "$top/crates/$1" && rt run </dev/null >/dev/null 2>&1)
+    if [ ! -x "$built" ] && command -v rt >/dev/null; then
+        echo "building a missing program: rt run in crates/$1 proves it, for up to half an hour" >&2
+        (cd "$top/crates/$1" && rt run </dev/null >/dev/null 2>&1)
+    fi
     [ -x "$built" ] && realpath "$built"
 }
 

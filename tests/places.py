@@ -2,6 +2,7 @@
 import functools
 import os
 import pathlib
+import shutil
 import subprocess
 import sys
 import typing
@@ -18,6 +19,8 @@ PROGRAMS = {
     "auditor": ("DISTRICT_AUDIT", "audit_program"),
     "folders": ("DISTRICT_AUDIT_FOLDERS", "audit_folders"),
 }
+# Begins the line before a program is built. `tests/run` shows this line at once.
+BUILDS = "building a missing program"
 
 
 def package_environment() -> typing.Dict[str, str]:
@@ -43,22 +46,23 @@ def python_with(*modules: str) -> typing.Optional[str]:
 def program(name: str) -> pathlib.Path:
     """Returns the path of the auditor, or of the program over its folders (`folders`).
 
-    That is what its variable names, or what `rt ci` and `rt run` leave in the crate's folder;
-    it is built there where it is missing. Raises FileNotFoundError where there is none.
+    That is what its variable names, or what `rt ci` and `rt run` leave in the crate's folder.
+    If it is missing there, it is proved and built, after a line on standard error that says so.
+    Raises FileNotFoundError if there is no program.
     """
     variable, crate = PROGRAMS[name]
     path = pathlib.Path(os.environ.get(variable) or TOP / "crates" / crate / "out" / crate)
-    if not os.environ.get(variable) and not os.access(path, os.X_OK):
-        try:
-            subprocess.run(
-                ["rt", "run"],
-                cwd=TOP / "crates" / crate,
-                stdin=subprocess.DEVNULL,
-                capture_output=True,
-                check=False,
-            )
-        except FileNotFoundError:
-            pass
+    is_missing = not os.environ.get(variable) and not os.access(path, os.X_OK)
+    if is_missing and shutil.which("rt"):
+        print(f"{BUILDS}: rt run in crates/{crate} proves it, for up to half an hour",
+              file=sys.stderr, flush=True)
+        subprocess.run(
+            ["rt", "run"],
+            cwd=TOP / "crates" / crate,
+            stdin=subprocess.DEVNULL,
+            capture_output=True,
+            check=False,
+        )
     if not os.access(path, os.X_OK):
         raise FileNotFoundError(f"there is no program {path}; the variable {variable} may name it")
     return path.resolve()

@@ -265,9 +265,7 @@ def refuse_another_graph(
     }
     scores = numerators(districts, cut, length)
     pairs += [
-        ("as the numerator of " + score, scores[score], start)
-        for score, start in starts.items()
-        if score in scores
+        ("as the numerator of " + score, scores[score], start) for score, start in starts.items()
     ]
     for what, here, there in pairs:
         if here != there:

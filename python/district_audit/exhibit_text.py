@@ -47,7 +47,9 @@ def shown(score: str, value: Fraction) -> str:
     """Returns the value of a score as people read it: a number, or percent."""
     if score in ("seats", "cut-edges", "cut-length"):
         return str(value)
-    return decimal(100 * value, 3, True) + " %"
+    if score in ("mean-median", "gap"):
+        return decimal(100 * value, 3, True) + " %"
+    raise ValueError(f"unknown score {score}")
 
 
 def counted(count: int, what: str) -> str:
@@ -84,10 +86,12 @@ def definition(score: str, parties: Parties) -> str:
             " borders of neighboring units in different districts, added up. A smaller total"
             " means more compact districts. The score favors no party by itself."
         )
-    return (
-        "The number of pairs of neighboring units that lie in different districts. Fewer cut "
-        "edges mean more compact districts. The score favors no party by itself."
-    )
+    if score == "cut-edges":
+        return (
+            "The number of pairs of neighboring units that lie in different districts. Fewer cut "
+            "edges mean more compact districts. The score favors no party by itself."
+        )
+    raise ValueError(f"unknown score {score}")
 
 
 def question(ask: str, parties: Parties) -> str:
@@ -101,11 +105,11 @@ def question(ask: str, parties: Parties) -> str:
     if score == "cut-length":
         short = "short" if tail == "low" else "long"
         return f"Are the boundaries between the districts unusually {short}?"
-    name = "efficiency gap" if score == "gap" else "mean-median score"
-    return (
-        f"Is the {name} unusually {tail}, so that {parties[0] if tail == 'low' else parties[1]} is"
-        " hurt?"
-    )
+    names = {"gap": "efficiency gap", "mean-median": "mean-median score"}
+    if score not in names:
+        raise ValueError(f"unknown score {score}")
+    hurt = parties[0] if tail == "low" else parties[1]
+    return f"Is the {names[score]} unusually {tail}, so that {hurt} is hurt?"
 
 
 # ---- how it was done

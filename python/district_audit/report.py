@@ -727,10 +727,12 @@ class Tests:
             is_good = below == 1 and top == head.rules.cut_length
         elif score == "mean-median":
             is_good = below == 2 * head.districts * BILLION and abs(top) <= below
-        else:
+        elif score == "gap":
             is_good = (
                 0 < below <= 4 * BILLION * head.units and below % 2 == 0 and 2 * abs(top) <= below
             )
+        else:
+            raise ValueError(f"unknown score {score}")
         self.lines.ask_that(is_good, "no plan has this score")
         self.lines.ask_that(
             self.starts.setdefault(score, start) == start,

@@ -256,4 +256,8 @@ def denominator(score: str, districts: int, start: Start) -> int:
     """Returns the denominator that a score has; that of the gap is any even number above 0."""
     if score == "gap":
         return start.denominator if start.denominator > 0 and start.denominator % 2 == 0 else 0
-    return 2 * districts * BILLION if score == "mean-median" else 1
+    if score == "mean-median":
+        return 2 * districts * BILLION
+    if score in ("seats", "cut-edges", "cut-length"):
+        return 1
+    raise ValueError(f"unknown score {score}")

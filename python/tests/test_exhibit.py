@@ -381,6 +381,19 @@ class ExhibitTests(FolderCase):
         ):
             self.assertIn(words, texts.question(ask, parties))
 
+    def test_an_unknown_score_is_an_error(self) -> None:
+        from fractions import Fraction
+        from district_audit import exhibit_text as texts
+
+        calls: typing.List[typing.Callable[[], str]] = [
+            lambda: texts.shown("ratio", Fraction(1)),
+            lambda: texts.definition("ratio", ("Blue", "Green")),
+            lambda: texts.question("ratio:low", ("Blue", "Green")),
+        ]
+        for call in calls:
+            with self.assertRaisesRegex(ValueError, "^unknown score ratio$"):
+                call()
+
     def test_decimals_are_rounded_to_the_nearest(self) -> None:
         from fractions import Fraction
         from district_audit import exhibit_text as texts

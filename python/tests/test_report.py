@@ -5,10 +5,12 @@ import unittest
 import xml.dom.minidom
 from decimal import Decimal
 from fractions import Fraction
+from unittest import mock
 
 import common
 from common import anything, found_in
 from district_audit import PlanCheck, Report, ReportRefused, Rules, Source, Start
+from district_audit import report as reading
 from district_audit.picture import percent
 from district_audit.report import bound_of
 
@@ -386,6 +388,16 @@ class Refusals(unittest.TestCase):
             kind.parse(text)
         self.assertEqual(caught.exception.number, number, str(caught.exception))
         self.assertIn(f"line {number}: ", str(caught.exception))
+
+    def test_an_unknown_score_is_an_error(self) -> None:
+        """A score that only the list of scores has is not read as another score."""
+        text = common.readme_report().replace("seats low", "ratio low")
+        with mock.patch.multiple(
+            reading,
+            SCORES=(*reading.SCORES, "ratio"),
+            ASK=reading.ASK.replace("seats", "ratio|seats"),
+        ), self.assertRaisesRegex(ValueError, "^unknown score ratio$"):
+            Report.parse(text)
 
     def test_one_changed_word_in_a_report(self) -> None:
         """For each row: the words, what stands there instead, and the number of the line that is

@@ -15,6 +15,7 @@ from common import anything
 import district_audit
 import trace_model
 from district_audit import scores
+from district_audit.trace_text import denominator
 from trace_model import COLUMNS, PATH, TEXT, TextCase
 
 # Changes of TEXT, each of which is refused at the line where it stands; \n is a line end,
@@ -96,6 +97,15 @@ class Reading(TextCase):
             (trace.head.setting.steps, trace.head.rules.high, trace.head.source), (5, 3, None)
         )
         self.assertEqual(dict(trace.enacted.assignment), dict(zip("wxyz", "ppqq")))
+
+    def test_an_unknown_score_is_an_error(self) -> None:
+        """The program and the plain model read no score as another one."""
+        with self.assertRaisesRegex(ValueError, "^unknown score ratio$"):
+            denominator("ratio", 2, district_audit.Start(0, 1))
+        words = dict(COLUMNS, slack=5000, key=common.KEY, ask="gap:low")
+        job = trace_model.job_of(words, trace_model.written(PATH))
+        with self.assertRaisesRegex(ValueError, "^unknown score ratio$"):
+            job.value(job.plan, "ratio")
 
     def test_the_odd_last_plan_is_left_out(self) -> None:
         """It is no plan of the N-step chain; a trajectory that ends on a multiple has its last."""

@@ -830,6 +830,8 @@ class Job:
             return self.cut(plan)
         if score == "cut-length":
             return self.cut_length(plan)
+        if score != "mean-median":
+            raise ValueError(f"unknown score {score}")
         shares = sorted(a * BILLION // (a + b) if a + b else BILLION // 2 for a, b in pairs)
         count = self.districts
         return count * (shares[(count - 1) // 2] + shares[count // 2]) - 2 * sum(shares)

@@ -3,10 +3,11 @@
 
   python3 -m tests.system.recheck [PROGRAM [JOBS [SEED]]]
 
-PROGRAM is the built auditor; without it the one in crates/audit_program/out is taken, and built
-where it is missing. Right reports come from the program, faulty ones from the plain model in
-tests/oracle/model.py, in which one function is replaced by a wrong one. With JOBS as many jobs are
-drawn (12, if not said), audited by the program and re-checked. The last line counts the checks.
+PROGRAM is the built auditor; without it, the one that the variable DISTRICT_AUDIT names, or the one
+in crates/audit_program/out, which is built there if it is missing. Right reports come from the
+program. Faulty ones come from the plain model in tests/oracle/model.py, in which one function is
+replaced by a wrong one. JOBS jobs (12 by default) are drawn, audited by the program and re-checked.
+The last line counts the checks.
 """
 # RUN: {auditor}
 # NEEDS: networkx
@@ -22,6 +23,7 @@ import struct
 import subprocess
 import sys
 import tempfile
+import types
 import typing
 from pathlib import Path
 
@@ -82,18 +84,6 @@ def differs(name: typing.Any, place: typing.Any, *words: typing.Any) -> None:
     )
 
 
-def program(given: typing.Any) -> typing.Any:
-    if given:
-        return given
-    built = TOP / "crates" / "audit_program" / "out" / "audit_program"
-    if not built.exists():
-        subprocess.run(
-            ["rt", "run"], cwd=TOP / "crates" / "audit_program", stdin=subprocess.DEVNULL,
-            capture_output=True, check=False,
-        )
-    return str(built)
-
-
 def run(auditor: typing.Any, words: typing.Any, graph: typing.Any, folder: str = ".") -> typing.Any:
     return subprocess.run(
         [auditor, *words], input=graph, capture_output=True, cwd=folder, check=False
@@ -112,6 +102,18 @@ def vectors() -> None:
     ):
         found = next(recheck.draws_of(key, stream, place, place + 1))
         COUNTS.judge(f"draw {place} of stream {stream}", found == draw, f"{found:x} for {draw:x}")
+
+
+def unknown_score() -> None:
+    """A score without a definition is an error, and is not computed as another one."""
+    job = types.SimpleNamespace(districts=1)
+    walk = types.SimpleNamespace(job=job, sums={"--first": [1], "--second": [2]})
+    came = "no error"
+    try:
+        recheck.Walk.score(walk, "ratio")
+    except ValueError as error:
+        came = str(error)
+    COUNTS.judge("unknown score", came == "unknown score ratio", came)
 
 
 def prepared(name: typing.Any, *words: typing.Any) -> typing.Any:
@@ -744,12 +746,13 @@ def campaign(auditor: typing.Any, room: typing.Any, jobs: typing.Any, seed: typi
 
 
 def main(args: typing.Any) -> int:
-    auditor = os.path.abspath(program(args[0] if args else None))
+    auditor = os.path.abspath(args[0]) if args else str(places.program("auditor"))
     jobs, seed = (int(word) for word in (*args[1:], *("12", "1")[len(args[1:]):]))
     with tempfile.TemporaryDirectory() as folder:
         room = Path(folder)
         if len(args) < 2:
             vectors()
+            unknown_score()
         recheck.BATCH = 64  # for short walks
         recheck.batch.cache_clear()
         if len(args) < 2:

@@ -1,19 +1,30 @@
-"""Runs the program on a system that fails it at a given call, and at its limits; each must end as
-the plain model in model.py says.
+"""Runs the auditor on a system that fails at a given call, and at its limits.
 
 Usage: python3 -m tests.system.system_faults PROGRAM [JOBS]
-The parts, each of which says in one line where it lacks what it needs: faults that strace injects
-into calls on the checkpoints, standard input and output; reads and writes of a few bytes, half of
-them interrupted, by a library that gcc builds; files at the limits of size, depth, units, edges,
-districts, regions, splits and groups; checkpoints of both versions of the format at the limits of
-size and count; values of words at the ends of their ranges; a folder that cannot be written and
-threads that are refused, as another user; slots that are replaced by pipes while a run walks; and,
-in the bytes of each save of several workers, how many trajectories were begun before the last of
-them and are missing. The faults of calls, short reads and writes, the limit on files and the other
-user are tried over so many jobs (1, if not said), which differ in key and questions; all else over
-the first alone. The faults of audit_slots and audit_gather are those of folder_faults.py. Prints
-one line for each part and each run that is not so, by its name. The last line counts the runs, and
-as skipped the parts that lack what they need; ends with 1 where a run is not so.
+A run must have the status, the texts and the files that the plain model, tests/oracle/model.py,
+gives. The parts:
+
+- faults that strace injects into calls on the checkpoints, standard input and output
+- reads and writes of seven bytes, every other one interrupted, by a library that gcc builds
+- files at the limits of size, depth, units, edges, districts, regions, splits and groups
+- checkpoints of both versions of the format, at the limits of size and count
+- values of words at the ends of their ranges
+- saves cut off by a limit on files
+- a folder that cannot be written and threads that are refused, as another user
+- slots that become pipes while a run walks; its report must be that of a run that saves nothing
+- the outcomes that workers hold at each save, for which the model gives nothing: they must be few
+
+Needed are strace with the right to trace, for the faults and the outcomes held; gcc, for short
+reads and writes; and root, for the other user. A part whose need is missing says so in one line and
+counts as skipped. If strace is not installed, `tests/run` skips all parts, or fails if the variable
+CI is set.
+
+The faults of calls, short reads and writes, the limit on files and the other user are tried over
+JOBS jobs (1 by default), which differ in key and questions; all else over the first alone. No
+argument chooses one fault. folder_faults.py has the faults of audit_slots and audit_gather.
+
+Prints one line for each part, and a line `WRONG: RUN: ..` for each run that differs. The last line
+counts the runs, and the skipped parts. The status is 1 if a run differs.
 """
 # RUN: {auditor}
 # NEEDS: strace

@@ -1,6 +1,7 @@
 """The cases of `case_runner` have names, and its stdout has what plain programs print of them.
 
-A failing check of a case has the name of that case.
+This test reads files and runs no program in Rattle; the test `case_output` runs `case_runner`. A
+failing check of a case has the name of that case.
 """
 # NEEDS: networkx
 # RUN:
@@ -45,7 +46,7 @@ def check_stdout(checks: Checks) -> None:
 
 
 def main() -> int:
-    checks = Checks("case_runner")
+    checks = Checks("case_names")
     for file in FILES:
         check_file(checks, file)
     check_stdout(checks)
