@@ -107,12 +107,12 @@ PLAIN = ("audit_statement", "Audited", "AuditsPlainly")
 WORDS = [("audit_statement", "Said"), ("audit_statement", "Words")]
 MOST_DEFINITIONS, MOST_LINES = 130, 600
 RECORDS = [
-    ("Promise", "KeepsItsPromise", "one plan"),
-    ("Several", "KeepsPlansPromise", "several plans"),
+    ("Promise", "KeepsItsPromise"),
+    ("Several", "KeepsPlansPromise"),
 ]
 WHOLE = [
     PLAIN, ("audit_statement", "PlainlyEnded", "EndsPlainly"),
-    ("program_help", "Answers", "AnswersOrAudits"),
+    ("audit_words", "Answers", "AnswersOrAudits"),
 ]
 
 
@@ -141,20 +141,20 @@ def count_table() -> typing.Iterator[typing.Any]:
     yield "|---|---|---|---|"
     yield count_row("`plain` of `audit_plainly`", Path([PLAIN]))
     yield count_row("the same without the words of the command line", Path([PLAIN], WORDS))
-    yield count_row("`ends` of `audit_plainly`, with the grammar of the words", Path([WHOLE[1]]))
-    for module, record, kind in RECORDS:
+    yield count_row("`ends` of `audit_plainly`", Path([WHOLE[1]]))
+    for module, record in RECORDS:
         for field, roots in fields_of("audit_statement", module, record):
-            yield count_row(f"`{field}` of {kind}", Path(roots))
-        yield count_row(f"all of these, `{record}`", Path([("audit_statement", module, record)]))
+            yield count_row(f"`{record}.{field}`", Path(roots))
+        yield count_row(f"`{record}`", Path([("audit_statement", module, record)]))
     yield count_row(
-        "all that an audit promises, `KeepsEachPromise`",
+        "`KeepsEachPromise`",
         Path([("audit_statement", "Whole", "KeepsEachPromise")]),
     )
     yield count_row(
-        "`answers` of the top call",
-        Path([("program_help", "Answers", "Answers"), ("program_help", "Questions", "answer_to")]),
+        "`AnswersOrAudits.answers`",
+        Path([("audit_words", "Answers", "Answers"), ("audit_words", "Questions", "answer_to")]),
     )
-    yield count_row("all that `audit` promises, `AnswersOrAudits`", Path([WHOLE[2]]))
+    yield count_row("`AnswersOrAudits`", Path([WHOLE[2]]))
 
 
 def crate_table() -> typing.Iterator[typing.Any]:

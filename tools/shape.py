@@ -37,14 +37,14 @@ BESIDE = ("httparse", "indexmap")
 # The most of each count. A count may only fall: lower its limit with it. The aims are 36 crates,
 # 18 calls to the flip, and none of all others.
 LIMITS = {
-    "crates": 39,
+    "crates": 36,
     "calls_to_the_flip": 18,
-    "types_of_one_name": 2,
-    "functions_named_by_a_participle": 58,
-    "functions_of_more_than_40_lines": 5,
-    "files_of_more_than_500_lines": 1,
-    "lines_over_120_columns": 1,
-    "lemmas_that_nothing_cites": 62,
+    "types_of_one_name": 0,
+    "functions_named_by_a_participle": 0,
+    "functions_of_more_than_40_lines": 0,
+    "files_of_more_than_500_lines": 0,
+    "lines_over_120_columns": 0,
+    "lemmas_that_nothing_cites": 0,
 }
 # Functions of more than 40 lines with one `match`, whose arms are one row of a table each.
 TABLES = {"argument_text"}
@@ -57,7 +57,7 @@ PARTICIPLES = set(
 VERBS = {"cut", "put", "read", "set", "split", "feed", "need", "seed", "spread"}
 PARTICLES = {"after", "again", "all", "at", "back", "by", "in", "of", "once", "up", "with"}
 # Public calls that the formats and the users of these crates fix.
-FIXED = {"done", "ended", "saved"}
+FIXED = {"done", "ended", "moved", "saved"}
 
 
 def files(folder: typing.Any, ending: typing.Any) -> typing.Iterator[typing.Any]:

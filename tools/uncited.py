@@ -24,8 +24,12 @@ Words = typing.Set[str]
 Names = typing.Dict[typing.Tuple[str, str], typing.Set[pathlib.Path]]
 
 
+STRING = re.compile(r'"(?:[^"\\\n]|\\.)*"')
+
+
 def without_comments(text: str) -> str:
-    return re.sub(r"(?:--|//)[^\n]*", "", text)
+    """Returns a text without comments, and with empty strings: `--` may stand in a string."""
+    return re.sub(r"(?:--|//)[^\n]*", "", STRING.sub('""', text))
 
 
 def words_of(text: str) -> Words:
