@@ -4,7 +4,7 @@ ghost use Rattle.std.specs.Prelude.{◌≡◌};
 
 use crate::setting::{Ask, Label};
 
-/// A type whose clones are equal to the original, which proofs may rely on.
+/// A type whose clones are equal to the original. `Clone` alone does not promise this to proofs.
 pub trait Same: Clone {
     ghost same: { (x y : Self) → Self.Clone.is_clone x y → y ≡ x };
 }

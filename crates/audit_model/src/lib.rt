@@ -1,6 +1,6 @@
 //! Plain types of an audit, the definitions that need no other crate, and their laws.
 //!
-//! Lemmas that several crates need are here too, each once.
+//! Lemmas that several crates cite stand here, each once.
 #![tactic(auto)]
 
 pub mod buffers;

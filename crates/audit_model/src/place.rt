@@ -1,6 +1,7 @@
-//! The position of a checkpoint.
+//! The position of a save.
 
-/// The position of a checkpoint: a slot, 0 or 1, and a generation, 0 to 2.
+/// The slot of a checkpoint, 0 or 1, and its generation, 0 to 2. The generations of two slots tell
+/// which slot is the newest.
 #[derive(Clone, Copy, Debug, PartialEq, Eq)]
 pub struct Place {
     pub slot: u8,

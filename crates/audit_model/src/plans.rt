@@ -1,10 +1,10 @@
-//! The plans of a table.
+//! The plans of a CSV of several plans.
 
 use crate::lists::{LabelList, PlainList, UnitList};
 use crate::text::Text;
 
-/// A plan of a table: its name, its distinct labels in rising order, and the index of each unit's
-/// label among them.
+/// A plan of the CSV: its name, the index of each unit's label in `labels`, and the plan's distinct
+/// labels in rising order.
 #[derive(Drop)]
 pub struct Assigned {
     pub name: Text,
@@ -12,5 +12,5 @@ pub struct Assigned {
     pub labels: LabelList,
 }
 
-/// A list of the plans of a table.
+/// A list of the CSV's plans.
 pub type AssignedList = PlainList<Assigned>;

@@ -6,8 +6,9 @@ ghost use Rattle.audit_model.specs.Meets.{keeps_frozen};
 use crate::lists::{NumList, UnitList};
 use crate::memory::Memory;
 
-/// The people of a group in each unit, and the base population of which they may be the majority:
-/// all people, or for instance those of voting age. Both are empty if no group is named.
+/// The size of a group in each unit, and the base population in which the group's share is
+/// measured: all people, or for instance those of voting age. Both lists are empty if the arguments
+/// name no group.
 #[derive(Drop)]
 pub struct Group {
     pub members: NumList,
@@ -15,7 +16,7 @@ pub struct Group {
 }
 
 impl Group {
-    /// Copies the columns. Fails if there is no memory.
+    /// Copies the group. Fails if there is no memory.
     pub fn copy(&self) -> Result<Group, Memory>
         ensures { IfOk result (λ g. g ≡ self.now) }
     {
@@ -26,24 +27,30 @@ impl Group {
     }
 }
 
-/// The rules on plans.
-///
-/// `max_cut` limits the cut edges. `regions` has the region of each unit, or is empty. `max_split`
-/// limits the districts of one region, `max_splits` the splits in all, and `max_split_regions` the
-/// split regions. The group must have a majority in at least `group_districts` districts: more than
-/// `group_share` hundredths of a percent of the district. `frozen` has 1 for each frozen unit and 0
-/// for each other, and `home` the start plan; both are empty if no column of frozen units is named.
+/// The rules that a plan must meet beyond population and contiguity.
 #[derive(Drop)]
 pub struct Rules {
+    /// The largest number of cut edges.
     pub max_cut: u32,
+    /// The region of each unit, or empty without regions.
     pub regions: UnitList,
+    /// The largest number of districts in which one region may lie.
     pub max_split: u32,
+    /// The largest number of splits in all: the sum, over all regions, of the region's districts
+    /// less one.
     pub max_splits: u32,
+    /// The largest number of regions that may lie in several districts.
     pub max_split_regions: u32,
     pub group: Group,
+    /// The least number of districts in which the group must have a majority.
     pub group_districts: u32,
+    /// The share of a district's base population above which the group has a majority, in
+    /// hundredths of a percent.
     pub group_share: u32,
+    /// For each unit 1 if it is frozen, else 0. Empty if the arguments name no column of frozen
+    /// units.
     pub frozen: UnitList,
+    /// The start plan, whose districts frozen units keep. Empty if `frozen` is empty.
     pub home: UnitList,
 }
 
@@ -66,7 +73,7 @@ impl Rules {
         })
     }
 
-    /// Returns whether a plan leaves each frozen unit in its district of the start plan.
+    /// Returns true if a plan leaves each frozen unit in its district of the start plan.
     pub fn keeps_frozen(&self, plan: &[u32]) -> bool
         requires homes { length self.now.frozen ≤ length self.now.home }
         requires entries { length self.now.frozen ≤ length plan.now }
@@ -76,7 +83,7 @@ impl Rules {
     }
 }
 
-/// Returns whether two plans agree on each frozen unit.
+/// Returns true if two plans agree on each frozen unit.
 fn agrees_on(frozen: &[u32], home: &[u32], plan: &[u32]) -> bool
     requires homes { length frozen.now ≤ length home.now }
     requires entries { length frozen.now ≤ length plan.now }
