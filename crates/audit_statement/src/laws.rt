@@ -1,4 +1,4 @@
-//! Laws of the definitions. Each is the contract of a function with an empty body.
+//! Laws of the definitions. Each law is the contract of a function with an empty body.
 
 ghost use Rattle.audit_model.specs.Local.{IsSimple};
 ghost use Rattle.audit_statement.specs.Reading.{Document, graph};
