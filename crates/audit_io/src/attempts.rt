@@ -1,4 +1,4 @@
-//! The history of save attempts, which exists only in proofs.
+//! The history of save attempts, for proofs only.
 
 ghost use Rattle.std.specs.Prelude.{◌≡◌, List, [], ◌∷◌, ◌++◌};
 ghost use Rattle.std.specs.Borrow.{ftrue};
@@ -6,7 +6,8 @@ ghost use Rattle.audit_model.specs.Attempts.{Try, try_of};
 
 use std::marker::Model;
 
-/// A list without run-time data, whose methods do nothing at run time.
+/// The save attempts so far, in order. The list exists in proofs only: it takes no memory, and its
+/// methods do nothing at run time.
 #[derive(Drop)]
 pub(crate) struct Attempts {
     pub(crate) ghost items: { List Try },
@@ -16,10 +17,10 @@ impl Model for Attempts {
     ghost also_owns = { λ _. ftrue };
 }
 
-// A list of attempts owns nothing, so it may cross threads.
+// A list of attempts owns nothing, so another thread may take it.
 unsafe impl Send for Attempts {}
 
-/// A save attempt: its slot, its bytes, and its success.
+/// A save attempt: its slot, its bytes, and whether it succeeded.
 #[derive(Clone, Copy)]
 pub(crate) struct Save<'a> {
     pub(crate) slot: u8,
@@ -34,6 +35,7 @@ impl Attempts {
         Attempts {}
     }
 
+    /// Returns the list with one more attempt at its end.
     pub(crate) fn and(&self, _save: &Save<'_>) -> Attempts
         ensures { result.items ≡ self.now.items ++ try_of _save.now.slot _save.now.bytes.now _save.now.succeeded ∷ [] }
     {

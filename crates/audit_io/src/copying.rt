@@ -2,7 +2,8 @@
 
 ghost use Rattle.std.specs.Prelude.{◌≡◌, ◌+◌, ◌-◌, ◌<◌, ◌≤◌, [], min, ◌++◌, length, take, drop};
 
-// Copies up to `most` bytes, starting at `at`, to the front of `into`.
+// Copies up to `most` bytes of `bytes`, starting at `at`, to the front of `into`. Returns their
+// number, which is 0 only at the end of `bytes` or if `into` is empty.
 pub(crate) fn give(bytes: &[u8], at: usize, most: usize, into: &mut [u8]) -> usize
     requires at { at ≤ length bytes.now }
     requires most { 0 < most }

@@ -1,4 +1,6 @@
-//! The calls on files by which slots are looked at, opened and saved.
+//! The file-system calls of a checkpoint store.
+//!
+//! A file is *stored* once the system has written its bytes and its length to the device, as `fsync` does.
 
 ghost use Rattle.std.specs.Prelude.{◌≡◌, Option, List, None, OnOk};
 ghost use Rattle.std.specs.Io.KnownBytes.{Appends};
@@ -10,55 +12,55 @@ use std::os::unix::fs::MetadataExt;
 use std::rt::Files;
 use std::{fs, io};
 
-/// The file, folder or device in the place of a name.
+/// The result of looking at a path: the kind and the identity of the file that the path names.
 #[derive(Clone, Copy)]
 pub struct FileEntry {
-    /// It is a plain file.
+    /// True if the file is a plain (regular) file: no folder, device or pipe.
     pub is_plain: bool,
-    /// The number of its device.
+    /// The number of the device on which the file is.
     pub device: u64,
-    /// Its number on the device.
+    /// The inode number of the file. Two paths name the same file if device and inode are equal.
     pub node: u64,
 }
 
-/// The calls on files by which slots are looked at, opened and saved. A function over it can make no other call, so its
-/// clauses say all that it does to files.
+/// The file-system calls that a checkpoint store may make. A function that is generic over this trait can make no other
+/// call, so its contract can list every call that it makes.
 pub trait FileCalls {
-    /// A file that was made or emptied to be written.
+    /// A file that is open for writing.
     type Made: Drop;
 
-    /// A file that was opened to be read.
+    /// A file that is open for reading.
     type Opened: Read + Drop;
 
-    /// The calls that were made, in turn, each with the kind of its error, where they are known.
+    /// The calls made so far, in order, each with the kind of its error. `None` if the calls are not observable.
     ghost calls: { Self → Option (List Call) };
 
-    /// Looks at what stands in the place of a name. Follows links.
+    /// Returns the kind and the identity of the file that a path names. Follows symbolic links.
     fn look(&mut self, name: &str) -> io::Result<FileEntry>
         ensures { calls self.new ≡ called (calls self.old) (looked name.now (answered result)) (error_of result) };
 
-    /// Looks at what stands in the place of a name, also if it is a link to nothing.
+    /// Returns `Ok` if the path exists, even if it is a dangling symbolic link.
     fn look_at_link(&mut self, name: &str) -> io::Result<()>
         ensures { calls self.new ≡ called (calls self.old) (looked_at_link name.now) (error_of result) };
 
-    /// Opens the file of a name to read it.
+    /// Opens a file for reading.
     fn open(&mut self, name: &str) -> io::Result<Self::Opened>
         ensures { calls self.new ≡ called (calls self.old) (opened name.now) (error_of result) };
 
-    /// Opens the file of a name to read it, waits until it is stored, and closes it. The outer error is that of opening
-    /// it.
+    /// Opens a file for reading, waits until the system has stored it, and closes it. The outer error is that of
+    /// opening, the inner error that of the wait.
     fn store(&mut self, name: &str) -> io::Result<io::Result<()>>
         ensures { calls self.new ≡ called_all (calls self.old) (storing name.now result) };
 
-    /// Makes a file of this name, where there is none.
+    /// Creates a file and opens it for writing. Fails if the path exists.
     fn make(&mut self, name: &str) -> io::Result<Self::Made>
         ensures { calls self.new ≡ called (calls self.old) (made name.now) (error_of result) };
 
-    /// Opens the file of this name to write it, and empties it. Makes one where there is none.
+    /// Opens a file for writing and removes its contents. Creates the file if there is none.
     fn empty(&mut self, name: &str) -> io::Result<Self::Made>
         ensures { calls self.new ≡ called (calls self.old) (emptied name.now) (error_of result) };
 
-    /// Writes all bytes.
+    /// Writes all bytes to the file.
     fn write_all(&mut self, file: &mut Self::Made, bytes: &[u8]) -> io::Result<()>
         ensures { calls self.new ≡ called (calls self.old) (wrote bytes.now) (error_of result) };
 
@@ -67,20 +69,21 @@ pub trait FileCalls {
         ensures { calls self.new ≡ called (calls self.old) stored_made (error_of result) };
 }
 
-/// The calls on the files that this part of the runtime opens. It tells nothing: each method makes the one call of std
-/// that its name says.
+/// The file-system calls of std, on the files that `files` may open. Proofs know nothing of these calls. Each method
+/// makes one call of std, except `store`, which opens a file and then waits until it is stored.
 #[derive(Drop)]
 pub struct SystemCalls<'a, R: Files> {
     pub(crate) files: &'a R,
 }
 
 impl<'a, R: Files> SystemCalls<'a, R> {
+    /// Makes file-system calls through this part of the runtime.
     pub fn new(files: &'a R) -> SystemCalls<'a, R> {
         SystemCalls { files }
     }
 }
 
-// Returns what the system says of a name.
+// Extracts the kind and the identity of a file from its metadata.
 fn entry_of(found: Metadata) -> FileEntry {
     FileEntry {
         is_plain: found.is_file(),

@@ -1,4 +1,4 @@
-//! The checkpoint store of a run: two files.
+//! The checkpoint store of a run: two files in the working folder.
 
 ghost use Rattle.std.specs.Prelude.{◌≡◌, ◌⊎◌, ◌↔◌, ◌<◌, false, true, [], None, Ok, Err, IsOk, IsErrAnd, OnOk, is_ok};
 ghost use Rattle.std.specs.IoError.{error_kind};
@@ -21,23 +21,25 @@ use audit_model::buffers::Bytes;
 use std::io;
 use std::io::{ErrorKind, Read};
 
-// The largest number of bytes of one read.
+// The largest number of bytes that one read asks for.
 const PIECE: usize = 4096;
 
 /// A keeper with two slots, the files `audit-0.ckpt` and `audit-1.ckpt` of the working folder.
 ///
-/// A save returns `Ok` only after the system has stored the file's bytes and its length. The folder, too, is then
-/// stored since its last new file. We trust the file system to keep what it has stored, to return it, and to leave the
-/// other file alone. The contents of the slots are thus not observable.
+/// A save returns `Ok` only after the system has stored the file and, if the file is new, the folder with the file's
+/// name. We trust the file system to keep stored bytes, to return them, and to leave the other file alone. Because this
+/// is trust and not proof, the contents of the slots are not observable.
 ///
-/// The first call takes the lock of the working folder, if the system has such locks, and the keeper holds it as long
-/// as it lives. If another keeper holds the lock, the call fails and touches no file.
+/// The first call takes the lock of the working folder, if the system has such locks. The keeper holds the lock until
+/// it is dropped. If another process holds the lock, the call fails and touches no file.
 ///
-/// A slot has to be a plain file or a link to one, and the two slots have to be different files. A folder, a pipe, a
-/// device, a dangling link or a link to the other slot is not opened, and the call fails. The first save waits until
-/// the system has stored the other slot's file and the folder. An earlier process may have ended before they were.
+/// A slot must be a plain file or a link to one, and the two slots must be different files. If a slot is a folder, a
+/// pipe, a device, a dangling link or a link to the other slot, the call fails without opening it.
 ///
-/// The clauses `done` of its methods say each call that is made on files, in turn, by `FolderCalls`.
+/// An earlier process may have been killed before it stored its newest file. The first save of this process therefore
+/// stores the other slot's file and the folder before it writes.
+///
+/// The clauses `done` of the methods list each file-system call, in order.
 #[derive(Drop)]
 pub struct FileKeeper<D: FolderCalls + Drop> {
     disk: D,
@@ -47,17 +49,18 @@ pub struct FileKeeper<D: FolderCalls + Drop> {
     save_faults: u64,
 }
 
-/// The lock state of the working folder.
+/// The lock of the working folder.
 #[derive(Drop)]
 struct Folder<L: Drop> {
-    // A call has taken the lock.
+    // True once a call has taken the lock, or has learned that the system has no such locks.
     is_own: bool,
-    // The opened folder, which holds the lock, if the system has such locks.
+    // The opened folder, which holds the lock. `None` if the system has no such locks.
     lock: Option<L>,
 }
 
 impl<D: FolderCalls + Drop> FileKeeper<D> {
-    /// Makes a keeper over these calls on files. No call has failed yet, and its slots are not observable.
+    /// Makes a keeper that uses these file-system calls. No load or save has failed yet, and the slots are not
+    /// observable.
     pub fn new(disk: D) -> FileKeeper<D>
         ensures slots { (⟦<FileKeeper<D> as Keeper>⟧.state result).slots ≡ None }
         ensures attempted { (⟦<FileKeeper<D> as Keeper>⟧.state result).attempted ≡ None }
@@ -80,9 +83,15 @@ impl<D: FolderCalls + Drop> FileKeeper<D> {
 impl<D: FolderCalls + Drop> Keeper for FileKeeper<D> {
     ghost state = { λ k. record { slots = None; attempted = None; load_faults = k.load_faults; save_faults = k.save_faults } };
 
-    /// Returns `Taken` if another keeper holds the folder. Otherwise a slot is empty exactly if opening its file
-    /// reports that there is none. A file that was read is a slot, whatever its length. Out of memory, also the
-    /// system's, is `Memory`.
+    /// Returns false exactly if opening the slot's file reports that there is no such file. Any file that can be read
+    /// is the slot's contents, whatever its length.
+    ///
+    /// # Errors
+    ///
+    /// - `Taken`: another process holds the lock of the folder.
+    /// - `Memory`: the program or the system is out of memory.
+    /// - `Long`: the file has more than `limit` bytes.
+    /// - `Failed`: any other error.
     fn load(&mut self, slot: u8, limit: u64, room: &mut Bytes) -> Result<bool, LoadError>
         requires { slot < 2 }
         ensures done { HasLoadedSlot (D.calls self.old.disk) (D.calls self.new.disk) self.old.folder.is_own slot D.Opened.remaining limit room.new.items result }
@@ -96,7 +105,7 @@ impl<D: FolderCalls + Drop> Keeper for FileKeeper<D> {
         self.load_faults.count(loaded)
     }
 
-    /// Creates the file if there is none, and touches no other. Out of memory is `Failed`.
+    /// Creates the slot's file if there is none, and writes no other file. All errors are `Failed`, also out of memory.
     fn save(&mut self, slot: u8, bytes: &[u8]) -> Result<(), Failed>
         requires slot { slot < 2 }
         ensures saved { OnOk result (HoldsBytes None slot bytes.now) }
@@ -120,7 +129,7 @@ impl<D: FolderCalls + Drop> Keeper for FileKeeper<D> {
     }
 }
 
-// Locks the working folder, unless the keeper holds the lock already.
+// Takes the lock of the working folder, unless the keeper has it already.
 fn take_folder<D: FolderCalls>(disk: &mut D, folder: &mut Folder<D::Lock>) -> Result<(), Taken>
     ensures done { HasTakenFolder (D.calls disk.old) (D.calls disk.new) folder.old.is_own (is_ok result) }
     ensures own { is_ok result ≡ true → folder.new.is_own ≡ true }
@@ -139,7 +148,7 @@ fn take_folder<D: FolderCalls>(disk: &mut D, folder: &mut Folder<D::Lock>) -> Re
     }
 }
 
-// Loads a slot of the working folder once its lock is taken.
+// Takes the lock of the working folder if necessary, then loads a slot.
 fn load_by<D: FolderCalls>(
     disk: &mut D,
     folder: &mut Folder<D::Lock>,
@@ -158,7 +167,7 @@ fn load_by<D: FolderCalls>(
     }
 }
 
-// Saves in a slot of the working folder once its lock is taken. Returns whether the save succeeded.
+// Takes the lock of the working folder if necessary, then saves in a slot. Returns true if the save succeeded.
 fn keep<D: FolderCalls>(
     disk: &mut D,
     folder: &mut Folder<D::Lock>,
@@ -176,7 +185,7 @@ fn keep<D: FolderCalls>(
     }
 }
 
-// Returns the answer of a load if another keeper holds the folder.
+// Clears the buffer and returns `Taken`.
 fn refuse(room: &mut Bytes) -> Result<bool, LoadError>
     ensures room { room.new.items ≡ [] }
     ensures taken { result ≡ Err LoadError.Taken }
@@ -185,7 +194,7 @@ fn refuse(room: &mut Bytes) -> Result<bool, LoadError>
     Err(LoadError::Taken)
 }
 
-// Maps `io::Error` to `LoadError`.
+// Maps an out-of-memory error of the system to `Memory`, and any other error to `Failed`.
 fn cause_of(error: &io::Error) -> LoadError
     ensures cause { (result ≡ LoadError.Memory) ⊎ (result ≡ LoadError.Failed) }
     ensures memory { (result ≡ LoadError.Memory) ↔ (error_kind error.now ≡ ErrorKind.OutOfMemory) }
@@ -196,7 +205,7 @@ fn cause_of(error: &io::Error) -> LoadError
     LoadError::Failed
 }
 
-// Appends all bytes of a reader to the empty buffer, but at most one more than the limit.
+// Reads all bytes into the empty buffer. Returns `Long` as soon as the buffer has more than `limit` bytes.
 fn read_within<T: Read>(from: &mut T, limit: u64, room: &mut Bytes) -> Result<(), LoadError>
     requires { room.old.items ≡ [] }
     ensures { ReadsWithin (T.remaining from.old) limit room.new.items result }
@@ -221,8 +230,8 @@ fn read_within<T: Read>(from: &mut T, limit: u64, room: &mut Bytes) -> Result<()
     Err(LoadError::Long(limit))
 }
 
-/// Returns the answer of a load from the result of opening the file: empty exactly if there is no such file. A file
-/// that was read is a slot.
+/// Reads a slot's file after an attempt to open it. Returns false exactly if there is no such file, and true if all its
+/// bytes were read. After an error the buffer is empty.
 pub fn load_opened<F: Read + Drop>(
     opened: io::Result<F>,
     limit: u64,

@@ -8,16 +8,17 @@ use crate::folder_lock::{Taken, lock_folder};
 use std::fs::File;
 use std::rt::Files;
 
-/// The calls on files, and the one that locks a folder.
+/// The file-system calls of [`FileCalls`], and one that locks a folder.
 pub trait FolderCalls: FileCalls {
-    /// A folder whose lock is held as long as the value lives.
+    /// A lock of a folder, held until the value is dropped.
     type Lock: Drop;
 
-    /// Takes the exclusive lock of a folder, if the system has such locks.
+    /// Takes the exclusive lock of a folder. Returns `None` if the system has no such lock for this
+    /// folder.
     ///
     /// # Errors
     ///
-    /// - `Taken`: another run holds the lock.
+    /// - `Taken`: another process holds the lock.
     fn lock(&mut self, folder: &str) -> Result<Option<Self::Lock>, Taken>
         ensures { Self.calls self.new ≡ called (Self.calls self.old) (locked folder.now (is_err result)) None };
 }

@@ -1,4 +1,4 @@
-//! The read-only slots of a folder.
+//! A read-only checkpoint store: the slots of a folder that another run may write.
 
 ghost use Rattle.std.specs.Prelude.{◌≡◌, ◌<◌, [], None, Err, IfOk};
 ghost use Rattle.audit_io.specs.Keepers.{HasComparedHere, HasReadFolder, HasReadLocked, HasReadSlot, within};
@@ -17,30 +17,31 @@ use audit_model::memory::Memory;
 use audit_model::text::Text;
 use std::alloc::Global;
 
-/// The two slots of a folder, as its files `audit-0.ckpt` and `audit-1.ckpt`. They are not observable in proofs, and it
-/// never saves. The clause `done` of `load` says each call that is made on files, in turn, by `FolderCalls`.
+/// The two slots of a folder, the files `audit-0.ckpt` and `audit-1.ckpt`. The slots are not observable, and the keeper
+/// never saves. The clause `done` of `load` lists each file-system call, in order.
 #[derive(Drop)]
 pub struct FolderKeeper<'a, D: FolderCalls + Drop> {
     disk: D,
-    /// The folder.
+    /// The folder, and whether its lock is taken for a load.
     pub place: FolderPlace<'a>,
     load_faults: LoadCount,
     save_faults: u64,
 }
 
-/// A folder to be read.
+/// A folder to read.
 #[derive(Clone, Copy)]
 pub struct FolderPlace<'a> {
     alloc: Global,
-    /// Its name.
+    /// The path of the folder.
     pub folder: &'a str,
-    /// Its lock is asked for, unless it is the working folder.
+    /// True if a load takes the folder's lock. The working folder is never locked, because this program may hold its
+    /// lock already.
     pub locks: bool,
 }
 
 impl<'a, D: FolderCalls + Drop> FolderKeeper<'a, D> {
-    /// Makes a keeper of the folder with this name. With `locks`, a folder other than the working folder is read only
-    /// while no run holds its lock.
+    /// Makes a keeper of the folder with this path. With `locks`, each load takes the folder's lock, except in the
+    /// working folder. If another process holds the lock, the load fails.
     pub fn new(disk: D, alloc: Global, folder: &'a str, locks: bool) -> FolderKeeper<'a, D>
         ensures folder { result.place.folder.now ≡ folder.now }
         ensures locks { result.place.locks ≡ locks }
@@ -72,14 +73,14 @@ impl<D: FolderCalls + Drop> Keeper for FolderKeeper<'_, D> {
         self.load_faults.count(loaded)
     }
 
-    /// Fails. The contract of a look at a folder gives no permission to save, so no caller can reach this function.
+    /// Fails. No caller reaches this function: the contracts of the callers permit no save.
     fn save(&mut self, _slot: u8, _bytes: &[u8]) -> Result<(), Failed> {
         self.save_faults = self.save_faults.saturating_add(1);
         Err(Failed)
     }
 }
 
-// Returns the name of a file in a folder.
+// Returns the path of a file in a folder.
 fn path_of(alloc: Global, folder: &str, name: &str) -> Result<Text, Memory>
     ensures { IfOk result (λ path. path ≡ within folder.now name.now) }
 {
@@ -90,7 +91,7 @@ fn path_of(alloc: Global, folder: &str, name: &str) -> Result<Text, Memory>
     Ok(path)
 }
 
-// Returns true if the folder is the working folder, whose lock this program may hold itself.
+// Returns true if the path names the working folder.
 fn is_working_folder<D: FileCalls>(disk: &mut D, folder: &str) -> bool
     ensures { HasComparedHere (D.calls disk.old) (D.calls disk.new) folder.now result }
 {
@@ -99,7 +100,7 @@ fn is_working_folder<D: FileCalls>(disk: &mut D, folder: &str) -> bool
     are_same(&one, &here)
 }
 
-// Reads a slot while no run holds the folder's lock, or without a lock.
+// Loads a slot. Takes the folder's lock if `place.locks` is true and the folder is not the working folder.
 fn read_folder<D: FolderCalls>(
     disk: &mut D,
     place: FolderPlace<'_>,
@@ -120,7 +121,7 @@ fn read_folder<D: FolderCalls>(
     read_locked(disk, place, slot, limit, room)
 }
 
-// Reads a slot while no run holds the folder's lock.
+// Takes the folder's lock, loads a slot, and releases the lock.
 fn read_locked<D: FolderCalls>(
     disk: &mut D,
     place: FolderPlace<'_>,
@@ -141,7 +142,7 @@ fn read_locked<D: FolderCalls>(
     }
 }
 
-// Reads a slot of the folder.
+// Loads a slot of the folder, without regard to locks.
 fn read_slot<D: FileCalls>(
     disk: &mut D,
     place: FolderPlace<'_>,

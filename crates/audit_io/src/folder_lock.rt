@@ -1,16 +1,16 @@
-//! The lock of a folder, held by one run at a time.
+//! The lock of a folder, which one process at a time can hold.
 
 ghost use Rattle.std.specs.Prelude.{◌≡◌, ◌≢◌, ◌↔◌, None, Some, Ok, Err, IsOk, IsErr, IsErrAnd};
 
 use std::fs::{File, TryLockError};
 use std::rt::Files;
 
-/// The error that another run holds the folder.
+/// The error that another process holds the lock of a folder.
 #[derive(Clone, Copy, Debug, PartialEq, Eq)]
 pub struct Taken;
 
-/// Returns who holds an opened folder, by the answer of the attempt to lock it. Only the answer that the lock is held
-/// elsewhere makes it taken: any other error says that the system has no such lock for the folder.
+/// Interprets the result of an attempt to lock an opened folder. `WouldBlock` means that another process holds the
+/// lock. Any other error means that the system has no such lock for this folder, which gives `None`.
 pub fn owner_of(opened: File, attempted: Result<(), TryLockError>) -> Result<Option<File>, Taken>
     ensures taken { IsErr result ↔ (attempted ≡ Err TryLockError.WouldBlock) }
     ensures own { IsOk attempted → result ≡ Ok (Some opened) }
@@ -23,12 +23,12 @@ pub fn owner_of(opened: File, attempted: Result<(), TryLockError>) -> Result<Opt
     }
 }
 
-/// Takes the exclusive lock of a folder, which is held as long as the opened folder lives. It leaves no file behind.
-/// None where the system has no such lock for the folder, or where the folder cannot be opened.
+/// Takes the exclusive lock of a folder. The lock is held until the returned folder is dropped, and leaves no file
+/// behind. Returns `None` if the system has no such lock for this folder, or if the folder cannot be opened.
 ///
 /// # Errors
 ///
-/// - `Taken`: another run holds the lock.
+/// - `Taken`: another process holds the lock.
 pub fn lock_folder<R: Files<File = File>>(files: &R, folder: &str) -> Result<Option<File>, Taken> {
     match File::open(files, folder) {
         Ok(opened) => {

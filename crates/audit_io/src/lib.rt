@@ -1,4 +1,5 @@
-//! The I/O of an audit: sources, sinks, checkpoint stores and gates, with counts of faults.
+//! The I/O of an audit: sources, sinks, checkpoint stores and gates. Sources, sinks and stores
+//! count their failed calls, so that a contract can show which of them caused an error.
 #![tactic(auto)]
 
 mod attempts;

@@ -6,7 +6,8 @@ ghost use Rattle.audit_io.specs.Loads.{HasLoadCause};
 use crate::keeper::LoadError;
 use std::marker::Model;
 
-/// The number of failed loads, and the number of those because another process had locked the slots.
+/// The number of failed loads, and the number of these that failed because another process had locked the slots. Loads
+/// that end with `Long` or `Memory` are not failures of the store, and are not counted.
 #[derive(Drop)]
 pub struct LoadCount {
     failed: u64,
@@ -22,7 +23,7 @@ impl Model for LoadCount {
 }
 
 impl LoadCount {
-    /// Makes counts of 0.
+    /// Makes two counts of 0.
     pub fn new() -> LoadCount
         ensures { result ≡ record { all = 0; taken = 0 } }
     {
@@ -32,7 +33,7 @@ impl LoadCount {
         }
     }
 
-    /// Counts the answer of a load and returns it.
+    /// Counts the result of a load, and returns the result unchanged.
     pub fn count(&mut self, loaded: Result<bool, LoadError>) -> Result<bool, LoadError>
         ensures counted { HasLoadCause self.old self.new loaded }
         ensures same { result ≡ loaded }

@@ -1,4 +1,4 @@
-//! The looks at slots before they are opened or saved.
+//! Tests of a slot's path, made before the slot is opened or written.
 
 ghost use Rattle.std.specs.Prelude.{◌≡◌, ◌<◌, false, is_err, is_ok};
 ghost use Rattle.std.specs.IoError.{error_kind};
@@ -10,7 +10,7 @@ use crate::file_calls::{FileCalls, FileEntry};
 use std::io;
 use std::io::ErrorKind;
 
-// Returns the name of a slot's file.
+// Returns the file name of a slot.
 pub(crate) fn name_of(slot: u8) -> &'static str
     requires { slot < 2 }
     ensures { result.now ≡ file_name slot }
@@ -21,7 +21,7 @@ pub(crate) fn name_of(slot: u8) -> &'static str
     }
 }
 
-// Refuses a link to nothing where a name was not found.
+// Looks whether a path that was not found is a dangling link. Returns `InvalidInput` if it is, else the given error.
 fn refuse_link<D: FileCalls>(disk: &mut D, name: &str, error: io::Error) -> io::Result<FileEntry>
     ensures { HasSeenLink (D.calls disk.old) (D.calls disk.new) name.now (error_kind error) (kinds result) }
 {
@@ -31,8 +31,8 @@ fn refuse_link<D: FileCalls>(disk: &mut D, name: &str, error: io::Error) -> io::
     }
 }
 
-// Returns what stands in the place of a name, if it is a plain file or a link to one. A link to nothing is there, and
-// is no plain file.
+// Returns the plain file that a path or its link names. Returns `InvalidInput` for anything else, such as a folder or a
+// dangling link, and `NotFound` if nothing is there.
 fn plain_file<D: FileCalls>(disk: &mut D, name: &str) -> io::Result<FileEntry>
     ensures { HasSeen (D.calls disk.old) (D.calls disk.new) name.now (kinds result) }
 {
@@ -50,8 +50,8 @@ fn plain_file<D: FileCalls>(disk: &mut D, name: &str) -> io::Result<FileEntry>
     }
 }
 
-/// Opens the plain file of this name to read it. Anything else is not opened: to open a pipe may take forever, and a
-/// folder, a device or a link to nothing is no slot.
+/// Opens a plain file for reading. Nothing else is opened: opening a pipe may block forever, and a folder, a device or
+/// a dangling link is no slot.
 pub fn open_plain<D: FileCalls>(disk: &mut D, name: &str) -> io::Result<D::Opened>
     ensures { HasOpened (D.calls disk.old) (D.calls disk.new) name.now (error_of result) }
 {
@@ -61,7 +61,7 @@ pub fn open_plain<D: FileCalls>(disk: &mut D, name: &str) -> io::Result<D::Opene
     }
 }
 
-// Returns whether both are one file.
+// Returns true if both paths were found and name the same file.
 pub(crate) fn are_same(first: &io::Result<FileEntry>, second: &io::Result<FileEntry>) -> bool
     ensures { result ≡ are_one (kinds first.now) (kinds second.now) }
 {
@@ -71,7 +71,7 @@ pub(crate) fn are_same(first: &io::Result<FileEntry>, second: &io::Result<FileEn
     }
 }
 
-// Returns whether both slots are one file.
+// Returns true if both slots are the same file.
 fn are_one<D: FileCalls>(disk: &mut D) -> bool
     ensures { HasCompared (D.calls disk.old) (D.calls disk.new) result }
 {
@@ -80,7 +80,7 @@ fn are_one<D: FileCalls>(disk: &mut D) -> bool
     are_same(&first, &second)
 }
 
-/// Opens the file of a slot to read it, unless both slots are one file.
+/// Opens the file of a slot for reading. Fails if both slots are the same file.
 pub(crate) fn open_slot<D: FileCalls>(disk: &mut D, slot: u8) -> io::Result<D::Opened>
     requires { slot < 2 }
     ensures { HasOpenedSlot (D.calls disk.old) (D.calls disk.new) slot (error_of result) }
@@ -91,7 +91,7 @@ pub(crate) fn open_slot<D: FileCalls>(disk: &mut D, slot: u8) -> io::Result<D::O
     open_plain(disk, name_of(slot))
 }
 
-// Checks that the slots are not one file.
+// Returns an error if both slots are the same file.
 fn check_apart<D: FileCalls>(disk: &mut D) -> io::Result<()>
     ensures { HasCompared (D.calls disk.old) (D.calls disk.new) (is_err result) }
 {
@@ -101,7 +101,7 @@ fn check_apart<D: FileCalls>(disk: &mut D) -> io::Result<()>
     Ok(())
 }
 
-// Checks that a slot's file may be written: nothing is in its place, or a plain file that is not the other slot's.
+// Checks that a slot may be written: there is no such file, or it is a plain file other than the other slot's.
 pub(crate) fn check_place<D: FileCalls>(disk: &mut D, slot: u8) -> io::Result<()>
     requires { slot < 2 }
     ensures { HasCheckedPlace (D.calls disk.old) (D.calls disk.new) slot (is_ok result) }
@@ -115,7 +115,7 @@ pub(crate) fn check_place<D: FileCalls>(disk: &mut D, slot: u8) -> io::Result<()
     }
 }
 
-// Returns whether the file of a slot is there.
+// Returns true if the file of a slot exists.
 fn is_there<D: FileCalls>(disk: &mut D, slot: u8) -> io::Result<bool>
     requires { slot < 2 }
     ensures { HasLookedFor (D.calls disk.old) (D.calls disk.new) false slot (answered result) }
@@ -129,7 +129,7 @@ fn is_there<D: FileCalls>(disk: &mut D, slot: u8) -> io::Result<bool>
     }
 }
 
-// Returns whether the file of a slot is there and is not known to be stored.
+// Returns true if the file of a slot exists and is not known to be stored. Makes no call if `is_stored` is true.
 pub(crate) fn is_unstored<D: FileCalls>(disk: &mut D, slot: u8, is_stored: bool) -> io::Result<bool>
     requires { slot < 2 }
     ensures { HasLookedFor (D.calls disk.old) (D.calls disk.new) is_stored slot (answered result) }

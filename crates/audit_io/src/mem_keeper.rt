@@ -1,4 +1,4 @@
-//! A keeper in memory with injected faults.
+//! A checkpoint store in memory with injected failures, for tests.
 
 ghost use Rattle.std.specs.Prelude.{◌≡◌, ◌<◌, ◌≤◌, ◌+◌, ◌-◌, ◌^◌, ◌/◌, ◌↔◌, ◌∷◌, [], ◌++◌, IfOk, OnOk, OnErr, IsErr, Err, Some, option_map, Contains, min, take, length, is_ok};
 ghost use Rattle.audit_model.specs.Faults.{HasCause};
@@ -18,7 +18,7 @@ use audit_model::memory::Memory;
 use std::alloc::Global;
 use std::marker::Model;
 
-/// Two slots in memory. A save that fails leaves the first half of its bytes.
+/// Two slots in memory, with calls that fail as the test asks. A save that fails writes the first half of its bytes.
 #[derive(Drop)]
 pub struct MemKeeper {
     zero: MemSlot,
@@ -50,7 +50,8 @@ impl Model for MemKeeper {
 }
 
 impl MemKeeper {
-    /// Makes a keeper from the initial slots and the numbers of the loads and saves that fail, counted from 1.
+    /// Makes a keeper with these slots. `load_fails` and `save_fails` have the numbers of the loads and saves that
+    /// fail, counted from 1. Fails if there is no memory.
     pub fn new(
         alloc: Global,
         zero: Option<Bytes>,
@@ -92,7 +93,7 @@ impl MemKeeper {
         }
     }
 
-    /// Returns the contents of a slot.
+    /// Returns the contents of a slot, or `None` if it is empty.
     pub fn slot(&self, slot: u8) -> Option<&[u8]>
         requires { slot < 2 }
         ensures { option_map (λ b. b.now) result ≡ stored self.now.slots slot }
@@ -100,7 +101,8 @@ impl MemKeeper {
         self.at(slot).bytes()
     }
 
-    // Writes the first `kept` bytes of a save, or all if there are fewer, and counts nothing.
+    // Records a failed save attempt that wrote the first `kept` bytes, or all bytes if there are fewer. The counts of
+    // saves and failures do not change.
     pub(crate) fn leave_part(&mut self, slot: u8, bytes: &[u8], kept: u32)
         requires slot { slot < 2 }
         requires few { length bytes.now ≤ most_saved_bytes }
@@ -118,7 +120,7 @@ impl MemKeeper {
         }
     }
 
-    // Records a save attempt that wrote nothing.
+    // Records a failed save attempt that wrote nothing. The counts of saves and failures do not change.
     pub(crate) fn leave_none(&mut self, slot: u8, bytes: &[u8])
         ensures { self.new ≡ with_try self.old slot bytes.now }
     {

@@ -1,4 +1,4 @@
-//! A sink in memory with injected faults.
+//! A sink in memory with injected failures, for tests.
 
 ghost use Rattle.std.specs.Prelude.{◌≡◌, ◌+◌, ◌-◌, ◌^◌, ◌≤◌, ◌<◌, ◌⊎◌, ◌↔◌, [], min, IsErr, IfOk, OnErr, Some, Contains, length};
 ghost use Rattle.std.specs.Io.KnownBytes.{WriteAppends};
@@ -12,7 +12,8 @@ use audit_model::memory::Memory;
 use std::alloc::Global;
 use std::marker::Model;
 
-/// A sink that takes up to `most` bytes in each call until its capacity is used up. Some calls fail.
+/// A sink that takes up to `most` bytes in each call. A call fails if the capacity is used up, or if its number is in
+/// `fails`.
 #[derive(Drop)]
 pub struct MemSink {
     bytes: Bytes,
@@ -35,8 +36,8 @@ impl Model for MemSink {
 }
 
 impl MemSink {
-    /// Makes a sink from its capacity in bytes, the most bytes of a call, and the numbers of the calls that fail,
-    /// counted from 1.
+    /// Makes a sink with a capacity of `room` bytes, which takes at most `most` bytes in a call. `fails` has the
+    /// numbers of the calls that fail, counted from 1. Fails if there is no memory.
     pub fn new(alloc: Global, room: usize, most: usize, fails: NumList) -> Result<MemSink, Memory>
         requires { 1 ≤ most }
         ensures { IfOk result (λ s. s ≡ record { bytes = []; room = room; most = most; fails = fails; calls = 0; faults = 0 }) }
@@ -51,7 +52,7 @@ impl MemSink {
         })
     }
 
-    /// Returns the bytes taken so far.
+    /// Returns the bytes that the sink has taken so far.
     pub fn bytes(&self) -> &[u8]
         ensures { result.now ≡ self.now.bytes }
     {

@@ -10,10 +10,11 @@ use audit_model::memory::Memory;
 use std::alloc::Global;
 use std::marker::Model;
 
-/// The largest number of bytes of a save.
+/// The largest number of bytes of a save: the size of the largest checkpoint.
 pub const MOST_SAVED: usize = 8_000_084;
 
-/// A slot in memory, empty or a list of bytes, with capacity for every save.
+/// A slot in memory: empty, or a list of bytes. Its buffer has capacity for every save, so a save
+/// cannot fail.
 #[derive(Drop)]
 pub struct MemSlot {
     there: bool,
@@ -33,7 +34,7 @@ impl Model for MemSlot {
 }
 
 impl MemSlot {
-    /// Makes a slot with the given contents.
+    /// Makes a slot with these contents. Fails if there is no memory.
     pub fn new(alloc: Global, given: Option<Bytes>) -> Result<MemSlot, Memory>
         ensures { IfOk result (λ s. s ≡ option_map (λ b. b.items) given) }
     {
@@ -50,7 +51,7 @@ impl MemSlot {
         }
     }
 
-    /// Returns the contents of the slot.
+    /// Returns the contents of the slot, or `None` if it is empty.
     pub fn bytes(&self) -> Option<&[u8]>
         ensures { option_map (λ b. b.now) result ≡ self.now }
     {
@@ -61,7 +62,8 @@ impl MemSlot {
         }
     }
 
-    /// Clears the buffer and copies the slot's bytes into it.
+    /// Clears `room` and copies the slot's bytes into it. Returns false if the slot is empty, and
+    /// `Long` if it has more than `limit` bytes.
     pub fn load(&self, limit: u64, room: &mut Bytes) -> Result<bool, LoadError>
         ensures found { Loads self.now limit room.new.items result }
         ensures within { LoadsWithin limit room.new.items result }

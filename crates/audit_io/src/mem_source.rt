@@ -1,4 +1,4 @@
-//! A source in memory with injected faults.
+//! A source in memory with injected failures, for tests.
 
 ghost use Rattle.std.specs.Prelude.{◌≡◌, ◌+◌, ◌-◌, ◌^◌, ◌≤◌, min, IfOk, IsErr, ◌↔◌, Some, Contains, length, ◌<◌};
 ghost use Rattle.std.specs.Io.{ReadsAtMost};
@@ -11,7 +11,7 @@ use audit_model::buffers::Bytes;
 use audit_model::lists::NumList;
 use std::marker::Model;
 
-/// A source that gives up to `most` bytes in each call. Some calls fail.
+/// A source that gives up to `most` bytes in each call. A call fails if its number is in `fails`.
 #[derive(Drop)]
 pub struct MemSource {
     bytes: Bytes,
@@ -34,7 +34,8 @@ impl Model for MemSource {
 }
 
 impl MemSource {
-    /// Makes a source from its bytes, the most bytes of a call, and the numbers of the calls that fail, counted from 1.
+    /// Makes a source of these bytes. `fails` has the numbers of the calls that fail, counted from
+    /// 1.
     pub fn new(bytes: Bytes, most: usize, fails: NumList) -> MemSource
         requires { 1 ≤ most }
         ensures { result ≡ record { bytes = bytes.items; most = most; fails = fails; calls = 0; faults = 0 } }

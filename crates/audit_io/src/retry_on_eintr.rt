@@ -1,4 +1,4 @@
-//! I/O calls of std, with a retry on `EINTR`.
+//! Reads and writes of std that are repeated if a signal interrupts them (`EINTR`).
 
 ghost use Rattle.std.specs.Prelude.{◌≢◌, IfErr};
 ghost use Rattle.std.specs.Io.{ReadsAtMost, WritesAtMost};
@@ -8,7 +8,8 @@ ghost use Rattle.std.specs.IoError.{error_kind};
 use std::io;
 use std::io::{ErrorKind, Read, Write};
 
-/// Reads once, and retries on `EINTR`. The returned error is never an interruption.
+/// Reads once. Repeats the call if a signal interrupts it, so that the returned error is never
+/// `Interrupted`.
 pub(crate) fn read_again<T: Read>(from: &mut T, into: &mut [u8]) -> io::Result<usize>
     ensures amount { ReadsAtMost result into.new }
     ensures bytes { ReadConsumes (T.remaining from.old) (T.remaining from.new) result into.new }
@@ -27,7 +28,8 @@ pub(crate) fn read_again<T: Read>(from: &mut T, into: &mut [u8]) -> io::Result<u
     Err(io::Error::from(ErrorKind::TimedOut))
 }
 
-/// Writes once, and retries on `EINTR`. The returned error is never an interruption.
+/// Writes once. Repeats the call if a signal interrupts it, so that the returned error is never
+/// `Interrupted`.
 pub(crate) fn write_again<T: Write>(to: &mut T, bytes: &[u8]) -> io::Result<usize>
     ensures amount { WritesAtMost result bytes.now }
     ensures bytes { WriteAppends (T.contents to.old) (T.contents to.new) result bytes.now }

@@ -1,4 +1,4 @@
-//! Readers and writers that retry on `WouldBlock`.
+//! Readers and writers whose calls are repeated if they would block.
 
 ghost use Rattle.std.specs.Prelude.{◌≡◌, ◌≢◌, IfErr};
 ghost use Rattle.std.specs.Io.{ReadsAtMost, WritesAtMost};
@@ -9,11 +9,11 @@ use std::io::{ErrorKind, Read, Write};
 use std::time::{Clock, Duration};
 use std::{io, thread};
 
-// The pause in milliseconds before a retry.
+// The pause before a call is repeated, in milliseconds.
 const PAUSE: u64 = 1;
 
-/// A reader or a writer and a clock. A call that would block, as of a non-blocking pipe, is made again after a
-/// millisecond.
+/// A reader or a writer, and a clock. A call that fails with `WouldBlock`, for instance on a non-blocking pipe, is
+/// repeated after a pause.
 #[derive(Drop)]
 pub struct RetryOnWouldBlock<T: Drop, C: Clock + Drop> {
     inner: T,
@@ -21,7 +21,7 @@ pub struct RetryOnWouldBlock<T: Drop, C: Clock + Drop> {
 }
 
 impl<T: Read + Drop, C: Clock + Drop> RetryOnWouldBlock<T, C> {
-    /// Wraps a reader. The wrapper is as observable as the reader.
+    /// Wraps a reader. Proofs know as much of the wrapper's remaining bytes as of the reader's.
     pub fn of_reader(inner: T, clock: C) -> RetryOnWouldBlock<T, C>
         ensures left { ⟦<RetryOnWouldBlock<T, C> as Read>⟧.remaining result ≡ T.remaining inner }
     {
@@ -30,7 +30,7 @@ impl<T: Read + Drop, C: Clock + Drop> RetryOnWouldBlock<T, C> {
 }
 
 impl<T: Write + Drop, C: Clock + Drop> RetryOnWouldBlock<T, C> {
-    /// Wraps a writer. The wrapper is as observable as the writer.
+    /// Wraps a writer. Proofs know as much of the wrapper's written bytes as of the writer's.
     pub fn of_writer(inner: T, clock: C) -> RetryOnWouldBlock<T, C>
         ensures taken { ⟦<RetryOnWouldBlock<T, C> as Write>⟧.contents result ≡ T.contents inner }
     {
@@ -62,7 +62,7 @@ impl<T: Write + Drop, C: Clock + Drop> Write for RetryOnWouldBlock<T, C> {
     }
 }
 
-// Reads once, and retries on `WouldBlock`. The returned error is never `WouldBlock`.
+// Reads once. Repeats the call while it would block, so that the returned error is never `WouldBlock`.
 fn read_patiently<T: Read, C: Clock>(from: &mut T, clock: &C, into: &mut [u8]) -> io::Result<usize>
     ensures amount { ReadsAtMost result into.new }
     ensures bytes { ReadConsumes (T.remaining from.old) (T.remaining from.new) result into.new }
@@ -82,7 +82,7 @@ fn read_patiently<T: Read, C: Clock>(from: &mut T, clock: &C, into: &mut [u8]) -
     Err(io::Error::from(ErrorKind::TimedOut))
 }
 
-// Writes once, and retries on `WouldBlock`. The returned error is never `WouldBlock`.
+// Writes once. Repeats the call while it would block, so that the returned error is never `WouldBlock`.
 fn write_patiently<T: Write, C: Clock>(to: &mut T, clock: &C, bytes: &[u8]) -> io::Result<usize>
     ensures amount { WritesAtMost result bytes.now }
     ensures bytes { WriteAppends (T.contents to.old) (T.contents to.new) result bytes.now }

@@ -1,4 +1,7 @@
-//! The files of the slots in the working folder.
+//! Saving a slot to its file in the working folder.
+//!
+//! A file is *stored* once the system has written its bytes and its length to the device, as `fsync` does. A new file
+//! survives a power cut only if its folder is stored, too.
 
 ghost use Rattle.std.specs.Prelude.{◌≡◌, ◌<◌, ◌++◌, ◌&&◌, not, true, OnOk, is_ok};
 ghost use Rattle.audit_io.specs.FileCalls.{HasDone, HasFolderAfter, HasMade, HasSavedFile, HasSavedSlot, HasStoredOther, error_of, folder_steps, names_steps, no_folder_error, writing_steps};
@@ -9,17 +12,17 @@ use crate::looks::{check_place, is_unstored, name_of};
 use std::io;
 use std::io::ErrorKind;
 
-/// The parts of what was there before this process that are known to be stored.
+/// The files that are known to be stored.
 #[derive(Drop)]
 pub struct Known {
-    // The other slot's file that was there when this process saved for the first time.
+    // True once a save of this process has stored the file that an earlier process may have left in the other slot.
     newest: bool,
-    // The folder is stored, with the names of all files that this process has made.
+    // True while the folder is stored with the names of all files that this process has created.
     names: bool,
 }
 
 impl Known {
-    /// Knows nothing to be stored.
+    /// Makes a record in which nothing is known to be stored.
     pub fn new() -> Known {
         Known {
             newest: false,
@@ -28,8 +31,8 @@ impl Known {
     }
 }
 
-// Takes the answer of a wait for a folder. A system that stores no folders says so, and then there is nothing to wait
-// for.
+// Interprets the result of storing a folder. Some systems cannot store folders and report this as an error, which is
+// ignored.
 fn accept_unsupported(stored: io::Result<()>) -> io::Result<()>
     ensures { is_ok result ≡ no_folder_error (error_of stored) }
 {
@@ -43,7 +46,7 @@ fn accept_unsupported(stored: io::Result<()>) -> io::Result<()>
     }
 }
 
-/// Waits until the system has stored the working folder, with the names in it.
+/// Waits until the system has stored the working folder, that is, the names of its files.
 fn store_folder<D: FileCalls>(disk: &mut D) -> io::Result<()>
     ensures { HasDone (D.calls disk.old) (D.calls disk.new) folder_steps (is_ok result) }
 {
@@ -53,7 +56,7 @@ fn store_folder<D: FileCalls>(disk: &mut D) -> io::Result<()>
     }
 }
 
-// Goes on after the wait for a file with the wait for the folder.
+// Stores the working folder if `stored` is `Ok`, and returns the error otherwise.
 fn folder_after<D: FileCalls>(disk: &mut D, stored: io::Result<()>) -> io::Result<()>
     ensures { HasFolderAfter stored (D.calls disk.old) (D.calls disk.new) (is_ok result) }
 {
@@ -63,8 +66,8 @@ fn folder_after<D: FileCalls>(disk: &mut D, stored: io::Result<()>) -> io::Resul
     }
 }
 
-// Waits until the system has stored the file of this name and the folder. Where the file is gone, there is nothing to
-// wait for.
+// Waits until the system has stored this file and the working folder. If the file is gone, there is nothing to wait
+// for.
 fn store_found<D: FileCalls>(disk: &mut D, name: &str) -> io::Result<()>
     ensures { HasStoredOther true name.now (D.calls disk.old) (D.calls disk.new) (is_ok result) }
 {
@@ -77,7 +80,7 @@ fn store_found<D: FileCalls>(disk: &mut D, name: &str) -> io::Result<()>
     }
 }
 
-// Does so for the other slot's file, where it was found.
+// Stores the other slot's file and the working folder if `found` is true.
 fn store_other<D: FileCalls>(disk: &mut D, name: &str, found: bool) -> io::Result<()>
     ensures { HasStoredOther found name.now (D.calls disk.old) (D.calls disk.new) (is_ok result) }
 {
@@ -87,7 +90,7 @@ fn store_other<D: FileCalls>(disk: &mut D, name: &str, found: bool) -> io::Resul
     Ok(())
 }
 
-// Writes all bytes, and waits until the system has stored them.
+// Writes all bytes, and waits until the system has stored the file.
 fn write_file<D: FileCalls>(disk: &mut D, file: &mut D::Made, bytes: &[u8]) -> io::Result<()>
     ensures { HasDone (D.calls disk.old) (D.calls disk.new) (writing_steps bytes.now) (is_ok result) }
 {
@@ -97,7 +100,7 @@ fn write_file<D: FileCalls>(disk: &mut D, file: &mut D::Made, bytes: &[u8]) -> i
     }
 }
 
-// Opens the file for writing from its start. The flag is true if the file is new.
+// Creates a file for writing, or opens and empties the file that exists. The flag is true if the file is new.
 fn make_file<D: FileCalls>(disk: &mut D, name: &str) -> io::Result<(D::Made, bool)>
     ensures { HasMade name.now (D.calls disk.old) (D.calls disk.new) result }
 {
@@ -113,7 +116,7 @@ fn make_file<D: FileCalls>(disk: &mut D, name: &str) -> io::Result<(D::Made, boo
     }
 }
 
-// Waits until the system has stored the folder, unless it is known to be stored with all files that were made in it.
+// Stores the working folder, unless it is known to be stored with the names of all new files. Sets the flag.
 fn store_names<D: FileCalls>(disk: &mut D, names: &mut bool) -> io::Result<()>
     ensures done { HasDone (D.calls disk.old) (D.calls disk.new) (names_steps names.old) (is_ok result) }
     ensures names { OnOk result (names.new ≡ true) }
@@ -130,8 +133,7 @@ fn store_names<D: FileCalls>(disk: &mut D, names: &mut bool) -> io::Result<()>
     }
 }
 
-// Writes the bytes to a file that was just made, and waits until the system has stored them, and the folder where it is
-// not known to be.
+// Writes the bytes to a file that was just opened, stores the file, and then the folder if necessary.
 fn fill_file<D: FileCalls>(
     disk: &mut D,
     file: &mut D::Made,
@@ -147,7 +149,8 @@ fn fill_file<D: FileCalls>(
     }
 }
 
-// Returns whether the folder is still known to be stored with all names.
+// Returns true if the folder is still known to be stored with the names of all files. The name of a new file is not
+// stored yet.
 fn keeps_names(names: bool, is_new: bool) -> bool
     ensures { result ≡ (not is_new && names) }
 {
@@ -157,9 +160,9 @@ fn keeps_names(names: bool, is_new: bool) -> bool
     names
 }
 
-/// Makes the file of this name hold exactly these bytes, and waits until the system has stored them. Where the folder
-/// is not known to be stored with all files that were made in it, it waits for the folder, too. The clause `done` says
-/// each call that it makes on files, in turn, and after which errors it goes on.
+/// Replaces the contents of a file with these bytes, and waits until the system has stored the file. Stores the folder,
+/// too, unless it is known to be stored with the names of all new files. The clause `done` lists each file-system call
+/// in order, and the errors that are ignored.
 pub fn save_file<D: FileCalls>(
     disk: &mut D,
     name: &str,
@@ -178,9 +181,8 @@ pub fn save_file<D: FileCalls>(
     }
 }
 
-/// Makes a slot's file hold exactly these bytes, and waits until the system has stored them, as `save_file` says. If
-/// the other slot's file was found, it is stored before that. The clause `done` says each call that is made on files,
-/// in turn, and after which errors the save goes on.
+/// Saves bytes in a slot's file, as `save_file` does. If the other slot's file was found, stores that file and the
+/// folder first. The clause `done` lists each file-system call in order, and the errors that are ignored.
 pub fn save_by<D: FileCalls>(
     disk: &mut D,
     slot: u8,
@@ -202,9 +204,9 @@ pub fn save_by<D: FileCalls>(
     }
 }
 
-/// Makes a slot's file hold exactly these bytes, and waits until the system has stored them, as `save_by` says. Until a
-/// process has stored the other slot's file, each of its saves begins with that: this file may be the newest, and may
-/// have been read though it was not stored. The clause `done` says each call that is made on files, in turn.
+/// Saves bytes in a slot's file, as `save_by` does, after a check of the slot's path. The other slot's file may be the
+/// newest checkpoint, read by this process but not yet stored. Until this process has stored that file, each save
+/// therefore stores it first. The clause `done` lists each file-system call in order.
 pub fn save_slot<D: FileCalls>(
     disk: &mut D,
     slot: u8,

@@ -1,4 +1,4 @@
-//! A keeper in memory that is stopped within a save.
+//! A checkpoint store in memory that stops within a save, as if the process were killed there; for tests.
 
 ghost use Rattle.std.specs.Prelude.{◌≡◌, ◌<◌, ◌≤◌, ◌+◌, ◌-◌, ◌^◌, ◌∷◌, [], ◌++◌, false, IsErr, OnOk, Some, min, length, is_ok};
 ghost use Rattle.audit_model.specs.Faults.{HasCause};
@@ -14,8 +14,8 @@ use crate::source::Failed;
 use audit_model::buffers::Bytes;
 use std::marker::Model;
 
-/// A keeper that passes its first saves on to a keeper in memory. The next save leaves its first bytes in the slot and
-/// fails. Each later save changes nothing and fails.
+/// A keeper that passes its first saves on to a keeper in memory. The save after them writes only its first bytes and
+/// fails. Each later save writes nothing and fails.
 #[derive(Drop)]
 pub struct StopKeeper {
     inner: MemKeeper,
@@ -34,7 +34,7 @@ impl Model for StopKeeper {
 }
 
 impl StopKeeper {
-    /// Makes a keeper that stops in the save with this number, counted from 1, and leaves `kept` of its bytes.
+    /// Makes a keeper that stops in save number `stop_at`, counted from 1. That save writes its first `kept` bytes.
     pub fn new(inner: MemKeeper, stop_at: u32, kept: u32) -> StopKeeper
         requires { 1 ≤ stop_at }
         ensures { result ≡ record { inner = inner; passes = stop_at - 1; stopped = false; kept = kept; faults = 0 } }
