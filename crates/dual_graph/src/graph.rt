@@ -42,8 +42,7 @@ impl Graph {
 
     /// Builds the graph of `units` units whose edges are `pairs`.
     ///
-    /// Each pair has its smaller unit first, and the pairs rise strictly. Fails if there is no
-    /// memory.
+    /// Each pair has its smaller unit first, and the pairs are sorted without duplicates. Fails if there is no memory.
     pub fn from_pairs(alloc: Global, units: u32, pairs: &[(u32, u32)]) -> Result<Graph, Memory>
         requires few { (units ≤ most_units) × (length pairs.now ≤ most_edges) }
         requires pairs { ArePairs units pairs.now }
@@ -103,7 +102,7 @@ impl Graph {
         &self.near[begin..end]
     }
 
-    /// Pairs a unit with its graph and a plan on it.
+    /// Combines a unit with its graph and a plan on the graph.
     #[inline]
     pub fn member<'a>(&'a self, plan: &'a [u32], unit: u32) -> Member<'a>
         requires plan { length plan.now ≡ self.now.units }
@@ -121,8 +120,8 @@ impl Graph {
         }
     }
 
-    /// Returns the number of directed edges from the units below this one, which is the place of its
-    /// first directed edge among all.
+    /// Returns the number of directed edges that start at units below this one. This is the index of the unit's first
+    /// directed edge in a list of all, such as `lengths` of `Counts`.
     #[inline]
     pub fn arcs_before(&self, unit: u32) -> usize
         requires { unit ≤ self.now.units }
@@ -131,7 +130,7 @@ impl Graph {
         self.begins[unit as usize] as usize
     }
 
-    /// Returns true if two units are adjacent. It scans the neighbors of `unit`.
+    /// Returns true if two units are adjacent. Scans the neighbors of `unit`.
     pub fn adjacent(&self, unit: u32, other: u32) -> bool
         requires { unit < self.now.units }
         ensures { result ≡ adjacent self.now unit other }

@@ -1,13 +1,13 @@
-//! Sets of units to search.
+//! Sets of units that a search may visit.
 
 ghost use Rattle.std.specs.Prelude.{◌≡◌, ◌<◌, ℕ, Bool};
 
 /// A set of units, given by a membership test.
 pub trait Inside {
-    /// The number of units that the test accepts as arguments.
+    /// The number of units of the graph. The test accepts only units below this number.
     ghost units: { Self → ℕ };
 
-    /// The membership of a unit, as proofs know it.
+    /// The membership test, as a function for proofs.
     ghost inside: { Self → ℕ → Bool };
 
     /// Returns true if the unit is in the set.

@@ -1,4 +1,4 @@
-//! A unit of a plan on its graph.
+//! A unit with its graph and a plan.
 
 ghost use Rattle.std.specs.Prelude.{◌≡◌, ◌<◌, ◌≤◌, true, length};
 ghost use Rattle.audit_model.specs.Graph.{IsGraph, count_edges};
@@ -6,7 +6,7 @@ ghost use Rattle.audit_model.specs.Limits.{most_edges, most_units};
 
 use crate::graph::Graph;
 
-/// A unit together with its graph and a plan on it: one district per unit.
+/// A unit, its graph, and a plan on the graph. The plan has the district of each unit.
 #[derive(Clone, Copy)]
 pub struct Member<'a> {
     pub graph: &'a Graph,

@@ -1,4 +1,4 @@
-//! The contents of a source.
+//! The data that a source gives.
 
 use crate::graph::Graph;
 use audit_model::lists::{LabelList, UnitList};
@@ -9,14 +9,16 @@ use audit_model::rules::Group;
 #[derive(Drop)]
 pub struct Parsed {
     pub graph: Graph,
-    /// Population and votes, one entry per unit.
+    /// The population and votes of each unit, and the lengths of the edges.
     pub counts: Counts,
-    /// Group counts, one entry per unit, or empty if no group was named.
+    /// The group's size and base population in each unit, or empty lists if the arguments name no
+    /// group.
     pub group: Group,
-    /// One flag per unit, 1 if the unit is frozen, or empty if no column of frozen units was named.
+    /// For each unit 1 if it is frozen, else 0. Empty if the arguments name no column of frozen
+    /// units.
     pub frozen: UnitList,
     /// The start plan: for each unit, the index of its district's label in `labels`.
     pub start: UnitList,
-    /// The distinct district labels: integers by value, then texts by bytes.
+    /// The distinct labels of districts: integers by value, then texts by their bytes.
     pub labels: LabelList,
 }

@@ -1,4 +1,4 @@
-//! A breadth-first search of a set of units, from its least unit.
+//! A breadth-first search of a set of units.
 
 ghost use Rattle.std.specs.Prelude.{◌≡◌, ◌<◌, ◌↔◌, ◌&&◌, ℕ, [], not, IsTrue};
 ghost use Rattle.std.specs.List.{slice_index_or};
@@ -13,7 +13,7 @@ use crate::graph::Graph;
 use crate::inside::Inside;
 use crate::marks::Marks;
 
-/// A set of units of one graph.
+/// A graph and the set of its units that a search may visit.
 #[derive(Drop)]
 struct Within<'a, I: Inside> {
     graph: &'a Graph,
@@ -38,7 +38,7 @@ fn mark_neighbours<I: Inside>(within: &Within<I>, unit: u32, marks: &mut Marks)
     }
 }
 
-/// Marks the units that a path within the set connects to `start`.
+/// Marks exactly the units to which a path within the set leads from `start`.
 fn reach<I: Inside>(within: &Within<I>, start: u32, marks: &mut Marks)
     requires start { IsIn within.now.graph.now (I.inside within.now.set.now) start }
     requires units { marks.old.units ≡ within.now.graph.now.units }
@@ -81,10 +81,10 @@ fn first_unmarked<I: Inside>(within: &Within<I>, marks: &Marks) -> Option<u32>
     None
 }
 
-/// Returns two units that show the set is not connected, or `None` if it is.
+/// Returns two units that no path within the set connects, or `None` if the set is connected.
 ///
-/// They are the least unit of the set, and the least one that no path within the set connects to
-/// it. An empty set gives two zeros.
+/// The first is the least unit of the set, and the second the least unit that no such path connects
+/// to the first. For an empty set, which does not count as connected, the result is `(0, 0)`.
 pub fn parting<I: Inside>(graph: &Graph, set: &I, marks: &mut Marks) -> Option<(u32, u32)>
     requires set { I.units set.now ≡ graph.now.units }
     requires units { marks.old.units ≡ graph.now.units }
