@@ -1,4 +1,7 @@
-//! Columns of numbers.
+//! Columns of nodes: numbers, flags of frozen units, and the group.
+//!
+//! A column has the values of all nodes for one attribute. The checks below run before a column is read, so that faults
+//! come in the order that the definitions fix.
 
 ghost use Rattle.std.specs.Prelude.{◌≡◌, ◌≤◌, None, Some, cond, nat_le, nat_lt, option_and_then, option_map, length, IfOk, IfErr, MatchResult};
 ghost use Rattle.audit_model.specs.declared.fault.GraphFault.TheVariants.{Memory};
@@ -16,7 +19,8 @@ use audit_model::setting::Columns;
 use audit_model::text::Text;
 use std::alloc::Global;
 
-/// Checks that each node has all columns, or returns the first fault.
+/// Checks that each node has all columns. Otherwise returns `Missing` with the least node that does
+/// not, and the first column that this node does not have.
 pub fn check_columns(nodes: &[Value<'_>], columns: &Columns) -> Result<(), GraphFault>
     requires { length nodes.now ≤ most_units }
     ensures { MatchResult result (λ _. missing columns.now (views nodes.now) ≡ None) (λ f. missing columns.now (views nodes.now) ≡ Some f) }
@@ -32,7 +36,8 @@ pub fn check_columns(nodes: &[Value<'_>], columns: &Columns) -> Result<(), Graph
     Ok(())
 }
 
-/// Checks that each node has valid numbers and flags, or returns the first fault.
+/// Checks that each node has valid numbers and flags. Otherwise returns `BadNumber` with the least node
+/// that does not, and the node's first invalid column.
 pub fn check_numbers(nodes: &[Value<'_>], columns: &Columns) -> Result<(), GraphFault>
     requires { length nodes.now ≤ most_units }
     ensures { MatchResult result (λ _. bad columns.now (views nodes.now) ≡ None) (λ f. bad columns.now (views nodes.now) ≡ Some f) }
@@ -48,7 +53,8 @@ pub fn check_numbers(nodes: &[Value<'_>], columns: &Columns) -> Result<(), Graph
     Ok(())
 }
 
-/// Reads the columns of population and votes. There are no lengths yet. The only error is `Memory`.
+/// Reads the columns of population and votes. The lengths of edges stay empty; they are read later.
+/// The only error is `Memory`.
 pub fn counts_of(
     alloc: Global,
     nodes: &[Value<'_>],
@@ -67,7 +73,7 @@ pub fn counts_of(
     })
 }
 
-/// Reads the two columns of the group, or returns empty ones if no group is named. The only error
+/// Reads the two columns of the group, or returns empty lists if no group is named. The only error
 /// is `Memory`.
 pub fn group_of(alloc: Global, nodes: &[Value<'_>], columns: &Columns) -> Result<Group, GraphFault>
     ensures { MatchResult result (AreOfGroup columns.now (views nodes.now)) (λ f. f ≡ Memory) }
@@ -84,8 +90,8 @@ pub fn group_of(alloc: Global, nodes: &[Value<'_>], columns: &Columns) -> Result
     })
 }
 
-/// Reads the flags of frozen units, or returns none if no column of frozen units is named. The only
-/// error is `Memory`.
+/// Reads the flag of each unit, 1 if it is frozen, or returns an empty list if no column of frozen
+/// units is named. The only error is `Memory`.
 pub fn frozen_of(
     alloc: Global,
     nodes: &[Value<'_>],
@@ -99,7 +105,7 @@ pub fn frozen_of(
     flags_of(alloc, nodes, &columns.frozen)
 }
 
-/// Returns the column of frozen units if it is named and a node does not have it.
+/// Returns the column of frozen units if the arguments name it and the node does not have it.
 fn missing_of_frozen(node: &Value<'_>, columns: &Columns) -> Option<Column>
     ensures { result ≡ missing_in_frozen columns.now (value_data node.now) }
 {
@@ -112,7 +118,8 @@ fn missing_of_frozen(node: &Value<'_>, columns: &Columns) -> Option<Column>
     }
 }
 
-/// Returns the first column of the group or of frozen units that a node does not have.
+/// Returns the first column that the node does not have, among those of the group and of frozen
+/// units.
 fn missing_of_group(node: &Value<'_>, columns: &Columns) -> Option<Column>
     ensures { result ≡ missing_in_group columns.now (value_data node.now) }
 {
@@ -127,7 +134,7 @@ fn missing_of_group(node: &Value<'_>, columns: &Columns) -> Option<Column>
     }
 }
 
-/// Returns the first column that a node does not have.
+/// Returns the first column that the node does not have.
 fn missing_column(node: &Value<'_>, columns: &Columns) -> Option<Column>
     ensures { result ≡ missing_in columns.now (value_data node.now) }
 {
@@ -144,7 +151,7 @@ fn missing_column(node: &Value<'_>, columns: &Columns) -> Option<Column>
     }
 }
 
-/// Returns the integer in a column if it is from 0 to 10^9.
+/// Returns the number in a column, if it is an integer from 0 to 10^9.
 fn count_at(node: &Value<'_>, key: &Text) -> Option<u64>
     ensures { result ≡ count_in key.now (value_data node.now) }
 {
@@ -163,14 +170,14 @@ fn count_at(node: &Value<'_>, key: &Text) -> Option<u64>
     }
 }
 
-/// Returns 1 if the flag is set, else 0.
 fn one_if(flag: bool) -> u32
     ensures { result ≡ cond flag 1 0 }
 {
     if flag { 1 } else { 0 }
 }
 
-/// Returns the flag of a number from 0 to 10^9: 1 if it is above 0, else 0.
+/// Returns the flag that a number stands for: 0 for 0, and 1 for 1 to 10^9. Other values are no
+/// flags.
 fn flag_of_number(number: Option<u64>) -> Option<u32>
     ensures { result ≡ option_map (λ n. cond (nat_lt 0 n) 1 0) (option_and_then (λ n. cond (nat_le n most_people) (Some n) None) number) }
 {
@@ -186,7 +193,7 @@ fn flag_of_number(number: Option<u64>) -> Option<u32>
     }
 }
 
-/// Returns the flag of a value if it is a boolean or an integer from 0 to 10^9.
+/// Returns the flag that a value stands for, if it is a Boolean or an integer from 0 to 10^9.
 fn flag_of_value(value: &Value<'_>) -> Option<u32>
     ensures { result ≡ flag_from (value_data value.now) }
 {
@@ -196,7 +203,7 @@ fn flag_of_value(value: &Value<'_>) -> Option<u32>
     }
 }
 
-/// Returns the flag in a column if its value is a boolean or an integer from 0 to 10^9.
+/// Returns the flag in a column, if its value is a Boolean or an integer from 0 to 10^9.
 fn flag_at(node: &Value<'_>, key: &Text) -> Option<u32>
     ensures { result ≡ flag_in key.now (value_data node.now) }
 {
@@ -206,7 +213,8 @@ fn flag_at(node: &Value<'_>, key: &Text) -> Option<u32>
     flag_of_value(value)
 }
 
-/// Returns the column of frozen units if it is named and a node has no valid flag in it.
+/// Returns the column of frozen units if the arguments name it and the node has no valid flag in
+/// it.
 fn bad_of_frozen(node: &Value<'_>, columns: &Columns) -> Option<Column>
     ensures { result ≡ bad_in_frozen columns.now (value_data node.now) }
 {
@@ -219,7 +227,8 @@ fn bad_of_frozen(node: &Value<'_>, columns: &Columns) -> Option<Column>
     }
 }
 
-/// Returns the first column of the group or of frozen units in which a node has no valid value.
+/// Returns the first column in which the node has no valid value, among those of the group and of
+/// frozen units.
 fn bad_of_group(node: &Value<'_>, columns: &Columns) -> Option<Column>
     ensures { result ≡ bad_in_group columns.now (value_data node.now) }
 {
@@ -234,7 +243,7 @@ fn bad_of_group(node: &Value<'_>, columns: &Columns) -> Option<Column>
     }
 }
 
-/// Returns the first column of numbers or flags in which a node has no valid value.
+/// Returns the first column in which the node has no valid number or flag.
 fn bad_number(node: &Value<'_>, columns: &Columns) -> Option<Column>
     ensures { result ≡ bad_in columns.now (value_data node.now) }
 {
@@ -249,7 +258,7 @@ fn bad_number(node: &Value<'_>, columns: &Columns) -> Option<Column>
     }
 }
 
-/// Reads one column. The numbers were checked before; the default 0 is never used.
+/// Reads one column of numbers. The default 0 is never used: `check_numbers` ran before.
 fn numbers_of(alloc: Global, nodes: &[Value<'_>], key: &Text) -> Result<NumList, GraphFault>
     ensures { MatchResult result (λ numbers. numbers ≡ numbers_in key.now (views nodes.now)) (λ f. f ≡ Memory) }
 {
@@ -261,7 +270,7 @@ fn numbers_of(alloc: Global, nodes: &[Value<'_>], key: &Text) -> Result<NumList,
     Ok(numbers)
 }
 
-/// Reads one column of flags. The flags were checked before; the default 0 is never used.
+/// Reads one column of flags. The default 0 is never used: `check_numbers` ran before.
 fn flags_of(alloc: Global, nodes: &[Value<'_>], key: &Text) -> Result<UnitList, GraphFault>
     ensures { MatchResult result (λ flags. flags ≡ flags_in key.now (views nodes.now)) (λ f. f ≡ Memory) }
 {

@@ -1,4 +1,4 @@
-//! Districts of the start plan.
+//! The districts of the start plan, from the labels of the nodes.
 
 ghost use Rattle.std.specs.Prelude.{◌≡◌, ◌≤◌, None, Some, length, MatchResult};
 ghost use Rattle.audit_model.specs.declared.fault.GraphFault.TheVariants.{Memory};
@@ -11,7 +11,7 @@ use audit_model::fault::GraphFault;
 use audit_model::lists::{LabelList, UnitList};
 use std::alloc::Global;
 
-/// Returns the distinct names in rising order. The only error is `Memory`.
+/// Returns the distinct labels in rising order. The only error is `Memory`.
 pub fn different<'v>(alloc: Global, names: &[NodeName<'v>]) -> Result<Vec<NodeName<'v>>, GraphFault>
     ensures { MatchResult result (λ found. AreDifferent names.now found.items) (λ f. f ≡ Memory) }
 {
@@ -21,7 +21,7 @@ pub fn different<'v>(alloc: Global, names: &[NodeName<'v>]) -> Result<Vec<NodeNa
     Ok(found)
 }
 
-/// Checks that there are 2 to 200 districts.
+/// Checks that there are 2 to 200 districts. Returns `DistrictCount` otherwise.
 pub fn check_count(count: usize) -> Result<(), GraphFault>
     ensures { MatchResult result (λ _. district_count_fault count ≡ None) (λ f. district_count_fault count ≡ Some f) }
 {
@@ -31,7 +31,8 @@ pub fn check_count(count: usize) -> Result<(), GraphFault>
     Ok(())
 }
 
-/// Returns the index of each name among the distinct ones. The only error is `Memory`.
+/// Returns for each node the index of its label in `found`, the sorted distinct labels. The only
+/// error is `Memory`.
 pub fn start_of<'v>(
     alloc: Global,
     names: &[NodeName<'v>],
@@ -51,7 +52,7 @@ pub fn start_of<'v>(
     Ok(start)
 }
 
-/// Copies the names to labels that own their texts. The only error is `Memory`.
+/// Copies borrowed labels to labels that own their texts. The only error is `Memory`.
 pub fn labels_of(alloc: Global, names: &[NodeName<'_>]) -> Result<LabelList, GraphFault>
     ensures { MatchResult result (λ labels. labels ≡ labels_from names.now) (λ f. f ≡ Memory) }
 {

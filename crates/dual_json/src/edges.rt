@@ -1,4 +1,4 @@
-//! Edges of the graph.
+//! The edges of the graph, from the adjacency lists of the nodes.
 
 ghost use Rattle.std.specs.Prelude.{◌≡◌, ◌<◌, ◌≤◌, ◌⊎◌, ◌↔◌, ℕ, IsTrue, None, Some, length, option_map, MatchResult};
 ghost use Rattle.dual_json.specs.Values.{value_data};
@@ -19,7 +19,8 @@ use dual_graph::graph::Graph;
 use dual_graph::pairs::put_in_order;
 use std::alloc::Global;
 
-/// Checks that each entry has an id, or returns the first fault.
+/// Checks that each adjacency entry has an id. Otherwise returns `BadNeighbour` with the first
+/// entry that has none.
 pub fn check_entries(adjacency: &[Value<'_>]) -> Result<(), GraphFault>
     requires { length adjacency.now ≤ most_units }
     ensures { MatchResult result (λ _. first_entry_in is_unnamed BadNeighbour (lists_in adjacency.now) ≡ None)
@@ -36,9 +37,14 @@ pub fn check_entries(adjacency: &[Value<'_>]) -> Result<(), GraphFault>
     Ok(())
 }
 
-/// Builds the graph. Two distinct nodes are adjacent if either lists the other.
+/// Builds the graph. Two distinct nodes are adjacent if at least one of them lists the other; an
+/// entry in which a node lists itself is ignored.
 ///
-/// Returns the first entry that names no node, or `TooManyEdges`, as an error.
+/// # Errors
+///
+/// - `UnknownNeighbour`: an entry has an id that no node has. The first such entry is given.
+/// - `TooManyEdges`: there are more than 400,000 edges. Their number is given.
+/// - `Memory`: out of memory.
 pub fn graph_of<'v>(
     alloc: Global,
     units: u32,
@@ -62,7 +68,7 @@ pub fn graph_of<'v>(
     graph_from(alloc, units, &pairs)
 }
 
-/// Returns the place of the first entry without an id.
+/// Returns the index of the first entry without an id.
 fn unnamed_entry(entries: &[Value<'_>]) -> Option<usize>
     ensures { result ≡ first_in is_unnamed (views entries.now) }
 {
@@ -85,7 +91,7 @@ fn edge_of(unit: u32, other: u32) -> (u32, u32)
     }
 }
 
-/// Appends an edge unless it is a loop.
+/// Appends the edge of two nodes, unless they are the same node.
 fn push_edge(pairs: &mut Vec<(u32, u32)>, node: u32, other: u32) -> Result<(), GraphFault>
     ensures { MatchResult result (λ _. PushesEdge node other pairs.old.items pairs.new.items) (λ f. f ≡ Memory) }
 {
@@ -96,7 +102,8 @@ fn push_edge(pairs: &mut Vec<(u32, u32)>, node: u32, other: u32) -> Result<(), G
     Ok(())
 }
 
-/// Appends the edges that one node lists, or returns the first entry that names no node.
+/// Appends the edges to the nodes that one node lists. If an entry has an id that no node has,
+/// returns `UnknownNeighbour` with the first such entry.
 fn add_edges<'v>(
     pairs: &mut Vec<(u32, u32)>,
     index: &Index<'v>,
@@ -119,7 +126,7 @@ fn add_edges<'v>(
     Ok(())
 }
 
-/// Lists the edges of all nodes, unsorted and with repetitions.
+/// Lists the edges that all nodes list, unsorted and with duplicates.
 fn pairs_of<'v>(
     alloc: Global,
     adjacency: &[Value<'v>],
@@ -138,7 +145,7 @@ fn pairs_of<'v>(
     Ok(pairs)
 }
 
-/// Builds the graph from sorted edges without repetitions.
+/// Builds the graph from sorted edges without duplicates.
 fn graph_from(alloc: Global, units: u32, pairs: &[(u32, u32)]) -> Result<Graph, GraphFault>
     requires few { (units ≤ most_units) × (length pairs.now ≤ most_edges) }
     requires pairs { ArePairs units pairs.now }

@@ -1,4 +1,4 @@
-//! Ids of the units.
+//! The ids of the units.
 
 ghost use Rattle.std.specs.Prelude.{◌≡◌, ◌≤◌, None, Ok, codes, length, IfOk};
 ghost use Rattle.audit_model.specs.declared.setting.Columns.{Columns};
@@ -20,8 +20,8 @@ use audit_model::memory::Memory;
 use json::Scratch;
 use std::alloc::Global;
 
-/// Reads the ids of the units, in their order, from a text that was accepted as a graph. It parses
-/// the text again. Fails if there is no memory.
+/// Reads the ids of the units by parsing the text of a graph again. The text must have been
+/// accepted by [`crate::read_graph`]. Fails only if there is no memory.
 pub fn read_ids(alloc: Global, bytes: &[u8]) -> Result<LabelList, Memory>
     requires graph { IsGraphText bytes.now }
     ensures read { IfOk result (λ ids. ids ≡ id_reading bytes.now) }
@@ -32,7 +32,7 @@ pub fn read_ids(alloc: Global, bytes: &[u8]) -> Result<LabelList, Memory>
     ids_beside(alloc, bytes, &mut scratch)
 }
 
-/// Does the work of [`read_ids`], with a buffer for texts that have escapes.
+/// Does the work of [`read_ids`]. The buffer receives texts whose escapes are decoded.
 fn ids_beside<'t>(
     alloc: Global,
     bytes: &'t [u8],
@@ -52,7 +52,7 @@ fn ids_beside<'t>(
     }
 }
 
-/// Returns the ids of nodes that all have one.
+/// Returns the ids of nodes, each of which has one.
 fn ids_in(alloc: Global, nodes: &[Value<'_>]) -> Result<LabelList, Memory>
     requires few { length nodes.now ≤ most_units }
     requires named { first_unnamed (codes "id") (views nodes.now) ≡ None }

@@ -1,4 +1,4 @@
-//! A map from ids to nodes.
+//! The map from ids to nodes.
 
 ghost use Rattle.std.specs.Prelude.{◌≡◌, ◌<◌, ◌≤◌, ◌⊎◌, None, Some, length, MatchResult};
 ghost use Rattle.dual_json.specs.Values.{value_data};
@@ -14,7 +14,7 @@ use std::alloc::Global;
 use std::collections::HashMap;
 use std::marker::Model;
 
-/// The ids of all nodes, which are distinct, and a map from each to its node.
+/// The ids of all nodes, which are distinct, and the map from each id to its node.
 #[derive(Drop)]
 pub struct Index<'v> {
     names: Vec<NodeName<'v>>,
@@ -34,7 +34,8 @@ impl<'v> Model for Index<'v> {
 }
 
 impl<'v> Index<'v> {
-    /// Indexes the names, or returns the first name that an earlier node has too.
+    /// Builds the map. If two nodes have one id, returns `SameId`: `second` is the least node whose
+    /// id an earlier node has, and `first` is that earlier node.
     pub fn of(alloc: Global, names: Vec<NodeName<'v>>) -> Result<Index<'v>, GraphFault>
         requires { length names.items ≤ most_units }
         ensures { MatchResult result (λ index. (repeated_label (labels_from names.entry.items) ≡ None) × (index ≡ labels_from names.entry.items))
@@ -44,7 +45,7 @@ impl<'v> Index<'v> {
         Ok(Index { names, places })
     }
 
-    /// Returns the name of a node.
+    /// Returns the id of a node.
     pub fn name(&self, node: u32) -> NodeName<'v>
         requires { node < length self.now }
         ensures { label_from result ≡ nth self.now node }
@@ -52,7 +53,7 @@ impl<'v> Index<'v> {
         self.names[node as usize]
     }
 
-    /// Returns the node that an adjacency entry names.
+    /// Returns the node whose id is in an adjacency entry, if there is one.
     pub fn node_of(&self, entry: &Value<'v>) -> Option<u32>
         ensures { result ≡ place_of_entry self.now (value_data entry.now) }
     {
@@ -65,7 +66,7 @@ impl<'v> Index<'v> {
     }
 }
 
-/// Maps each name to its place, or returns the first name that an earlier place has too.
+/// Maps each id to its node. If two nodes have one id, returns `SameId` as [`Index::of`] does.
 fn places_of<'v>(
     alloc: Global,
     names: &[NodeName<'v>],

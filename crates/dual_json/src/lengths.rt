@@ -1,4 +1,7 @@
-//! Lengths of edges.
+//! The lengths of edges, from the adjacency entries.
+//!
+//! Each of the two nodes of an edge may list the edge, even more than once. All these entries must
+//! give the same length.
 
 ghost use Rattle.std.specs.Prelude.{◌≡◌, ◌<◌, ◌≤◌, ◌⊎◌, ◌++◌, None, Some, length, option_map, IfErr, OnOk, MatchResult};
 ghost use Rattle.audit_model.specs.declared.fault.GraphFault.TheVariants.{Memory, MissingLength, BadLength};
@@ -18,7 +21,8 @@ use audit_model::lists::UnitList;
 use dual_graph::graph::Graph;
 use std::alloc::Global;
 
-/// The adjacency lists of the nodes, the index of their ids, and the key of the lengths.
+/// The adjacency lists of the nodes, the map from ids to nodes, and the key of the attribute of
+/// lengths. An empty key means that the arguments name no such attribute.
 #[derive(Clone, Copy)]
 pub struct Listed<'a, 'v> {
     pub adjacency: &'a [Value<'v>],
@@ -28,7 +32,7 @@ pub struct Listed<'a, 'v> {
     pub ghost few: { length adjacency.now ≤ most_units },
 }
 
-/// Returns the integer at a key if it is from 0 to 2^32 - 1.
+/// Returns the length in an entry: the value at the key, if it is an integer from 0 to 2^32 - 1.
 fn length_at(entry: &Value<'_>, key: &str) -> Option<u32>
     ensures { result ≡ length_in key.now (value_data entry.now) }
 {
@@ -47,28 +51,28 @@ fn length_at(entry: &Value<'_>, key: &str) -> Option<u32>
     }
 }
 
-/// Returns true if an entry has no value at the key.
+/// Returns true if the entry has no value at the key.
 fn lacks_value(entry: &Value<'_>, key: &str) -> bool
     ensures { result ≡ lacks_value key.now (value_data entry.now) }
 {
     entry.get(key).is_none()
 }
 
-/// Returns true if an entry has no length at the key.
+/// Returns true if the entry has no integer from 0 to 2^32 - 1 at the key.
 fn lacks_length(entry: &Value<'_>, key: &str) -> bool
     ensures { result ≡ lacks_length key.now (value_data entry.now) }
 {
     length_at(entry, key).is_none()
 }
 
-/// Returns the length at the key, or 0 without one.
+/// Returns the length in an entry, or 0 if there is none.
 fn length_or_zero(entry: &Value<'_>, key: &str) -> u32
     ensures { result ≡ length_or_zero key.now (value_data entry.now) }
 {
     length_at(entry, key).unwrap_or(0)
 }
 
-/// Returns the place of the first entry without a value at the key.
+/// Returns the index of the first entry without a value at the key.
 fn first_without(entries: &[Value<'_>], key: &str) -> Option<usize>
     ensures { result ≡ first_in (lacks_value key.now) (views entries.now) }
 {
@@ -80,7 +84,7 @@ fn first_without(entries: &[Value<'_>], key: &str) -> Option<usize>
     None
 }
 
-/// Returns the place of the first entry without a length at the key.
+/// Returns the index of the first entry whose value is no length.
 fn first_unread(entries: &[Value<'_>], key: &str) -> Option<usize>
     ensures { result ≡ first_in (lacks_length key.now) (views entries.now) }
 {
@@ -92,7 +96,8 @@ fn first_unread(entries: &[Value<'_>], key: &str) -> Option<usize>
     None
 }
 
-/// Checks that each entry has a value at the key, or returns the first fault.
+/// Checks that each entry has a value at the key. Otherwise returns `MissingLength` with the first
+/// entry that has none.
 fn check_values(adjacency: &[Value<'_>], key: &str) -> Result<(), GraphFault>
     requires { length adjacency.now ≤ most_units }
     ensures { MatchResult result (λ _. first_entry_in (lacks_value key.now) MissingLength (lists_in adjacency.now) ≡ None)
@@ -109,7 +114,8 @@ fn check_values(adjacency: &[Value<'_>], key: &str) -> Result<(), GraphFault>
     Ok(())
 }
 
-/// Checks that each entry has a length at the key, or returns the first fault.
+/// Checks that each entry has a length at the key. Otherwise returns `BadLength` with the first
+/// entry that has none.
 fn check_lengths(adjacency: &[Value<'_>], key: &str) -> Result<(), GraphFault>
     requires { length adjacency.now ≤ most_units }
     ensures { MatchResult result (λ _. first_entry_in (lacks_length key.now) BadLength (lists_in adjacency.now) ≡ None)
@@ -126,7 +132,7 @@ fn check_lengths(adjacency: &[Value<'_>], key: &str) -> Result<(), GraphFault>
     Ok(())
 }
 
-/// Returns true if the entry has this name as its id.
+/// Returns true if this is the entry's id.
 fn is_named(entry: &Value<'_>, name: NodeName<'_>) -> bool
     ensures { result ≡ is_labelled (label_from name.entry) (value_data entry.now) }
 {
@@ -136,7 +142,7 @@ fn is_named(entry: &Value<'_>, name: NodeName<'_>) -> bool
     }
 }
 
-/// Returns the length in the first entry with this name.
+/// Returns the length in the first entry with this id.
 fn listed_length(entries: &[Value<'_>], name: NodeName<'_>, key: &str) -> Option<u32>
     ensures { result ≡ listed_length key.now (label_from name.entry) (views entries.now) }
 {
@@ -148,7 +154,7 @@ fn listed_length(entries: &[Value<'_>], name: NodeName<'_>, key: &str) -> Option
     None
 }
 
-/// Returns the length in the first of all entries by which one of two nodes names the other.
+/// Returns the length of the edge between two nodes, in whichever order they are given.
 fn length_between(listed: Listed<'_, '_>, node: u32, other: u32) -> u32
     requires node { node < length listed.index.now }
     requires other { other < length listed.index.now }
@@ -161,8 +167,8 @@ fn length_between(listed: Listed<'_, '_>, node: u32, other: u32) -> u32
     }
 }
 
-/// Returns the length in the first entry of `low` that names `high`, or else in the first entry of
-/// `high` that names `low`.
+/// Returns the length in the first entry of `low` with the id of `high`. If there is none, returns
+/// the length in the first entry of `high` with the id of `low`.
 fn length_of_pair(listed: Listed<'_, '_>, low: u32, high: u32) -> u32
     requires low { low < length listed.index.now }
     requires high { high < length listed.index.now }
@@ -178,7 +184,7 @@ fn length_of_pair(listed: Listed<'_, '_>, low: u32, high: u32) -> u32
     }
 }
 
-/// Returns true if an entry of a node has another length than the first entry for the two nodes.
+/// Returns true if the length in an entry differs from the length of the edge.
 fn is_unequal<'v>(listed: Listed<'_, 'v>, node: u32, entry: &Value<'v>) -> bool
     requires { node < length listed.index.now }
     ensures { result ≡ is_unequal listed.entry.key.now listed.entry.index.now (lists_in listed.entry.adjacency.now) node (value_data entry.now) }
@@ -189,8 +195,7 @@ fn is_unequal<'v>(listed: Listed<'_, 'v>, node: u32, entry: &Value<'v>) -> bool
     }
 }
 
-/// Returns the place of the first of a node's entries with another length than the first entry for
-/// the two nodes.
+/// Returns the index of a node's first entry whose length differs from the length of its edge.
 fn first_unequal<'v>(listed: Listed<'_, 'v>, node: u32, entries: &[Value<'v>]) -> Option<usize>
     requires { node < length listed.index.now }
     ensures { result ≡ first_in (is_unequal listed.entry.key.now listed.entry.index.now (lists_in listed.entry.adjacency.now) node) (views entries.now) }
@@ -203,7 +208,8 @@ fn first_unequal<'v>(listed: Listed<'_, 'v>, node: u32, entries: &[Value<'v>]) -
     None
 }
 
-/// Checks that all entries for two nodes have one length, or returns the first fault.
+/// Checks that all entries of an edge have one length. Otherwise returns `UnequalLengths` with the
+/// first entry that differs.
 fn check_equal(listed: Listed<'_, '_>) -> Result<(), GraphFault>
     ensures { MatchResult result (λ _. unequal_fault listed.entry.key.now listed.entry.index.now (lists_in listed.entry.adjacency.now) ≡ None)
         (λ f. unequal_fault listed.entry.key.now listed.entry.index.now (lists_in listed.entry.adjacency.now) ≡ Some f) }
@@ -220,7 +226,8 @@ fn check_equal(listed: Listed<'_, '_>) -> Result<(), GraphFault>
     Ok(())
 }
 
-/// Appends the lengths from a node to its neighbors. The only error is `Memory`.
+/// Appends the lengths of the edges from a node to its neighbors, in rising order of the neighbors.
+/// The only error is `Memory`.
 fn push_row(
     lengths: &mut UnitList,
     graph: &Graph,
@@ -238,8 +245,8 @@ fn push_row(
     Ok(())
 }
 
-/// Reads the lengths of all directed edges, in the order of the graph's rows. The only error is
-/// `Memory`.
+/// Reads the lengths of the edges, once from each unit: by rising unit, then by rising neighbor.
+/// The only error is `Memory`.
 fn lengths_from(
     alloc: Global,
     graph: &Graph,
@@ -255,8 +262,18 @@ fn lengths_from(
     Ok(lengths)
 }
 
-/// Reads the lengths of all directed edges of a graph, or returns none if no column is named. The
-/// lengths are checked first.
+/// Reads the lengths of the edges, once from each unit, or returns an empty list if the key is
+/// empty.
+///
+/// # Errors
+///
+/// The first of these faults, in this order, at the first entry that has it:
+///
+/// - `MissingLength`: the entry has no value at the key.
+/// - `BadLength`: the value is no integer from 0 to 2^32 - 1.
+/// - `UnequalLengths`: another entry of the edge has another length.
+///
+/// `Memory` comes if there was no memory.
 pub fn lengths_of(
     alloc: Global,
     graph: &Graph,

@@ -1,4 +1,4 @@
-//! Ids and labels, borrowed from a text.
+//! Ids and labels, whose texts are borrowed from the JSON.
 
 ghost use Rattle.std.specs.Prelude.{◌≡◌, ◌≤◌, refl, None, Some, length, IfOk, MatchResult, option_map, option_and_then};
 ghost use Rattle.audit_model.specs.Label.{label_cmp, same_label};
@@ -17,7 +17,7 @@ use std::alloc::Global;
 use std::cmp::Ordering;
 use std::hash::{Hash, Hasher};
 
-/// An id or a label: an integer or a text.
+/// An id of a node or a label of a district or region: an integer or a text.
 #[derive(Clone, Copy)]
 pub enum NodeName<'v> {
     Whole(i128),
@@ -25,7 +25,7 @@ pub enum NodeName<'v> {
 }
 
 impl NodeName<'_> {
-    /// Copies the name to a label that owns its text. Fails if there is no memory.
+    /// Copies the id or label, and its text. Fails if there is no memory.
     pub fn to_label(&self, alloc: Global) -> Result<Label, Memory>
         ensures { IfOk result (λ l. l ≡ label_from self.now) }
     {
@@ -96,7 +96,7 @@ impl Hash for NodeName<'_> {
     }
 }
 
-/// Returns the name that a value is, if it is an integer or a text.
+/// Returns the value as an id or label, if it is an integer or a text.
 pub fn name_of<'v>(value: &Value<'v>) -> Option<NodeName<'v>>
     ensures { option_map label_from result ≡ label_of (value_data value.now) }
 {
@@ -110,7 +110,7 @@ pub fn name_of<'v>(value: &Value<'v>) -> Option<NodeName<'v>>
     }
 }
 
-/// Returns the name at a key of an object.
+/// Returns the id or label at a key of an object, if there is one.
 pub fn name_at<'v>(object: &Value<'v>, key: &str) -> Option<NodeName<'v>>
     ensures { option_map label_from result ≡ label_at_key key.now (value_data object.now) }
 {
@@ -120,14 +120,16 @@ pub fn name_at<'v>(object: &Value<'v>, key: &str) -> Option<NodeName<'v>>
     }
 }
 
-/// The reason why some object has no name: its place, or out of memory.
+/// The reason why ids or labels could not be read: the index of the first object without one, or
+/// out of memory.
 #[derive(Clone, Copy, Debug, PartialEq, Eq)]
 pub enum Unnamed {
     At(u32),
     Memory,
 }
 
-/// Returns the names at a key of all objects, or the place of the first one without a name.
+/// Returns the ids or labels at a key of all objects. Returns the index of the first object without
+/// one as an error.
 pub fn names_at<'v>(
     alloc: Global,
     objects: &[Value<'v>],

@@ -1,4 +1,4 @@
-//! Numbers of a JSON text.
+//! Numbers of a JSON text, read as `serde_json` reads them.
 
 ghost use Rattle.std.specs.Prelude.{◌≡◌, ◌==◌, ◌<◌, IsTrue, length, option_map, slice_index, true, false};
 ghost use Rattle.serde_json.specs.Read.{number_of, number_from, float_of};
@@ -7,8 +7,8 @@ ghost use Rattle.serde_json.specs.View.{number_view};
 use fast_float::Numeral;
 use serde_json::Number;
 
-/// Returns the number that a token writes, as `serde_json` does: an integer if it fits in 64 bits,
-/// else a float. `None` means that it is too large for a float.
+/// Returns the number of a JSON token: an integer if it fits in 64 bits, else the nearest float.
+/// Returns `None` if the number is too large for a float.
 pub fn number_of(text: &str) -> Option<Number>
     ensures { option_map number_view result ≡ number_of text.now }
 {
@@ -20,7 +20,7 @@ pub fn number_of(text: &str) -> Option<Number>
     }
 }
 
-/// Converts a numeral without a minus sign.
+/// Converts a numeral that has no minus sign.
 fn from_zero(numeral: &Numeral<'_>) -> Option<Number>
     ensures { option_map number_view result ≡ number_from false numeral.now }
 {
@@ -30,7 +30,7 @@ fn from_zero(numeral: &Numeral<'_>) -> Option<Number>
     }
 }
 
-/// Converts a numeral that follows a minus sign.
+/// Converts the numeral behind a minus sign. `-0` becomes a float, as in `serde_json`.
 fn below_zero(numeral: &Numeral<'_>) -> Option<Number>
     ensures { option_map number_view result ≡ number_from true numeral.now }
 {

@@ -1,4 +1,4 @@
-//! A JSON parser that makes borrowed values in one pass over the tokens.
+//! A JSON parser. It makes values whose texts are borrowed, and reads each token once.
 
 ghost use Rattle.std.specs.Prelude.{◌≡◌, ◌<◌, ◌++◌, ◌∷◌, [], length, Some, None, Err, IfOk, OnOk, OnErr};
 ghost use Rattle.json.specs.Json.{value, items, members};
@@ -11,13 +11,15 @@ use crate::value::Value;
 use json::{Error, Reader, Scratch, Token};
 use std::alloc::Global;
 
-/// The nesting limit of arrays and objects, as in `serde_json`.
+/// The largest depth to which arrays and objects may nest, as in `serde_json`.
 const MAX_DEPTH: usize = 127;
 
-/// Parses a text. Texts with escapes are decoded into the scratch buffer.
+/// Parses a JSON text. The scratch buffer receives texts whose escapes are decoded.
 ///
-/// Returns `Invalid` if the text is not JSON or nests too deep, and `OutOfMemory` if there was no
-/// memory.
+/// # Errors
+///
+/// - `Invalid`: the text is no JSON, or nests deeper than 127.
+/// - `OutOfMemory`: there was no memory.
 pub fn parse<'t>(alloc: Global, text: &'t str, scratch: &'t mut Scratch) -> Result<Value<'t>, Error>
     ensures ok { IfOk result (λ v. read_text text.now ≡ Some (value_data v)) }
     ensures err { result ≡ Err Error.Invalid → read_text text.now ≡ None }
@@ -35,7 +37,7 @@ pub fn parse<'t>(alloc: Global, text: &'t str, scratch: &'t mut Scratch) -> Resu
     Ok(value)
 }
 
-/// Reads the next value. `depth` is the nesting depth that is left.
+/// Reads the next value. `depth` is the number of levels that may still be opened.
 #[cycle(read)]
 #[inline(always)]
 fn read<'t>(alloc: Global, reader: &mut Reader<'t>, depth: usize) -> Result<Value<'t>, Error>
@@ -92,8 +94,8 @@ fn read_items<'t>(
     Ok(found)
 }
 
-/// Reads the members of an object, up to and including its end. Most objects are adjacency entries
-/// with one or two members, so the list starts with capacity for one.
+/// Reads the members of an object, up to and including its end. The list starts with capacity for
+/// one member, because most objects are adjacency entries with one or two.
 #[cycle(read)]
 #[inline(never)]
 fn read_members<'t>(

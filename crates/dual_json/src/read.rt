@@ -1,4 +1,4 @@
-//! Reading of a whole graph.
+//! Reading a graph and the data of its units.
 
 ghost use Rattle.std.specs.Prelude.{◌≡◌, ◌≤◌, ◌⊎◌, true, None, Some, Ok, Err, cond, length, codes, IfOk, MatchResult};
 ghost use Rattle.std.specs.Str.{is_utf8};
@@ -36,7 +36,7 @@ use json::{Error, Scratch};
 use std::alloc::Global;
 use std::str::from_utf8;
 
-/// Parses the value of a text.
+/// Parses bytes as JSON. Returns `NotJson` if they are no UTF-8 or no JSON.
 pub(crate) fn value_of<'t>(
     alloc: Global,
     bytes: &'t [u8],
@@ -55,7 +55,7 @@ pub(crate) fn value_of<'t>(
     }
 }
 
-/// The data of the columns.
+/// The data that the columns of the nodes give.
 #[derive(Drop)]
 struct Rows {
     counts: Counts,
@@ -65,15 +65,14 @@ struct Rows {
     labels: LabelList,
 }
 
-/// Reads the graph, its counts, the start plan and the district labels. The group, the frozen units
-/// and the lengths of edges are read if they are named.
-///
-/// The text is in networkx's adjacency format.
+/// Reads the graph, its counts, the start plan and the district labels from JSON in networkx's
+/// adjacency format. Reads the group, the frozen units and the lengths of edges if `cols` names
+/// them.
 ///
 /// # Errors
 ///
-/// The faults are tested in the order of the variants of [`GraphFault`], each over the whole text,
-/// and reported at the least node.
+/// The first fault in the order of the variants of [`GraphFault`]. Each fault is tested on all nodes before the next
+/// fault is tested, and reported at the least node that has it.
 pub fn read_graph(alloc: Global, bytes: &[u8], cols: &Columns) -> Result<Parsed, GraphFault>
     ensures read { MatchResult result (λ p. reading bytes.now cols.now ≡ Ok (parsed_of p))
         (λ f. (f ≡ fault.Memory) ⊎ (reading bytes.now cols.now ≡ Err f)) }
@@ -85,7 +84,7 @@ pub fn read_graph(alloc: Global, bytes: &[u8], cols: &Columns) -> Result<Parsed,
     read_beside(alloc, bytes, cols, &mut scratch)
 }
 
-/// Does the work of [`read_graph`], with a buffer for texts that have escapes.
+/// Does the work of [`read_graph`]. The buffer receives texts whose escapes are decoded.
 fn read_beside<'t>(
     alloc: Global,
     bytes: &'t [u8],
@@ -105,7 +104,7 @@ fn read_beside<'t>(
     }
 }
 
-/// Indexes the ids of the nodes.
+/// Reads the ids of the nodes and maps each to its node. Returns `BadId` or `SameId` if this fails.
 fn ids_of<'v>(alloc: Global, nodes: &[Value<'v>]) -> Result<Index<'v>, GraphFault>
     requires { length nodes.now ≤ most_units }
     ensures { MatchResult result (λ index. (ids_fault (views nodes.now) ≡ None) × AreLabels (codes "id") (views nodes.now) index × (repeated_label index ≡ None))
@@ -118,14 +117,14 @@ fn ids_of<'v>(alloc: Global, nodes: &[Value<'v>]) -> Result<Index<'v>, GraphFaul
     }
 }
 
-/// A graph, and the index of the ids of its nodes.
+/// A graph, and the map from the ids of its nodes to the nodes.
 #[derive(Drop)]
 struct IndexedGraph<'v> {
     graph: Graph,
     index: Index<'v>,
 }
 
-/// Reads the graph from the parts of the root, with the index of its ids.
+/// Builds the graph from the parts of the root, with the map from ids to nodes.
 fn graph_in<'v>(alloc: Global, parts: &RootParts<'_, 'v>) -> Result<IndexedGraph<'v>, GraphFault>
     ensures { MatchResult result
         (λ made. (graph_fault (document_of_parts parts.now) ≡ None) × (graph (document_of_parts parts.now) ≡ made.graph) × (length parts.now.nodes.now ≤ most_units) × IsGraph made.graph
@@ -141,7 +140,8 @@ fn graph_in<'v>(alloc: Global, parts: &RootParts<'_, 'v>) -> Result<IndexedGraph
     }
 }
 
-/// Reads the lengths of the edges, or returns none if no column of lengths is named.
+/// Reads the lengths of the edges, or returns an empty list if the arguments name no attribute of
+/// lengths.
 fn lengths_in<'v>(
     alloc: Global,
     made: &IndexedGraph<'v>,
@@ -171,7 +171,8 @@ fn with_lengths(counts: Counts, lengths: UnitList) -> Counts
     Counts { lengths, ..counts }
 }
 
-/// Returns each node's district label, after the columns and numbers were checked.
+/// Checks the columns, then the numbers and flags, then the district labels, and returns each node's
+/// label. The definitions fix this order of faults.
 fn names_in<'v>(
     alloc: Global,
     nodes: &[Value<'v>],
@@ -191,7 +192,7 @@ fn names_in<'v>(
     }
 }
 
-/// Reads the columns of nodes with these district labels.
+/// Reads the columns of the nodes. `names` are their district labels.
 fn rows_of<'v>(
     alloc: Global,
     nodes: &[Value<'_>],
@@ -220,7 +221,7 @@ fn rows_of<'v>(
     })
 }
 
-/// Reads everything from the parts of the root.
+/// Builds the graph and reads all columns from the parts of the root.
 fn read_parts(
     alloc: Global,
     parts: &RootParts<'_, '_>,

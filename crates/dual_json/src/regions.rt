@@ -1,4 +1,4 @@
-//! Regions of the units.
+//! The regions of the units.
 
 ghost use Rattle.std.specs.Prelude.{◌≡◌, ◌<◌, ◌≤◌, ◌⊎◌, true, false, None, Some, Ok, Err, nat_lt, length, All, IfOk, MatchResult};
 ghost use Rattle.dual_json.specs.Values.{value_data};
@@ -24,17 +24,18 @@ use audit_model::text::Text;
 use json::Scratch;
 use std::alloc::Global;
 
-/// Reads the region of each unit from a text that was accepted as a graph.
+/// Reads the region of each unit by parsing the text of a graph again. The text must have been
+/// accepted by [`crate::read_graph`].
 ///
-/// A region is, for instance, a county: the units with one label in the given column. Regions are
-/// numbered from 0 in the order of their labels, as districts are.
+/// A region, such as a county, has the units with one label in the given column. Regions are
+/// numbered from 0 in the order of their labels: integers by value, then texts by their bytes.
 ///
 /// # Errors
 ///
 /// - `Missing`: the least node without the column.
 /// - `BadLabel`: the least node whose label is neither a text nor an integer.
-/// - `TooMany`: more than 5,000 distinct labels. It gives their number.
-/// - `Memory`: there was no memory to parse the text again, or for the numbers.
+/// - `TooMany`: there are more than 5,000 distinct labels. It gives their number.
+/// - `Memory`: there was no memory to parse the text again, or for the numbers of the regions.
 pub fn read_regions(alloc: Global, bytes: &[u8], column: &Text) -> Result<UnitList, RegionFault>
     requires graph { IsGraphText bytes.now }
     ensures read { MatchResult result (λ numbers. region_reading bytes.now column.now ≡ Ok numbers)
@@ -45,7 +46,7 @@ pub fn read_regions(alloc: Global, bytes: &[u8], column: &Text) -> Result<UnitLi
     regions_beside(alloc, bytes, column, &mut scratch)
 }
 
-/// Does the work of [`read_regions`], with a buffer for texts that have escapes.
+/// Does the work of [`read_regions`]. The buffer receives texts whose escapes are decoded.
 fn regions_beside<'t>(
     alloc: Global,
     bytes: &'t [u8],
@@ -66,7 +67,7 @@ fn regions_beside<'t>(
     }
 }
 
-/// Returns the first node without the column.
+/// Returns the least node without the column.
 fn first_missing(nodes: &[Value<'_>], column: &Text) -> Option<u32>
     requires { length nodes.now ≤ most_units }
     ensures { result ≡ first_without column.now (views nodes.now) }
@@ -79,7 +80,8 @@ fn first_missing(nodes: &[Value<'_>], column: &Text) -> Option<u32>
     None
 }
 
-/// Returns the index of each name among the distinct names in rising order, or `TooMany`.
+/// Returns for each label its index among the distinct labels in rising order. Returns `TooMany` if
+/// there are more than 5,000.
 fn numbers_of(alloc: Global, names: &[NodeName<'_>]) -> Result<UnitList, RegionFault>
     requires { length names.now ≤ most_units }
     ensures { MatchResult result
@@ -99,7 +101,7 @@ fn numbers_of(alloc: Global, names: &[NodeName<'_>]) -> Result<UnitList, RegionF
     Ok(numbers)
 }
 
-/// Reads the regions of the nodes.
+/// Reads the region of each node.
 fn regions_in(
     alloc: Global,
     parts: &RootParts<'_, '_>,

@@ -1,4 +1,4 @@
-//! The parts of the root object.
+//! The parts of the JSON's root object.
 
 ghost use Rattle.std.specs.Prelude.{◌≡◌, ◌<◌, ◌≤◌, true, false, None, Some, [], length, map, codes, is_some, option_map, option_and_then, unwrap_or, MatchOption, MatchResult};
 ghost use Rattle.std.specs.List.{list_all, slice_index_or};
@@ -19,7 +19,7 @@ pub struct RootParts<'v, 't> {
     pub directed: bool,
 }
 
-/// Returns the parts, or the first one that has the wrong shape.
+/// Returns the parts of the root, or the first part that has the wrong shape.
 pub fn parts_of<'v, 't>(root: &'v Value<'t>) -> Result<RootParts<'v, 't>, Part>
     ensures { MatchResult result (λ parts. (bad_part (value_data root.now) ≡ None) × (document (value_data root.now) ≡ document_of_parts parts))
         (λ part. bad_part (value_data root.now) ≡ Some part) }
@@ -49,8 +49,8 @@ pub fn parts_of<'v, 't>(root: &'v Value<'t>) -> Result<RootParts<'v, 't>, Part>
     })
 }
 
-/// Checks that the graph is undirected, that its two lists have equal lengths, and that there are
-/// at most 100,000 units.
+/// Checks that the graph is undirected, that there is one adjacency list for each node, and that
+/// there are at most 100,000 nodes. Returns the first fault of these.
 pub fn check_frame(parts: &RootParts<'_, '_>) -> Result<(), GraphFault>
     ensures { MatchResult result (λ _. (frame_fault parts.now.directed (length parts.now.nodes.now) (length parts.now.adjacency.now) ≡ None)
         × (length parts.now.nodes.now ≡ length parts.now.adjacency.now) × (length parts.now.nodes.now ≤ most_units))
@@ -70,7 +70,7 @@ pub fn check_frame(parts: &RootParts<'_, '_>) -> Result<(), GraphFault>
     Ok(())
 }
 
-/// Returns the adjacency list of a node.
+/// Returns the entries of a node's adjacency list.
 pub fn entries_of<'v, 't>(adjacency: &'v [Value<'t>], node: usize) -> &'v [Value<'t>]
     requires { node < length adjacency.now }
     ensures { views result.now ≡ slice_index_or (lists_in adjacency.now) node [] }
@@ -81,7 +81,7 @@ pub fn entries_of<'v, 't>(adjacency: &'v [Value<'t>], node: usize) -> &'v [Value
     }
 }
 
-/// Returns the items of the array at a key.
+/// Returns the items of the array at a key. Returns `None` if there is no array.
 fn list_at<'v, 't>(root: &'v Value<'t>, key: &str) -> Option<&'v [Value<'t>]>
     ensures { option_map (λ s. views s.now) result ≡ list_in key.now (value_data root.now) }
 {
@@ -105,8 +105,8 @@ fn are_lists(values: &[Value<'_>]) -> bool
     true
 }
 
-/// Returns the Boolean at a key, or false if the key is missing. `None` means another type of
-/// value.
+/// Returns the Boolean at a key, or false if there is no such key. Returns `None` if the value is
+/// not a Boolean.
 fn flag_at(root: &Value<'_>, key: &str) -> Option<bool>
     ensures { MatchOption result (is_no_flag key.now (value_data root.now) ≡ true)
         (λ flag. (is_no_flag key.now (value_data root.now) ≡ false) × (unwrap_or (option_and_then as_bool (get key.now (value_data root.now))) false ≡ flag)) }

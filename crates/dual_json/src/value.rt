@@ -8,8 +8,8 @@ use serde_json::Number;
 
 /// A JSON value whose texts are borrowed.
 ///
-/// A text is a slice of the source or, if it has escapes, of the scratch buffer. An object keeps
-/// its members in the order of the source; of equal keys, the last one counts.
+/// A text is a slice of the JSON or, if it has escapes, of the scratch buffer. An object keeps its
+/// members in the order of the JSON. If two members have one key, the last one counts.
 #[derive(Drop)]
 pub enum Value<'t> {
     Null,
@@ -21,7 +21,7 @@ pub enum Value<'t> {
 }
 
 impl<'t> Value<'t> {
-    /// Returns the value at a key, if this is an object.
+    /// Returns the value at a key, if this value is an object that has the key.
     pub fn get(&self, key: &str) -> Option<&Value<'t>>
         ensures { option_map (λ v. value_data v.now) result ≡ get key.now (value_data self.now) }
     {
@@ -31,21 +31,21 @@ impl<'t> Value<'t> {
         }
     }
 
-    /// Returns true if it is an object.
+    /// Returns true if the value is an object.
     pub fn is_object(&self) -> bool
         ensures { result ≡ is_some (as_object (value_data self.now)) }
     {
         matches!(self, Value::Object(_))
     }
 
-    /// Returns true if it is an array.
+    /// Returns true if the value is an array.
     pub fn is_array(&self) -> bool
         ensures { result ≡ is_some (as_array (value_data self.now)) }
     {
         matches!(self, Value::Array(_))
     }
 
-    /// Returns the items, if it is an array.
+    /// Returns the items, if the value is an array.
     pub fn as_array(&self) -> Option<&Vec<Value<'t>>>
         ensures { option_map (λ v. items_data v.now.items) result ≡ as_array (value_data self.now) }
     {
@@ -55,7 +55,7 @@ impl<'t> Value<'t> {
         }
     }
 
-    /// Returns the Boolean, if it is one.
+    /// Returns the Boolean, if the value is one.
     pub fn as_bool(&self) -> Option<bool>
         ensures { result ≡ as_bool (value_data self.now) }
     {
@@ -65,7 +65,7 @@ impl<'t> Value<'t> {
         }
     }
 
-    /// Returns the integer, if it is one from 0 to 2^64 - 1.
+    /// Returns the integer, if the value is one from 0 to 2^64 - 1.
     pub fn as_u64(&self) -> Option<u64>
         ensures { result ≡ option_and_then as_u64 (as_number (value_data self.now)) }
     {
