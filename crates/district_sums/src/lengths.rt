@@ -10,8 +10,9 @@ use audit_model::lists::UnitList;
 use dual_graph::graph::Graph;
 use dual_graph::member::Member;
 
-/// Adds up the lengths from a unit to its neighbors below `bound`: of those that are not in `one`,
-/// and of those that are not in `other`. It costs one pass over the neighbors.
+/// Adds up the lengths of the edges from a unit to its neighbors below `bound`. The first sum
+/// leaves out neighbors in the district `one`, and the second leaves out neighbors in `other`. Both
+/// sums take one scan of the neighbors.
 fn lengths_apart(member: Member, lengths: &[u32], bound: u32, one: u32, other: u32) -> (u64, u64)
     requires lengths { AreLengths member.graph.now lengths.now }
     requires long { length lengths.now ≡ sum_below member.graph.now.units (degree member.graph.now) }
@@ -35,7 +36,7 @@ fn lengths_apart(member: Member, lengths: &[u32], bound: u32, one: u32, other: u
     (first, second)
 }
 
-/// Returns the length at a place after `begin`.
+/// Returns the length at the index `begin + place`.
 #[inline]
 fn length_at(lengths: &[u32], begin: usize, place: usize) -> u64
     requires { begin + place < length lengths.now }
@@ -45,7 +46,6 @@ fn length_at(lengths: &[u32], begin: usize, place: usize) -> u64
     u64::from(lengths[begin + place])
 }
 
-/// Returns the length if both tests passed, else 0.
 #[inline]
 fn length_if(below: bool, apart: bool, length: u64) -> u64
     ensures { result ≡ cond (below && apart) length 0 }
@@ -53,8 +53,8 @@ fn length_if(below: bool, apart: bool, length: u64) -> u64
     if below && apart { length } else { 0 }
 }
 
-/// Returns the total length of the edges whose units lie in different districts, or 0 without
-/// lengths. It allocates nothing.
+/// Returns the total length of the edges that a plan cuts, or 0 if edges have no lengths. Allocates
+/// nothing.
 pub fn measure_cut(graph: &Graph, lengths: &UnitList, plan: &[u32]) -> u64
     requires plan { length plan.now ≡ graph.now.units }
     requires lengths { AreLengths graph.now lengths.now }
@@ -67,7 +67,7 @@ pub fn measure_cut(graph: &Graph, lengths: &UnitList, plan: &[u32]) -> u64
     measure_edges(graph, lengths.as_slice(), plan)
 }
 
-/// Does the work of [`measure_cut`] with lengths.
+/// Does the work of [`measure_cut`] if edges have lengths.
 fn measure_edges(graph: &Graph, lengths: &[u32], plan: &[u32]) -> u64
     requires plan { length plan.now ≡ graph.now.units }
     requires lengths { AreLengths graph.now lengths.now }
@@ -83,8 +83,9 @@ fn measure_edges(graph: &Graph, lengths: &[u32], plan: &[u32]) -> u64
     total
 }
 
-/// Returns the total length of the cut edges after a move of the unit to `district`, from the total
-/// before it, in one pass over its neighbors. Without lengths the total stays 0.
+/// Returns the total length of the cut edges after the unit moves to `district`. `before` is the
+/// total length before the move. Scans the unit's neighbors once. If edges have no lengths, both
+/// totals are 0.
 #[inline]
 pub fn length_after(member: Member, lengths: &UnitList, before: u64, district: u32) -> u64
     requires lengths { AreLengths member.graph.now lengths.now }
@@ -97,7 +98,7 @@ pub fn length_after(member: Member, lengths: &UnitList, before: u64, district: u
     move_length(member, lengths.as_slice(), before, district)
 }
 
-/// Does the work of [`length_after`] with lengths.
+/// Does the work of [`length_after`] if edges have lengths.
 fn move_length(member: Member, lengths: &[u32], before: u64, district: u32) -> u64
     requires lengths { AreLengths member.graph.now lengths.now }
     requires long { length lengths.now ≡ sum_below member.graph.now.units (degree member.graph.now) }

@@ -1,11 +1,11 @@
-//! The number of a unit's neighbors in two districts.
+//! The numbers of a unit's neighbors in two districts.
 
 ghost use Rattle.std.specs.Prelude.{◌≡◌, ◌+◌, ◌^◌, ◌<◌, cond};
 ghost use Rattle.district_sums.specs.Following.{count_near};
 
 use dual_graph::member::Member;
 
-/// Counts the neighbors of a unit in one district, and those in another.
+/// Counts a unit's neighbors in the district `one`, and its neighbors in the district `other`.
 pub fn scan_mates(member: Member, one: u32, other: u32) -> (u64, u64)
     ensures one { result.0 ≡ count_near member.entry.graph.now member.entry.plan.now member.entry.unit one }
     ensures other { result.1 ≡ count_near member.entry.graph.now member.entry.plan.now member.entry.unit other }

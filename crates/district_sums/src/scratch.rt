@@ -1,4 +1,4 @@
-//! Sums computed from scratch.
+//! Sums computed anew from a whole plan.
 
 ghost use Rattle.std.specs.Prelude.{◌≡◌, ℕ, ◌^◌, ◌<◌, ◌≤◌, ◌==◌, ◌&&◌, not, true, length, slice_index, All};
 ghost use Rattle.audit_model.specs.Below.{count_below, map_below};
@@ -15,7 +15,7 @@ use audit_model::outcome::{Counts, SumsView};
 use dual_graph::graph::Graph;
 use dual_graph::member::Member;
 
-/// Returns the number of edges whose units lie in different districts. It allocates nothing.
+/// Returns the number of edges that a plan cuts. Allocates nothing.
 pub fn count_cut(graph: &Graph, plan: &[u32]) -> u32
     requires { length plan.now ≡ graph.now.units }
     ensures value { result ≡ cut_edges graph.now plan.now }
@@ -28,7 +28,7 @@ pub fn count_cut(graph: &Graph, plan: &[u32]) -> u32
     cut
 }
 
-/// Recomputes the sums of all districts for a plan.
+/// Computes all sums of a plan anew and writes them into `view`.
 pub(crate) fn refill_view(graph: &Graph, counts: &Counts, plan: &[u32], view: &mut SumsView)
     requires inputs { AreInputs graph.now counts.now (length view.old.population) plan.now }
     requires first { length view.old.first ≡ length view.old.population }
@@ -42,7 +42,7 @@ pub(crate) fn refill_view(graph: &Graph, counts: &Counts, plan: &[u32], view: &m
     view.length = measure_cut(graph, &counts.lengths, plan);
 }
 
-/// Writes each district's sum of a column.
+/// Writes the sum of a column over the units of each district.
 fn add_up(column: &[u64], plan: &[u32], sums: &mut [u64])
     requires column { IsColumn (length plan.now) column.now }
     requires few { length plan.now ≤ most_units }
@@ -64,8 +64,8 @@ fn refill_column(column: &NumList, plan: &[u32], sums: &mut NumList)
     add_up(column.as_slice(), plan, sums.as_mut_slice());
 }
 
-/// Counts the neighbors of a unit that are below `bound` and in another district. A bound of the
-/// unit itself counts each edge once.
+/// Counts the neighbors of a unit that are below `bound` and in another district than the unit. If
+/// `bound` is the unit itself, the counts of all units add up to each cut edge once.
 fn others_below(member: Member, bound: u32) -> u32
     ensures { result ≡ count_below bound (λ v. adjacent member.entry.graph.now v member.entry.unit
         && not (slice_index member.entry.plan.now v == slice_index member.entry.plan.now member.entry.unit)) }

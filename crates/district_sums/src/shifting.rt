@@ -1,4 +1,4 @@
-//! Changes to the sums when one unit moves.
+//! The changes of the sums when one unit moves.
 
 ghost use Rattle.std.specs.Prelude.{◌≡◌, ◌≢◌, ◌+◌, ◌^◌, ◌<◌, ◌≤◌, length, slice_index, slice_set, All};
 ghost use Rattle.audit_model.specs.Below.{map_below};
@@ -11,7 +11,7 @@ use audit_model::lists::NumList;
 use audit_model::outcome::{Counts, SumsView};
 use dual_graph::member::Member;
 
-/// Moves the unit's population and votes from its district to another one.
+/// Moves a unit's population and votes from the sums of its district to those of `district`.
 pub(crate) fn shift_counts(counts: &Counts, member: Member, district: u32, view: &mut SumsView)
     requires inputs { AreInputs member.graph.now counts.now (length view.old.population) member.plan.now }
     requires moves { MovesWithin (length view.old.population) member.plan.now member.unit district }
@@ -25,8 +25,8 @@ pub(crate) fn shift_counts(counts: &Counts, member: Member, district: u32, view:
     shift_list(&counts.second, member, district, &mut view.second);
 }
 
-/// Returns the number of cut edges after a move, from the number before it. `mates` are the numbers
-/// of the unit's neighbors in its own district and in the other one.
+/// Returns the number of cut edges after a move. `before` is the number before it, and `mates` are
+/// the numbers of the unit's neighbors in its own district and in the new one.
 #[inline]
 pub(crate) fn cut_with(member: Member, before: u32, district: u32, mates: (u64, u64)) -> u32
     requires before { before ≡ cut_edges member.graph.now member.plan.now }
@@ -37,7 +37,7 @@ pub(crate) fn cut_with(member: Member, before: u32, district: u32, mates: (u64, 
     (u64::from(before) + mates.0 - mates.1) as u32
 }
 
-/// Moves a unit's entry of a column from its district's sum to another district's sum.
+/// Moves a unit's entry of a column from the sum of its district to the sum of `district`.
 fn shift_column(column: &[u64], member: Member, district: u32, sums: &mut [u64])
     requires column { IsColumn member.graph.now.units column.now }
     requires moves { MovesWithin (length sums.old) member.plan.now member.unit district }

@@ -1,4 +1,4 @@
-//! Sums that follow a plan.
+//! The sums of a plan, updated as units move.
 
 ghost use Rattle.std.specs.Prelude.{◌≡◌, ◌<◌, length, slice_index, slice_set, IfOk};
 ghost use Rattle.audit_model.specs.Plan.{cut_edges};
@@ -16,7 +16,7 @@ use dual_graph::member::Member;
 use std::alloc::Global;
 use std::marker::Model;
 
-/// The sums of a plan's districts.
+/// The sums of a plan's districts: population, votes, cut edges and their length.
 #[derive(Drop)]
 pub struct Sums {
     view: SumsView,
@@ -54,10 +54,9 @@ impl Sums {
         Ok(Sums { view })
     }
 
-    /// Moves a unit to a district, in the plan and in the sums.
+    /// Moves a unit to a district, both in the plan and in the sums.
     ///
-    /// It costs one pass over the unit's neighbors, and a second one if edges have lengths. It allocates
-    /// nothing.
+    /// Scans the unit's neighbors once, and a second time if edges have lengths. Allocates nothing.
     pub fn shift(
         &mut self,
         graph: &Graph,
@@ -80,10 +79,10 @@ impl Sums {
         plan[unit as usize] = district;
     }
 
-    /// Updates the sums for a unit that is about to move to a district. `mates` are the numbers of
-    /// its neighbors in its own district and in that one.
+    /// Updates the sums for the move of a unit to `district`; the caller then changes the plan. `mates` are the numbers
+    /// of the unit's neighbors in its own district and in the new one.
     ///
-    /// It costs a pass over the unit's neighbors if edges have lengths, and allocates nothing.
+    /// Scans the unit's neighbors if edges have lengths. Allocates nothing.
     pub fn follow(&mut self, member: Member, counts: &Counts, district: u32, mates: (u64, u64))
         requires inputs { AreInputs member.graph.now counts.now (districts_in self.old) member.plan.now }
         requires stands { StandsFor member.graph.now counts.now member.plan.now self.old }
@@ -101,8 +100,8 @@ impl Sums {
         shift_counts(counts, member, district, &mut self.view);
     }
 
-    /// Returns the number of cut edges after a move of the unit to `district`. `mates` are the numbers
-    /// of its neighbors in its own district and in that one.
+    /// Returns the number of cut edges after the unit moves to `district`. `mates` are the numbers of the unit's
+    /// neighbors in its own district and in the new one.
     #[inline]
     pub fn cut_after(&self, member: Member, district: u32, mates: (u64, u64)) -> u32
         requires cut { self.now.view.cut ≡ cut_edges member.graph.now member.plan.now }
@@ -113,8 +112,8 @@ impl Sums {
         cut_with(member, self.view.cut, district, mates)
     }
 
-    /// Overwrites the number of cut edges. A constraint is asked with the number after a move while
-    /// the rest still describes the plan before it.
+    /// Overwrites the number of cut edges and no other sum. A step calls this to ask a constraint about a proposed
+    /// move: the number is that after the move, and the other sums are those before.
     #[inline]
     pub fn put_cut(&mut self, cut: u32)
         ensures { self.new ≡ record self.old { view = record self.old.view { cut = cut } } }
@@ -122,7 +121,7 @@ impl Sums {
         self.view.cut = cut;
     }
 
-    /// Recomputes the sums for another plan. It allocates nothing.
+    /// Computes the sums of another plan in place of the present ones. Allocates nothing.
     pub fn refill(&mut self, graph: &Graph, counts: &Counts, plan: &[u32])
         requires inputs { AreInputs graph.now counts.now (districts_in self.old) plan.now }
         requires stands { StandsForSome graph.now counts.now self.old }
@@ -132,7 +131,7 @@ impl Sums {
         refill_view(graph, counts, plan, &mut self.view);
     }
 
-    /// Returns the sums of the districts.
+    /// Returns all sums.
     #[inline]
     pub fn view(&self) -> &SumsView
         ensures { result.now ≡ self.now.view }
