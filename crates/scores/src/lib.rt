@@ -1,4 +1,5 @@
-//! The five scores of a plan, computed from the sums of its districts.
+//! The five scores of a plan, computed from the sums of its districts. A score is a fraction, given
+//! by a numerator and a denominator.
 #![tactic(auto)]
 
 ghost use Rattle.std.specs.Prelude.{◌≡◌, ◌*◌, ◌+◌, ◌^◌, ◌-◌, ◌/◌, ◌<◌, ◌≤◌, pos, length, sum, All};
@@ -16,8 +17,7 @@ pub use room::Room;
 
 const BILLION: u64 = 1_000_000_000;
 
-/// Returns the numerator of a score, from the districts' votes and the number and length of cut
-/// edges.
+/// Returns the numerator of a plan's score.
 ///
 /// `room` is scratch memory with at least one entry per district. Its contents afterwards are
 /// unspecified.
@@ -36,7 +36,8 @@ pub fn value(score: Score, sums: &SumsView, room: &mut [u64]) -> i64
     }
 }
 
-/// Returns the denominator of a score. `votes` is the total of both parties.
+/// Returns the denominator of a score, which is the same for all plans of a job. `votes` is the
+/// total of both parties.
 pub fn denominator(score: Score, districts: u32, votes: u64) -> u64
     requires { votes ≤ 2 * 10 ^ 14 }
     ensures value { result ≡ definition.denominator score districts votes }
@@ -51,7 +52,7 @@ pub fn denominator(score: Score, districts: u32, votes: u64) -> u64
     }
 }
 
-/// Counts the districts that the first party wins. A tie goes to the second party.
+/// Counts the districts in which the first party has more votes than the second.
 #[tactic(auto, using(crate::proofs::Below::count_below_yes, crate::proofs::Below::count_below_no, audit_model::proofs::Below::count_below_zero, audit_model::proofs::Below::count_below_le))]
 fn seats(sums: &SumsView) -> u32
     requires { AreVotes sums.now.first sums.now.second }
@@ -68,8 +69,8 @@ fn seats(sums: &SumsView) -> u32
     seats
 }
 
-/// Returns twice the difference of wasted votes, the second party's minus the first party's. The
-/// doubling keeps the value an integer.
+/// Returns twice the difference of wasted votes, the second party's minus the first party's.
+/// Without the factor two, the value could be half an integer.
 #[tactic(auto, using(crate::proofs::Below::sum_below_more))]
 fn efficiency_gap(sums: &SumsView) -> i64
     requires { AreVotes sums.now.first sums.now.second }
@@ -91,8 +92,8 @@ fn efficiency_gap(sums: &SumsView) -> i64
     second_wasted as i64 - first_wasted as i64
 }
 
-/// Returns the median share minus the mean share, times twice the number of districts. With one or
-/// two districts the two are equal, and no share is computed.
+/// Returns the median share minus the mean share, in billionths, times twice the number of
+/// districts. With one or two districts, median and mean are equal and no share is computed.
 fn median_less_mean(sums: &SumsView, room: &mut [u64]) -> i64
     requires votes { AreVotes sums.now.first sums.now.second }
     requires room { length sums.now.first ≤ length room.old }
@@ -106,7 +107,7 @@ fn median_less_mean(sums: &SumsView, room: &mut [u64]) -> i64
     mean_median(shares, &mut (BILLION / 2))
 }
 
-/// Writes the first party's vote share in each district.
+/// Writes the first party's share of the votes in each district, in billionths.
 #[tactic(auto, using(crate::proofs::Below::map_below_more))]
 fn write_shares(sums: &SumsView, shares: &mut [u64])
     requires votes { AreVotes sums.now.first sums.now.second }
@@ -120,8 +121,9 @@ fn write_shares(sums: &SumsView, shares: &mut [u64])
     }
 }
 
-/// Returns the first party's share of the votes in billionths, rounded down. Without votes it is
-/// one half. The 64-bit division is much faster, and enough for nearly all counts.
+/// Returns the first party's share of the votes in billionths, rounded down, or one half if there
+/// are no votes. Nearly all counts are small enough for the 64-bit division, which is much faster
+/// than the one with 128 bits.
 fn share(first: u64, second: u64) -> u64
     requires { first + second < 2 ^ 64 }
     ensures { result ≡ definition.share first second }
@@ -136,10 +138,11 @@ fn share(first: u64, second: u64) -> u64
     }
 }
 
-/// Returns the median share minus the mean share, times twice the number of districts.
+/// Returns the median share minus the mean share, in billionths, times twice the number of
+/// districts.
 ///
-/// The search for the median begins at `middle`, which is set to the median found. It may reorder
-/// the shares.
+/// The search for the median begins at `middle`, and may reorder the shares. Afterwards `middle` is
+/// the median, or the lower one of two.
 fn mean_median(shares: &mut [u64], middle: &mut u64) -> i64
     requires { AreShares shares.old }
     ensures { result ≡ definition.mean_median shares.old }

@@ -1,4 +1,4 @@
-//! Buffers for scoring one plan after another.
+//! Buffers to score one plan after another.
 
 ghost use Rattle.std.specs.Prelude.{◌≡◌, ◌+◌, ◌^◌, ◌<◌, ◌≤◌, length};
 ghost use Rattle.audit_model.specs.Score as definition;
@@ -8,7 +8,7 @@ use crate::{efficiency_gap, mean_median, seats, share};
 use audit_model::outcome::SumsView;
 use audit_model::setting::Score;
 
-/// The votes of a district, and the first party's share of them in billionths.
+/// The votes of a district, and the first party's share of the votes in billionths.
 #[derive(Clone, Copy)]
 struct Share {
     first: u64,
@@ -17,9 +17,9 @@ struct Share {
     ghost right: { billionths ≡ definition.share first second },
 }
 
-/// Buffers for scoring, with a cache of each district's last share and of the last median.
-///
-/// Divisions dominate the cost of a score, and most consecutive plans differ in two districts only.
+/// Buffers for scoring. They cache the last share of each district and the last median, because
+/// divisions dominate the cost of a score, and one step of a trajectory changes at most two
+/// districts.
 #[derive(Drop)]
 pub struct Room {
     last: [Share; 200],
@@ -28,7 +28,7 @@ pub struct Room {
 }
 
 impl Room {
-    /// Creates buffers whose cache describes districts without votes.
+    /// Makes buffers whose cache describes districts without votes.
     pub fn new() -> Room {
         Room {
             last: [Share::of(0, 0); 200],
@@ -37,7 +37,7 @@ impl Room {
         }
     }
 
-    /// Returns the numerator of a score, equal to that of [`crate::value`].
+    /// Returns the numerator of a plan's score, as [`crate::value`] does.
     pub fn value(&mut self, score: Score, sums: &SumsView) -> i64
         requires votes { AreVotes sums.now.first sums.now.second }
         requires short { sums.now.length < 2 ^ 63 }
@@ -71,7 +71,8 @@ impl Share {
         }
     }
 
-    // Returns the share of these votes in billionths, from the cache if they are unchanged.
+    // Returns the share for these votes in billionths. Divides only if the votes differ from the
+    // cached ones.
     fn update(&mut self, first: u64, second: u64) -> u64
         requires { first + second < 2 ^ 64 }
         ensures { result ≡ definition.share first second }
@@ -83,7 +84,7 @@ impl Share {
     }
 }
 
-// Returns what [`crate::median_less_mean`] returns, using the cached shares and median.
+// Returns what [`crate::median_less_mean`] returns, from the cached shares and median.
 fn median_less_mean(sums: &SumsView, last: &mut [Share], room: &mut [u64], median: &mut u64) -> i64
     requires votes { AreVotes sums.now.first sums.now.second }
     requires last { length sums.now.first ≤ length last.old }
@@ -98,7 +99,8 @@ fn median_less_mean(sums: &SumsView, last: &mut [Share], room: &mut [u64], media
     mean_median(shares, median)
 }
 
-// Writes the first party's vote share in each district, using the cached shares.
+// Writes the first party's share of the votes in each district, from the cache where the votes are
+// unchanged.
 #[tactic(auto, using(crate::proofs::Below::map_below_more))]
 fn update_shares(sums: &SumsView, last: &mut [Share], shares: &mut [u64])
     requires votes { AreVotes sums.now.first sums.now.second }
