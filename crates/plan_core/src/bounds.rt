@@ -7,7 +7,7 @@ ghost use Rattle.audit_model.specs.Limits.{most_districts};
 
 use audit_model::fault::PlanFault;
 
-/// Returns the least and the greatest population of a district that the slack allows.
+/// Returns the least and the greatest population that the slack allows a district.
 ///
 /// `slack` is in units of 1/10,000 of the ideal population, which is `total / districts`.
 pub fn limits_of(total: u64, slack: u32, districts: u32) -> (u64, u64)
@@ -23,7 +23,7 @@ pub fn limits_of(total: u64, slack: u32, districts: u32) -> (u64, u64)
     ((low + parts - 1) / parts, high / parts)
 }
 
-/// Returns the fault of the least district whose population is outside the bounds.
+/// Returns `OutOfBounds` with the least district whose population is below `low` or above `high`.
 pub fn first_outside(populations: &[u64], districts: u32, low: u64, high: u64) -> Option<PlanFault>
     requires { districts ≤ length populations.now }
     ensures { result ≡ first_outside populations.now districts low high }

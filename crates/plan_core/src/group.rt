@@ -8,7 +8,7 @@ ghost use Rattle.audit_model.specs.Meets.{majorities};
 use crate::sums::district_sums;
 use audit_model::rules::Group;
 
-/// Returns whether the members are more than a share of the whole, in hundredths of a percent.
+/// Returns true if `members` is more than `share` hundredths of a percent of `whole`.
 fn is_above(share: u32, members: u64, whole: u64) -> bool
     requires few { 10000 * members < 2 ^ 64 }
     requires few_whole { share * whole < 2 ^ 64 }
@@ -17,7 +17,8 @@ fn is_above(share: u32, members: u64, whole: u64) -> bool
     u64::from(share) * whole < 10_000 * members
 }
 
-/// Returns the number of districts in which the members are more than a share of the whole.
+/// Returns the number of districts in which `members` is more than `share` hundredths of a percent
+/// of `whole`.
 fn count_over_share(share: u32, members: &[u64; 200], whole: &[u64; 200]) -> u32
     requires members { (d : ℕ) → d < most_districts → slice_index members.now d ≤ most_people * most_units }
     requires whole { (d : ℕ) → d < most_districts → share * slice_index whole.now d < 2 ^ 64 }
@@ -32,9 +33,10 @@ fn count_over_share(share: u32, members: &[u64; 200], whole: &[u64; 200]) -> u32
     count
 }
 
-/// Returns the number of districts in which the group has a majority. Without a group it is 0.
+/// Returns the number of districts in which the group has a majority, or 0 if there is no group.
 ///
-/// A majority is more than `share` of the base population, in hundredths of a percent.
+/// The group has a majority in a district if it is more than `share` hundredths of a percent of the
+/// base population.
 pub fn count_majorities(share: u32, group: &Group, plan: &[u32]) -> u32
     requires share { share ≤ 10000 }
     requires group { IsGroup (length plan.now) group.now }

@@ -1,4 +1,4 @@
-//! The contents of a job before its start plan is checked.
+//! The parts of a job, before its start plan is checked.
 
 ghost use Rattle.std.specs.Prelude.{◌≡◌, ◌<◌, ◌≤◌, ℕ, length, slice_index, IfOk};
 ghost use Rattle.std.specs.List.{list_any};
@@ -32,7 +32,8 @@ use std::marker::Model;
 
 /// A graph with its counts, a start plan that may be illegal, a setting and the rules for plans.
 ///
-/// The origin is present if the arguments asked for it. The totals of people and votes are cached.
+/// The origin is present if the arguments asked for it. The total population and the total votes
+/// are cached.
 pub struct Input {
     graph: Graph,
     counts: Counts,
@@ -45,7 +46,8 @@ pub struct Input {
     votes: u64,
 }
 
-/// Drops the parts one by one. Written by hand so that a caller's proof sees one call.
+/// Drops the fields one by one. Written by hand so that a caller's proof has one call here, not one
+/// per field.
 impl Drop for Input {
     fn drop(self) {
         let Input {
@@ -85,14 +87,15 @@ fn is_gap(score: Score) -> bool
     }
 }
 
-/// Returns true if one of the asks is the efficiency gap.
+/// Returns true if the efficiency gap is among the asks.
 fn asks_gap(asks: &[Ask]) -> bool
     ensures { result ≡ list_any (λ ask. is_gap ask.score) asks.now }
 {
     asks.iter().any(|ask| is_gap(ask.score))
 }
 
-/// Returns the plan whose districts the frozen units keep. It is empty if no unit may be frozen.
+/// Returns a copy of the start plan, whose districts the frozen units keep. Without a column of frozen
+/// units the list is empty.
 fn home_of(frozen: &UnitList, start: &UnitList) -> Result<UnitList, Memory>
     ensures { IfOk result (λ home. home ≡ home_of frozen.now start.now) }
 {
@@ -106,8 +109,8 @@ fn home_of(frozen: &UnitList, start: &UnitList) -> Result<UnitList, Memory>
 impl Input {
     ghost use Rattle.plan_core.specs.Input.{GivesDistricts, with_start, many_splits, many_regions, regions_fault, shape_fault};
 
-    /// Combines a parsed source with a setting and the regions of the units. It has no origin.
-    /// Fails if there is no memory.
+    /// Combines the data of a source with a setting and the region of each unit. The origin is
+    /// empty. Fails if there is no memory.
     pub fn new(parsed: Parsed, setting: Setting, regions: UnitList) -> Result<Input, Memory>
         requires { IsWithinLimits (job_from (parsed_of parsed) setting regions) }
         ensures { IfOk result (λ input. input ≡ job_from (parsed_of parsed) setting regions) }
@@ -152,8 +155,8 @@ impl Input {
         }
     }
 
-    // Copies the rules, with frozen units kept in their districts of another start plan. Fails if
-    // there is no memory.
+    // Copies the rules, for a job with another start plan: frozen units keep their districts of
+    // that plan. Fails if there is no memory.
     fn copy_rules(&self, start: &UnitList) -> Result<Rules, Memory>
         ensures { IfOk result (λ r. r ≡ record (rules self.now) { home = home_of self.now.frozen start.now }) }
     {
@@ -164,7 +167,8 @@ impl Input {
         }
     }
 
-    // Copies the setting, and the rules for another start plan. Fails if there is no memory.
+    // Copies the setting, and the rules for a job with another start plan. Fails if there is no
+    // memory.
     fn copy_words(&self, start: &UnitList) -> Result<(Setting, Rules), Memory>
         ensures { IfOk result (λ w. (w.0 ≡ self.now.setting) × (w.1 ≡ record (rules self.now) { home = home_of self.now.frozen start.now })) }
     {
@@ -175,8 +179,8 @@ impl Input {
         }
     }
 
-    /// Copies the input with another start plan of `districts` districts. Fails if there is no
-    /// memory.
+    /// Copies the input with another start plan, which has `districts` districts. Fails if there is
+    /// no memory.
     pub fn restart(&self, start: UnitList, districts: u32) -> Result<Input, Memory>
         requires start { GivesDistricts self.now.graph.units districts start }
         requires two { 2 ≤ districts }
@@ -198,7 +202,7 @@ impl Input {
         })
     }
 
-    /// Replaces the origin.
+    /// Returns the input with this origin.
     pub fn with_origin(self, origin: Option<Origin>) -> Input
         ensures { result ≡ record self { origin = origin } }
     {
@@ -233,7 +237,7 @@ impl Input {
         &self.graph
     }
 
-    /// Returns the population and votes of each unit.
+    /// Returns the population and votes of each unit, and the lengths of the edges.
     pub fn counts(&self) -> &Counts
         ensures { result.now ≡ self.now.counts }
     {
@@ -275,35 +279,37 @@ impl Input {
         self.origin
     }
 
-    /// Returns the population of all units.
+    /// Returns the total population.
     pub fn population(&self) -> u64
         ensures { result ≡ total_population self.now }
     {
         self.population
     }
 
-    /// Returns the votes of both parties in all units.
+    /// Returns the total votes of both parties.
     pub fn votes(&self) -> u64
         ensures { result ≡ total_votes self.now }
     {
         self.votes
     }
 
-    /// Returns the least and the greatest population of a district within the bounds.
+    /// Returns the least and the greatest population that the slack allows a district.
     pub fn limits(&self) -> (u64, u64)
         ensures { result ≡ (least_population self.now, greatest_population self.now) }
     {
         limits_of(self.population, self.setting.slack, self.districts)
     }
 
-    /// Returns true if the efficiency gap is asked for although there are no votes.
+    /// Returns true if the efficiency gap is asked for and there are no votes, so that the gap has
+    /// no denominator.
     fn has_no_votes(&self) -> bool
         ensures { result ≡ has_no_votes self.now }
     {
         asks_gap(self.setting.asks.as_slice()) && self.votes == 0
     }
 
-    /// Returns the fault of a plan with a population outside the bounds.
+    /// Returns `OutOfBounds` with the least district of a plan whose population is outside the
+    /// bounds.
     pub fn bounds_fault(&self, plan: &[u32]) -> Option<PlanFault>
         requires { GivesDistricts self.now.graph.units self.now.districts plan.now }
         ensures { result ≡ bounds_fault (with_start self.now plan.now) }
@@ -313,7 +319,7 @@ impl Input {
         first_outside(&populations, self.districts, low, high)
     }
 
-    /// Returns the fault of a plan with a disconnected district. The least such district is named.
+    /// Returns `Disconnected` with the least district of a plan that is not connected.
     fn path_fault(&self, plan: &[u32], marks: &mut Marks) -> Option<PlanFault>
         requires complete { length plan.now ≡ self.now.graph.units }
         requires marks { marks.old.units ≡ self.now.graph.units }
@@ -332,7 +338,7 @@ impl Input {
         None
     }
 
-    /// Returns the fault of a plan that cuts too many edges.
+    /// Returns `TooManyCut` if a plan cuts more edges than allowed.
     fn cut_fault(&self, plan: &[u32]) -> Option<PlanFault>
         requires { length plan.now ≡ self.now.graph.units }
         ensures { result ≡ cut_fault (with_start self.now plan.now) }
@@ -347,7 +353,7 @@ impl Input {
         None
     }
 
-    /// Returns the fault of a plan with too many region splits in all.
+    /// Returns `TooManySplits` if there are more splits in all than allowed.
     fn splits_fault(&self, splits: u32) -> Option<PlanFault>
         ensures { result ≡ many_splits self.now.setting.max_splits splits }
     {
@@ -360,7 +366,7 @@ impl Input {
         None
     }
 
-    /// Returns the fault of a plan that splits too many regions.
+    /// Returns `TooManySplitRegions` if more regions are split than allowed.
     fn split_regions_fault(&self, regions: u32) -> Option<PlanFault>
         ensures { result ≡ many_regions self.now.setting.max_split_regions regions }
     {
@@ -373,7 +379,7 @@ impl Input {
         None
     }
 
-    /// Returns the first fault of a plan that concerns regions.
+    /// Returns the first fault of a plan against the rules on regions.
     fn regions_fault(&self, plan: &[u32]) -> Option<PlanFault>
         requires { GivesDistricts self.now.graph.units self.now.districts plan.now }
         ensures { result ≡ regions_fault (with_start self.now plan.now) }
@@ -395,7 +401,8 @@ impl Input {
         count_majorities(self.rules.group_share, &self.rules.group, plan)
     }
 
-    /// Returns the fault of a plan with too few group majorities.
+    /// Returns `TooFewMajorities` if the group has a majority in fewer districts of a plan than
+    /// required.
     fn group_fault(&self, plan: &[u32]) -> Option<PlanFault>
         requires { GivesDistricts self.now.graph.units self.now.districts plan.now }
         ensures { result ≡ group_fault (with_start self.now plan.now) }
@@ -419,7 +426,7 @@ impl Input {
         measure_cut(&self.graph, &self.counts.lengths, plan)
     }
 
-    /// Returns the fault of a plan whose cut edges are too long in all.
+    /// Returns `TooLong` if the total length of a plan's cut edges exceeds the limit.
     fn length_fault(&self, plan: &[u32]) -> Option<PlanFault>
         requires { length plan.now ≡ self.now.graph.units }
         ensures { result ≡ length_fault (with_start self.now plan.now) }
@@ -434,7 +441,7 @@ impl Input {
         None
     }
 
-    /// Returns true if a plan gives each frozen unit its district in the start plan.
+    /// Returns true if a plan leaves each frozen unit in its district of the start plan.
     pub fn keeps_frozen(&self, plan: &[u32]) -> bool
         requires { length plan.now ≡ self.now.graph.units }
         ensures { result ≡ keeps_frozen self.now.frozen (home_of self.now.frozen self.now.start) plan.now }
@@ -442,7 +449,8 @@ impl Input {
         self.rules.keeps_frozen(plan)
     }
 
-    /// Returns the first fault of a plan other than missing votes and populations.
+    /// Returns the first fault of a plan apart from `NoVotes` and `OutOfBounds`, which are tested
+    /// before.
     pub fn shape_fault(&self, plan: &[u32], marks: &mut Marks) -> Option<PlanFault>
         requires plan { GivesDistricts self.now.graph.units self.now.districts plan.now }
         requires marks { marks.old.units ≡ self.now.graph.units }

@@ -27,9 +27,9 @@ use dual_graph::parsed::Parsed;
 use std::alloc::Global;
 use std::marker::Model;
 
-/// A graph with the counts of its units, a legal start plan, a setting and the rules for plans.
+/// A graph with its counts, a legal start plan, a setting and the rules for plans.
 ///
-/// It caches the start plan's values, one for each of up to four asks.
+/// `values` caches the numerator of the start plan's score for each ask, then zeros.
 #[derive(Drop)]
 pub struct Job {
     input: Input,
@@ -54,7 +54,8 @@ fn entry(values: &[i64], place: usize) -> i64
     values[place]
 }
 
-// Checks the start plan of an input and computes its values, or returns the first fault.
+// Checks the start plan and computes its value for each ask. Returns the first fault if the plan is
+// not legal.
 fn values_of(alloc: Global, input: &Input) -> Result<[i64; 4], PlanFault>
     requires { IsWithinLimits input.now }
     ensures { MatchResult result (λ values. IsValued input.now values × (plan_fault input.now ≡ None))
@@ -67,7 +68,7 @@ fn values_of(alloc: Global, input: &Input) -> Result<[i64; 4], PlanFault>
 }
 
 impl Job {
-    /// Makes a job without regions from a parsed source and a setting. It has no origin.
+    /// Makes a job without regions from the data of a source and a setting. The origin is empty.
     ///
     /// # Errors
     ///
@@ -75,13 +76,13 @@ impl Job {
     ///
     /// - `NoVotes`: the efficiency gap is asked for, and no unit has a vote.
     /// - `OutOfBounds`: the least district whose population is outside the bounds.
-    /// - `Disconnected`: the least district that is not connected. It names the district's least
-    ///   unit, and the least one that no path within the district connects to it.
-    /// - `TooManyCut`: the plan cuts more edges than the setting allows. It gives their number.
+    /// - `Disconnected`: the least district that is not connected. `one` is the district's least
+    ///   unit, and `other` the least unit that no path within the district connects to `one`.
+    /// - `TooManyCut`: the plan cuts more edges than the setting allows. `cut` is their number.
     /// - `TooFewMajorities`: the group has a majority in fewer districts than the setting requires.
-    ///   It gives their number.
-    /// - `TooLong`: the cut edges are longer in all than the setting allows. It gives their total
-    ///   length.
+    ///   `districts` is the number of districts with a majority.
+    /// - `TooLong`: the total length of the cut edges is above the setting's limit. `length` is the
+    ///   total length.
     ///
     /// `Memory` comes if there was no memory for the search or for the sums of the plan.
     pub fn new(alloc: Global, parsed: Parsed, setting: Setting) -> Result<Job, PlanFault>
@@ -93,18 +94,18 @@ impl Job {
         Job::with_regions(alloc, parsed, setting, UnitList::new(alloc))
     }
 
-    /// Makes a job with the regions of the units; the list is empty if no regions are used.
+    /// Makes a job with the region of each unit. The list is empty if there are no regions.
     ///
     /// # Errors
     ///
-    /// Those of [`Job::new`] in their order, and after `TooManyCut`:
+    /// Those of [`Job::new`] in their order, and directly after `TooManyCut`:
     ///
-    /// - `TooManySplit`: the least region that lies in more districts than the setting allows. It
-    ///   gives the number of these districts.
-    /// - `TooManySplits`: the plan has more region splits in all than the setting allows. It gives
+    /// - `TooManySplit`: the least region that lies in more districts than the setting allows.
+    ///   `districts` is the number of the region's districts.
+    /// - `TooManySplits`: the plan has more splits in all than the setting allows. `splits` is
     ///   their number.
-    /// - `TooManySplitRegions`: more regions lie in several districts than the setting allows. It
-    ///   gives their number.
+    /// - `TooManySplitRegions`: more regions lie in several districts than the setting allows.
+    ///   `regions` is their number.
     pub fn with_regions(
         alloc: Global,
         parsed: Parsed,
@@ -122,9 +123,9 @@ impl Job {
         }
     }
 
-    /// Makes a job on the same graph, setting and rules from another start plan.
+    /// Makes a job with the same graph, setting and rules, but another start plan.
     ///
-    /// `start` gives for each unit the index of its district's label in `labels`.
+    /// `start` has for each unit the index of its district's label in `labels`.
     ///
     /// # Errors
     ///
@@ -149,7 +150,7 @@ impl Job {
         }
     }
 
-    /// Replaces the origin of the job.
+    /// Returns the job with this origin.
     pub fn with_origin(self, origin: Option<Origin>) -> Job
         ensures job { result ≡ record self { origin = origin } }
         ensures sound { IsJob result }
@@ -161,7 +162,7 @@ impl Job {
         }
     }
 
-    // Makes the job of an input, or returns the first fault of its start plan.
+    // Makes the job of an input. Returns the first fault if the start plan is not legal.
     fn of_input(alloc: Global, input: Input) -> Result<Job, PlanFault>
         ensures job { MatchResult result (λ job. (job ≡ input) × (plan_fault input ≡ None))
             (λ fault. (fault ≡ plan.Memory) ⊎ (plan_fault input ≡ Some fault)) }
@@ -173,9 +174,9 @@ impl Job {
         }
     }
 
-    /// Returns the least and the greatest population of a district within the bounds.
+    /// Returns the least and the greatest population that the slack allows a district.
     ///
-    /// If no integer is within the bounds, the first is above the second.
+    /// If no integer is within the bounds, the least is above the greatest.
     pub fn limits(&self) -> (u64, u64)
         ensures { result ≡ (least_population self.now, greatest_population self.now) }
     {
@@ -184,9 +185,10 @@ impl Job {
 
     /// Returns true if a plan is legal.
     ///
-    /// Each district must have a unit, be connected and be within the population bounds, and the
-    /// plan must meet the rules. It allocates nothing, and leaves `marks` in an unspecified state.
-    /// It searches every district, so no step of a walk calls it.
+    /// Each district must have a unit, be connected and have a population within the bounds, and
+    /// the plan must meet the rules. Allocates nothing, and leaves `marks` in an unspecified state.
+    /// This test searches every district; the steps of a walk use the faster tests of `flip_kernel`
+    /// instead.
     pub fn legal(&self, plan: &[u32], marks: &mut Marks) -> bool
         requires complete { length plan.now ≡ self.now.graph.units }
         requires in_range { (u : ℕ) → u < self.now.graph.units → slice_index plan.now u < self.now.districts }
@@ -201,7 +203,8 @@ impl Job {
         self.is_unrefused(plan, marks)
     }
 
-    // Returns true if a plan that keeps the districts of frozen units is legal.
+    // Returns true if a plan is legal, given that it leaves each frozen unit in its district of the
+    // start plan.
     fn is_unrefused(&self, plan: &[u32], marks: &mut Marks) -> bool
         requires complete { length plan.now ≡ self.now.graph.units }
         requires in_range { (u : ℕ) → u < self.now.graph.units → slice_index plan.now u < self.now.districts }
@@ -222,7 +225,7 @@ impl Job {
         self.input.graph()
     }
 
-    /// Returns the population and votes of each unit.
+    /// Returns the population and votes of each unit, and the lengths of the edges.
     pub fn counts(&self) -> &Counts
         ensures value { result.now ≡ self.now.counts }
         ensures sound { IsJob self.now }
@@ -239,7 +242,7 @@ impl Job {
         self.input.start()
     }
 
-    /// Returns the numerator of the start plan's score for the ask at a place.
+    /// Returns the numerator of the start plan's score, for the ask with this index.
     pub fn start_value(&self, ask: u32) -> i64
         requires { ask < length self.now.setting.asks }
         ensures { IfSome (slice_get self.now.setting.asks ask) (λ asked. result ≡ plan_value self.now self.now.start asked.score) }
@@ -300,14 +303,14 @@ impl Job {
         self.input.districts()
     }
 
-    /// Returns the population of all units.
+    /// Returns the total population.
     pub fn population(&self) -> u64
         ensures { result ≡ total_population self.now }
     {
         self.input.population()
     }
 
-    /// Returns the votes of both parties in all units.
+    /// Returns the total votes of both parties.
     pub fn votes(&self) -> u64
         ensures value { result ≡ total_votes self.now }
         ensures sound { IsJob self.now }
@@ -315,7 +318,7 @@ impl Job {
         self.input.votes()
     }
 
-    /// Returns the number of trajectories: walks and endpoint trajectories.
+    /// Returns the number of trajectories: the walks and the endpoint trajectories.
     pub fn total(&self) -> u32
         ensures value { result ≡ self.now.setting.walks + self.now.setting.ends }
         ensures sound { IsJob self.now }

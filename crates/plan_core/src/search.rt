@@ -1,4 +1,4 @@
-//! A search for two units that show that a district is not connected.
+//! The search for two units that show that a district is not connected.
 
 ghost use Rattle.std.specs.Prelude.{◌≡◌, length};
 ghost use Rattle.audit_model.specs.District.{in_district};
@@ -8,7 +8,7 @@ use dual_graph::graph::Graph;
 use dual_graph::inside::Inside;
 use dual_graph::marks::Marks;
 
-/// The units of one district.
+/// The set of a district's units in a plan.
 #[derive(Drop)]
 struct District<'a> {
     plan: &'a [u32],
@@ -29,10 +29,11 @@ impl Inside for District<'_> {
     }
 }
 
-/// Returns two units that show that a district is not connected, or `None` if it is.
+/// Returns two units of a district that no path within the district connects, or `None` if the
+/// district is connected.
 ///
-/// They are the district's least unit, and the least one that no path within it connects to that
-/// unit. An empty district gives two zeros.
+/// The first is the district's least unit, and the second the least unit that no such path connects
+/// to the first. For an empty district, which does not count as connected, the result is `(0, 0)`.
 pub fn parting(graph: &Graph, plan: &[u32], district: u32, marks: &mut Marks) -> Option<(u32, u32)>
     requires plan { length plan.now ≡ graph.now.units }
     requires units { marks.old.units ≡ graph.now.units }

@@ -1,4 +1,4 @@
-//! Regions that a plan splits.
+//! The regions that a plan splits.
 
 ghost use Rattle.std.specs.Prelude.{◌≡◌, ◌<◌, ◌≤◌, ℕ, None, Some, false, length, slice_index, All, MatchResult};
 ghost use Rattle.std.specs.List.{slice_index_or};
@@ -9,15 +9,15 @@ ghost use Rattle.audit_model.specs.Limits.{most_regions, most_districts};
 
 use audit_model::fault::PlanFault;
 
-/// The counts of splits in a plan: over all regions, the sum of their districts less one, and the
-/// number of split regions.
+/// The splits of a plan. `splits` is the number of splits in all: the sum, over all regions, of the
+/// region's districts less one. `regions` is the number of regions that lie in several districts.
 #[derive(Clone, Copy, Drop)]
 pub struct Splits {
     pub splits: u32,
     pub regions: u32,
 }
 
-/// Returns one more than the greatest number, or 0 if there is none.
+/// Returns one more than the greatest number, or 0 for an empty list.
 fn above_all(numbers: &[u32]) -> u32
     requires { All (λ n. n < most_regions) numbers.now }
     ensures { result ≡ above_all numbers.now }
@@ -58,8 +58,8 @@ fn split_of(regions: &[u32], plan: &[u32], region: u32) -> u32
     count_marked(&seen)
 }
 
-/// Counts the splits of a plan, or returns the fault of the least region that lies in too many
-/// districts.
+/// Counts the splits of a plan. Returns `TooManySplit` with the least region that lies in more than
+/// `most` districts, if there is one.
 pub fn count_splits(regions: &[u32], plan: &[u32], most: u32) -> Result<Splits, PlanFault>
     requires lengths { length regions.now ≤ length plan.now }
     requires few { All (λ r. r < most_regions) regions.now }

@@ -17,7 +17,8 @@ pub fn sum_of(column: &[u64]) -> u64
     total
 }
 
-/// Returns the sum of a column over the units of each district.
+/// Returns the sum of a column over the units of each district. Districts that the plan does not
+/// have get 0.
 pub fn district_sums(column: &[u64], plan: &[u32]) -> [u64; 200]
     requires column { IsColumn (length plan.now) column.now }
     requires few { length plan.now ≤ most_units }

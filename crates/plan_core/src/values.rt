@@ -1,4 +1,4 @@
-//! Values of the start plan.
+//! The values of the start plan.
 
 ghost use Rattle.std.specs.Prelude.{◌≡◌, length, IfOk};
 ghost use Rattle.std.specs.List.{slice_get};
@@ -16,7 +16,7 @@ use district_sums::sums::Sums;
 use scores::value;
 use std::alloc::Global;
 
-/// Returns the value of the ask at a place, or 0 if there is no such ask.
+/// Returns the numerator of the score of the ask with this index, or 0 if there is no such ask.
 #[tactic(auto, unfolding(crate::specs::Valued::value_of))]
 fn value_at(
     input: &Input,
@@ -35,8 +35,8 @@ fn value_at(
     }
 }
 
-/// Returns the values of the asks, and 0 for places without one. It computes no sums if nothing is
-/// asked. Fails if there is no memory.
+/// Returns the numerator of the start plan's score for each ask, then zeros. Computes no sums if
+/// nothing is asked. Fails if there is no memory.
 #[tactic(auto, unfolding(crate::specs::Valued::value_of))]
 pub fn start_values(alloc: Global, input: &Input) -> Result<[i64; 4], Memory>
     requires { IsJob input.now }
