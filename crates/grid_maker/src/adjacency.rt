@@ -1,4 +1,4 @@
-//! Adjacency lists of the grid.
+//! The adjacency lists of the grid. Units are numbered row by row.
 
 ghost use Rattle.std.specs.Prelude.{◌≡◌, ◌+◌, ◌*◌, ◌<◌, ◌≤◌, ◌^◌, ◌++◌, map, option_to_list, IfOk, OnOk};
 ghost use Rattle.serde_json.specs.View.{view};
@@ -11,7 +11,7 @@ use audit_model::memory::Memory;
 use serde_json::{Value, json};
 use std::alloc::Global;
 
-/// Returns the unit to the right in the same row.
+/// Returns the unit to the right of a unit in the same row, or `None` at the row's end.
 pub(crate) fn right(square: Square, unit: u32) -> Option<u32>
     requires { unit < grid_side square.size * grid_side square.size }
     ensures { result ≡ unit_right (grid_side square.size) unit }
@@ -24,7 +24,7 @@ pub(crate) fn right(square: Square, unit: u32) -> Option<u32>
     }
 }
 
-/// Returns the unit below.
+/// Returns the unit below a unit, or `None` in the last row.
 pub(crate) fn below(square: Square, unit: u32) -> Option<u32>
     requires { unit < grid_side square.size * grid_side square.size }
     ensures { result ≡ unit_below (grid_side square.size) unit }
@@ -38,7 +38,7 @@ pub(crate) fn below(square: Square, unit: u32) -> Option<u32>
     }
 }
 
-/// Builds the adjacency lists of all units. Fails if there is no memory.
+/// Builds the adjacency lists of all units, as JSON. Fails if there is no memory.
 pub fn adjacency_of(alloc: Global, square: Square) -> Result<Value, Memory>
     ensures { IfOk result (λ value. view value ≡ adjacency_tree square.size) }
 {
@@ -50,14 +50,14 @@ pub fn adjacency_of(alloc: Global, square: Square) -> Result<Value, Memory>
     Ok(Value::Array(list))
 }
 
-/// Returns the unit above.
+/// Returns the unit above a unit, or `None` in the first row.
 fn above(side: u32, unit: u32) -> Option<u32>
     ensures { result ≡ unit_above side unit }
 {
     unit.checked_sub(side)
 }
 
-/// Returns the unit to the left in the same row.
+/// Returns the unit to the left of a unit in the same row, or `None` at the row's start.
 fn unit_to_the_left(square: Square, unit: u32) -> Option<u32>
     ensures { result ≡ unit_left (grid_side square.size) unit }
 {
@@ -69,7 +69,7 @@ fn unit_to_the_left(square: Square, unit: u32) -> Option<u32>
     }
 }
 
-/// Appends the entry of a neighbor, if there is one.
+/// Appends the adjacency entry of a neighbor, if there is a neighbor.
 fn push_entry(alloc: Global, list: &mut Vec<Value>, neighbour: Option<u32>) -> Result<(), Memory>
     ensures { OnOk result (map view list.new.items ≡ map view list.old.items ++ map entry_tree (option_to_list neighbour)) }
 {
@@ -79,7 +79,7 @@ fn push_entry(alloc: Global, list: &mut Vec<Value>, neighbour: Option<u32>) -> R
     Ok(())
 }
 
-/// Builds the adjacency list of a unit, in rising order.
+/// Builds the adjacency list of a unit, in rising order of the neighbors.
 fn neighbours_of(alloc: Global, square: Square, unit: u32) -> Result<Value, Memory>
     requires { unit < grid_side square.size * grid_side square.size }
     ensures { IfOk result (λ value. view value ≡ neighbours_tree square.size unit) }

@@ -1,4 +1,5 @@
-//! The grid that `make` writes, as JSON in networkx's adjacency format and as parsed data.
+//! The grid that the command `make` writes as JSON in networkx's adjacency format, and the same
+//! grid as parsed data.
 #![tactic(auto)]
 
 ghost use Rattle.std.specs.Prelude.{◌≡◌, ◌≤◌, false, IfOk};
@@ -23,8 +24,8 @@ pub use made::read_made;
 use serde_json::{Value, json};
 use std::alloc::Global;
 
-/// Writes the grid of a size as JSON. It has `10 * size` rows and columns, and its votes are drawn
-/// with `key`. Fails if there is no memory.
+/// Writes the grid of a size as JSON. The grid has `10 * size` rows and columns, and `key`
+/// determines its votes. Fails if there is no memory.
 pub fn make(alloc: Global, size: u32, key: [u8; 32]) -> Result<Bytes, Memory>
     requires { (1 ≤ size) × (size ≤ 30) }
     ensures { IfOk result (λ bytes. bytes.items ≡ grid size key) }
@@ -36,7 +37,7 @@ pub fn make(alloc: Global, size: u32, key: [u8; 32]) -> Result<Bytes, Memory>
     serialize(alloc, &root)
 }
 
-/// Builds the root of the JSON from the adjacency lists and the nodes.
+/// Builds the root object from the adjacency lists and the nodes.
 fn root_of(alloc: Global, adjacency: Value, nodes: Value) -> Result<Value, Memory>
     ensures { IfOk result (λ root. view root ≡ root_tree (view adjacency) (view nodes)) }
 {
@@ -49,7 +50,7 @@ fn root_of(alloc: Global, adjacency: Value, nodes: Value) -> Result<Value, Memor
     })?)
 }
 
-/// Serializes a value without spaces.
+/// Serializes a JSON value without spaces.
 fn serialize(alloc: Global, value: &Value) -> Result<Bytes, Memory>
     requires { has_float (view value.now) ≡ false }
     ensures { IfOk result (λ bytes. bytes.items ≡ compact_text (view value.now)) }

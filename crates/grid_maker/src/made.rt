@@ -1,4 +1,4 @@
-//! The grid as parsed data, without a text in between.
+//! The grid as parsed data, built without the text of its JSON.
 
 ghost use Rattle.std.specs.Prelude.{◌≡◌, ◌-◌, ◌*◌, ◌/◌, ◌≤◌, [], Ok, pos, length, IfOk, OnOk};
 ghost use Rattle.audit_model.specs.declared.setting.Label.TheVariants.{Whole};
@@ -23,8 +23,8 @@ use dual_graph::graph::Graph;
 use dual_graph::parsed::Parsed;
 use std::alloc::Global;
 
-/// Builds directly the data that would be parsed from the text of [`crate::make`]. Fails if there
-/// is no memory.
+/// Builds the data that a parse of the text of [`crate::make`] would give. Fails if there is no
+/// memory.
 pub fn read_made(alloc: Global, size: u32, key: [u8; 32]) -> Result<Parsed, Memory>
     requires { (1 ≤ size) × (size ≤ 30) }
     ensures read { IfOk result (λ p. reading (grid size key) grid_columns ≡ Ok (parsed_of p)) }
@@ -49,7 +49,7 @@ pub fn read_made(alloc: Global, size: u32, key: [u8; 32]) -> Result<Parsed, Memo
     })
 }
 
-/// Appends the pair of a unit and a neighbor, if there is one.
+/// Appends the edge from a unit to a neighbor, if there is a neighbor.
 fn push_pair(pairs: &mut Vec<(u32, u32)>, unit: u32, other: Option<u32>) -> Result<(), Memory>
     ensures { OnOk result (pairs.new.items ≡ extended pairs.old.items unit other) }
 {
@@ -59,7 +59,7 @@ fn push_pair(pairs: &mut Vec<(u32, u32)>, unit: u32, other: Option<u32>) -> Resu
     Ok(())
 }
 
-/// Lists the pairs of adjacent units, in rising order.
+/// Lists the edges in rising order, each with its smaller unit first.
 fn pairs_of(alloc: Global, square: Square) -> Result<Vec<(u32, u32)>, Memory>
     ensures { IfOk result (λ pairs. pairs.items ≡ pairs_until (grid_side square.size) (grid_side square.size * grid_side square.size)) }
 {
@@ -72,7 +72,7 @@ fn pairs_of(alloc: Global, square: Square) -> Result<Vec<(u32, u32)>, Memory>
     Ok(pairs)
 }
 
-/// Draws the votes of each unit. Every unit has 100 people.
+/// Draws the votes of each unit. Each unit has 100 people, who all vote.
 fn counts_of(alloc: Global, square: Square, key: [u8; 32]) -> Result<Counts, Memory>
     ensures population { IfOk result (λ counts. counts.population ≡ map_below (grid_side square.size * grid_side square.size) (λ u. 100)) }
     ensures first { IfOk result (λ counts. counts.first ≡ map_below (grid_side square.size * grid_side square.size) (first_votes_of key)) }
@@ -98,7 +98,7 @@ fn counts_of(alloc: Global, square: Square, key: [u8; 32]) -> Result<Counts, Mem
     })
 }
 
-/// Returns the empty group; the grid has no group column.
+/// Returns an empty group, because the grid has no group column.
 fn no_group(alloc: Global) -> Group
     ensures { result ≡ record { members = []; whole = [] } }
 {
@@ -108,14 +108,14 @@ fn no_group(alloc: Global) -> Group
     }
 }
 
-/// Returns the empty list of frozen units; the grid has no column of them.
+/// Returns an empty list, because the grid has no column of frozen units.
 fn none_frozen(alloc: Global) -> UnitList
     ensures { result ≡ [] }
 {
     UnitList::new(alloc)
 }
 
-/// Assigns districts: each consists of `size` full rows.
+/// Returns the district of each unit. A district has `size` full rows.
 fn start_of(alloc: Global, square: Square) -> Result<UnitList, Memory>
     ensures { IfOk result (λ start. start ≡ map_below (grid_side square.size * grid_side square.size) (λ u. u / grid_side square.size / square.size)) }
 {
@@ -127,7 +127,7 @@ fn start_of(alloc: Global, square: Square) -> Result<UnitList, Memory>
     Ok(start)
 }
 
-/// Labels the ten districts 0 to 9.
+/// Returns the labels 0 to 9 of the ten districts.
 fn ten_labels(alloc: Global) -> Result<LabelList, Memory>
     ensures { IfOk result (λ labels. labels ≡ map_below 10 (λ d. Whole (pos d))) }
 {

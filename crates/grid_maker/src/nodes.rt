@@ -1,4 +1,4 @@
-//! The nodes of the grid, with votes, district and population.
+//! The nodes of the grid, with population, votes and district.
 
 ghost use Rattle.std.specs.Prelude.{◌≡◌, ◌*◌, ◌<◌, ◌≤◌, IfOk};
 ghost use Rattle.serde_json.specs.View.{view};
@@ -11,10 +11,11 @@ use chacha_draws::Draws;
 use serde_json::{Value, json};
 use std::alloc::Global;
 
-/// The stream from which the votes are drawn. Trajectories use streams far below it.
+/// The stream from which the votes are drawn. No trajectory uses it: the streams of trajectories
+/// have far smaller numbers.
 pub(crate) const VOTES_STREAM: u64 = 4_294_967_296;
 
-/// Builds the nodes of all units. Fails if there is no memory.
+/// Builds the nodes of all units, as JSON. Fails if there is no memory.
 pub fn nodes_of(alloc: Global, square: Square, key: [u8; 32]) -> Result<Value, Memory>
     ensures { IfOk result (λ value. view value ≡ nodes_tree square.size key) }
 {
@@ -28,8 +29,8 @@ pub fn nodes_of(alloc: Global, square: Square, key: [u8; 32]) -> Result<Value, M
     Ok(Value::Array(list))
 }
 
-/// Builds the node of a unit with 100 people: `first` of them vote for the first party, the others
-/// for the second.
+/// Builds the node of a unit with 100 people. `first` of them vote for the first party, and the
+/// others for the second.
 fn node_of(alloc: Global, square: Square, unit: u32, first: u64) -> Result<Value, Memory>
     requires { first ≤ 100 }
     ensures { IfOk result (λ value. view value ≡ unit_tree square.size unit first) }

@@ -1,4 +1,4 @@
-//! The square of a grid's units.
+//! The size of a grid.
 
 ghost use Rattle.std.specs.Prelude.{◌≤◌};
 
