@@ -20,7 +20,8 @@ pub fn outcome_with(outcomes: &[Outcome], id: u32) -> Option<Outcome>
     None
 }
 
-/// Returns true if the list has no outcome that contradicts this one.
+/// Returns true if the list has no outcome of the same id that contradicts this one. Two outcomes
+/// contradict each other unless [`agree`] holds.
 pub fn agrees_with(outcomes: &[Outcome], outcome: &Outcome) -> bool
     ensures { Decides result (AgreesWith outcomes.now outcome.now) }
 {

@@ -1,4 +1,7 @@
 //! The union of the outcomes that several runs of one job have found.
+//!
+//! Two outcomes of one id *agree* if they are equal, or if they differ only in that one has no
+//! histogram. Otherwise they *contradict* each other.
 
 ghost use Rattle.std.specs.Prelude.{◌≡◌, ◌∷◌, [], ◌≤◌, ◌+◌, ◌<◌, ◌++◌, All, IfErr, IfOk, IfNone, IfSome, OnErr, OnOk, Some, length, replicate, count_by, not, slice_index_or};
 ghost use Rattle.std.specs.Bool.{Decides};
@@ -14,8 +17,7 @@ use audit_model::outcome::Outcome;
 use std::alloc::Global;
 use std::marker::Model;
 
-/// Outcomes with ids below a total, by rising id, to which the outcomes of further runs can be
-/// added.
+/// A union of outcomes with ids below a total, to which the outcomes of further runs can be added.
 #[derive(Drop)]
 pub struct Gathering {
     places: Vec<Option<Outcome>>,
@@ -35,8 +37,8 @@ impl Model for Gathering {
 }
 
 impl Gathering {
-    /// Allocates an empty union with capacity for each id below `total`. Fails if there is no
-    /// memory.
+    /// Allocates an empty union for the ids below `total`, with capacity for an outcome of each.
+    /// Fails if there is no memory.
     pub fn with_room(alloc: Global, total: u32) -> Result<Gathering, Memory>
         requires { total ≤ most_trajectories }
         ensures total { IfOk result (λ g. g.total ≡ total) }
@@ -47,7 +49,8 @@ impl Gathering {
         })
     }
 
-    /// Returns the least id whose outcome in `found` contradicts the one in the union.
+    /// Returns the id of the first outcome in `found` that contradicts the union. `found` has
+    /// rising ids, so this id is the least.
     pub fn difference(&self, found: &[Outcome]) -> Option<u32>
         requires { MayBeAdded self.now.total found.now }
         ensures none { IfNone result (AreAgreed self.now.outcomes found.now) }
@@ -72,11 +75,11 @@ impl Gathering {
         }
     }
 
-    /// Adds outcomes, and returns the number of ids that were missing before.
+    /// Adds outcomes to the union, and returns the number of them whose ids were not in the union.
     ///
     /// # Errors
     ///
-    /// The least id whose outcome contradicts the one in the union. Then nothing is added.
+    /// The least id whose outcome contradicts the union. In this case nothing is added.
     pub fn merge(&mut self, found: &[Outcome]) -> Result<u32, u32>
         requires { MayBeAdded self.old.total found.now }
         ensures total { self.new.total ≡ self.old.total }
@@ -96,7 +99,7 @@ impl Gathering {
         }
     }
 
-    /// Returns the number of outcomes whose ids are missing in the union.
+    /// Returns the number of outcomes whose ids are not in the union.
     pub fn count_new(&self, found: &[Outcome]) -> u32
         requires { MayBeAdded self.now.total found.now }
         ensures { result ≡ count_by (λ o. not (has_id self.now.outcomes o.id)) found.now }
@@ -110,7 +113,7 @@ impl Gathering {
         count
     }
 
-    /// Adds one to the count if the outcome's id is missing in the union.
+    /// Returns the count, plus one if the outcome's id is not in the union.
     fn count_with(&self, count: u32, outcome: &Outcome) -> u32
         requires below { outcome.now.id < self.now.total }
         requires few { count < most_trajectories }
@@ -122,8 +125,8 @@ impl Gathering {
         }
     }
 
-    /// Adds outcomes that do not contradict the union. If only one of two outcomes has its
-    /// histogram, that one is kept.
+    /// Adds outcomes that do not contradict the union. If two outcomes of one id differ, the one
+    /// with a histogram is kept.
     pub fn add(&mut self, found: &[Outcome])
         requires { MayBeAdded self.old.total found.now }
         ensures total { self.new.total ≡ self.old.total }
@@ -136,6 +139,7 @@ impl Gathering {
         let _ = &self.places;
     }
 
+    /// Adds one outcome that does not contradict the union.
     fn put(&mut self, outcome: &Outcome)
         requires { outcome.now.id < self.old.total }
         ensures total { self.new.total ≡ self.old.total }
@@ -146,7 +150,7 @@ impl Gathering {
         self.places[place] = Some(kept);
     }
 
-    /// Copies the outcomes to a new list, by rising id. Fails only if there is no memory.
+    /// Copies the outcomes to a new list, by rising id. Fails if there is no memory.
     pub fn to_list(&self, alloc: Global) -> Result<OutcomeList, Memory>
         ensures items { IfOk result (λ l. l.items ≡ self.now.outcomes) }
         ensures rising { IfOk result (λ l. AreById l.items) }
@@ -158,7 +162,7 @@ impl Gathering {
         Ok(out)
     }
 
-    /// Replaces the contents of `out` by the outcomes, by rising id. It needs no new memory.
+    /// Replaces the contents of `out` by the outcomes, by rising id. Allocates nothing.
     pub fn copy_into(&self, out: &mut OutcomeList)
         requires { length self.now.outcomes ≤ length out.old.items + out.old.spare }
         ensures outcomes { out.new.items ≡ self.now.outcomes }
@@ -171,7 +175,7 @@ impl Gathering {
     }
 }
 
-// Returns the outcome without its histogram.
+// Returns the outcome with an empty histogram.
 fn without_histogram(outcome: &Outcome) -> Outcome
     ensures { result ≡ without_histogram outcome.now }
 {
@@ -187,14 +191,14 @@ fn is_same(one: &Outcome, other: &Outcome) -> bool
     *one == *other
 }
 
-// Returns true if the first outcome is the second without its histogram.
+// Returns true if the first outcome is the second with an empty histogram.
 fn is_without_histogram_of(outcome: &Outcome, other: &Outcome) -> bool
     ensures { Decides result (outcome.now ≡ without_histogram other.now) }
 {
     is_same(outcome, &without_histogram(other))
 }
 
-/// Returns true if both outcomes are equal, or would be if one did not have its histogram.
+/// Returns true if both outcomes are equal, or differ only in that one has no histogram.
 pub fn agree(one: &Outcome, other: &Outcome) -> bool
     ensures { Decides result (Agree one.now other.now) }
 {
@@ -207,14 +211,15 @@ pub fn agree(one: &Outcome, other: &Outcome) -> bool
     is_without_histogram_of(other, one)
 }
 
-// Returns the outcome with a histogram, if one of two has it.
+// Returns the first outcome if it has a histogram, else the second.
 fn fuller(one: &Outcome, other: &Outcome) -> Outcome
     ensures { result ≡ fuller one.now other.now }
 {
     if one.bins == [0; 9] { *other } else { *one }
 }
 
-// Combines the outcome present for an id, if any, with one more.
+// Returns the outcome that the union keeps for an id: the fuller of the existing one, if any, and
+// the new one.
 fn combine(existing: &Option<Outcome>, outcome: &Outcome) -> Outcome
     ensures { Some result ≡ fuller_if existing.now (Some outcome.now) }
 {
@@ -224,7 +229,7 @@ fn combine(existing: &Option<Outcome>, outcome: &Outcome) -> Outcome
     }
 }
 
-// Appends the outcomes of all filled places to a list with spare capacity.
+// Appends the outcomes of all ids that have one. The list has spare capacity for them.
 fn append_all(out: &mut OutcomeList, places: &[Option<Outcome>])
     requires { length (those_there places.now) ≤ out.old.spare }
     ensures items { out.new.items ≡ out.old.items ++ those_there places.now }
@@ -235,7 +240,7 @@ fn append_all(out: &mut OutcomeList, places: &[Option<Outcome>])
     }
 }
 
-// Appends the outcome of a place, if it is filled, to a list with spare capacity.
+// Appends the outcome of an id, if the id has one. The list has spare capacity for it.
 fn append_if(out: &mut OutcomeList, place: &Option<Outcome>)
     requires { length (those_there (place.now ∷ [])) ≤ out.old.spare }
     ensures items { out.new.items ≡ out.old.items ++ those_there (place.now ∷ []) }

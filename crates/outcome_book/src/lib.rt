@@ -1,5 +1,4 @@
-//! Outcome tables: outcomes in the order of their hand-in and by rising id, and unions of outcomes
-//! from several runs.
+//! The outcome table of a run, and the union of the outcomes of several runs.
 #![tactic(auto)]
 
 pub mod agreeing;
