@@ -1,4 +1,5 @@
-//! A run of several workers as a state machine. Its events are claims, posts, saves and halts.
+//! A run of several workers as a state machine over events: claims of ids, hand-ins of outcomes,
+//! saves, and halts, at which the process is killed.
 #![tactic(auto)]
 
 pub mod laws;

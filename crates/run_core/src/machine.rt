@@ -1,4 +1,4 @@
-//! The machine over ids.
+//! The run machine, whose state has ids in place of outcomes.
 
 ghost use Rattle.std.specs.Prelude.{◌≡◌, ◌≤◌, IfOk, slice_get};
 ghost use Rattle.audit_model.specs.declared.outcome.Event.TheVariants.{Claim, Post, Save, Halt};
@@ -11,15 +11,22 @@ use audit_model::outcome::{Did, Event};
 use std::alloc::Global;
 use std::marker::Model;
 
-/// A run of 32 workers over the ids below a total.
+/// The state of a run of 32 workers over the ids below a total.
 #[derive(Drop)]
 pub struct Core {
+    // The finished ids, in the order of their hand-in.
     done: Vec<u32>,
+    // The number of ids that were finished when the run started.
     started: usize,
+    // The number of ids that were finished at the last save.
     saved: usize,
+    // For each id, true if it was finished when the run started.
     marks: Vec<bool>,
+    // The ids that were pending when the run started, in rising order.
     ids: Vec<u32>,
+    // The index in `ids` of the next id to claim.
     next: usize,
+    // For each worker the id that it has claimed and not yet handed in.
     open_ids: [Option<u32>; 32],
 }
 
@@ -37,7 +44,8 @@ impl Model for Core {
 }
 
 impl Core {
-    /// Allocates a run of the ids below `total`, with none finished. Fails if there is no memory.
+    /// Allocates a run of the ids below `total`, of which none is finished. Fails if there is no
+    /// memory.
     pub fn new(alloc: Global, total: u32) -> Result<Core, Memory>
         requires { total ≤ most_trajectories }
         ensures machine { IfOk result (λ m. m ≡ new_machine total most_workers) }
@@ -72,7 +80,8 @@ impl Core {
         }
     }
 
-    // Assigns the next id to the worker.
+    // Gives the next id to the worker. `Idle` means that there is no such worker, or that it has an
+    // open id.
     fn claim(&mut self, worker: u32) -> Did
         ensures step { (self.new, result) ≡ step self.old (Claim worker) }
         ensures sound { IsRun self.new }
@@ -92,7 +101,7 @@ impl Core {
         }
     }
 
-    // Appends the worker's open id to the finished ids.
+    // Appends the worker's open id to the finished ids. `Idle` means that the worker has none.
     fn post(&mut self, worker: u32) -> Did
         ensures step { (self.new, result) ≡ step self.old (Post worker) }
         ensures sound { IsRun self.new }
@@ -108,6 +117,7 @@ impl Core {
         }
     }
 
+    // Records that all finished ids are saved.
     fn save(&mut self) -> Did
         ensures step { (self.new, result) ≡ step self.old Save }
         ensures sound { IsRun self.new }
@@ -116,7 +126,8 @@ impl Core {
         Did::Saved(self.saved as u32)
     }
 
-    // Drops all finished ids that were not saved, and restarts.
+    // Drops the finished ids that were not saved, and starts the next run: a killed process loses
+    // them.
     fn halt(&mut self) -> Did
         ensures step { (self.new, result) ≡ step self.old Halt }
         ensures sound { IsRun self.new }
@@ -130,7 +141,7 @@ impl Core {
         Did::Halted
     }
 
-    /// Returns the finished ids, in the order of their posts.
+    /// Returns the finished ids, in the order of their hand-in.
     pub fn done(&self) -> &[u32]
         ensures done { result.now ≡ self.now.done }
         ensures sound { IsRun self.now }
@@ -138,7 +149,7 @@ impl Core {
         self.done.as_slice()
     }
 
-    /// Returns the saved ids, in the order of their posts.
+    /// Returns the saved ids, in the order of their hand-in.
     pub fn saved(&self) -> &[u32]
         ensures saved { result.now ≡ self.now.saved }
         ensures sound { IsRun self.now }
@@ -147,7 +158,8 @@ impl Core {
     }
 }
 
-// Returns the worker's open id. The outer option is `None` if there is no such worker.
+// Returns the worker's open id. The outer `None` means that there is no such worker, the inner one
+// that it has no open id.
 fn open_id(open_ids: &[Option<u32>], worker: u32) -> Option<Option<u32>>
     ensures { result ≡ slice_get open_ids.now worker }
 {

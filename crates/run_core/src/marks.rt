@@ -1,4 +1,4 @@
-//! Marks on ids.
+//! Marks of ids, one Boolean for each.
 
 ghost use Rattle.std.specs.Prelude.{◌≡◌, ℕ, ◌<◌, ◌≤◌, ◌||◌, false, not, length, All, vec_capacity};
 ghost use Rattle.std.specs.List.{slice_index_or};
@@ -6,6 +6,7 @@ ghost use Rattle.audit_model.specs.Below.{filter_below};
 ghost use Rattle.audit_model.specs.Graph.{has};
 ghost use Rattle.audit_model.specs.Limits.{most_trajectories};
 
+// Marks these ids.
 pub(crate) fn mark(marks: &mut [bool], ids: &[u32])
     requires { All (λ id. id < length marks.old) ids.now }
     ensures width { length marks.new ≡ length marks.old }
