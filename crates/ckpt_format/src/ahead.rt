@@ -1,4 +1,4 @@
-//! The digest of a checkpoint, started before all of its outcomes are there.
+//! The digest of the next checkpoint, hashed in part before the checkpoint is complete.
 
 ghost use Rattle.std.specs.Prelude.{◌≡◌};
 ghost use Rattle.sha2.specs.Hashers.{Holds256};
@@ -13,8 +13,9 @@ use sha2::{Digest, Sha256};
 use std::alloc::Global;
 use std::mem;
 
-/// The predicted prefix of the next checkpoint, and a hasher that has taken it in. A checkpoint with another prefix is
-/// hashed from its first byte. A wrong prediction thus only costs time, and no precondition is needed.
+/// A prediction of the first bytes of the next checkpoint, and a hasher that was fed with them. If the checkpoint
+/// begins with the prediction, only its other bytes remain to be hashed. Otherwise the checkpoint is hashed from its
+/// first byte. A wrong prediction thus only costs time, and the methods need no precondition.
 #[derive(Drop)]
 pub struct Ahead {
     bytes: Bytes,
@@ -23,8 +24,8 @@ pub struct Ahead {
 }
 
 impl Ahead {
-    /// Makes an empty prediction with capacity for `count` bytes. The only error is out of memory, and no other call
-    /// allocates.
+    /// Makes an empty prediction with capacity for `count` bytes. Fails if there is no memory. The other methods
+    /// allocate nothing.
     pub fn with_room(alloc: Global, count: usize) -> Result<Ahead, Memory> {
         Ok(Ahead {
             bytes: Bytes::with_room(alloc, count)?,
@@ -32,7 +33,7 @@ impl Ahead {
         })
     }
 
-    /// Starts a new prediction with the head of a checkpoint of the second version.
+    /// Starts a new prediction with the head of a checkpoint in the second version of the format.
     pub fn begin(&mut self, digest: &[u8; 32], generation: u8, count: u32) {
         self.bytes.clear();
         self.hasher = Sha256::new();
@@ -42,7 +43,7 @@ impl Ahead {
         }
     }
 
-    /// Adds an outcome to the prediction, if the capacity allows it.
+    /// Adds an outcome to the prediction, if there is capacity for it.
     pub fn go_on(&mut self, outcome: &Outcome) {
         if self.bytes.spare() >= outcome_size(2) {
             let before = self.bytes.len();
@@ -51,8 +52,8 @@ impl Ahead {
         }
     }
 
-    /// Returns the SHA-256 of the bytes, and clears the prediction. Hashes from the first byte only if the bytes do not
-    /// begin with the prediction.
+    /// Returns the SHA-256 of `bytes`, and clears the prediction. If `bytes` begins with the prediction, only the bytes
+    /// after it are hashed.
     pub fn digest_of(&mut self, bytes: &[u8]) -> [u8; 32]
         ensures { result ≡ sha256 bytes.now }
     {

@@ -1,4 +1,4 @@
-//! Reading a checkpoint.
+//! Decoding a checkpoint.
 
 ghost use Rattle.std.specs.Prelude.{◌≡◌, ◌≤◌, ◌⊎◌, Err, None, Some, length, IfOk, IfErr, IfSome, OnOk};
 ghost use Rattle.audit_model.specs.Below.{map_below};
@@ -13,8 +13,8 @@ use audit_model::fault::CkptFault;
 use audit_model::memory::Memory;
 use std::alloc::Global;
 
-/// A decoded checkpoint: the version of its format, the digest of its job, its generation, and outcomes by rising id.
-/// In the first version all histograms are 0.
+/// A decoded checkpoint: the version of its format, the digest of its job, its generation, and its outcomes by rising
+/// id. In the first version all histograms are 0.
 #[derive(Drop)]
 pub struct Checkpoint {
     pub version: u32,
@@ -27,13 +27,16 @@ pub struct Checkpoint {
 ///
 /// # Errors
 ///
-/// - `TooShort`: there are fewer bytes than in a checkpoint without outcomes.
-/// - `BadMagic`, `BadVersion`, `BadGeneration`: the bytes do not begin as a checkpoint of either version, or the
-///   generation is above 2.
-/// - `BadCount`: there are too many outcomes, or the number of bytes does not fit the number of outcomes.
-/// - `BadOrder`: the id at this place is not above the one before. The place is the least such.
-/// - `BadDigest`: the last 32 bytes are not the digest of those before them.
-/// - `Memory`: the bytes are a checkpoint, but its outcomes do not fit into memory.
+/// The first of these faults, in this order:
+///
+/// - `TooShort`: there are fewer than 84 bytes, the size of a checkpoint without outcomes.
+/// - `BadMagic`: the bytes do not begin with the format's name.
+/// - `BadVersion`: the version is neither 1 nor 2.
+/// - `BadGeneration`: the generation is above 2.
+/// - `BadCount`: there are more than 100,000 outcomes, or their number does not fit the number of bytes.
+/// - `BadOrder`: the ids do not rise. It gives the index of the first outcome whose id is not above the id before it.
+/// - `BadDigest`: the last 32 bytes are not the SHA-256 of all bytes before them.
+/// - `Memory`: the bytes are a checkpoint, but there is no memory for its outcomes.
 pub fn decode(alloc: Global, bytes: &[u8]) -> Result<Checkpoint, CkptFault>
     ensures ok { IfOk result (λ c. IsCheckpoint bytes.now c.version c.digest c.generation c.outcomes.items) }
     ensures faultless { OnOk result (checkpoint_fault bytes.now ≡ None) }

@@ -1,4 +1,7 @@
-//! The job digest.
+//! The digest of a job.
+//!
+//! The hashed bytes have one of five forms, each with its own name at the front. A later form was added with each group
+//! of features, so that jobs without these features keep their digests.
 
 ghost use Rattle.std.specs.Prelude.{◌≡◌, ◌<◌, ◌≤◌, flat_map, length, true};
 ghost use Rattle.std.specs.Int.{w32, w64, to_be_bytes};
@@ -33,7 +36,7 @@ pub fn job_digest(job: &Job) -> [u8; 32]
     hasher.finalize()
 }
 
-/// Hashes the name of the format: the fifth if edges have lengths, else the one for the rules.
+/// Hashes the name of the form: the fifth if edges have lengths, else the one that the rules need.
 fn hash_first(hasher: &mut Sha256, lengths: &[u32], rules: &Rules)
     ensures { Hashes hasher.old hasher.new (first_bytes (has_lengths lengths.now) rules.now) }
 {
@@ -51,7 +54,7 @@ fn has_lengths(lengths: &[u32]) -> bool
     !lengths.is_empty()
 }
 
-/// Hashes the name of the format for these rules.
+/// Hashes the name of the form that the rules need.
 fn hash_name_of(hasher: &mut Sha256, rules: &Rules)
     ensures { Hashes hasher.old hasher.new (digest_name (has_rules rules.now) (has_further_rules rules.now) (has_newer_rules rules.now)) }
 {
@@ -63,21 +66,23 @@ fn hash_name_of(hasher: &mut Sha256, rules: &Rules)
     );
 }
 
-/// Returns true if the rules limit the cut edges or have regions, a group or frozen units.
+/// Returns true if the rules limit the cut edges, or have regions, a group or frozen units. The digest then needs at
+/// least its second form.
 fn has_rules(rules: &Rules) -> bool
     ensures { result ≡ has_rules rules.now }
 {
     rules.max_cut < 400_000 || rules.regions.len() != 0 || has_group(rules) || has_frozen(rules)
 }
 
-/// Returns true if the rules limit splits in all or split regions, or have a group. The digest then has its third form.
+/// Returns true if the rules limit splits in all or split regions, or have a group. The digest then needs at least its
+/// third form.
 fn has_further_rules(rules: &Rules) -> bool
     ensures { result ≡ has_further_rules rules.now }
 {
     limits_splits(rules) || has_group(rules)
 }
 
-/// Returns true if there are regions and the splits in all or the split regions are limited.
+/// Returns true if there are regions, and the splits in all or the split regions are limited.
 fn limits_splits(rules: &Rules) -> bool
     ensures { result ≡ limits_splits rules.now }
 {
@@ -90,7 +95,7 @@ fn has_group(rules: &Rules) -> bool
     rules.group.members.len() != 0
 }
 
-/// Returns true if there is a group and the share for its majority is not one half.
+/// Returns true if there is a group, and the share above which it has a majority is not one half.
 fn has_share(rules: &Rules) -> bool
     ensures { result ≡ has_share rules.now }
 {
@@ -104,16 +109,16 @@ fn has_frozen(rules: &Rules) -> bool
     rules.frozen.len() != 0
 }
 
-/// Returns true if a group's share is not one half, or if there is a column of frozen units. The
-/// digest then has its fourth form.
+/// Returns true if the rules have a group with a share that is not one half, or a column of frozen units. The digest
+/// then needs at least its fourth form.
 fn has_newer_rules(rules: &Rules) -> bool
     ensures { result ≡ has_newer_rules rules.now }
 {
     has_share(rules) || has_frozen(rules)
 }
 
-/// Hashes the name of the format: the second with limits, the third with further rules, the fourth
-/// with newer rules, else the first.
+/// Hashes the name of the form. The arguments are the results of `has_rules`, `has_further_rules` and
+/// `has_newer_rules`.
 fn hash_name(hasher: &mut Sha256, limited: bool, further: bool, newer: bool)
     ensures { Hashes hasher.old hasher.new (digest_name limited further newer) }
 {
@@ -128,6 +133,7 @@ fn hash_name(hasher: &mut Sha256, limited: bool, further: bool, newer: bool)
     }
 }
 
+/// Hashes the numbers of units, edges and districts.
 fn hash_counts(hasher: &mut Sha256, job: &Job)
     ensures bytes { Hashes hasher.old hasher.new (counts_bytes job.now.graph.units (count_edges job.now.graph (λ u v. true)) job.now.districts) }
     ensures sound { IsJob job.now }
@@ -137,7 +143,7 @@ fn hash_counts(hasher: &mut Sha256, job: &Job)
     hash_u32(hasher, job.districts());
 }
 
-/// Hashes each edge, its smaller end first.
+/// Hashes the two units of each edge, the smaller unit first.
 fn hash_edges(hasher: &mut Sha256, graph: &Graph)
     ensures { Hashes hasher.old hasher.new (edge_bytes graph.now) }
 {
@@ -146,6 +152,7 @@ fn hash_edges(hasher: &mut Sha256, graph: &Graph)
     }
 }
 
+/// Hashes the edges from a unit to its greater neighbors.
 fn hash_edges_from(hasher: &mut Sha256, graph: &Graph, unit: u32)
     requires unit { unit < graph.now.units }
     requires sound { IsGraph graph.now }
@@ -159,7 +166,7 @@ fn hash_edges_from(hasher: &mut Sha256, graph: &Graph, unit: u32)
     }
 }
 
-/// Hashes the counts of each unit and its district in the start plan.
+/// Hashes the population, the votes and the start plan's district of each unit.
 fn hash_units(hasher: &mut Sha256, job: &Job)
     ensures { Hashes hasher.old hasher.new (flat_map (unit_bytes job.now) (map_below job.now.graph.units (λ u. u))) }
 {
@@ -179,7 +186,7 @@ fn hash_unit(hasher: &mut Sha256, job: &Job, unit: usize)
     hash_u32(hasher, job.start().as_slice()[unit]);
 }
 
-/// Hashes the parts of the setting that outcomes depend on.
+/// Hashes the values of the setting on which outcomes depend.
 fn hash_setting(hasher: &mut Sha256, setting: &Setting)
     requires { length setting.now.asks ≤ 4 }
     ensures { Hashes hasher.old hasher.new (setting_bytes setting.now) }
@@ -194,7 +201,7 @@ fn hash_setting(hasher: &mut Sha256, setting: &Setting)
     hash_asks(hasher, setting.asks.as_slice());
 }
 
-/// Hashes the limits of the rules, if there are any.
+/// Hashes the rules, if there are any beyond population and contiguity.
 fn hash_rules(hasher: &mut Sha256, limited: bool, units: u32, rules: &Rules)
     requires group { IsGroup units rules.now.group }
     ensures { Hashes hasher.old hasher.new (rule_bytes limited units rules.now) }
@@ -209,7 +216,7 @@ fn hash_rules(hasher: &mut Sha256, limited: bool, units: u32, rules: &Rules)
     }
 }
 
-/// Hashes the limit on split regions and the region of each unit, if there are regions.
+/// Hashes the limit on the districts of one region, and the region of each unit, if there are regions.
 fn hash_regions(hasher: &mut Sha256, max_split: u32, regions: &[u32])
     ensures { Hashes hasher.old hasher.new (region_bytes max_split regions.now) }
 {
@@ -219,7 +226,7 @@ fn hash_regions(hasher: &mut Sha256, max_split: u32, regions: &[u32])
     }
 }
 
-/// Hashes the limits on splits in all and on split regions, if one is set.
+/// Hashes the limits on splits in all and on split regions, if one of them is set.
 fn hash_splits(hasher: &mut Sha256, rules: &Rules)
     ensures { Hashes hasher.old hasher.new (split_bytes rules.now) }
 {
@@ -229,7 +236,7 @@ fn hash_splits(hasher: &mut Sha256, rules: &Rules)
     }
 }
 
-/// Hashes the required number of majority districts and the group, if there is a group.
+/// Hashes the required number of districts with a majority, and the group, if there is a group.
 fn hash_group(hasher: &mut Sha256, units: u32, rules: &Rules)
     requires { IsGroup units rules.now.group }
     ensures { Hashes hasher.old hasher.new (group_bytes units rules.now) }
@@ -240,7 +247,7 @@ fn hash_group(hasher: &mut Sha256, units: u32, rules: &Rules)
     }
 }
 
-/// Hashes the group's members and its base population in each unit.
+/// Hashes the group's size and its base population in each unit.
 fn hash_members(hasher: &mut Sha256, units: u32, group: &Group)
     requires members { length group.now.members ≡ units }
     requires whole { length group.now.whole ≡ units }
@@ -252,7 +259,8 @@ fn hash_members(hasher: &mut Sha256, units: u32, group: &Group)
     }
 }
 
-/// Hashes the share for a group's majority if there is a group and the share is not one half.
+/// Hashes a tag and the share above which the group has a majority, if there is a group and the share is
+/// not one half.
 fn hash_share(hasher: &mut Sha256, rules: &Rules)
     ensures { Hashes hasher.old hasher.new (share_bytes rules.now) }
 {
@@ -262,7 +270,7 @@ fn hash_share(hasher: &mut Sha256, rules: &Rules)
     }
 }
 
-/// Hashes the flag of each unit if there is a column of frozen units.
+/// Hashes the flag of each unit, if there is a column of frozen units.
 fn hash_frozen(hasher: &mut Sha256, rules: &Rules)
     ensures { Hashes hasher.old hasher.new (frozen_bytes rules.now) }
 {
@@ -272,7 +280,7 @@ fn hash_frozen(hasher: &mut Sha256, rules: &Rules)
     }
 }
 
-/// Hashes the limit on the length of the cut edges and the lengths, if edges have them.
+/// Hashes the limit on the total length of cut edges, and the lengths, if edges have lengths.
 fn hash_lengths(hasher: &mut Sha256, max_length: u64, lengths: &[u32])
     ensures { Hashes hasher.old hasher.new (length_bytes max_length lengths.now) }
 {
@@ -290,7 +298,7 @@ fn hash_tag(hasher: &mut Sha256, tag: &str)
     hasher.update(tag);
 }
 
-/// Hashes numbers of four bytes each.
+/// Hashes numbers as four bytes each, big-endian.
 fn hash_numbers(hasher: &mut Sha256, numbers: &[u32])
     ensures { Hashes hasher.old hasher.new (flat_map (to_be_bytes w32) numbers.now) }
 {

@@ -15,11 +15,10 @@ use audit_model::buffers::Bytes;
 use audit_model::outcome::Outcome;
 use sha2::{Digest, Sha256};
 
-/// The bytes with which each checkpoint begins.
+/// The format's name, with which each checkpoint begins.
 pub(crate) const MAGIC: [u8; 8] = *b"DISTCKPT";
 
-/// Fills `out` with the checkpoint of a digest, a generation and outcomes, in the second version of the format.
-/// Allocates nothing.
+/// Fills `out` with the checkpoint of these outcomes, in the second version of the format. Allocates nothing.
 pub fn encode(digest: &[u8; 32], generation: u8, outcomes: &[Outcome], out: &mut Bytes)
     requires generation { generation < 3 }
     requires few { length outcomes.now ≤ most_trajectories }
@@ -33,7 +32,8 @@ pub fn encode(digest: &[u8; 32], generation: u8, outcomes: &[Outcome], out: &mut
     encode_with(digest, generation, outcomes, out, None);
 }
 
-/// Encodes as `encode` does, and continues a digest that was started ahead.
+/// Fills `out` as `encode` does. With `ahead`, the checkpoint's digest is finished from the hash that `ahead` has
+/// begun, which saves time if the prediction was right.
 pub fn encode_with(
     digest: &[u8; 32],
     generation: u8,
@@ -53,8 +53,8 @@ pub fn encode_with(
     encode_as(2, digest, generation, outcomes, out, ahead);
 }
 
-/// Fills `out` with the checkpoint of a digest, a generation and outcomes without histograms, in the first version of
-/// the format. Allocates nothing.
+/// Fills `out` with the checkpoint of these outcomes, which have no histograms, in the first version of the format.
+/// Allocates nothing.
 pub fn encode_old(digest: &[u8; 32], generation: u8, outcomes: &[Outcome], out: &mut Bytes)
     requires generation { generation < 3 }
     requires few { length outcomes.now ≤ most_trajectories }
@@ -69,7 +69,7 @@ pub fn encode_old(digest: &[u8; 32], generation: u8, outcomes: &[Outcome], out: 
     encode_as(1, digest, generation, outcomes, out, None);
 }
 
-/// Fills `out` with a checkpoint of this version. Only the second version has histograms.
+/// Fills `out` with a checkpoint in this version of the format. Only the second version stores histograms.
 fn encode_as(
     version: u32,
     digest: &[u8; 32],
@@ -94,7 +94,8 @@ fn encode_as(
     append_digest(out, ahead);
 }
 
-/// Appends the head, which stands before the outcomes.
+/// Appends the head of a checkpoint, which comes before the outcomes: name, version, digest of the job, generation, and
+/// number of outcomes.
 pub(crate) fn append_head(
     out: &mut Bytes,
     version: u32,
@@ -124,7 +125,7 @@ fn append_outcomes(out: &mut Bytes, version: u32, outcomes: &[Outcome])
     }
 }
 
-/// Appends an outcome: its id, its moves, its values, and its histogram if the version has one.
+/// Appends an outcome: its id, moves and values, and its histogram in the second version of the format.
 pub(crate) fn append_outcome(out: &mut Bytes, with_histogram: bool, outcome: &Outcome)
     requires { size_by with_histogram ≤ out.old.spare }
     ensures bytes { AppendsBytes out.old out.new (bytes_by with_histogram outcome.now) }
@@ -188,6 +189,7 @@ fn append_i64(piece: &mut OutcomeBytes, number: i64)
     piece.append(&number.to_be_bytes());
 }
 
+/// Appends the SHA-256 of all bytes so far.
 fn append_digest(out: &mut Bytes, ahead: Option<&mut Ahead>)
     requires { 32 ≤ out.old.spare }
     ensures { AppendsBytes out.old out.new (sha256 out.old.items) }

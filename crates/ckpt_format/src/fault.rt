@@ -10,7 +10,7 @@ use crate::places::{COUNT, GENERATION, VERSION, array_at, outcome_size, outcome_
 use audit_model::fault::CkptFault;
 use sha2::{Digest, Sha256};
 
-/// Returns the first reason that the bytes are no checkpoint, if there is one. Allocates nothing.
+/// Returns the first fault of the bytes, or `None` if they are a checkpoint. Allocates nothing.
 pub(crate) fn fault_of(bytes: &[u8]) -> Option<CkptFault>
     ensures { result ≡ checkpoint_fault bytes.now }
 {
@@ -26,7 +26,7 @@ pub(crate) fn fault_of(bytes: &[u8]) -> Option<CkptFault>
     }
 }
 
-/// Returns the first fault of the head, which stands before the outcomes.
+/// Returns the first fault of the head, which comes before the outcomes.
 fn head_fault(bytes: &[u8]) -> Option<CkptFault>
     requires { empty_length ≤ length bytes.now }
     ensures { result ≡ head_fault bytes.now }
@@ -45,7 +45,8 @@ fn head_fault(bytes: &[u8]) -> Option<CkptFault>
     count_fault(version, u32_at(bytes, COUNT), bytes.len() as u64)
 }
 
-/// Returns a fault if this number of outcomes is too large or does not fit this number of bytes.
+/// Returns `BadCount` if there are more than 100,000 outcomes, or if their number does not fit the
+/// number of bytes.
 fn count_fault(version: u32, count: u32, length: u64) -> Option<CkptFault>
     ensures { result ≡ outcome_count_fault version count length }
 {
@@ -63,7 +64,7 @@ fn order_fault(bytes: &[u8], count: u32) -> Option<CkptFault>
     first_unordered(bytes, count).map(CkptFault::BadOrder)
 }
 
-/// Returns the least place whose id is not above the one before it.
+/// Returns the index of the first outcome whose id is not above the id before it.
 fn first_unordered(bytes: &[u8], count: u32) -> Option<u32>
     requires { outcome_start bytes.now count ≤ length bytes.now }
     ensures { result ≡ first_below count (is_unordered bytes.now) }
@@ -83,7 +84,7 @@ fn id_at(bytes: &[u8], place: u32) -> u32
     u32_at(bytes, outcome_start(bytes, place))
 }
 
-/// Returns a fault if the last 32 bytes are not the digest of those before them.
+/// Returns `BadDigest` if the last 32 bytes are not the SHA-256 of all bytes before them.
 fn digest_fault(bytes: &[u8]) -> Option<CkptFault>
     requires { 32 ≤ length bytes.now }
     ensures { result ≡ digest_fault bytes.now }

@@ -1,4 +1,4 @@
-//! Laws of checkpoints, each the contract of an empty function.
+//! Laws of checkpoints. Each law is the contract of a function with an empty body.
 
 ghost use Rattle.ckpt_format.specs.Laws.{FaultlessAreCheckpoints, CheckpointsAreRead, CheckpointsAreDetermined, CheckpointsHaveLength, RisingPairsRise};
 
@@ -7,23 +7,23 @@ pub fn faultless_bytes_are_checkpoints()
     ensures { FaultlessAreCheckpoints }
 {}
 
-/// Shows that `decode` reads what `encode` or `encode_old` wrote: each part of a checkpoint stands at its place.
+/// Shows that decoding inverts encoding: each part of a checkpoint is read from the offset at which it was written.
 pub fn checkpoints_are_read()
     ensures { CheckpointsAreRead }
 {}
 
-/// Shows that bytes are the checkpoint of one version, one digest, one generation and one list of outcomes.
+/// Shows that the bytes of a checkpoint determine its version, digest, generation and outcomes.
 pub fn checkpoints_are_determined()
     ensures { CheckpointsAreDetermined }
 {}
 
-/// Shows that a checkpoint has 84 bytes, and 44 more for each outcome in the first version or 80 in the second. The
-/// most is 8,000,084.
+/// Shows the size of a checkpoint: 84 bytes, and for each outcome 44 bytes in the first version or 80 in the second.
+/// The largest has 8,000,084 bytes.
 pub fn checkpoints_have_a_length()
     ensures { CheckpointsHaveLength }
 {}
 
-/// Shows that outcomes each with a smaller id than all later ones have rising ids, as `encode` requires.
+/// Shows that ids rise in the sense of `encode` if each id is smaller than all later ones.
 pub fn rising_pairs_rise()
     ensures { RisingPairsRise }
 {}

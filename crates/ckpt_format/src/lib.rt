@@ -1,4 +1,4 @@
-//! The bytes of a checkpoint, and the digests of a job and of its origin.
+//! The format of checkpoints, and the digests of a job and of its origin.
 #![tactic(auto)]
 
 pub mod ahead;

@@ -7,8 +7,8 @@ use audit_model::origin::Origin;
 use audit_model::setting::Setting;
 use sha2::{Digest, Sha256};
 
-/// Returns the SHA-256 and the number of the bytes if the setting has `source`, else `None` without hashing. Allocates
-/// nothing.
+/// Returns the SHA-256 and the number of the bytes if the setting asks for the origin. Otherwise returns `None` and
+/// hashes nothing. Allocates nothing.
 pub fn origin_of(setting: &Setting, bytes: &[u8]) -> Option<Origin>
     ensures { result ≡ definition.origin_of setting.now bytes.now }
 {

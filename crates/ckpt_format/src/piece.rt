@@ -1,11 +1,12 @@
-//! A small buffer for the fields of one outcome, so that they are appended in one call.
+//! A small buffer that collects the fields of an outcome or of a head. The fields are then appended
+//! to the checkpoint in one call.
 
 ghost use Rattle.std.specs.Prelude.{◌≡◌, ◌≤◌, [], length};
 ghost use Rattle.ckpt_format.specs.Written.{AppendsBytes};
 
 use std::marker::Model;
 
-/// A buffer of up to 80 bytes, the size of the largest outcome.
+/// A buffer of up to 80 bytes, the size of an outcome in the second version of the format.
 #[derive(Drop)]
 pub(crate) struct OutcomeBytes {
     bytes: [u8; 80],
@@ -42,7 +43,7 @@ impl OutcomeBytes {
         &self.bytes[..self.len]
     }
 
-    /// Appends bytes within the capacity.
+    /// Appends bytes, for which there must be capacity.
     pub fn append(&mut self, bytes: &[u8])
         requires { length bytes.now ≤ self.old.spare }
         ensures { AppendsBytes self.old self.new bytes.now }

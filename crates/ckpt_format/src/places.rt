@@ -1,4 +1,5 @@
-//! Offsets and fields of a checkpoint's bytes.
+//! The offsets of a checkpoint's fields, and reading a field at an offset. All numbers are
+//! big-endian.
 
 ghost use Rattle.std.specs.Prelude.{◌≡◌, ◌+◌, ◌*◌, ◌≤◌, IsTrue, length, slice_range};
 ghost use Rattle.std.specs.Int.{w32, w64, cast_signed};
@@ -8,7 +9,7 @@ ghost use Rattle.audit_statement.specs.Slots.{histogram_at, outcome_at, outcome_
 
 use audit_model::outcome::Outcome;
 
-/// The offset of the version, behind the format's name.
+/// The offset of the version. The format's name comes before it.
 pub(crate) const VERSION: usize = 8;
 
 /// The offset of the job's digest.
@@ -33,7 +34,7 @@ pub(crate) fn array_at<const N: usize>(bytes: &[u8], at: usize) -> [u8; N]
     part
 }
 
-/// Returns the big-endian number of four bytes at an offset.
+/// Returns the number in the four bytes at an offset.
 pub(crate) fn u32_at(bytes: &[u8], at: usize) -> u32
     requires { at + 4 ≤ length bytes.now }
     ensures { result ≡ number_at w32 at bytes.now }
@@ -41,7 +42,7 @@ pub(crate) fn u32_at(bytes: &[u8], at: usize) -> u32
     u32::from_be_bytes(array_at(bytes, at))
 }
 
-/// Returns the number of bytes of an outcome in a version of the format.
+/// Returns the number of bytes of an outcome, by the version of the format.
 pub(crate) fn outcome_size(version: u32) -> usize
     ensures value { result ≡ outcome_size version }
     ensures few { result ≤ 80 }
@@ -49,7 +50,7 @@ pub(crate) fn outcome_size(version: u32) -> usize
     if version == 2 { 80 } else { 44 }
 }
 
-/// Returns the offset of the outcome at a place.
+/// Returns the offset of the outcome with this index.
 pub(crate) fn outcome_start(bytes: &[u8], place: u32) -> usize
     requires { digest_place ≤ length bytes.now }
     ensures { result ≡ outcome_start bytes.now place }
@@ -57,7 +58,7 @@ pub(crate) fn outcome_start(bytes: &[u8], place: u32) -> usize
     OUTCOMES + outcome_size(u32_at(bytes, VERSION)) * place as usize
 }
 
-/// Returns the outcome at a place of a checkpoint, counted from 0.
+/// Returns the outcome with this index, counted from 0.
 pub(crate) fn outcome_in(bytes: &[u8], place: u32) -> Outcome
     requires { outcome_start bytes.now (place + 1) ≤ length bytes.now }
     ensures { result ≡ outcome_in bytes.now place }
@@ -65,7 +66,7 @@ pub(crate) fn outcome_in(bytes: &[u8], place: u32) -> Outcome
     outcome_at(bytes, outcome_start(bytes, place))
 }
 
-/// Returns the big-endian number of eight bytes at an offset.
+/// Returns the number in the eight bytes at an offset.
 fn u64_at(bytes: &[u8], at: usize) -> u64
     requires { at + 8 ≤ length bytes.now }
     ensures { result ≡ number_at w64 at bytes.now }
@@ -73,7 +74,7 @@ fn u64_at(bytes: &[u8], at: usize) -> u64
     u64::from_be_bytes(array_at(bytes, at))
 }
 
-/// Returns the number of eight bytes at an offset, in two's complement.
+/// Returns the signed number in the eight bytes at an offset, in two's complement.
 fn i64_at(bytes: &[u8], at: usize) -> i64
     requires { at + 8 ≤ length bytes.now }
     ensures { result ≡ cast_signed w64 (number_at w64 at bytes.now) }
@@ -99,7 +100,7 @@ fn outcome_at(bytes: &[u8], at: usize) -> Outcome
     }
 }
 
-/// Returns the histogram at an offset, or zeros if the version has none.
+/// Returns the histogram at an offset, or zeros if there is none.
 fn histogram_of(bytes: &[u8], present: bool, at: usize) -> [u32; 9]
     requires { IsTrue present → at + 36 ≤ length bytes.now }
     ensures { result ≡ histogram_at present bytes.now at }
@@ -111,7 +112,7 @@ fn histogram_of(bytes: &[u8], present: bool, at: usize) -> [u32; 9]
     }
 }
 
-/// Returns the nine numbers of four bytes at an offset.
+/// Returns the nine numbers of four bytes each at an offset.
 fn histogram_at(bytes: &[u8], at: usize) -> [u32; 9]
     requires { at + 36 ≤ length bytes.now }
     ensures { result ≡ map_below 9 (λ k. number_at w32 (at + 4 * k) bytes.now) }
