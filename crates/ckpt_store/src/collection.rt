@@ -1,4 +1,6 @@
-//! The union of several folders' outcomes, and the outcomes that each folder added.
+//! The union of several folders' outcomes for a job, and the outcomes that each folder added.
+//!
+//! Folders are numbered in the order in which they are added: 0 is the working folder.
 
 ghost use Rattle.std.specs.Prelude.{◌≡◌, ◌++◌, ◌∷◌, [], ◌<◌, ◌≤◌, ℕ, IfErr, IfNone, IfOk, IfSome, OnOk, count_by, get_or, length, map, not};
 ghost use Rattle.audit_model.specs.Limits.{most_trajectories};
@@ -23,7 +25,8 @@ use plan_core::job::Job;
 use std::alloc::Global;
 use std::marker::Model;
 
-/// The union of several folders' outcomes for a job, and the outcomes that each folder added.
+/// The union of several folders' outcomes for a job, and the list of outcomes that each folder added. The list of a
+/// folder that added nothing is empty.
 #[derive(Drop)]
 pub struct Collection {
     gathering: Gathering,
@@ -40,7 +43,8 @@ impl Model for Collection {
 }
 
 impl Collection {
-    /// Makes an empty collection, with capacity for one outcome of each id below `total`.
+    /// Makes a collection of no folders, with capacity for an outcome of each id below `total`. Fails if there is no
+    /// memory.
     pub fn with_room(alloc: Global, total: u32) -> Result<Collection, Memory>
         requires { total ≤ most_trajectories }
         ensures { IfOk result (λ c. c ≡ no_collected total) }
@@ -52,7 +56,8 @@ impl Collection {
         })
     }
 
-    /// Adds the outcomes of the next folder, unless they differ, and returns the finding.
+    /// Adds the next folder and returns the finding in it. `given` is the content of the folder, and `beside` is true
+    /// if one of its slots is broken. If an outcome contradicts the union, the folder adds nothing.
     ///
     /// # Errors
     ///
@@ -88,7 +93,7 @@ impl Collection {
         }
     }
 
-    /// Records that the next folder adds nothing.
+    /// Records that the next folder adds nothing. Fails if there is no memory.
     pub fn pass_over(&mut self, alloc: Global) -> Result<(), Memory>
         requires covered { IsCovered self.old }
         ensures covered { OnOk result (IsCovered self.new) }
@@ -97,7 +102,7 @@ impl Collection {
         self.lists.push(OutcomeList::new(alloc))
     }
 
-    /// Adds the outcomes of the next folder, unless they differ.
+    /// Adds the outcomes of the next folder. If one of them contradicts the union, the folder adds nothing.
     fn add_list(
         &mut self,
         alloc: Global,
@@ -126,7 +131,8 @@ impl Collection {
         }
     }
 
-    /// Returns the number of the first folder that has another outcome for the least id that differs.
+    /// Returns the number of the first folder whose outcome for `id` contradicts the one in `found`. `id` is the least
+    /// id at which `found` contradicts the union.
     fn other_of(&self, job: &Job, found: &[Outcome], id: u32) -> usize
         requires fit { AreFit job.now found.now }
         requires covered { IsCovered self.now }
@@ -136,15 +142,15 @@ impl Collection {
         match outcome_with(found, id) {
             Some(outcome) => match first_other(self.lists.as_slice(), &outcome) {
                 Some(number) => number,
-                // Unreachable: an outcome that differs from the union differs from a folder.
+                // Unreachable: an outcome that contradicts the union contradicts an outcome of some folder.
                 None => 0,
             },
-            // Unreachable: an outcome with this id exists.
+            // Unreachable: `found` has an outcome with this id.
             None => 0,
         }
     }
 
-    /// Copies the union by rising id. The only error is out of memory.
+    /// Copies the union by rising id. Fails if there is no memory.
     pub fn to_list(&self, alloc: Global) -> Result<OutcomeList, Memory>
         ensures items { IfOk result (λ l. l.items ≡ self.now.outcomes) }
         ensures rising { IfOk result (λ l. AreById l.items) }
@@ -154,7 +160,7 @@ impl Collection {
     }
 }
 
-// Returns the number of the first list that has another outcome for the same id.
+// Returns the number of the first list with an outcome that contradicts this one.
 fn first_other(lists: &[OutcomeList], outcome: &Outcome) -> Option<usize>
     ensures some { IfSome result (λ number. IsFirstOther (map (λ l. l.items) lists.now) outcome.now number) }
     ensures none { IfNone result ((k : ℕ) → k < length lists.now → AgreesWith (get_or (map (λ l. l.items) lists.now) k []) outcome.now) }

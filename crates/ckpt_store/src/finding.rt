@@ -1,4 +1,4 @@
-//! The finding in a folder, while outcomes are gathered.
+//! The finding in a folder whose outcomes are gathered.
 
 ghost use Rattle.std.specs.Prelude.{◌≡◌, IfOk};
 ghost use Rattle.audit_model.specs.Run.{total};
@@ -14,20 +14,20 @@ use audit_model::memory::Memory;
 use plan_core::job::Job;
 use std::alloc::Global;
 
-/// The finding in a folder.
+/// The finding in a folder: its outcomes were added, or the reason why not.
 #[derive(Clone, Copy, Debug, PartialEq, Eq)]
 pub enum Finding {
-    /// The folder's `count` outcomes were added. Of these, `new` have ids that no earlier folder had. `beside` is true
-    /// if the other slot is broken.
+    /// The folder's `count` outcomes were added. Of their ids, `new` were in no earlier folder. `beside` is true if the
+    /// folder's other slot is broken.
     Added { count: u32, new: u32, beside: bool },
-    /// There is no checkpoint.
+    /// Both slots are empty.
     Nothing,
     /// The newest checkpoint is another job's.
     OtherJob,
     /// No slot is valid, and at least one is not empty.
     Damaged,
-    /// The outcome of this id differs from that of an earlier folder, and no lower id differs. `other` is the number of
-    /// the first such folder: 0 for the working folder, and from 1 for those after it.
+    /// An outcome contradicts that of an earlier folder. `id` is the least id for which this is so, and `other` the
+    /// number of the first such folder: 0 for the working folder, and from 1 for those after it.
     Differs { id: u32, other: usize },
     /// A slot could not be loaded.
     Unread,
@@ -51,7 +51,7 @@ impl Finding {
         }
     }
 
-    /// Returns true if the folder's outcomes were added or it had no checkpoint.
+    /// Returns true if the folder's outcomes were added, or if both slots of the folder are empty.
     pub fn is_start(&self) -> bool
         ensures { result ≡ is_start self.now }
     {
@@ -66,8 +66,8 @@ impl Finding {
     }
 }
 
-/// Looks at the slots of a folder, and adds the outcomes of the newest slot unless an earlier folder has another
-/// outcome for one of their ids.
+/// Looks at the slots of the next folder, and adds the outcomes of the newest slot to the collection. If one of them
+/// contradicts an earlier folder's outcome, nothing is added.
 ///
 /// # Errors
 ///

@@ -1,4 +1,5 @@
-//! The test of whether outcomes are plausible for a job.
+//! The test whether outcomes are plausible for a job. An outcome is plausible if nothing in its
+//! numbers shows that it is not the job's.
 
 ghost use Rattle.std.specs.Prelude.{◌≡◌, ◌+◌, ◌≤◌, ◌&&◌, ◌||◌, not, nat_lt, nat_le, pos, int_le, drop, length, sum};
 ghost use Rattle.std.specs.List.{list_all};
@@ -13,7 +14,7 @@ ghost use Rattle.audit_model.specs.Limits.{most_trajectories};
 use audit_model::outcome::Outcome;
 use plan_core::job::Job;
 
-/// Returns the least place of an outcome that is not plausible for the job.
+/// Returns the index of the first outcome that is not plausible for the job.
 pub(crate) fn first_unfit(job: &Job, outcomes: &[Outcome]) -> Option<u32>
     requires { length outcomes.now ≤ most_trajectories }
     ensures { result ≡ first_below (length outcomes.now) (is_unfit job.now outcomes.now) }
@@ -36,7 +37,8 @@ fn fits(job: &Job, outcome: &Outcome) -> bool
         && has_fitting_histogram(job, outcome)
 }
 
-/// Returns true if the job has the id, and the moves do not exceed the steps of its trajectory.
+/// Returns true if the id is one of the job's, and there are no more moves than steps in the id's
+/// trajectory.
 fn is_within(job: &Job, outcome: &Outcome) -> bool
     ensures { result ≡ (nat_lt outcome.now.id (total job.now)
         && nat_le outcome.now.moved (steps_of (nat_lt outcome.now.id job.now.setting.walks) job.now)) }
@@ -45,7 +47,7 @@ fn is_within(job: &Job, outcome: &Outcome) -> bool
     outcome.id < job.total() && outcome.moved <= u64::from(steps)
 }
 
-/// Returns the number of steps of a walk, or of an endpoint trajectory.
+/// Returns the number of steps of a walk or of an endpoint trajectory.
 fn steps_of(job: &Job, is_walk: bool) -> u32
     ensures { result ≡ steps_of is_walk job.now }
 {
@@ -56,8 +58,8 @@ fn steps_of(job: &Job, is_walk: bool) -> u32
     }
 }
 
-/// Returns true if all values but the first `asks` are 0. An outcome has four values: one for each
-/// ask (a score and its tail), followed by zeros.
+/// Returns true if the values that belong to no ask are 0. An outcome has four values: one for each
+/// ask of the job, then zeros.
 fn ends_in_zeros(job: &Job, outcome: &Outcome) -> bool
     ensures { result ≡ list_all (λ v. int_eq v (pos 0)) (drop (length job.now.setting.asks) outcome.now.values) }
 {
@@ -65,6 +67,7 @@ fn ends_in_zeros(job: &Job, outcome: &Outcome) -> bool
     are_zeros(&outcome.values[asks..])
 }
 
+/// Returns the number of the job's asks, at most four.
 fn asks_of(job: &Job) -> usize
     ensures asks { result ≡ length job.now.setting.asks }
     ensures few { result ≤ 4 }
@@ -78,8 +81,9 @@ fn are_zeros(values: &[i64]) -> bool
     values.iter().all(|value| *value == 0)
 }
 
-/// Returns true if the outcome is not a walk's, or if each of its values is from 1 to the number of
-/// plans that the walk visits.
+/// Returns true for a walk whose values are from 1 to the number of plans that it visits. The
+/// values count visits, and the visit at the start plan always counts. Returns true for each
+/// endpoint trajectory: its values are scores.
 fn counts_visits(job: &Job, outcome: &Outcome) -> bool
     ensures { result ≡ (not (nat_lt outcome.now.id job.now.setting.walks) || all_below (length job.now.setting.asks)
         (λ k. int_le (pos 1) (value_at outcome.now k) && int_le (value_at outcome.now k) (pos (job.now.setting.steps + 1)))) }
@@ -89,7 +93,8 @@ fn counts_visits(job: &Job, outcome: &Outcome) -> bool
     outcome.id >= setting.walks || are_visits(&outcome.values[..asks], setting.steps)
 }
 
-/// Returns true if each value is from 1 to the number of visits.
+/// Returns true if each value is from 1 to `steps + 1`, the number of plans that a walk of `steps`
+/// steps visits.
 fn are_visits(values: &[i64], steps: u32) -> bool
     ensures { result ≡ list_all (λ v. int_le (pos 1) v && int_le v (pos (steps + 1))) values.now }
 {
@@ -102,8 +107,8 @@ fn is_visit(value: i64, steps: u32) -> bool
     1 <= value && value <= i64::from(steps) + 1
 }
 
-/// Returns true if the histogram is all 0, or if the outcome is a walk's and the histogram adds up
-/// to the number of plans that the walk visits.
+/// Returns true if there is no histogram, or if a walk's histogram adds up to the number of plans
+/// that the walk visits. An endpoint trajectory has no histogram.
 fn has_fitting_histogram(job: &Job, outcome: &Outcome) -> bool
     ensures { result ≡ histogram_fits (nat_lt outcome.now.id job.now.setting.walks) job.now outcome.now }
 {

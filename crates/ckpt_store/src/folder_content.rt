@@ -1,4 +1,4 @@
-//! The outcomes of a job that a folder's slots hold.
+//! The outcomes of a job in the slots of a folder.
 
 ghost use Rattle.std.specs.Prelude.{◌≡◌, ◌||◌};
 ghost use Rattle.ckpt_store.specs.Fitting.{HasFitOutcomes};
@@ -15,7 +15,7 @@ use plan_core::job::Job;
 pub enum FolderContent {
     /// The outcomes of the newest checkpoint, which belongs to this job.
     Outcomes(OutcomeList),
-    /// There is no checkpoint.
+    /// Both slots are empty.
     Nothing,
     /// The newest checkpoint is another job's.
     OtherJob,
@@ -23,7 +23,7 @@ pub enum FolderContent {
     Damaged,
 }
 
-/// Returns the outcomes of the newest of these slots, or the reason why there are none.
+/// Returns the outcomes of the newest of two slots, or the reason why there are none.
 pub fn newest_content(job: &Job, digest: &[u8; 32], slots: Slots) -> FolderContent
     requires zero { HasFitOutcomes job.now slots.zero }
     requires one { HasFitOutcomes job.now slots.one }
@@ -38,7 +38,7 @@ pub fn newest_content(job: &Job, digest: &[u8; 32], slots: Slots) -> FolderConte
     }
 }
 
-/// Returns true if one of the slots is broken.
+/// Returns true if at least one of the slots is broken.
 pub fn has_broken(slots: &Slots) -> bool
     ensures { result ≡ (is_broken (slot_view slots.now.zero) || is_broken (slot_view slots.now.one)) }
 {

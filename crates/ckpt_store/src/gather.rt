@@ -1,4 +1,4 @@
-//! Adding a folder's outcomes, and saving the union.
+//! Adding a folder's outcomes to a union, and saving the union.
 
 ghost use Rattle.std.specs.Prelude.{◌≡◌, ◌≤◌, IfErr, IfOk, OnErr, OnOk, length, count_by, not};
 ghost use Rattle.audit_model.specs.Limits.{most_trajectories};
@@ -19,11 +19,11 @@ use outcome_book::gathering::Gathering;
 use plan_core::job::Job;
 use std::alloc::Global;
 
-/// Adds the outcomes of a folder. Returns the number of its outcomes with new ids.
+/// Adds the outcomes of a folder to the union, and returns the number of them whose ids were not in the union.
 ///
 /// # Errors
 ///
-/// The least id whose outcome differs from the gathered one. Nothing is added then.
+/// The least id whose outcome contradicts the union. In this case nothing is added.
 pub fn add(gathering: &mut Gathering, job: &Job, found: &[Outcome]) -> Result<u32, u32>
     requires total { gathering.old.total ≡ total job.now }
     requires fit { AreFit job.now found.now }
@@ -37,12 +37,12 @@ pub fn add(gathering: &mut Gathering, job: &Job, found: &[Outcome]) -> Result<u3
     gathering.merge(found)
 }
 
-/// Saves outcomes by rising id in the slot of a place.
+/// Saves outcomes, by rising id, in the slot and with the generation of `place`.
 ///
 /// # Errors
 ///
 /// - `Memory`: out of memory for the bytes. No save was attempted.
-/// - `Unsaved`: the keeper failed. The save was attempted once, and the slot of the place may hold anything.
+/// - `Unsaved`: the keeper failed. One save was attempted, and the slot may hold anything.
 pub fn save_list<C: Keeper>(
     alloc: Global,
     keeper: &mut C,

@@ -7,11 +7,11 @@ use crate::finding::Finding;
 use audit_model::lists::PlainList;
 use audit_model::memory::Memory;
 
-/// A list of findings.
+/// The findings in several folders, in their order.
 pub type FindingList = PlainList<Finding>;
 
-/// The findings in the working folder and in each other folder, the total number of outcomes, and whether they were
-/// saved.
+/// The result of a gathering: the finding in the working folder, the findings in the other folders, the number of
+/// outcomes in the union, and whether the union was saved.
 #[derive(Drop)]
 pub struct GatherResult {
     pub own: Finding,
@@ -27,9 +27,10 @@ pub enum Ungathered {
     Memory,
     /// A slot of the working folder could not be loaded. No save was attempted.
     Unread,
-    /// A slot could not be loaded because another process has locked the folder. No save was attempted.
+    /// A slot of the working folder could not be loaded because another process has locked the folder. No save was
+    /// attempted.
     Taken,
-    /// The save failed, and its slot may hold anything.
+    /// The save failed, and the slot may hold anything.
     Unsaved,
 }
 

@@ -17,7 +17,7 @@ use ckpt_format::decode::{Checkpoint, decode};
 use plan_core::job::Job;
 use std::alloc::Global;
 
-/// Decodes the bytes of a slot and returns its state for the job with this digest.
+/// Decodes the bytes of a slot, and returns the slot's state for the job with this digest.
 ///
 /// # Errors
 ///
@@ -39,7 +39,8 @@ pub fn judge_bytes(
     }
 }
 
-/// Returns a broken slot with this fault, or an error if the fault is out of memory.
+/// Returns a broken slot with this fault, or an error if the fault is out of memory: the slot's
+/// bytes may then be a checkpoint.
 fn broken_slot(fault: CkptFault) -> Result<Slot, Memory>
     ensures slot { IfOk result (λ s. s ≡ Slot.Broken fault) }
     ensures known { OnOk result (fault ≡ variant.Memory → ⊥) }
@@ -51,7 +52,8 @@ fn broken_slot(fault: CkptFault) -> Result<Slot, Memory>
     }
 }
 
-/// Returns the state of a slot with this checkpoint, for the job with this digest.
+/// Returns the state of a slot with this checkpoint, for the job with this digest. The state is
+/// `Broken` if an outcome is not plausible for the job.
 fn judge(job: &Job, digest: &[u8; 32], checkpoint: Checkpoint) -> Slot
     requires few { length checkpoint.outcomes.items ≤ most_trajectories }
     requires rising { AreRising (map (λ o. o.id) checkpoint.outcomes.items) }

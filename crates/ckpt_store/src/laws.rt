@@ -1,19 +1,19 @@
-//! Laws of a keeper's slots, each the contract of an empty function.
+//! Laws of a keeper's slots. Each law is the contract of a function with an empty body.
 
 ghost use Rattle.ckpt_store.specs.Laws.{SavesKeepTheNewest, SavesLeaveConsistentSlots, CheckpointsAreOurs, ConsistentSlotsOpenRight, RightIsConsistent, SavedSlotsAreNewest, SlotsAreWhatTheyAre, StopsLeaveConsistentSlots, WrittenSlotsAreNewest};
 
 use audit_model::laws::{consistent_runs_go_on_rightly, outcomes_without_histogram_match};
 use ckpt_format::laws::{checkpoints_are_read, faultless_bytes_are_checkpoints};
 
-/// Shows that a checkpoint belongs to the job if it has the job's digest and its outcomes are all plausible for the
-/// job.
+/// Shows that a checkpoint is judged to be the job's if it has the job's digest and each of its outcomes is plausible
+/// for the job.
 pub fn checkpoints_are_ours()
     ensures { CheckpointsAreOurs }
 {}
 
-/// Shows that a slot matches its bytes. If the state is `Ours`, the slot's bytes are a checkpoint with the job's digest
-/// and the outcomes in that state. A slot of another job is a checkpoint of another digest. The bytes of a broken slot
-/// are no checkpoint, or they are a checkpoint of the job with an outcome that is not plausible.
+/// Shows that the state of a slot matches its bytes. If the state is `Ours`, the bytes are a checkpoint with the job's
+/// digest and the outcomes in the state. If the state is `Other`, they are a checkpoint with another digest. If the
+/// state is `Broken`, they are no checkpoint of the job whose outcomes are all plausible.
 pub fn slots_are_what_they_are()
     ensures { SlotsAreWhatTheyAre }
 {
@@ -21,49 +21,52 @@ pub fn slots_are_what_they_are()
     checkpoints_are_read();
 }
 
-/// Shows that a checkpoint that was written to the place of the next checkpoint (`Slots::place`) is in the newest slot,
-/// whatever both slots held before.
+/// Shows that a checkpoint is the newest if it was written to the slot and with the generation that `Slots::place`
+/// gives, whatever both slots held before.
 pub fn written_slots_are_newest()
     ensures { WrittenSlotsAreNewest }
 {}
 
-/// Shows the same for a checkpoint with the job's digest: after it is written to that place, the newest slot is the
-/// job's and has the checkpoint's outcomes.
+/// Shows that the newest slot is the job's and has a checkpoint's outcomes, after this checkpoint of the job was
+/// written to the slot and with the generation that `Slots::place` gives.
 pub fn saved_slots_are_newest()
     ensures { SavedSlotsAreNewest }
 {}
 
-/// Outcomes are consistent if each is that of its trajectory, with its histogram or without it. Shows that the
-/// trajectories' own outcomes are consistent.
+/// Shows that right outcomes are consistent. Outcomes are consistent if each is that of its trajectory, with its
+/// histogram or without it; they are right if each has its histogram exactly if the job asks for it.
 pub fn right_outcomes_are_consistent()
     ensures { RightIsConsistent }
 {
     outcomes_without_histogram_match();
 }
 
-/// Shows that a run that starts from consistent slots takes from them outcomes of the job's trajectories.
+/// Shows that a run resumes from right outcomes if both slots are consistent.
 pub fn consistent_slots_open_right()
     ensures { ConsistentSlotsOpenRight }
 {
     consistent_runs_go_on_rightly();
 }
 
-/// Shows that consistent slots stay consistent when a save is stopped, if the slot of that save is then unchanged, has
-/// no checkpoint of the job, or is consistent.
+/// Shows that consistent slots stay consistent when a process is killed during a save. The slot of this save must be
+/// unchanged, be consistent, or have no checkpoint of the job.
 pub fn a_stop_in_a_save_leaves_consistent_slots()
     ensures { StopsLeaveConsistentSlots }
 {}
 
-/// Shows that correct saves leave consistent slots consistent, however many were made and wherever each failed or was
-/// stopped.
+/// Shows that any number of saves of right outcomes leave consistent slots consistent, wherever saves failed and
+/// wherever the process was killed. A failed save may leave in its slot the old bytes, a prefix of the new bytes, or
+/// any bytes that are no checkpoint of the job.
 pub fn saves_leave_consistent_slots()
     ensures { SavesLeaveConsistentSlots }
 {
     right_outcomes_are_consistent();
 }
 
-/// Shows that after a series of saves the newest slot is the one from before the series or a newer one, wherever each
-/// save failed or was stopped.
+/// Shows that a series of saves never loses the newest checkpoint, wherever saves failed and wherever the process was
+/// killed. Afterwards the newest slot has one of three checkpoints: the one from before the series if no save
+/// succeeded, that of the last save that succeeded, or that of a later save that failed after writing all its bytes. A
+/// failed save may leave in its slot the old bytes, a prefix of the new bytes, or any bytes that are no valid slot.
 pub fn saves_keep_the_newest()
     ensures { SavesKeepTheNewest }
 {}

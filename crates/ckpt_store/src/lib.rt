@@ -1,4 +1,5 @@
-//! The two slots of a keeper: their contents for a job, the newest of them, and the place of the next checkpoint.
+//! The two slots of a keeper: their states for a job, the newest of them, and the slot and generation of the next
+//! checkpoint. Also the union of the outcomes in several folders.
 #![tactic(auto)]
 
 pub mod collection;

@@ -1,4 +1,4 @@
-//! Loading and decoding both slots of a keeper.
+//! Loading both slots of a keeper and decoding them.
 
 ghost use Rattle.std.specs.Prelude.{◌≡◌, ◌<◌, ◌≤◌, IfErr, IfOk, length};
 ghost use Rattle.audit_model.specs.Pair.{stored_if};
@@ -20,12 +20,12 @@ use std::alloc::Global;
 /// The largest number of bytes of a checkpoint.
 const LIMIT: u64 = 8_000_084;
 
-/// The reason why a slot could not be looked at.
+/// The reason why the slots could not be loaded and decoded.
 #[derive(Clone, Copy, Debug, PartialEq, Eq)]
 pub enum LookFault {
-    /// The keeper failed.
+    /// The keeper failed to load a slot.
     Failed,
-    /// The keeper failed because another process has locked the slots.
+    /// The keeper failed to load a slot because another process has locked the slots.
     Taken,
     /// Out of memory for a slot's bytes or its outcomes.
     Memory,
@@ -39,14 +39,15 @@ impl From<Memory> for LookFault {
     }
 }
 
-/// Loads both slots, slot 0 first, and returns their states for the job with this digest. No slot is changed. A keeper
-/// may hide its slots from proofs. The contract then says only that some contents of two slots have the returned
-/// states.
+/// Loads both slots, slot 0 first, and returns their states for the job with this digest. No slot is changed.
+///
+/// The returned states are those of the slots' bytes. If the keeper hides its slots from proofs, the contract says only
+/// that there are bytes with these states.
 ///
 /// # Errors
 ///
-/// - `Failed`: a load of the keeper failed.
-/// - `Taken`: a load failed because another process has locked the slots.
+/// - `Failed`: the keeper failed to load a slot.
+/// - `Taken`: the keeper failed because another process has locked the slots.
 /// - `Memory`: out of memory for a slot's bytes or for the outcomes of its checkpoint.
 pub fn look<C: Keeper>(
     alloc: Global,
@@ -92,7 +93,8 @@ fn look_at<C: Keeper>(
     }
 }
 
-/// Returns the state of a slot after a load, from the loaded bytes or as an empty slot.
+/// Returns the state of a slot whose load succeeded. `found` is false if the slot is empty, and `bytes` are its bytes
+/// otherwise.
 fn judge_loaded(
     alloc: Global,
     job: &Job,
@@ -112,7 +114,8 @@ fn judge_loaded(
     Ok(judge_bytes(alloc, job, digest, bytes)?)
 }
 
-/// Returns the state of a slot after a failed load: broken if it has too many bytes, else the error.
+/// Returns the state of a slot whose load failed: a slot with too many bytes is broken, and any other failure is an
+/// error.
 fn slot_of_load_error(error: LoadError) -> Result<Slot, LookFault>
     ensures { result ≡ unloaded error }
 {

@@ -1,4 +1,4 @@
-//! The progress of a job, from its slots.
+//! The progress of a job, as its slots show it.
 
 ghost use Rattle.std.specs.Prelude.{◌≡◌, ℕ, List, Option, IfOk};
 ghost use Rattle.audit_statement.specs.Slots.{slot_of};
@@ -16,18 +16,18 @@ use ckpt_format::digest::job_digest;
 use plan_core::job::Job;
 use std::alloc::Global;
 
-/// The progress of a job.
+/// The progress of a job, or the reason why its slots do not show it.
 #[derive(Clone, Copy, Debug, PartialEq, Eq)]
 pub enum Progress {
-    /// The number of the job's outcomes in the newest slot.
+    /// The number of the job's outcomes in the newest slot, or 0 if both slots are empty.
     Done(u64),
-    /// The newest slot is another job's.
+    /// The newest checkpoint is another job's.
     OtherJob,
     /// No slot is valid, and at least one is not empty.
     Damaged,
 }
 
-// Returns the state of a loaded slot for the job with this digest. The only error is out of memory.
+// Returns the state of a loaded slot for the job with this digest. Fails if there is no memory.
 fn slot_for(alloc: Global, job: &Job, digest: &[u8; 32], loaded: &Loaded) -> Result<Slot, Memory>
     ensures { IfOk result (λ s. (slot : Option (List ℕ)) → IsLoadedFrom loaded.now slot → slot_view s ≡ slot_of job.now digest.now slot) }
 {
@@ -35,8 +35,7 @@ fn slot_for(alloc: Global, job: &Job, digest: &[u8; 32], loaded: &Loaded) -> Res
         Loaded::Absent => Ok(Slot::Absent),
         Loaded::Long => Ok(Slot::Broken(CkptFault::TooLong(LIMIT))),
         Loaded::Bytes(bytes) => {
-            // This condition is never true for the bytes of `load_slot`, which returns `Long` for a
-            // longer file.
+            // Never true for bytes that `load_slot` returned: it returns `Long` for a longer file.
             if bytes.len() as u64 > LIMIT {
                 return Ok(Slot::Broken(CkptFault::TooLong(LIMIT)));
             }
@@ -45,7 +44,7 @@ fn slot_for(alloc: Global, job: &Job, digest: &[u8; 32], loaded: &Loaded) -> Res
     }
 }
 
-// Returns the progress from the newest slot.
+// Returns the progress that the checkpoint of the newest slot shows, or its absence.
 fn progress_by(answer: Result<Option<Checkpoint>, StoreFault>) -> Progress
     ensures { result ≡ definition.progress_by answer }
 {
@@ -57,7 +56,7 @@ fn progress_by(answer: Result<Option<Checkpoint>, StoreFault>) -> Progress
     }
 }
 
-/// Returns the progress of the job from its two loaded slots. The only error is out of memory.
+/// Returns the progress of the job from its two loaded slots. Fails if there is no memory.
 pub fn progress_of(
     alloc: Global,
     job: &Job,

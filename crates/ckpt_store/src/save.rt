@@ -15,13 +15,16 @@ use audit_model::place::Place;
 use ckpt_format::ahead::Ahead;
 use ckpt_format::encode::encode_with;
 
-/// Saves a checkpoint of outcomes in the slot of a place, in the second version of the format. The keeper's relation
-/// `lets`, which only proofs use, must allow this save. The save may still fail. After a save that succeeds, the place
-/// moves on to the other slot and the next generation. Only the keeper may allocate.
+/// Saves the checkpoint of these outcomes in the slot and with the generation of `place`, in the second version of the
+/// format. After a save that succeeds, `place` is the other slot with the next generation. This function allocates
+/// nothing, but the keeper may.
+///
+/// The keeper must permit the save by its relation `lets`, which exists in proofs only. A save that is permitted may
+/// still fail.
 ///
 /// # Errors
 ///
-/// The keeper failed. The place is unchanged, and its slot may hold anything.
+/// The keeper failed. `place` is unchanged, and its slot may hold anything.
 pub fn save<C: Keeper>(
     keeper: &mut C,
     place: &mut Place,
@@ -43,11 +46,12 @@ pub fn save<C: Keeper>(
     save_with(keeper, place, digest, outcomes, room, None)
 }
 
-/// Saves as `save` does, and continues a digest that was started ahead.
+/// Saves as `save` does. With `ahead`, the checkpoint's digest is finished from the hash that `ahead` has begun, which
+/// saves time if the prediction was right.
 ///
 /// # Errors
 ///
-/// The keeper failed. The place is unchanged, and its slot may hold anything.
+/// The keeper failed. `place` is unchanged, and its slot may hold anything.
 pub fn save_with<C: Keeper>(
     keeper: &mut C,
     place: &mut Place,

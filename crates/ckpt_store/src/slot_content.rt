@@ -1,4 +1,4 @@
-//! The contents of a slot's file for any job, and the newest slot.
+//! The content of a slot whatever its job, and the newest of two slots.
 
 ghost use Rattle.std.specs.Prelude.{◌≡◌, ◌<◌, ℕ, List, Option, Some, IfOk, OnOk};
 ghost use Rattle.audit_model.specs.declared.fault.CkptFault.TheVariants as variant;
@@ -17,12 +17,12 @@ use std::alloc::Global;
 /// The largest number of bytes of a checkpoint.
 pub const LIMIT: u64 = 8_000_084;
 
-/// The contents of a slot, for any job.
+/// The content of a slot, whatever job its checkpoint belongs to.
 #[derive(Drop)]
 pub enum SlotContent {
-    /// The file does not exist.
+    /// The slot is empty.
     Absent,
-    /// The bytes are no checkpoint, with this fault.
+    /// The bytes are no checkpoint. The fault says why; it is `TooLong` if there are more bytes than in any checkpoint.
     Broken(CkptFault),
     /// The bytes are a checkpoint.
     Whole(Checkpoint),
@@ -31,20 +31,20 @@ pub enum SlotContent {
 /// The result of loading a slot.
 #[derive(Drop)]
 pub enum Loaded {
-    /// The file does not exist.
+    /// The slot is empty.
     Absent,
-    /// The file has more bytes than a checkpoint can have.
+    /// The slot has more bytes than a checkpoint can have.
     Long,
-    /// The bytes of the file.
+    /// The bytes of the slot.
     Bytes(Bytes),
 }
 
-/// Loads a slot.
+/// Loads a slot. Too many bytes are not an error, but `Loaded::Long`.
 ///
 /// # Errors
 ///
-/// - `Failed`: the load failed.
-/// - `Taken`: the load failed because another process has locked the slots.
+/// - `Failed`: the keeper failed to load the slot.
+/// - `Taken`: the keeper failed because another process has locked the slots.
 /// - `Memory`: out of memory for the bytes.
 pub fn load_slot<C: Keeper>(alloc: Global, keeper: &mut C, slot: u8) -> Result<Loaded, LookFault>
     requires { slot < 2 }
@@ -65,7 +65,7 @@ pub fn load_slot<C: Keeper>(alloc: Global, keeper: &mut C, slot: u8) -> Result<L
     }
 }
 
-/// Returns the contents of a loaded slot: nothing, a checkpoint, or bytes that are too many or have a fault.
+/// Returns the content of a loaded slot: nothing, a checkpoint, or bytes that are none.
 ///
 /// # Errors
 ///
@@ -80,7 +80,7 @@ pub fn content_of(alloc: Global, loaded: &Loaded) -> Result<SlotContent, Memory>
     }
 }
 
-/// Returns the contents of a slot with these bytes.
+/// Returns the content of a slot with these bytes.
 fn content_of_bytes(alloc: Global, bytes: &[u8]) -> Result<SlotContent, Memory>
     ensures { IfOk result (Holds bytes.now) }
 {
@@ -93,7 +93,8 @@ fn content_of_bytes(alloc: Global, bytes: &[u8]) -> Result<SlotContent, Memory>
     }
 }
 
-/// Returns a broken slot with this fault, or an error if the fault is out of memory.
+/// Returns a broken slot with this fault, or an error if the fault is out of memory: the slot's bytes may then be a
+/// checkpoint.
 fn broken_content(fault: CkptFault) -> Result<SlotContent, Memory>
     ensures slot { IfOk result (λ h. h ≡ SlotContent.Broken fault) }
     ensures known { OnOk result (fault ≡ variant.Memory → ⊥) }
@@ -105,7 +106,7 @@ fn broken_content(fault: CkptFault) -> Result<SlotContent, Memory>
 }
 
 impl SlotContent {
-    /// Returns the generation of a valid slot.
+    /// Returns the generation of the slot's checkpoint, if there is one.
     fn generation(&self) -> Option<u8>
         ensures { result ≡ generation_in self.now }
     {
@@ -116,8 +117,8 @@ impl SlotContent {
     }
 }
 
-/// Returns the number of the newest slot, or `None` if no slot is valid. Of two valid slots it is slot 1 if its
-/// generation follows that of slot 0, else slot 0.
+/// Returns the number of the newest slot, or `None` if no slot is valid. Of two valid slots, slot 1 is the newest if
+/// its generation follows that of slot 0; otherwise slot 0 is.
 pub fn newest(zero: &SlotContent, one: &SlotContent) -> Option<u8>
     ensures { result ≡ newest_in zero.now one.now }
 {

@@ -1,4 +1,4 @@
-//! The states of the two slots for a job.
+//! The states of both slots for a job.
 
 ghost use Rattle.std.specs.Prelude.{◌≡◌, ◌<◌, Some, None, MatchResult};
 ghost use Rattle.audit_statement.specs.Slots as definition;
@@ -13,11 +13,12 @@ use ckpt_format::decode::Checkpoint;
 pub enum Slot {
     /// The slot is empty.
     Absent,
-    /// The slot holds no checkpoint, or one of this job with an outcome that is not plausible.
+    /// The bytes are no checkpoint, or a checkpoint of this job with an outcome that is not plausible. The fault says
+    /// why; it is `TooLong` if there are more bytes than in any checkpoint.
     Broken(CkptFault),
-    /// The slot holds a checkpoint of another job, with this digest.
+    /// The bytes are a checkpoint of another job, whose digest is `found`.
     Other { found: [u8; 32], generation: u8 },
-    /// The slot holds a checkpoint of this job.
+    /// The bytes are a checkpoint of this job, and all its outcomes are plausible.
     Ours(Checkpoint),
 }
 
@@ -28,16 +29,16 @@ pub struct Slots {
     pub one: Slot,
 }
 
-/// The reason why no checkpoint is taken from the slots.
+/// The reason why a run cannot take a checkpoint from the slots.
 #[derive(Drop)]
 pub enum StoreFault {
-    /// Neither slot has a checkpoint, and at least one of them has damaged bytes.
+    /// No slot is valid, and at least one is not empty.
     Damaged(Slots),
-    /// The newest slot holds a checkpoint of another job.
+    /// The newest checkpoint is of the job with the digest `found`, not of the job with the digest `wanted`.
     OtherJob { found: [u8; 32], wanted: [u8; 32] },
 }
 
-/// Returns the next of three generations in turn.
+/// Returns the generation after this one: 0, 1 and 2 follow each other, and 0 follows 2.
 pub(crate) fn generation_after(generation: u8) -> u8
     ensures next { result ≡ definition.generation_after (Some generation) }
     ensures below { result < 3 }
@@ -46,7 +47,7 @@ pub(crate) fn generation_after(generation: u8) -> u8
 }
 
 impl Slot {
-    /// Returns the generation of a valid slot.
+    /// Returns the generation of the slot's checkpoint, if the slot is valid.
     fn generation(&self) -> Option<u8>
         ensures { result ≡ definition.generation_of (slot_view self.now) }
     {
@@ -66,7 +67,8 @@ impl Slot {
         }
     }
 
-    /// Returns the checkpoint of a valid slot, if it belongs to the wanted job.
+    /// Returns the checkpoint of this job. Returns `OtherJob` for a checkpoint of another job, and `None` if the slot
+    /// is not valid.
     fn checkpoint_of(self, wanted: &[u8; 32]) -> Result<Option<Checkpoint>, StoreFault>
         ensures { result ≡ opened self wanted.now }
     {
@@ -82,8 +84,8 @@ impl Slot {
 }
 
 impl Slots {
-    /// Returns the number of the newest slot. Of two valid slots it is slot 1 if its generation follows that of slot 0,
-    /// else slot 0.
+    /// Returns the number of the newest slot, or `None` if no slot is valid. Of two valid slots, slot 1 is the newest
+    /// if its generation follows that of slot 0; otherwise slot 0 is.
     fn newest_number(&self) -> Option<u8>
         ensures { result ≡ newest_seen self.now }
     {
@@ -95,8 +97,8 @@ impl Slots {
         }
     }
 
-    /// Returns the place of the next checkpoint: the slot that is not the newest, with the generation after the
-    /// newest's.
+    /// Returns the slot and generation of the next checkpoint: the slot that is not the newest, and the generation
+    /// after that of the newest slot. If no slot is valid, these are slot 0 and generation 0.
     pub fn place(&self) -> Place
         ensures place { (result.slot, result.generation) ≡ place_seen self.now }
         ensures slot { result.slot < 2 }
@@ -112,12 +114,12 @@ impl Slots {
         }
     }
 
-    /// Returns the checkpoint of the newest slot, or `None` if both slots are empty.
+    /// Returns the checkpoint of the newest slot, or `None` if both slots are empty. `wanted` is the digest of the job.
     ///
     /// # Errors
     ///
     /// - `Damaged`: no slot is valid, and at least one is not empty.
-    /// - `OtherJob`: the newest slot holds a checkpoint of another job.
+    /// - `OtherJob`: the newest checkpoint is another job's.
     pub fn newest(self, wanted: &[u8; 32]) -> Result<Option<Checkpoint>, StoreFault>
         ensures answer { result ≡ newest_answer self wanted.now }
         ensures content { MatchResult result (λ c. newest_outcomes_seen self ≡ Some (outcomes_if_any c)) (λ _. newest_outcomes_seen self ≡ None) }
@@ -129,7 +131,7 @@ impl Slots {
         }
     }
 
-    /// Returns the answer if no slot is valid.
+    /// Returns the result of [`Slots::newest`] if no slot is valid.
     fn without_valid(self) -> Result<Option<Checkpoint>, StoreFault>
         ensures { result ≡ without_valid self }
     {
@@ -141,7 +143,7 @@ impl Slots {
     }
 }
 
-/// Returns the place in a slot, with the generation after that of the other slot, which is valid.
+/// Returns `slot` with the generation after that of the other slot, `newest`, which is valid.
 fn beside(slot: u8, newest: &Slot) -> Place
     ensures place { result ≡ record { slot = slot; generation = definition.generation_after (definition.generation_of (slot_view newest.now)) } }
     ensures generation { result.generation < 3 }

@@ -1,4 +1,4 @@
-//! The gathering of several folders into the working folder.
+//! A whole gathering: the outcomes of several folders, saved in the working folder.
 
 ghost use Rattle.std.specs.Prelude.{◌≡◌, ◌∷◌, [], ◌++◌, ◌&&◌, ◌||◌, ◌≤◌, IfErr, IfOk, length, map, true};
 ghost use Rattle.std.specs.List.{list_all};
@@ -29,7 +29,8 @@ use ckpt_format::digest::job_digest;
 use plan_core::job::Job;
 use std::alloc::Global;
 
-/// The initial state of a gathering: the outcomes of the working folder, and the place of its next checkpoint.
+/// The state after a look at the working folder: the slot and generation of its next checkpoint, the finding in it, and
+/// the collection that has its outcomes.
 #[derive(Drop)]
 struct Begun {
     place: Place,
@@ -37,17 +38,20 @@ struct Begun {
     collection: Collection,
 }
 
-/// Gathers the job's outcomes from the slots of the working folder and then of each other folder. With `saves`, the
-/// union is saved at the place of the working folder's next checkpoint. It is saved only if three things hold: the
-/// working folder's outcomes were added or it has no checkpoint, the outcomes of every other folder were added, and no
-/// two folders have different outcomes for one id.
+/// Gathers the job's outcomes from the slots of the working folder, then from those of each other folder. With `saves`,
+/// the union is saved as the working folder's next checkpoint, but only if three things hold:
+///
+/// - The working folder's outcomes were added, or both its slots are empty.
+/// - The outcomes of each other folder were added.
+/// - No two folders have contradicting outcomes for one id.
 ///
 /// # Errors
 ///
 /// - `Memory`: out of memory. No save was attempted.
 /// - `Unread`: a slot of the working folder could not be loaded. No save was attempted.
-/// - `Taken`: the slot could not be loaded because another process has locked the folder. No save was attempted.
-/// - `Unsaved`: the only save, of the union at its place, failed.
+/// - `Taken`: a slot of the working folder could not be loaded because another process has locked the folder. No save
+///   was attempted.
+/// - `Unsaved`: the save of the union failed, and its slot may hold anything.
 pub fn gather<C: Keeper, F: Keeper>(
     alloc: Global,
     keeper: &mut C,
@@ -68,7 +72,7 @@ pub fn gather<C: Keeper, F: Keeper>(
     }
 }
 
-// Gathers from the folders after the working folder's slots were looked at.
+// Gathers from the other folders and saves, after the look at the working folder.
 fn gather_from<C: Keeper, F: Keeper>(
     alloc: Global,
     keeper: &mut C,
@@ -109,7 +113,7 @@ fn gather_from<C: Keeper, F: Keeper>(
     }
 }
 
-// Looks at the slots of the working folder.
+// Loads the slots of the working folder, and starts the collection with its outcomes.
 fn begin<C: Keeper>(
     alloc: Global,
     keeper: &mut C,
@@ -134,7 +138,7 @@ fn begin<C: Keeper>(
     }
 }
 
-// Adds the outcomes in the slots of the working folder to an empty collection.
+// Starts the collection with the outcomes in these slots of the working folder.
 fn begin_with(
     alloc: Global,
     job: &Job,
@@ -164,7 +168,7 @@ fn begin_with(
     })
 }
 
-// Looks at the slots of each folder, and adds their outcomes.
+// Looks at the slots of each other folder, and adds their outcomes to the collection.
 fn find_each<F: Keeper>(
     alloc: Global,
     collection: &mut Collection,
@@ -192,7 +196,7 @@ fn find_each<F: Keeper>(
     Ok(findings)
 }
 
-// Returns true if the findings allow the union to be saved.
+// Returns true if the findings permit a save of the union.
 fn may_save(own: Finding, folders: &[Finding]) -> bool
     ensures { result ≡ may_save own folders.now }
 {
@@ -210,7 +214,7 @@ fn are_added(folders: &[Finding]) -> bool
     true
 }
 
-// Saves the union if that is wanted, and returns the number of its outcomes.
+// Saves the union if `saved` is true, and returns the number of its outcomes.
 fn finish<C: Keeper>(
     alloc: Global,
     keeper: &mut C,
