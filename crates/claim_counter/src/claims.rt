@@ -1,4 +1,4 @@
-//! The counter that workers draw places from.
+//! The counter from which workers draw numbers.
 ghost use Rattle.std.specs.Prelude.{◌≡◌, ◌≤◌};
 ghost use Rattle.audit_model.specs.Limits.{most_trajectories};
 
@@ -9,7 +9,8 @@ use atomic_table::Table;
 use audit_model::memory::Memory;
 use std::alloc::Global;
 
-/// A lock-free counter that gives each number below a limit to exactly one pass, in whatever order the passes ask.
+/// A lock-free counter that gives each number below a limit to exactly one pass. A pass is the right to draw numbers;
+/// each worker has one.
 #[derive(Drop)]
 pub struct Claims {
     pub(crate) table: Table<(), View, Size, EachOnce, Global>,
@@ -23,7 +24,7 @@ pub struct Claims {
 /// The result of closing a counter.
 #[derive(Clone, Copy, Debug, PartialEq, Eq)]
 pub struct Closed {
-    /// The number of numbers given out. The numbers are those below it.
+    /// The number of numbers that were given out: all numbers below this one.
     pub drawn: u32,
 }
 
@@ -34,8 +35,8 @@ impl Claims {
     ghost use Rattle.claim_counter.specs.Views.{HasAllSeats};
     ghost use Rattle.claim_counter.specs.Passes.{own, size_of, BelongsTo};
 
-    /// Makes a counter of the numbers below `limit`, for at most `seats` passes, and the first pass. The only error is
-    /// out of memory.
+    /// Makes a counter of the numbers below `limit`, and its first pass. `seats` is the largest number of passes, from
+    /// 1 to 33; further passes are split off the first one. Fails if there is no memory.
     pub fn new(alloc: Global, limit: u32, seats: u32) -> Result<(Claims, Pass), Memory>
         requires limit { limit ≤ most_trajectories }
         requires seats { (1 ≤ seats) × (seats ≤ 33) }
@@ -54,7 +55,7 @@ impl Claims {
         ))
     }
 
-    /// Splits off a pass that has drawn nothing. `pass` can then be split once less.
+    /// Splits off a pass that has drawn nothing. The number of passes that can still be split off `pass` falls by one.
     pub fn split(&self, pass: &mut Pass) -> Pass
         requires pass { BelongsTo self.now pass.old }
         requires spare { 0 < (own pass.old).spare }
@@ -70,8 +71,8 @@ impl Claims {
         }
     }
 
-    /// Draws the next number in one atomic step. No other pass of this counter ever gets the same number.
-    /// Returns `None` if no number was left. The pass has then ended.
+    /// Draws the next number in one atomic step. No other pass of this counter ever gets the same number. Returns
+    /// `None` if no number is left; the pass has then ended and must not draw again.
     pub fn claim(&self, pass: &mut Pass) -> Option<u32>
         requires pass { BelongsTo self.now pass.old }
         requires before_end { (own pass.old).ended ≡ false }
@@ -93,7 +94,7 @@ impl Claims {
         }
     }
 
-    /// Joins two passes into one with the numbers of both. The result has ended if both have.
+    /// Joins two passes into one that has the numbers of both. The joined pass has ended if both passes have.
     pub fn join(&self, first: Pass, second: Pass) -> Pass
         requires first { BelongsTo self.now first }
         requires second { BelongsTo self.now second }
@@ -115,7 +116,7 @@ impl Claims {
         self.table
             .shared
             .join_seat::<OnePass>(&mut seat, other_seat);
-        // Joining gives no fact about both passes together. Reading the counter afterwards does.
+        // The join alone gives the proof no fact about both passes together; this read of the counter gives it.
         self.table.shared.load::<Look>(&mut seat, 0);
         Pass {
             seat,
@@ -124,7 +125,7 @@ impl Claims {
         }
     }
 
-    /// Closes the counter. The pass must have all seats: every pass that was split off has been joined again.
+    /// Closes the counter. The pass must have all seats: every other pass was joined into it.
     pub fn close(self, pass: Pass) -> Closed
         requires pass { BelongsTo self pass }
         requires only { HasAllSeats (size_of self).seats (own pass) }

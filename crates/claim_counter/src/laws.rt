@@ -1,33 +1,33 @@
-//! Laws about the list of pass records. A table rule that covers more than the counter keeps its counter part by these
-//! laws.
+//! Laws of the counter's rule, an invariant on the records of all passes. The larger rule of the table in `tally_desk`
+//! has this rule as a part, and is proved with these laws. Each law is the contract of a function with an empty body.
 ghost use Rattle.claim_counter.specs.RecordLaws.{StartIsCounted, NumberKeeps, EndKeeps, SplitKeeps, JoinKeeps, ClaimsAreDrawn, ClaimsDiffer, EndIsTrue, SoleHasAll, CountIsBounded, AllAreOnce, DifferentAreFew};
 
-/// Shows that the rule holds for one first pass that has all seats.
+/// Shows that the rule holds at the start, when one pass has all seats.
 pub fn start_is_counted()
     ensures { StartIsCounted }
 {}
 
-/// Shows that a draw below the limit keeps the rule and gives a number that no pass has.
+/// Shows that a draw below the limit keeps the rule, and that no pass had the drawn number before.
 pub fn number_keeps()
     ensures { NumberKeeps }
 {}
 
-/// Shows that a draw past the limit keeps the rule.
+/// Shows that a draw at or above the limit keeps the rule.
 pub fn end_keeps()
     ensures { EndKeeps }
 {}
 
-/// Shows that a pass that is split in two keeps the rule.
+/// Shows that splitting a pass off another keeps the rule.
 pub fn split_keeps()
     ensures { SplitKeeps }
 {}
 
-/// Shows that two passes that are joined keep the rule.
+/// Shows that joining two passes keeps the rule.
 pub fn join_keeps()
     ensures { JoinKeeps }
 {}
 
-/// Shows that the claims of all passes are the drawn numbers, each once.
+/// Shows that the claims of all passes together are the drawn numbers, each once.
 pub fn claims_are_drawn()
     ensures { ClaimsAreDrawn }
 {}
@@ -37,27 +37,28 @@ pub fn claims_differ()
     ensures { ClaimsDiffer }
 {}
 
-/// Shows that no number is left if a pass has ended.
+/// Shows that no number is left once a pass has ended.
 pub fn end_is_true()
     ensures { EndIsTrue }
 {}
 
-/// Shows that the claims of a pass with all seats are all drawn numbers.
+/// Shows that the claims of a pass that has all seats are all drawn numbers.
 pub fn sole_has_all()
     ensures { SoleHasAll }
 {}
 
-/// Shows that the count of draws is at most the limit plus the number of seats. It cannot wrap.
+/// Shows that there are at most as many draws as the limit plus the number of seats. The counter's word thus never
+/// wraps.
 pub fn count_is_bounded()
     ensures { CountIsBounded }
 {}
 
-/// Shows that the two forms of "all numbers below a limit, each once" are equivalent.
+/// Shows that two ways to say "all numbers below a limit, each once" are equivalent.
 pub fn all_are_once()
     ensures { AllAreOnce }
 {}
 
-/// Shows that a list of different numbers below a limit is at most as long as the limit.
+/// Shows that a list of distinct numbers below a limit is at most as long as the limit.
 pub fn different_are_few()
     ensures { DifferentAreFew }
 {}

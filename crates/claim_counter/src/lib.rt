@@ -1,5 +1,5 @@
-//! The worker runtime of all runs (`workers`). A counter that gives each number below a limit to one caller, across
-//! threads, and the workers that walk trajectories by it, in one part or in several.
+//! The worker runtime of all runs (`workers`); a counter that gives each number below a limit to one worker; and the
+//! workers of runs without saves, which draw the indices of trajectories from the counter.
 #![tactic(auto)]
 
 mod claims;

@@ -1,4 +1,6 @@
-//! Runs in several parts, one after the other. The workers are allocated once. Each part has its own counter.
+//! Walks in parts, one after the other. A part is a list of ids, such as a round of a run whose tests stop early; it is
+//! not a part in the sense of `--parts`. The workers are allocated once for all parts, and each part has its own
+//! counter.
 
 ghost use Rattle.std.specs.Prelude.{◌≡◌, true, ◌+◌, ◌-◌, ◌<◌, ◌≤◌, ◌++◌, All, IfOk, IsPermutation, length, map, vec_capacity, vec_len};
 ghost use Rattle.audit_model.specs.Run.{total};
@@ -28,7 +30,7 @@ use std::alloc::Global;
 use std::thread::Threads;
 use walker::walker::Walker;
 
-/// The counter of one part, and the pass that has all its seats.
+/// The counter of one part, and its pass, which has all seats.
 #[derive(Drop)]
 pub struct PartCounter {
     pub(crate) claims: Claims,
@@ -36,7 +38,8 @@ pub struct PartCounter {
 }
 
 impl PartCounter {
-    /// Makes the counter of a part with `count` trajectories and `workers` workers. The only error is out of memory.
+    /// Makes the counter of a part of `count` trajectories, with a seat for each of `workers` workers. Fails if there
+    /// is no memory.
     pub fn new(alloc: Global, count: u32, workers: u32) -> Result<PartCounter, Memory>
         requires count { count ≤ most_trajectories }
         requires workers { (1 ≤ workers) × (workers ≤ most_workers) }
@@ -54,7 +57,8 @@ pub struct IdleWorker<J: Judge> {
     pub(crate) share: OutcomeList,
 }
 
-/// The workers of a run in parts, and the hub.
+/// The workers of a run and the hub, for any number of parts. Between two parts all workers are idle, and during a part
+/// none is.
 #[derive(Drop)]
 pub struct PartWorkers<J: Judge> {
     pub(crate) idle_workers: Vec<IdleWorker<J>>,
@@ -62,7 +66,7 @@ pub struct PartWorkers<J: Judge> {
     pub(crate) hub: UnitList,
 }
 
-// Makes a worker without a pass.
+// Makes an idle worker with this walker. Fails if there is no memory.
 fn make_idle_worker<J: Judge>(
     alloc: Global,
     job: &Job,
@@ -75,7 +79,7 @@ fn make_idle_worker<J: Judge>(
     Ok(IdleWorker { walker, share })
 }
 
-// Makes a worker without a pass of each walker.
+// Makes an idle worker with each walker. Fails if there is no memory.
 fn make_idle_workers<J: Judge>(
     alloc: Global,
     job: &Job,
@@ -93,8 +97,8 @@ fn make_idle_workers<J: Judge>(
     Ok(idle_workers)
 }
 
-/// Makes a worker for each constraint. The hub is not computed yet. The only error is out of memory, and walking
-/// allocates nothing more.
+/// Makes an idle worker for each constraint. The hub is not computed yet. Fails if there is no memory. Walks allocate
+/// nothing more.
 pub fn make_part_workers<J: Judge>(
     alloc: Global,
     job: &Job,
@@ -116,7 +120,7 @@ pub fn make_part_workers<J: Judge>(
     })
 }
 
-// Gives the worker a pass for the next part.
+// Makes an idle worker ready for the next part by giving it a pass.
 fn lend<J: Judge>(job: &Job, claims: &Claims, idle_worker: IdleWorker<J>, pass: Pass) -> Worker<J>
     requires limit { (size_of claims.now).limit ≤ total job.now }
     requires pass { BelongsTo claims.now pass × (own pass ≡ fresh 0) }
@@ -131,7 +135,8 @@ fn lend<J: Judge>(job: &Job, claims: &Claims, idle_worker: IdleWorker<J>, pass: 
     }
 }
 
-// Gives each worker a pass for the next part.
+// Makes all idle workers ready for the next part. The passes are split off `pass`, and the last worker takes `pass`
+// itself.
 fn lend_all<J: Judge>(
     job: &Job,
     claims: &Claims,
@@ -158,7 +163,7 @@ fn lend_all<J: Judge>(
     workers.push_reserved(lend(job, claims, last, pass));
 }
 
-// Runs each worker in its own thread, if one can be started.
+// Runs all workers until no trajectory of the part is left, each in its own thread if one can be started.
 fn run_all<R: Threads + Sync, J: Judge + Send, G: Gate + Sync>(
     rt: &Runtime<R, G>,
     job: &Job,
@@ -183,7 +188,7 @@ fn run_all<R: Threads + Sync, J: Judge + Send, G: Gate + Sync>(
     );
 }
 
-// Takes the pass from a worker and empties its list of outcomes.
+// Makes a worker idle again, from its walker and its list of outcomes, which is emptied.
 fn rest<J: Judge>(
     job: &Job,
     walker: Walker<J>,
@@ -200,7 +205,7 @@ fn rest<J: Judge>(
     idle_workers.push_reserved(IdleWorker { walker, share });
 }
 
-// Merges the first worker's outcomes into the book and returns its pass.
+// Adds the first worker's outcomes to the book, makes the worker idle, and returns its pass.
 fn take_first<J: Judge>(
     job: &Job,
     worker: Worker<J>,
@@ -228,7 +233,7 @@ fn take_first<J: Judge>(
     pass
 }
 
-// Joins another worker's pass to the pass so far, and merges its outcomes into the book.
+// Adds another worker's outcomes to the book, makes the worker idle, and joins its pass to `pass`.
 fn take_next<J: Judge>(
     job: &Job,
     claims: &Claims,
@@ -264,7 +269,7 @@ fn take_next<J: Judge>(
     both
 }
 
-// Merges the outcomes of all workers into the book and returns their joined pass.
+// Adds the outcomes of all workers to the book, makes the workers idle, and returns their joined pass.
 fn take_all<J: Judge>(
     job: &Job,
     todo: &[u32],
@@ -300,7 +305,7 @@ fn take_all<J: Judge>(
     pass
 }
 
-/// Computes the hub. Allocates nothing.
+/// Computes the hub, by a walk of the first worker. Allocates nothing.
 pub fn find_hub<J: Judge>(job: &Job, part_workers: &mut PartWorkers<J>)
     requires part_workers { IsPartWorkers job.now (vec_len part_workers.old.idle_workers) part_workers.old }
     ensures part_workers { IsPartWorkers job.now (vec_len part_workers.old.idle_workers) part_workers.new }
@@ -312,9 +317,9 @@ pub fn find_hub<J: Judge>(job: &Job, part_workers: &mut PartWorkers<J>)
         .hub_into(job, part_workers.hub.as_mut_slice());
 }
 
-/// Walks the trajectories with these ids and adds their outcomes to the book. Each worker is a thread, if one can be
-/// started. An id goes to the next worker that asks, and the gate learns each id before its walk. Allocates nothing.
-/// The workers can walk another part afterwards.
+/// Walks the trajectories with these ids and adds their outcomes to the book. Each worker has its own thread, if one
+/// can be started. The next id goes to whichever worker is free first, and the gate receives each id before its walk.
+/// Allocates nothing. Afterwards the workers can walk another part.
 pub fn walk_part<R: Threads + Sync, J: Judge + Send, G: Gate + Sync>(
     rt: &Runtime<R, G>,
     job: &Job,

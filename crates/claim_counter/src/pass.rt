@@ -1,11 +1,11 @@
-//! A caller's seat at a counter.
+//! The pass, a worker's right to draw numbers from a counter.
 ghost use Rattle.std.specs.Prelude.{◌≡◌, ◌<◌, []};
 
 use crate::record::View;
 use atomic_table::Seat;
 
-/// The right to draw numbers from a counter. Its claims are the numbers it has drawn. A pass takes a few bytes and may
-/// cross threads.
+/// The right to draw numbers from a counter. Its *claims*, known to proofs only, are the numbers that were drawn with
+/// it. A pass may move to another thread.
 #[derive(Drop)]
 pub struct Pass {
     pub(crate) seat: Seat<(), View>,
@@ -21,14 +21,14 @@ impl Pass {
     ghost use Rattle.std.specs.Prelude.{◌≡◌};
     ghost use Rattle.claim_counter.specs.Passes.{own};
 
-    /// Returns true if a draw of each joined pass found no number left.
+    /// Returns true if the pass, and each pass joined into it, has made a draw that found no number left.
     pub fn ended(&self) -> bool
         ensures { result ≡ (own self.now).ended }
     {
         self.ended
     }
 
-    /// Returns the number of passes that can still be split off.
+    /// Returns the number of passes that can still be split off this one.
     pub fn spare(&self) -> u32
         ensures { result ≡ (own self.now).spare }
     {

@@ -1,4 +1,4 @@
-//! Walks a run's trajectories in several threads.
+//! The walks of a run without saves and without early stopping.
 
 ghost use Rattle.std.specs.List.{AllPairs};
 ghost use Rattle.std.specs.Prelude.{◌≡◌, ◌+◌, ◌<◌, ◌≤◌, ◌++◌, ℕ, All, IsFalse, length, map, vec_len, IsPermutation};
@@ -32,7 +32,7 @@ pub fn has_above(ids: &[u32], bound: u32) -> bool
     false
 }
 
-// Computes the hub exactly if one of the trajectories starts from it.
+// Computes the hub if an endpoint trajectory is to be walked: only these start from the hub.
 fn walk_hub<J: Judge>(job: &Job, todo: &[u32], part_workers: &mut PartWorkers<J>)
     requires part_workers { IsPartWorkers job.now (vec_len part_workers.old.idle_workers) part_workers.old }
     ensures part_workers { IsPartWorkers job.now (vec_len part_workers.old.idle_workers) part_workers.new }
@@ -66,9 +66,9 @@ fn walk_all<R: Threads + Sync, J: Judge + Send, G: Gate + Sync>(
     walk_part(rt, job, todo, part, &mut part_workers, book);
 }
 
-/// Walks the trajectories with these ids, adds their outcomes to the book, and fills `out` with the book's outcomes by
-/// rising id. Each worker is a thread, if one can be started. An id goes to the next worker that asks, and the gate
-/// learns each id before its walk. Allocates nothing.
+/// Walks the trajectories with these ids, adds their outcomes to the book, and fills `out` with all outcomes of the
+/// book by rising id. Each worker has its own thread, if one can be started. The next id goes to whichever worker is
+/// free first, and the gate receives each id before its walk. Allocates nothing.
 pub fn walk_run<R: Threads + Sync, J: Judge + Send, G: Gate + Sync>(
     rt: &Runtime<R, G>,
     job: &Job,
@@ -88,7 +88,7 @@ pub fn walk_run<R: Threads + Sync, J: Judge + Send, G: Gate + Sync>(
     ensures all { IsPermutation out.new.items (book.old.outcomes ++ map (found job.now) todo.now) }
     ensures room { length out.new.items + out.new.spare ≡ length out.old.items + out.old.spare }
 {
-    // Called for its contract: the book's outcomes have different ids.
+    // Called for its contract: the book's outcomes have distinct ids.
     let _kept = book.len();
     walk_all(rt, job, todo, pool, book);
     book.sorted_into(out);

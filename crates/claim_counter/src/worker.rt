@@ -1,4 +1,4 @@
-//! One thread of a run.
+//! The work of one thread.
 
 use crate::workers::{GatedWalker, StartToken};
 use crate::{Claims, Pass};
@@ -8,7 +8,8 @@ use audit_model::outcome::Outcome;
 use flip_guard::judge::Judge;
 use plan_core::job::Job;
 
-/// A walker, a pass, and a list with capacity for the outcomes of all numbers that the pass may draw.
+/// A worker during a part: a walker, a pass, and a list with capacity for the outcomes of all numbers that the pass may
+/// draw.
 #[derive(Drop)]
 pub struct Worker<J: Judge> {
     pub walker: GatedWalker<J>,
@@ -20,7 +21,8 @@ impl<J: Judge> Worker<J> {
     ghost use Rattle.claim_counter.specs.Workers.{IsShared};
     ghost use Rattle.claim_counter.specs.Parts.{IsBack, IsLent};
 
-    /// Draws places of `todo` until none is left, and walks the trajectory whose id stands at each place.
+    /// Draws indices of `todo` until none is left. After each draw, walks the trajectory whose id has this index, and
+    /// appends its outcome to `share`.
     pub fn run<G: Gate>(&mut self, job: &Job, todo: &[u32], hub: &[u32], gate: &G, claims: &Claims)
         requires lent { IsLent job.now claims.now self.old }
         requires shared { IsShared job.now todo.now hub.now claims.now }
@@ -44,6 +46,6 @@ fn append(share: &mut OutcomeList, outcome: Outcome)
     ensures items { share.new.items ≡ share.old.items ++ outcome ∷ [] }
     ensures spare { share.new.spare + 1 ≡ share.old.spare }
 {
-    // The capacity is reserved: the push allocates nothing and cannot fail.
+    // The push cannot fail: the list has spare capacity.
     let _ = share.push(outcome);
 }

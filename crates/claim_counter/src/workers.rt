@@ -1,4 +1,4 @@
-//! The worker runtime of all runs: the machine's resources, walkers, start tokens and threads.
+//! The worker runtime of all runs: resources, walkers, start tokens and threads.
 
 pub mod gated;
 pub mod runtime;

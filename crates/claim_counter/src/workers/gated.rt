@@ -1,4 +1,4 @@
-//! A walker that walks a trajectory only after the gate has learned its id.
+//! Walkers that cannot start a trajectory before the gate has received its id.
 
 ghost use Rattle.std.specs.Prelude.{◌≡◌, ◌+◌, ◌<◌, ◌≤◌};
 ghost use Rattle.audit_statement.specs.Draw.{draw};
@@ -11,8 +11,8 @@ use plan_core::job::Job;
 use std::marker::Model;
 use walker::walker::Walker;
 
-/// A start token: proof that the gate has learned an id and that nobody has walked the id since. Only `tell` makes one.
-/// It can be neither copied nor dropped.
+/// A start token: proof that the gate has received an id, and that the trajectory with this id was not walked since.
+/// Only `tell` makes a token, and a walk consumes it. A token can be neither copied nor dropped.
 pub struct StartToken {
     id: u32,
 }
@@ -26,7 +26,7 @@ impl Model for StartToken {
 }
 
 impl StartToken {
-    /// Tells the gate that the trajectory with this id is about to start.
+    /// Gives the gate the id of a trajectory, and returns the token that permits its walk.
     pub fn tell<G: Gate>(gate: &G, id: u32) -> StartToken
         ensures { result ≡ id }
     {
@@ -50,15 +50,15 @@ impl<J: Judge> Model for GatedWalker<J> {
 }
 
 impl<J: Judge> GatedWalker<J> {
-    /// Gates a walker: from now on, it takes a start token for each trajectory.
+    /// Wraps a walker, so that each of its walks takes a start token.
     pub fn new(walker: Walker<J>) -> GatedWalker<J>
         ensures { result ≡ walker }
     {
         GatedWalker { walker }
     }
 
-    /// Walks the trajectory of the token and returns its outcome. Walks of the outlier test begin at the start plan.
-    /// Endpoint trajectories begin at `hub`, which no other trajectory reads. Allocates nothing.
+    /// Walks the trajectory of the token and returns its outcome. A walk of the outlier test begins at the start plan
+    /// and does not use `hub`. An endpoint trajectory begins at `hub`. Allocates nothing.
     pub fn walk(&mut self, job: &Job, hub: &[u32], token: StartToken) -> Outcome
         requires made { self.old.job ≡ job.now }
         requires id { token < job.now.setting.walks + job.now.setting.ends }
@@ -70,7 +70,7 @@ impl<J: Judge> GatedWalker<J> {
         self.walker.walk(job, hub, id)
     }
 
-    /// Returns the walker, between two walks.
+    /// Returns the wrapped walker.
     pub fn into_walker(self) -> Walker<J>
         ensures { result ≡ self }
     {

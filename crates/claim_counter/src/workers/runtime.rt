@@ -2,8 +2,8 @@
 
 use std::alloc::Global;
 
-/// The threads, the allocator and the gate of a run, borrowed by every step. No clause mentions them: the outcomes do
-/// not depend on them.
+/// The threads, the allocator and the gate of a run. No contract mentions them, because the outcomes do not depend on
+/// them.
 #[derive(Drop)]
 pub struct Runtime<'a, R, G> {
     pub threads: &'a R,

@@ -1,11 +1,12 @@
-//! The threads of the workers.
+//! Starting the threads of the workers.
 
 ghost use Rattle.std.specs.Fork.{AcceptsEach, ChangesEach};
 
 use std::thread;
 use std::thread::Threads;
 
-/// Runs `work` on each worker and its place, in a thread of its own, if one can be started.
+/// Calls `work` with the index of each worker and the worker. Each call has its own thread, if one
+/// can be started; otherwise a running thread makes the call.
 pub fn run_workers<R: Threads + Sync, W: Send, F: Fn(usize, &mut W) + Sync>(
     threads: &R,
     workers: &mut [W],

@@ -1,4 +1,4 @@
-//! The walkers of a run, allocated before its first walk.
+//! The walkers of a run.
 
 ghost use Rattle.std.specs.Prelude.{◌≡◌, ◌≤◌, IfOk, vec_len};
 ghost use Rattle.claim_counter.specs.Walkers.{AreWalkers};
@@ -10,7 +10,8 @@ use plan_core::job::Job;
 use std::alloc::Global;
 use walker::walker::Walker;
 
-/// Makes a walker for each constraint. The only error is out of memory, and walking allocates nothing more.
+/// Makes a walker for each constraint. Fails if there is no memory. Walks allocate nothing more, so that a run cannot
+/// run out of memory after its first step.
 pub fn make_walkers<J: Judge>(
     alloc: Global,
     job: &Job,
