@@ -1,5 +1,5 @@
-//! Conversions of faults of lower layers to [`PlansFault`]. Every kind of out-of-memory becomes one
-//! variant.
+//! Conversions of the faults of graph, regions, table and plans to [`PlansFault`]. Their `Memory`
+//! variants all become `PlansFault::Memory`.
 
 ghost use Rattle.std.specs.Prelude.{◌≡◌};
 ghost use Rattle.plan_csv.specs.Refusals.{graph_end, region_end, table_end, plan_end, named_end};

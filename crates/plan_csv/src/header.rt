@@ -1,4 +1,4 @@
-//! The header record: a title and the plans' names.
+//! The table's header record: a title, then a name for each plan.
 
 ghost use Rattle.std.specs.Prelude.{◌≡◌, ◌∷◌, ◌&&◌, nat_le, None, Some, [], MatchResult};
 ghost use Rattle.std.specs.List.{list_all};

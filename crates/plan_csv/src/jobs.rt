@@ -1,4 +1,5 @@
-//! The jobs of an input.
+//! The jobs of the command `plans`: one for the graph's own plan, and one for each plan of the
+//! table.
 
 ghost use Rattle.std.specs.Prelude.{◌≡◌, ◌⊎◌, ◌∷◌, [], Ok, Err, length, All, IfOk, MatchResult};
 ghost use Rattle.audit_model.specs.declared.fault.RegionFault.TheVariants as region;
@@ -35,7 +36,8 @@ use dual_json::{read_graph, read_ids, read_regions};
 use plan_core::job::Job;
 use std::alloc::Global;
 
-/// Reads the regions of the units, or returns an empty list if no column is named.
+/// Reads the region of each unit, or returns an empty list if the setting names no column of
+/// regions.
 fn regions_of(alloc: Global, bytes: &[u8], column: &Text) -> Result<UnitList, RegionFault>
     requires graph { IsGraphText bytes.now }
     ensures read { MatchResult result (λ regions. regions_by column.now bytes.now ≡ Ok regions)
@@ -58,7 +60,7 @@ fn with_first(named: Vec<Named>, own: Named) -> Result<Vec<Named>, Memory>
     }
 }
 
-/// Makes the jobs of the table's plans and puts the graph's own job first.
+/// Makes the jobs of the table's plans. Puts `own`, the job of the graph's own plan, before them.
 fn join(alloc: Global, own: Named, plans: &[Assigned]) -> Result<Vec<Named>, PlansFault>
     requires sound { IsJob own.job }
     requires fit { All (IsPlanOf own.job.graph.units) plans.now }
@@ -162,14 +164,15 @@ fn jobs_read(
 
 /// Makes the jobs of several plans on one graph.
 ///
-/// The bytes up to the first line feed are the graph, the rest is the table. The first job is that
-/// of the graph's own plan, named after its district column. Each origin, if the setting asks for
-/// it, covers all bytes.
+/// The bytes before the first line feed are the graph, and those after it the table. The first job
+/// is that of the graph's own plan, named after its district column. If the setting asks for
+/// origins, the origin of each job is the digest and the number of all bytes.
 ///
 /// # Errors
 ///
-/// The first fault of the graph, its regions, the table, the graph's own plan, and the table's
-/// plans in their order, with their names. `Memory` may come at any point.
+/// The first fault, in this order: of the graph, of its regions, of the table, of the graph's own
+/// plan, of each plan of the table. The fault of a table's plan comes with the plan's name.
+/// `Memory` may come at any point.
 pub fn read_jobs(alloc: Global, setting: &Setting, bytes: &[u8]) -> Result<Vec<Named>, PlansFault>
     requires { IsSetting setting.now }
     ensures read { MatchResult result (λ named. jobs_reading setting.now bytes.now ≡ Ok (jobs_of named.items))

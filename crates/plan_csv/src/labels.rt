@@ -1,4 +1,4 @@
-//! The labels of a plan, and the plan they make.
+//! Plans from the columns of labels of a table.
 
 ghost use Rattle.std.specs.Prelude.{◌≡◌, ◌≤◌, ◌<◌, ◌||◌, ◌⊎◌, ℕ, nat_lt, true, false, [], length, map, slice_index, IfOk, MatchResult};
 ghost use Rattle.csv.specs.Records.{fields_of};
@@ -29,7 +29,8 @@ pub fn is_miscounted(districts: usize) -> bool
     districts < 2 || districts > 200
 }
 
-/// Makes the plan of a column, or returns `DistrictCount`. `records` gives the record of each unit.
+/// Makes the plan with the index `plan`, or returns `DistrictCount`. `entries[records[unit]]` is
+/// the record of a unit.
 pub fn plan_of(
     alloc: Global,
     header: &StringRecord,
@@ -83,7 +84,7 @@ fn text_of(alloc: Global, text: &str) -> Result<Text, Memory>
     Ok(copy)
 }
 
-/// Maps the district of each record to the district of each unit.
+/// Returns the district of each unit: that of its record.
 fn unit_districts(alloc: Global, districts: &[u32], records: &[usize]) -> Result<UnitList, Memory>
     requires { (u : ℕ) → u < length records.now → slice_index records.now u < length districts.now }
     ensures { IfOk result (λ start. start ≡ map_below (length records.now) (λ u. slice_index districts.now (slice_index records.now u))) }
@@ -95,8 +96,8 @@ fn unit_districts(alloc: Global, districts: &[u32], records: &[usize]) -> Result
     Ok(start)
 }
 
-/// Makes a plan from its name, the label of each record, the distinct labels and the record of each
-/// unit.
+/// Makes a plan from its name, the label of each record (`names`), the distinct labels (`found`)
+/// and the index of each unit's record.
 fn make_assigned(
     alloc: Global,
     name: &str,

@@ -1,4 +1,4 @@
-//! The two parts of the input.
+//! The two parts of the input: graph and table.
 
 ghost use Rattle.std.specs.Prelude.{◌≡◌, ◌==◌, position};
 ghost use Rattle.audit_statement.specs.Table as table;
@@ -16,7 +16,8 @@ fn line_feed(bytes: &[u8]) -> Option<usize>
     bytes.iter().position(|c| *c == b'\n')
 }
 
-/// Splits the bytes at the first line feed. Without one, all of them are the graph.
+/// Splits the bytes at the first line feed, which is in neither part. Without a line feed, all
+/// bytes are the graph.
 pub fn parts_of(bytes: &[u8]) -> Parts<'_>
     ensures graph { result.graph.now ≡ table.graph_part bytes.now }
     ensures table { result.table.now ≡ table.table_part bytes.now }

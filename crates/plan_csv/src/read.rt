@@ -26,20 +26,22 @@ use std::alloc::Global;
 ///
 /// # Errors
 ///
-/// The faults are tested in this order, each over the whole table, and reported at its first place.
+/// The faults are tested in this order. Each test covers the whole table before the next one
+/// begins, and reports the first occurrence.
 ///
 /// - `Unreadable`: a record with another number of fields than the first, or a field that is not
 ///   UTF-8.
 /// - `NoHeader`: there is no record, or the first has fewer than two fields.
 /// - `TooManyPlans`: more than 16 plans. It gives their number.
 /// - `BadName`: a plan name that is not 1 to 100 visible ASCII characters.
-/// - `SharedId`: two units with equal ids as text; the least such unit and the earlier one.
+/// - `SharedId`: two units whose ids are equal as text. It gives the first unit whose id repeats an
+///   earlier one, and the earlier unit.
 /// - `UnknownId`: a record whose first field is no unit's id.
 /// - `Twice`: a record whose unit an earlier record names.
 /// - `MissingUnit`: a unit that no record names.
 /// - `DistrictCount`: a plan with fewer than 2 or more than 200 distinct labels.
 ///
-/// `Memory` comes if there was no memory for the records or the plans.
+/// `Memory`: out of memory, at any point.
 pub fn read_plans(alloc: Global, bytes: &[u8], ids: &LabelList) -> Result<AssignedList, TableFault>
     requires { length ids.now ≤ most_units }
     ensures read { MatchResult result (λ plans. table.table_reading bytes.now ids.now ≡ Ok plans)
@@ -55,7 +57,8 @@ pub fn read_plans(alloc: Global, bytes: &[u8], ids: &LabelList) -> Result<Assign
     }
 }
 
-/// Makes the plans of the columns after the first. `records` gives the record of each unit.
+/// Makes the plans of the columns after the first. `entries[records[unit]]` is the record of a
+/// unit.
 fn read_columns(
     alloc: Global,
     header: &StringRecord,
@@ -82,7 +85,7 @@ fn read_columns(
     Ok(list)
 }
 
-/// Makes the plans from records that are texts of equal width.
+/// Makes the plans from records that have equally many fields.
 fn plans_from(
     alloc: Global,
     header: &StringRecord,

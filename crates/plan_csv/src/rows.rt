@@ -12,11 +12,12 @@ use audit_model::memory::Memory;
 use csv::{ByteRecord, ReaderBuilder, StringRecord};
 use std::alloc::Global;
 
-/// Reads all records; none is skipped as a header. Fails if there is no memory.
+/// Reads all records, the header among them. Fails only if out of memory.
 pub fn records_of(alloc: Global, bytes: &[u8]) -> Result<Vec<ByteRecord>, Memory>
     ensures { IfOk result (λ rows. map fields_of rows.items ≡ records default_config (strip_bom bytes.now)) }
 {
-    // Records may differ in width here, so that the first odd one is reported by its number.
+    // `flexible` accepts records of any width, so that `texts_of` can report the first odd one by
+    // its number.
     let reader = ReaderBuilder::new()
         .has_headers(false)
         .flexible(true)
@@ -31,14 +32,15 @@ pub fn records_of(alloc: Global, bytes: &[u8]) -> Result<Vec<ByteRecord>, Memory
     Ok(rows)
 }
 
-/// Returns the number of fields of the first record, or 0 without one.
+/// Returns the number of fields of the first record, or 0 if there is no record.
 pub fn columns_of(rows: &[ByteRecord]) -> usize
     ensures { result ≡ length (slice_index_or (map fields_of rows.now) 0 []) }
 {
     if rows.is_empty() { 0 } else { rows[0].len() }
 }
 
-/// Converts the records to texts, or returns the first one that is not UTF-8 or not `columns` wide.
+/// Converts the records to texts, or returns the number of the first one that is not UTF-8 or does
+/// not have `columns` fields.
 pub fn texts_of(
     alloc: Global,
     rows: Vec<ByteRecord>,

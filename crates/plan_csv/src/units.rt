@@ -1,4 +1,4 @@
-//! The units that the records name.
+//! The record of each unit, by the ids in the first field of the records.
 
 ghost use Rattle.std.specs.Prelude.{◌≡◌, ◌≤◌, ◌<◌, ◌^◌, ◌⊎◌, ℕ, List, [], None, Some, length, map, string_bytes, IfOk, MatchResult};
 ghost use Rattle.std.specs.List.{slice_index_or};
@@ -18,7 +18,7 @@ use itoa::Buffer;
 use std::alloc::Global;
 use std::collections::BTreeMap;
 
-/// Returns an id as text. Fails if there is no memory.
+/// Returns an id as text. Fails only if out of memory.
 pub fn id_text(alloc: Global, id: &Label) -> Result<String, Memory>
     ensures { IfOk result (λ text. string_bytes text ≡ table.id_text id.now) }
 {
@@ -70,8 +70,8 @@ pub fn units_of(
     Ok(units)
 }
 
-/// Returns the record of each of `count` units, if any names it, or the first record that repeats a
-/// unit.
+/// Returns for each of `count` units the index of the record that names it, or `None` if no record
+/// does. Fails at the first record that repeats a unit.
 pub fn places_of(
     alloc: Global,
     units: &[u32],
@@ -94,7 +94,7 @@ pub fn places_of(
     Ok(places)
 }
 
-/// Returns the record of each unit, or the first unit that no record names.
+/// Returns the index of each unit's record, or the first unit that no record names.
 pub fn records_of(alloc: Global, places: &[Option<usize>]) -> Result<Vec<usize>, TableFault>
     requires { length places.now ≤ most_units }
     ensures { MatchResult result (λ records. (unnamed places.now ≡ None) × AreThere places.now records.items)
@@ -110,7 +110,8 @@ pub fn records_of(alloc: Global, places: &[Option<usize>]) -> Result<Vec<usize>,
     Ok(records)
 }
 
-/// Returns the record of each unit, or the first fault of the ids and of the records' units.
+/// Returns the index of each unit's record, or the first fault of the ids and of the records'
+/// units.
 pub fn records_from(
     alloc: Global,
     entries: &[StringRecord],
