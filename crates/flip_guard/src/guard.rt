@@ -46,7 +46,7 @@ impl<F: Fn(&SumsView) -> bool + Drop> Guard<F> {
         (self.test)(sums)
     }
 
-    /// Returns true if the maximum is no limit, since a graph may have no more edges.
+    /// Returns true if the maximum excludes no plan because no graph has more edges.
     #[inline]
     pub fn allows_all(&self) -> bool
         ensures { IsTrue result ↔ (most_edges ≤ self.now.rules.max_cut) }

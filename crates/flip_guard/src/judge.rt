@@ -10,9 +10,9 @@ use audit_model::outcome::SumsView;
 
 /// A constraint: rules that decide whether a proposed plan may be taken.
 ///
-/// It may keep data about the current plan, and is notified of each move.
+/// An implementation may keep data about the current plan. `moved` and `reset` update the data.
 pub trait Judge: Drop {
-    /// The rules, and the plans that it accepts as arguments.
+    /// The rules, and the plans that the constraint accepts as arguments.
     ghost judging: { Self → Judging };
 
     /// Returns true if the rules limit nothing, so that no proposal needs to be checked.
@@ -23,8 +23,9 @@ pub trait Judge: Drop {
 
     /// Returns true if the plan after a move meets the rules.
     ///
-    /// Before the move, `unit` was in the district `from`, and the constraint described that plan.
-    /// Of `sums`, only the number of cut edges is that of the plan after the move.
+    /// Before the move, `unit` was in the district `from`. The constraint must describe the plan
+    /// before the move. Of `sums`, only the number of cut edges counts, and it must be that of the
+    /// plan after the move.
     fn permits(&self, after: &[u32], sums: &SumsView, unit: u32, from: u32) -> bool
         requires kept { (judging self.now).keeps }
         requires after { IsAfterMove (judging self.now) after.now unit from }
