@@ -8,7 +8,8 @@ ghost use Rattle.audit_model.specs.Limits.{most_regions, most_districts, most_pe
 
 use audit_model::lists::{NumList, UnitList};
 
-/// Counts the units of each region in each district. `cells` has a row per region.
+/// Counts the units of each region in each district. `cells` has `rows` rows of `districts` cells,
+/// one row per region.
 pub(crate) fn count_units(
     regions: &UnitList,
     plan: &[u32],
@@ -77,7 +78,8 @@ fn count_rows(cells: &[u64], districts: usize, widths: &mut [u32])
     }
 }
 
-/// Moves one unit from one cell to another. No count exceeds `units`.
+/// Moves one unit from one cell to another. `units` serves the contract only: no count may exceed
+/// it.
 #[inline]
 pub(crate) fn move_unit(cells: &mut NumList, from: usize, to: usize, units: usize)
     requires from { from < length cells.old }
@@ -118,7 +120,7 @@ fn write_width(widths: &mut [u32], region: usize, width: u32)
     widths[region] = width;
 }
 
-/// Returns the number of splits in all: the districts of each region less one, added up.
+/// Returns the splits in all: the sum over regions of the number of districts less one.
 pub(crate) fn count_in_all(widths: &[u32]) -> u32
     requires few_rows { length widths.now ≤ most_regions }
     requires few { (region : ℕ) → region < length widths.now → slice_index widths.now region ≤ most_districts }
@@ -170,7 +172,7 @@ fn add_up(column: &[u64], plan: &[u32], sums: &mut [u64])
     }
 }
 
-/// Moves a unit's number from one sum to another.
+/// Moves a unit's value in `column` from one district's sum to another's.
 #[inline]
 pub(crate) fn shift(column: &NumList, unit: u32, from: u32, to: u32, sums: &mut NumList)
     requires unit { unit < length column.now }
@@ -197,7 +199,7 @@ fn move_amount(amount: u64, from: usize, to: usize, sums: &mut [u64])
     sums[to] += amount;
 }
 
-/// Returns one more than the greatest region.
+/// Returns one more than the greatest region number, or 0 without regions.
 pub(crate) fn row_count(regions: &[u32]) -> u32
     requires { (u : ℕ) → u < length regions.now → slice_index regions.now u < most_regions }
     ensures { result ≡ above_all regions.now }

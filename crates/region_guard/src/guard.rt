@@ -25,8 +25,8 @@ use std::alloc::Global;
 ///
 /// `cut` tests the cut edges, and `test` the number of districts of a region. Running counts
 /// describe the current plan: how its regions are split, and in how many districts the group has a
-/// majority. `kept` is true if the frozen units keep their districts. There may be no regions, no
-/// group and no frozen units.
+/// majority. `kept` is true if the frozen units of the current plan are in their districts.
+/// Regions, group and frozen units are optional.
 #[derive(Drop)]
 pub struct RegionGuard<F, T> {
     cut: Guard<F>,
@@ -108,7 +108,7 @@ impl<F: Fn(&SumsView) -> bool + Drop, T: Fn(u32) -> bool + Drop> RegionGuard<F, 
         self.rules.regions.as_slice()[unit as usize] as usize
     }
 
-    /// Returns the number of districts of the unit's region after its move from `from`.
+    /// Returns the number of districts of the moved unit's region after the move.
     fn split_with(&self, after: &[u32], unit: u32, from: u32) -> u32
         requires table { IsTable self.now.rules.regions self.now.districts self.now.splits }
         requires step { IsStep self.now.rules.regions self.now.districts after.now unit from }
@@ -184,7 +184,7 @@ impl<F: Fn(&SumsView) -> bool + Drop, T: Fn(u32) -> bool + Drop> RegionGuard<F, 
     }
 
     /// Returns true if the plan after a move keeps the districts of frozen units. If the plan
-    /// before the move kept them, the unit that moved decides.
+    /// before the move kept them too, only the moved unit is checked.
     #[inline]
     fn keeps_with(&self, after: &[u32], unit: u32, _from: u32) -> bool
         requires homes { length self.now.rules.frozen ≤ length self.now.rules.home }
@@ -221,7 +221,7 @@ impl<F: Fn(&SumsView) -> bool + Drop, T: Fn(u32) -> bool + Drop> RegionGuard<F, 
 
     /// Allocates a constraint for plans whose districts are below `districts`.
     ///
-    /// It describes no plan until it is reset to one. Fails if there is no memory.
+    /// It describes no plan until `reset` is called. Fails only if out of memory.
     pub fn new(
         alloc: Global,
         cut: Guard<F>,

@@ -16,7 +16,7 @@ use std::alloc::Global;
 
 /// Allocates `count` constraints with the given tests, each with its own rules and counts.
 ///
-/// They describe no plan until they are reset to one. Fails only if there is no memory.
+/// They describe no plan until `reset` is called. Fails only if out of memory.
 pub fn region_guards<F: Fn(&SumsView) -> bool + Copy + Drop, T: Fn(u32) -> bool + Copy + Drop>(
     alloc: Global,
     cut: F,
@@ -45,7 +45,7 @@ pub fn region_guards<F: Fn(&SumsView) -> bool + Copy + Drop, T: Fn(u32) -> bool 
     Ok(judges)
 }
 
-// Returns the rule on cut edges alone.
+// Returns rules that limit only the cut edges.
 fn cut_rules(alloc: Global, rules: &Rules) -> Rules
     ensures max_cut { result.max_cut ≡ rules.now.max_cut }
     ensures no_regions { result.regions ≡ [] }
@@ -69,7 +69,7 @@ fn cut_rules(alloc: Global, rules: &Rules) -> Rules
     }
 }
 
-// Allocates one constraint with its own copy of the rules. Fails only if there is no memory.
+// Allocates one constraint with its own copy of the rules. Fails only if out of memory.
 fn region_guard_of<F: Fn(&SumsView) -> bool + Copy + Drop, T: Fn(u32) -> bool + Copy + Drop>(
     alloc: Global,
     cut: F,

@@ -24,7 +24,7 @@ pub struct GroupTally {
 }
 
 impl GroupTally {
-    /// Allocates sums of zero. Fails if there is no memory.
+    /// Allocates sums of zero. Fails only if out of memory.
     pub(crate) fn zeros(alloc: Global, districts: usize, share: u32) -> Result<GroupTally, Memory>
         ensures { IfOk result (λ t. t ≡ record { members = replicate districts 0; whole = replicate districts 0; share = share; majorities = 0 }) }
     {
@@ -100,7 +100,7 @@ impl GroupTally {
         )
     }
 
-    /// Returns the number of majorities after a move. The group must be named.
+    /// Returns the number of majorities after a move. `group` must not be empty.
     fn majorities_after(&self, group: &Group, after: &[u32], unit: u32, from: u32) -> u32
         requires table { IsGroupTable group.now (length self.now.members) self.now }
         requires step { IsStep group.now.members (length self.now.members) after.now unit from }
@@ -116,7 +116,7 @@ impl GroupTally {
         self.majorities + left + entered - self.majority_in(from) - self.majority_in(to)
     }
 
-    /// Returns the number of majorities after a move, with or without a group.
+    /// Returns the number of majorities after a move. `group` may be empty.
     #[inline]
     pub(crate) fn majorities_with(&self, group: &Group, after: &[u32], unit: u32, from: u32) -> u32
         requires table { IsGroupTable group.now (length self.now.members) self.now }
@@ -130,7 +130,7 @@ impl GroupTally {
         self.majorities_after(group, after, unit, from)
     }
 
-    /// Updates the sums after a move to another district. The group must be named.
+    /// Updates the sums after a move to another district. `group` must not be empty.
     fn follow(&mut self, group: &Group, after: &[u32], unit: u32, from: u32)
         requires table { IsGroupTable group.now (length self.old.members) self.old }
         requires step { IsStep group.now.members (length self.old.members) after.now unit from }
@@ -147,7 +147,7 @@ impl GroupTally {
         self.majorities = majorities;
     }
 
-    /// Updates the sums after a move to another district, if there is a group.
+    /// Updates the sums after a move to another district. `group` may be empty.
     pub(crate) fn record_move(&mut self, group: &Group, after: &[u32], unit: u32, from: u32)
         requires table { IsGroupTable group.now (length self.old.members) self.old }
         requires step { IsFitStep group.now.members (length self.old.members) after.now unit from }

@@ -50,8 +50,8 @@ impl Totals {
     }
 }
 
-/// Counts of a plan's regions: `cells` has the units by region and district, `widths` the districts
-/// of each region.
+/// Counts of a plan's regions. `cells` has the number of units by region and district, one row per
+/// region. `widths` has the number of districts of each region.
 #[derive(Drop)]
 pub struct SplitCounts {
     pub(crate) cells: NumList,
@@ -60,7 +60,7 @@ pub struct SplitCounts {
 }
 
 impl SplitCounts {
-    /// Allocates counts of zero. Fails if there is no memory.
+    /// Allocates counts of zero. Fails only if out of memory.
     pub(crate) fn zeros(
         alloc: Global,
         regions: usize,
