@@ -40,7 +40,8 @@ impl Draws {
         Draws { key, words }
     }
 
-    /// Returns the next draw. Two 32-bit words make a draw, the first of them the lower half.
+    /// Returns the next draw. A draw is the next two 32-bit words of the stream; the first word is
+    /// the lower half.
     #[inline]
     pub fn next(&mut self) -> u64
         requires { self.old.place < 2 ^ 32 }
