@@ -25,11 +25,11 @@ pub fn in_tail(tail: Tail, value: i64, start: i64) -> bool
     }
 }
 
-/// Returns the significance of a start plan with `count` of `of` visited plans in its tail, itself
-/// included.
+/// Returns the p-value bound of a start plan if `count` of `of` visited plans are in its tail. The
+/// start plan is one of the `count` plans.
 ///
-/// It is the square root of `2 * count / of`, in billionths, rounded up (Chikina, Frieze and
-/// Pegden).
+/// The bound is the square root of `2 * count / of`, in billionths (Chikina, Frieze and Pegden). It
+/// is rounded up, so that it is never below the exact root.
 pub fn bound(count: u64, of: u64) -> u64
     requires count { (1 ≤ count) × (count ≤ of) }
     requires few { of ≤ 1000000001 }
@@ -43,7 +43,8 @@ pub fn bound(count: u64, of: u64) -> u64
 
 /// Returns the start plan's rank among the endpoints of the parallel test (Besag and Clifford).
 ///
-/// It is one plus the number of endpoints whose value at the place `ask` is in the tail.
+/// The rank is one plus the number of endpoints whose value of the ask with index `ask` is in the
+/// tail.
 pub fn rank(tail: Tail, start: i64, ask: u32, ends: &[Outcome]) -> u64
     requires { ask < 4 }
     ensures { result ≡ trajectory.rank_among tail start ask ends.now }
@@ -57,8 +58,9 @@ pub fn rank(tail: Tail, start: i64, ask: u32, ends: &[Outcome]) -> u64
     rank
 }
 
-/// Returns the p-value `rank / of` of the parallel test (Besag and Clifford), in billionths,
-/// rounded up. `of` counts the start plan too.
+/// Returns the p-value `rank / of` of the parallel or serial test (Besag and Clifford), in
+/// billionths. It is rounded up, so that it is never below the fraction. `of` is the number of
+/// ranked plans, the start plan among them.
 pub fn p_value(rank: u64, of: u64) -> u64
     requires rank { (1 ≤ rank) × (rank ≤ of) }
     requires few { of ≤ 1000000001 }
