@@ -1,4 +1,4 @@
-//! Values and counts of a job's asks, in four places. Places past the asks are zeros.
+//! Values and counts by ask, in arrays of four. Entries past the last ask are 0.
 
 ghost use Rattle.std.specs.Prelude.{◌≡◌, ◌+◌, ◌*◌, ◌<◌, ◌^◌, ◌∷◌, [], length, slice_index, ℕ, pos};
 ghost use Rattle.std.specs.List.{slice_get};
@@ -11,8 +11,8 @@ use flip_kernel::state::State;
 use outlier_tests::in_tail;
 use scores::Room;
 
-/// For each ask: the start plan's value, 1 or 0 for the current plan in its tail or not, and the
-/// number of counted plans in its tail.
+/// For each ask: the start plan's value (`start`), 1 if the current plan is in the tail and else 0
+/// (`inside`), and the number of visits in the tail so far (`counts`).
 #[derive(Drop)]
 pub struct Tally {
     pub start: [i64; 4],
@@ -32,7 +32,7 @@ pub fn values<J: Judge>(state: &State<J>, asks: &[Ask], room: &mut Room) -> [i64
     ]
 }
 
-/// Converts the counts to signed numbers.
+/// Converts the counts to the signed numbers of an outcome.
 pub fn signed(counts: [u32; 4]) -> [i64; 4]
     ensures { result ≡ (pos (slice_index counts 0) ∷ pos (slice_index counts 1) ∷ pos (slice_index counts 2) ∷ pos (slice_index counts 3) ∷ []) }
 {
@@ -45,7 +45,7 @@ pub fn signed(counts: [u32; 4]) -> [i64; 4]
 }
 
 impl Tally {
-    /// Scores the start plan, which is the current one, and counts nothing yet.
+    /// Scores the start plan, which must be the current plan. All counts are 0.
     pub fn new<J: Judge>(state: &State<J>, asks: &[Ask], room: &mut Room) -> Tally
         requires start { state.now.plan ≡ state.now.job.start }
         ensures start { result.start ≡ each (asked_value state.now.job state.now.job.start) asks.now }
@@ -77,7 +77,7 @@ impl Tally {
         ];
     }
 
-    /// Counts the plan scored last, `times` times.
+    /// Counts `times` visits of the plan that was scored last.
     pub fn count(&mut self, times: u32)
         requires { (k : ℕ) → k < 4 → slice_index self.old.counts k + times * slice_index self.old.inside k < 2 ^ 32 }
         ensures start { self.new.start ≡ self.old.start }
@@ -100,7 +100,8 @@ fn current_value<J: Judge>(state: &State<J>, score: Score, room: &mut Room) -> i
     room.value(score, state.view())
 }
 
-/// Returns the value of the ask at a place for the current plan.
+/// Returns the current plan's value of the ask with the index `place`, or 0 if there is no such
+/// ask.
 #[tactic(auto, unfolding(crate::specs::Asked::asked_value))]
 fn value_at<J: Judge>(state: &State<J>, asks: &[Ask], place: usize, room: &mut Room) -> i64
     ensures { result ≡ asked_value state.now.job state.now.plan (slice_get asks.now place) }
@@ -111,7 +112,7 @@ fn value_at<J: Judge>(state: &State<J>, asks: &[Ask], place: usize, room: &mut R
     }
 }
 
-/// Returns 1 if the current plan is in the tail of the ask at a place, else 0.
+/// Returns 1 if the current plan is in the tail of the ask with the index `place`, else 0.
 #[tactic(auto, unfolding(crate::specs::Asked::asked_value, crate::specs::Asked::inside, crate::specs::Asked::is_inside))]
 fn inside_at<J: Judge>(
     state: &State<J>,

@@ -10,8 +10,8 @@ use flip_guard::judge::Judge;
 use flip_kernel::state::State;
 use scores::Room;
 
-/// The start plan's seats, the bin of the current plan, and the number of counted plans in each
-/// bin.
+/// The start plan's seats, the bin of the current plan, and the number of visits in each bin so
+/// far.
 ///
 /// Without a histogram (`asked` is false), the counts stay zero and no seats are computed.
 #[derive(Drop)]
@@ -23,7 +23,7 @@ pub struct Histogram {
 }
 
 impl Histogram {
-    /// Starts an empty histogram at the start plan.
+    /// Makes an empty histogram. The current plan must be the start plan.
     pub fn new<J: Judge>(asked: bool, state: &State<J>, room: &mut Room) -> Histogram
         requires start { state.now.plan ≡ state.now.job.start }
         ensures asked { result.asked ≡ asked }
@@ -56,7 +56,7 @@ impl Histogram {
         }
     }
 
-    /// Counts the plan whose bin was found last, `times` times.
+    /// Counts `times` visits in the bin that was found last.
     pub fn count(&mut self, times: u32)
         requires small { self.old.bin < 9 }
         requires fits { IsTrue self.old.asked → slice_index self.old.counts self.old.bin + times < 2 ^ 32 }
@@ -81,8 +81,9 @@ fn current_seats<J: Judge>(state: &State<J>, room: &mut Room) -> u64
     room.value(Score::Seats, state.view()) as u64
 }
 
-/// Returns the bin of a plan with this number of seats. Bin 4 means as many seats as the start
-/// plan; the outer bins 0 and 8 are open.
+/// Returns the bin of a plan with this number of seats. Bin 4 is for the start plan's number of
+/// seats, bin 5 for one seat more, bin 3 for one seat less. Bins 0 and 8 are for four or more seats
+/// of difference.
 fn bin_of(seats: u64, start: u64) -> usize
     requires { seats < 2 ^ 63 }
     ensures bin { result ≡ definition.bin_of seats start }

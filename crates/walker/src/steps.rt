@@ -19,8 +19,8 @@ use plan_core::job::Job;
 use scores::Room;
 use std::sync::ledger::Ledger;
 
-/// Takes this many steps along a stream from its first draw. Returns the number of steps that
-/// changed the plan.
+/// Takes `steps` steps with the first draws of a stream. Returns the number of steps that changed
+/// the plan.
 pub fn walk<J: Judge, L: Ledger>(
     job: &Job,
     state: &mut State<J>,
@@ -37,9 +37,10 @@ pub fn walk<J: Judge, L: Ledger>(
     walk_on(job, state, &mut draws, steps, counter)
 }
 
-/// Takes this many more steps along a stream. Returns the number of steps that changed the plan.
+/// Takes `steps` more steps with the next draws of a stream. Returns the number of steps that
+/// changed the plan.
 ///
-/// Several calls add up to one call with all steps.
+/// Several calls have the effect of one call with the sum of their steps.
 pub fn walk_on<J: Judge, L: Ledger>(
     job: &Job,
     state: &mut State<J>,
@@ -62,7 +63,7 @@ pub fn walk_on<J: Judge, L: Ledger>(
     moved
 }
 
-/// A walk from the start plan: its stream, its number of steps, and if it needs a histogram
+/// A walk from the start plan: its stream, its number of steps, and whether it needs a histogram
 /// (`shift`).
 #[derive(Clone, Copy)]
 pub struct Course {
@@ -78,11 +79,11 @@ struct Track {
     trail: Trail,
 }
 
-/// Walks from the start plan, which is the current one.
+/// Walks from the start plan, which must be the current plan.
 ///
 /// Returns the number of moves, each ask's number of visited plans in its tail, and the histogram
-/// if `course` asks for it. The start plan is a visited plan. Scores and seats are computed at the
-/// start and after each move only.
+/// if `course` asks for it. The start plan is the first visited plan. To save time, scores and
+/// seats are computed only at the start and after each move.
 pub fn count_visits<J: Judge, L: Ledger>(
     job: &Job,
     state: &mut State<J>,
@@ -110,8 +111,8 @@ pub fn count_visits<J: Judge, L: Ledger>(
     trail
 }
 
-/// Takes one step, and returns true if it changed the plan. It is inlined since nine of ten steps
-/// end after testing one bit, so a call would double their cost.
+/// Takes one step, and returns true if it changed the plan. The function is inlined because nine of
+/// ten steps end after a test of one bit. A call would double their cost.
 #[inline(always)]
 fn step<J: Judge, L: Ledger>(
     job: &Job,
@@ -129,8 +130,8 @@ fn step<J: Judge, L: Ledger>(
     try_flip(job, state, draw, counter)
 }
 
-/// Takes one step. If it changed the plan, counts the visits of the plan before and scores the plan
-/// after it.
+/// Takes one step. If the step changed the plan, counts all visits of the plan before it, and
+/// scores the plan after it.
 #[inline(always)]
 fn visit_next<J: Judge, L: Ledger>(
     job: &Job,

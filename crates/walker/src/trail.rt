@@ -15,8 +15,8 @@ use scores::Room;
 
 /// The results of a walk so far.
 ///
-/// A plan is scored once, when it becomes current. It is counted when it is left, for all its
-/// visits at once.
+/// A plan is scored once, when a move leads to it. All its visits are counted at once, when the
+/// next move leaves it.
 #[derive(Drop)]
 pub struct Trail {
     pub moved: u32,
@@ -26,7 +26,7 @@ pub struct Trail {
 }
 
 impl Trail {
-    /// Starts at the start plan, which is the current one.
+    /// Scores the start plan, which must be the current plan.
     pub fn new<J: Judge>(job: &Job, state: &State<J>, shift: bool, room: &mut Room) -> Trail
         requires made { state.now.job ≡ job.now }
         requires start { state.now.plan ≡ job.now.start }
@@ -43,7 +43,8 @@ impl Trail {
         }
     }
 
-    /// Counts the plan scored last for its visits up to the number `visits`.
+    /// Counts the visits of the plan that was scored last. `visits` is the number of all visits of
+    /// the walk so far.
     pub fn flush(&mut self, visits: u32)
         requires order { self.old.visits ≤ visits }
         requires tails { (k : ℕ) → k < 4 → slice_index self.old.tally.counts k + (visits - self.old.visits) * slice_index self.old.tally.inside k < 2 ^ 32 }

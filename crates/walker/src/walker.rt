@@ -1,4 +1,4 @@
-//! The walker of a job.
+//! Whole trajectories of a job, or several steps of one at a time.
 
 ghost use Rattle.std.specs.Prelude.{◌≡◌, ◌+◌, ◌-◌, ◌*◌, ◌<◌, ◌≤◌, ◌^◌, ℕ, length, IfOk};
 ghost use Rattle.audit_statement.specs.Along.{ask_values};
@@ -25,8 +25,8 @@ use std::alloc::Global;
 use std::marker::{Brand, Model};
 use std::sync::ledger::{Blank, Ledger};
 
-/// The memory that walking a job's trajectories takes: a current legal plan, a constraint that
-/// describes it, and buffers for scores.
+/// The memory in which one worker walks a job's trajectories: a current legal plan, the constraint
+/// with its counts of the plan, and buffers for scores.
 #[derive(Drop)]
 pub struct Walker<J: Judge> {
     state: State<J>,
@@ -42,8 +42,8 @@ impl<J: Judge> Model for Walker<J> {
 }
 
 impl<J: Judge> Walker<J> {
-    /// Allocates a walker at the job's start plan, with a constraint for the job. Fails if there is
-    /// no memory.
+    /// Allocates a walker at the job's start plan, with a constraint for the job. Fails only if out
+    /// of memory.
     pub fn new(alloc: Global, job: &Job, judge: J) -> Result<Walker<J>, Memory>
         requires judge { IsJudgeFor job.now (J.judging judge) }
         ensures job { IfOk result (λ w. w.job ≡ job.now) }
@@ -63,7 +63,7 @@ impl<J: Judge> Walker<J> {
         self.state.plan()
     }
 
-    /// Walks the trajectory with this id and returns its outcome. It allocates nothing.
+    /// Walks the trajectory with this id and returns its outcome. Allocates nothing.
     ///
     /// A walk of the outlier test begins at the start plan, an endpoint trajectory of the parallel
     /// test at the hub. `hub` is read only for the latter.
@@ -80,8 +80,8 @@ impl<J: Judge> Walker<J> {
     /// Walks from the start plan along a stream, and returns the moves and each ask's number of
     /// visited plans in its tail.
     ///
-    /// The outcome has the id 0 and no histogram. The start plan is a visited plan. It allocates
-    /// nothing.
+    /// The outcome has the id 0 and no histogram. The start plan is the first visited plan.
+    /// Allocates nothing.
     pub fn run(&mut self, job: &Job, stream: u64, steps: u32) -> Outcome
         requires made { self.old.job ≡ job.now }
         requires few { steps ≤ 10 ^ 9 }
@@ -91,8 +91,8 @@ impl<J: Judge> Walker<J> {
         self.run_by::<Brand>(job, stream, steps, Blank::new(1))
     }
 
-    /// Walks to the hub, from which the endpoint trajectories start, and copies its plan. It
-    /// allocates nothing.
+    /// Walks from the start plan to the hub, and copies the hub's districts into `hub`, by unit.
+    /// Allocates nothing.
     pub fn hub_into(&mut self, job: &Job, hub: &mut [u32])
         requires made { self.old.job ≡ job.now }
         requires units { length hub.old ≡ job.now.graph.units }
@@ -105,8 +105,9 @@ impl<J: Judge> Walker<J> {
 
     /// Sets the current plan to the first plan of the trajectory with this id.
     ///
-    /// This is the start plan for a walk and the hub for an endpoint trajectory; `hub` is read only
-    /// for the latter. It allocates nothing.
+    /// The first plan is the start plan for a walk and the hub for an endpoint trajectory. `hub` is
+    /// read only for the latter. Returns the trajectory's progress before its first step. Allocates
+    /// nothing.
     pub fn set_out(&mut self, job: &Job, hub: &[u32], id: u32) -> Way
         requires made { self.old.job ≡ job.now }
         requires hub { job.now.setting.walks ≤ id → hub.now ≡ hub_of job.now (draw job.now.setting.key) }
@@ -122,8 +123,8 @@ impl<J: Judge> Walker<J> {
         }
     }
 
-    /// Takes this many more steps of a trajectory. Several calls add up to one call with all steps.
-    /// It allocates nothing.
+    /// Takes `steps` more steps of a trajectory. Several calls have the effect of one call with the
+    /// sum of their steps. Allocates nothing.
     pub fn go_on(&mut self, job: &Job, way: &mut Way, steps: u32)
         requires made { self.old.job ≡ job.now }
         requires few { way.old.draws.place + steps ≤ 10 ^ 9 }
@@ -133,8 +134,7 @@ impl<J: Judge> Walker<J> {
         self.go_on_by::<Brand>(job, way, steps, Blank::new(1))
     }
 
-    /// Returns the value of each ask for the current plan, in four places. Places past the asks are
-    /// zeros.
+    /// Returns the current plan's value of each ask. Entries past the last ask are 0.
     pub fn values(&mut self, job: &Job) -> [i64; 4]
         requires made { self.old.job ≡ job.now }
         ensures values { result ≡ four_values (ask_values job.now self.old.plan) }
@@ -143,7 +143,7 @@ impl<J: Judge> Walker<J> {
         values(&self.state, job.setting().asks.as_slice(), &mut self.room)
     }
 
-    // Does the work of `go_on`, with its own step counter.
+    // Does the work of `go_on`, with a step counter that exists in proofs only.
     fn go_on_by<L: Ledger>(&mut self, job: &Job, way: &mut Way, steps: u32, blank: Blank)
         requires name { blank.name ≡ L.name }
         requires parts { blank.parts ≡ L.parts }
@@ -157,7 +157,7 @@ impl<J: Judge> Walker<J> {
         way.go_on(job, &mut self.state, steps, &mut counter);
     }
 
-    // Does the work of `walk`, with its own step counter.
+    // Does the work of `walk`, with a step counter that exists in proofs only.
     fn walk_by<L: Ledger>(&mut self, job: &Job, hub: &[u32], id: u32, blank: Blank) -> Outcome
         requires name { blank.name ≡ L.name }
         requires parts { blank.parts ≡ L.parts }
@@ -175,7 +175,7 @@ impl<J: Judge> Walker<J> {
         }
     }
 
-    // Does the work of `run`, with its own step counter.
+    // Does the work of `run`, with a step counter that exists in proofs only.
     fn run_by<L: Ledger>(&mut self, job: &Job, stream: u64, steps: u32, blank: Blank) -> Outcome
         requires name { blank.name ≡ L.name }
         requires parts { blank.parts ≡ L.parts }

@@ -1,4 +1,4 @@
-//! A trajectory between its steps.
+//! The progress of a trajectory that is walked in several calls.
 
 ghost use Rattle.std.specs.Prelude.{◌≡◌, ◌+◌, ◌≤◌, ◌^◌, List, ℕ};
 ghost use Rattle.walker.specs.Walked.{IsWalked};
@@ -31,7 +31,8 @@ impl Model for Way {
 }
 
 impl Way {
-    /// Starts a trajectory that draws from this stream.
+    /// Returns the progress of a trajectory before its first step. The trajectory draws from this
+    /// stream.
     pub(crate) fn new(key: [u8; 32], stream: u64) -> Way
         ensures key { result.draws.key ≡ key }
         ensures stream { result.draws.stream ≡ stream }
@@ -51,7 +52,7 @@ impl Way {
         self.moved
     }
 
-    /// Takes this many more steps.
+    /// Takes `steps` more steps.
     pub(crate) fn go_on<J: Judge, L: Ledger>(
         &mut self,
         job: &Job,
