@@ -3,7 +3,7 @@
 ghost use Rattle.std.specs.Prelude.{◌≡◌, ◌+◌, ◌-◌, ◌<◌, ◌∷◌, [], slice_index, unsigned_abs};
 ghost use Rattle.serial_test.specs.Ranks.{rank_of, ranks_of};
 
-/// Returns the rank at each of the four places.
+/// Returns the rank for each of the four asks, from the numbers of plans in the tail of both runs.
 pub fn ranks(forward: [i64; 4], backward: [i64; 4]) -> [u64; 4]
     ensures { result ≡ ranks_of forward backward }
 {
@@ -15,8 +15,8 @@ pub fn ranks(forward: [i64; 4], backward: [i64; 4]) -> [u64; 4]
     ]
 }
 
-/// Adds the plans in the tail of both runs, counting the start plan once. Past the asks both
-/// numbers are 0, and so is the rank.
+/// Adds the numbers of plans in the tail of both runs. Both runs count the start plan, so the sum
+/// is reduced by one. Past the last ask both numbers are 0, and the rank is 0.
 fn rank(forward: i64, backward: i64) -> u64
     ensures { result ≡ rank_of forward backward }
 {

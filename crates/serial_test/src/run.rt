@@ -25,9 +25,10 @@ const BACKWARD_STREAM: u64 = 8_589_934_594;
 
 /// Runs the serial test of the job's start plan (Besag and Clifford).
 ///
-/// The run has as many steps as a walk. The drawn position is the number of forward steps; the rest
-/// are backward steps. A rank counts plans of the run, and is 0 past the asks. It allocates
-/// nothing, and ignores the walker's earlier state.
+/// The run has as many steps as a walk. The drawn position `place` is the number of steps from the
+/// start plan to the end of the run. The other steps lead from the start plan back to the beginning
+/// of the run. Each rank counts the plans of the run in the tail of one ask; ranks past the last
+/// ask are 0. Allocates nothing, and ignores the walker's earlier state.
 pub fn serial<J: Judge>(walker: &mut Walker<J>, job: &Job) -> Serial
     requires made { walker.old.job ≡ job.now }
     requires some { 1 ≤ job.now.setting.steps }

@@ -6,8 +6,8 @@ ghost use Rattle.serial_test.specs.Places.{ArePlaces, DividesDraws};
 
 /// Maps a 64-bit draw to one of `of` positions, counted from 0.
 ///
-/// Since `of` is a power of two, equally many draws give each position. The uniformity of draws is
-/// not proved.
+/// `of` is a power of two, so equally many draws give each position. The uniformity of draws is not
+/// proved.
 pub fn place(draw: u64, of: u64) -> u32
     requires { ArePlaces of }
     ensures place { result ≡ serial_place draw of }
