@@ -8,8 +8,8 @@ use crate::settle::settle;
 use audit_model::outcome::Outcome;
 use plan_core::job::Job;
 
-/// Returns the stopping place and the p-value's fraction for each ask, or `None` if one test has not stopped by these
-/// outcomes. Allocates nothing.
+/// Returns for each ask the stopping place and the numerator and denominator of the p-value. Returns `None` if these
+/// outcomes do not decide where each test stops. Allocates nothing.
 pub fn find_stops(job: &Job, outcomes: &[Outcome]) -> Option<[[u32; 3]; 4]>
     requires some { 1 ≤ job.now.setting.stop }
     requires apart { AllPairs (λ a b. a.id ≡ b.id → ⊥) outcomes.now }

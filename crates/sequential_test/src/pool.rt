@@ -16,7 +16,7 @@ use std::alloc::Global;
 const FIRST_ROUND: u32 = 64;
 
 /// The workers, and a counter for the outlier walks and for each round of endpoint trajectories. Rounds are popped from
-/// the end, so the first round stands last.
+/// the end, so `rounds` has the first round last.
 #[derive(Drop)]
 pub struct StoppingPool<J: Judge> {
     pub(crate) part_workers: PartWorkers<J>,
@@ -25,8 +25,8 @@ pub struct StoppingPool<J: Judge> {
     pub(crate) rounds: Vec<PartCounter>,
 }
 
-/// Returns the number of endpoint trajectories walked after one more round. Each round doubles the number of the round
-/// before, up to `ends`.
+/// Returns the number of endpoint trajectories walked after one more round. Each round has twice the number of the
+/// round before, until there are `ends` in all.
 pub fn after_round(ends: u32, walked: u32) -> u32
     requires { (ends ≤ most_trajectories) × (walked ≤ ends) }
     ensures { result ≡ min ends (2 * walked + 64) }
@@ -34,7 +34,7 @@ pub fn after_round(ends: u32, walked: u32) -> u32
     ends.min(2 * walked + FIRST_ROUND)
 }
 
-// Makes the counter of each round.
+// Makes the counter of each round, with the first round last.
 fn make_rounds(alloc: Global, ends: u32, seats: u32) -> Result<Vec<PartCounter>, Memory>
     requires ends { ends ≤ most_trajectories }
     requires seats { (1 ≤ seats) × (seats ≤ most_workers) }
@@ -52,8 +52,8 @@ fn make_rounds(alloc: Global, ends: u32, seats: u32) -> Result<Vec<PartCounter>,
     Ok(rounds)
 }
 
-/// Makes a worker for each constraint, and counters for every round that may come. The only error is out of memory, and
-/// walking allocates nothing more. The hub is not computed yet.
+/// Makes a worker for each constraint, and a counter for each round that may be needed. Fails only if out of memory.
+/// The walk itself allocates nothing more. The hub is not computed yet.
 pub fn make_pool<J: Judge>(
     alloc: Global,
     job: &Job,

@@ -14,7 +14,7 @@ use audit_model::setting::Tail;
 use outlier_tests::in_tail;
 use plan_core::job::Job;
 
-/// The number of endpoint trajectories of a job, and the number of outlier walks before them.
+/// The number of endpoint trajectories of a job, and the number of outlier walks, whose ids come before theirs.
 #[derive(Clone, Copy)]
 struct Span {
     walks: u32,
@@ -22,8 +22,7 @@ struct Span {
     ghost few: { walks + ends ≤ most_trajectories },
 }
 
-/// One test on endpoints: the number of outlier walks before them, the ask's place, the start plan's value, and the
-/// tail.
+/// The test of one ask: the number of outlier walks, the ask's index, the start plan's value, and the tail.
 #[derive(Clone, Copy)]
 struct EndTest {
     walks: u32,
@@ -34,12 +33,14 @@ struct EndTest {
 }
 
 /// Returns the stopping place of Besag and Clifford's sequential test for an ask, and its p-value as a fraction. The
-/// test needs `hits` endpoints in the tail. The outcomes may be in any order and may lie past that place.
+/// test needs `hits` endpoints in the tail. The outcomes may be in any order, and may include endpoints past the
+/// stopping place.
 ///
-/// Only endpoints by rising id up to the first missing one count. If `hits` of them are in the tail, the place is the
-/// least number of endpoints with `hits` in the tail. The fraction is then `hits` over the place. If fewer are in the
-/// tail and none is missing, the place is the number of all endpoints. The fraction is then one more than the number in
-/// the tail, over one more than the number of endpoints. Returns `None` otherwise. Allocates nothing.
+/// The test takes the endpoints by rising id, up to the first missing one. If `hits` of them are in the tail, the place
+/// is the least number of endpoints with `hits` in the tail. The fraction is then `hits` over the place. If fewer are
+/// in the tail and none is missing, the place is the number of all endpoints. The fraction is then one more than the
+/// number in the tail, over one more than the number of endpoints. Otherwise a missing endpoint may still decide the
+/// place, and the result is `None`. Allocates nothing.
 pub fn settle(job: &Job, ask: u32, hits: u32, posted: &[Outcome]) -> Option<Stop>
     requires ask { ask < length job.now.setting.asks }
     requires some { 1 ≤ hits }
@@ -57,7 +58,7 @@ pub fn settle(job: &Job, ask: u32, hits: u32, posted: &[Outcome]) -> Option<Stop
     find_stop(span, tail, job.start_value(ask), place, hits, posted)
 }
 
-/// Returns the number of the first `count` endpoints whose outcomes are there.
+/// Returns how many of the first `count` endpoints have an outcome in `posted`.
 fn count_ends(walks: u32, posted: &[Outcome], count: u32) -> usize
     requires few { walks + count ≤ most_trajectories }
     ensures { result ≡ ends_below walks posted.now count }
@@ -68,7 +69,7 @@ fn count_ends(walks: u32, posted: &[Outcome], count: u32) -> usize
         .count()
 }
 
-/// Returns the number of the first `n` endpoints that are there and in the tail.
+/// Returns how many of the first `n` endpoints have an outcome in `posted` that is in the tail.
 fn count_tail(test: EndTest, posted: &[Outcome], n: u32) -> usize
     requires few { test.walks + n ≤ most_trajectories }
     ensures { result ≡ tails_below test.walks test.place test.tail test.start posted.now n }
@@ -83,8 +84,8 @@ fn count_tail(test: EndTest, posted: &[Outcome], n: u32) -> usize
     count
 }
 
-/// Returns the number of endpoints by rising id before the first missing one. A prefix is complete if its count equals
-/// its length, since no two outcomes have one id.
+/// Returns the number of endpoints before the first missing one, by rising id. The first `n` endpoints are complete if
+/// `posted` has `n` of them, because no two outcomes have the same id.
 fn known_ends(span: Span, posted: &[Outcome]) -> u32
     ensures within { result ≤ span.ends }
     ensures known { ends_below span.walks posted.now result ≡ result }
@@ -105,7 +106,7 @@ fn known_ends(span: Span, posted: &[Outcome]) -> u32
     known
 }
 
-/// Returns the first place up to `known` at which enough endpoints are in the tail.
+/// Returns the least number of endpoints of which `enough` are in the tail. It is at most `known`.
 fn tail_place(test: EndTest, known: u32, enough: usize, posted: &[Outcome]) -> u32
     requires few { test.walks + known ≤ most_trajectories }
     requires some { 1 ≤ enough }
@@ -127,8 +128,8 @@ fn tail_place(test: EndTest, known: u32, enough: usize, posted: &[Outcome]) -> u
     place
 }
 
-/// Computes `settle` for the ask at `place`, from the numbers that it needs of the job. It bisects for the first
-/// missing endpoint and for the stopping place, with one pass over the outcomes at each step.
+/// Does the work of `settle` with numbers of the job. Two bisections find the first missing endpoint and the stopping
+/// place. Each step of a bisection goes through the outcomes once.
 fn find_stop(
     span: Span,
     tail: Tail,

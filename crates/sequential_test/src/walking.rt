@@ -1,4 +1,4 @@
-//! Walks the outlier trajectories, and then endpoint trajectories in rounds.
+//! The walk of the outlier trajectories, and then of endpoint trajectories in rounds.
 
 ghost use Rattle.std.specs.Prelude.{◌≡◌, ◌+◌, ◌-◌, ◌≤◌, [], length, take, vec_len};
 ghost use Rattle.std.specs.List.{AllPairs};
@@ -30,7 +30,7 @@ fn ids_from(todo: &[u32], from: u32, to: u32) -> &[u32]
     &todo[from as usize..to as usize]
 }
 
-/// A range of consecutive ids, and the counter for it.
+/// A range of consecutive ids, and the counter from which workers claim them.
 #[derive(Drop)]
 struct Stretch<'a> {
     ids: &'a [u32],
@@ -46,7 +46,8 @@ struct Rounds<'a> {
     parts: Vec<PartCounter>,
 }
 
-// Walks the trajectories of a stretch after those before it, and fills `sorted` with all outcomes by rising id.
+// Walks the trajectories of a range. Those before the range must be walked. Then fills `sorted` with all outcomes so
+// far, by rising id.
 fn walk_to<R: Threads + Sync, J: Judge + Send, G: Gate + Sync>(
     rt: &Runtime<R, G>,
     job: &Job,
@@ -114,8 +115,9 @@ fn walk_rounds<R: Threads + Sync, J: Judge + Send, G: Gate + Sync>(
 
 /// Walks all outlier trajectories, then rounds of endpoint trajectories by rising id until every test has stopped.
 /// `sorted` then has all outcomes by rising id. Returns each test's stopping place and the fraction of its p-value.
-/// They equal those of one thread that walks every endpoint, however many were walked past the places. Each worker is a
-/// thread, if one can be started. Allocates nothing.
+/// Both equal those of one thread that walks every endpoint trajectory, however many endpoints past the stopping places
+/// were walked. Each worker is a thread. If no thread can be started, the calling thread does the work. Allocates
+/// nothing.
 pub fn walk_to_stops<R: Threads + Sync, J: Judge + Send, G: Gate + Sync>(
     rt: &Runtime<R, G>,
     job: &Job,
