@@ -21,8 +21,8 @@ use plan_core::job::Job;
 
 /// Appends the report on outcomes in the order of their ids. These are all outcomes, or only those of the outlier walks
 /// if the parallel test stops early. `stops` has a stopping place and the numerator and denominator of a p-value for
-/// each ask. `serial` has the start plan's place and a rank for each ask. Allocates nothing: `reserve` allocates the
-/// capacity.
+/// each ask. `serial` has the start plan's position in the serial test's run and a rank for each ask. Allocates
+/// nothing, because `reserve` has allocated the capacity.
 #[tactic(auto, using(crate::proofs::Wholly::report_is_whole))]
 pub fn text(
     job: &Job,
@@ -61,7 +61,7 @@ fn push_report(
     push_line(out, &[Word::Text("end")])
 }
 
-/// Appends the lines before those of the asks.
+/// Appends the lines that come before the results.
 fn push_head(job: &Job, out: &mut Bytes) -> Result<(), Memory>
     ensures { AppendsText out.old out.new (head job.now) result }
 {
@@ -75,14 +75,14 @@ fn push_head(job: &Job, out: &mut Bytes) -> Result<(), Memory>
     push_stop_line(job, out)
 }
 
-/// Appends the title line, whose form depends on the line of seats.
+/// Appends the title line.
 fn push_title_line(job: &Job, out: &mut Bytes) -> Result<(), Memory>
     ensures { AppendsText out.old out.new (definition.title_line job.now.setting.shift) result }
 {
     push_line(out, &[Word::Text(title_of(job.setting().shift))])
 }
 
-/// Returns the title of a report, which says if the line of seats is there.
+/// Returns the title of a report. Version 2 is for reports with the line of the seats histogram.
 fn title_of(shift: bool) -> &'static str
     ensures { definition.line (result.now ∷ []) ≡ definition.title_line shift }
 {

@@ -26,7 +26,7 @@ pub enum Ended {
     LoadFault,
     /// Another process has locked the folder of the slots.
     FolderTaken,
-    /// The run stopped after `done` trajectories in all. The rest is left to another run.
+    /// `done` of `total` trajectories have outcomes. Another run can walk the rest.
     Stopped { done: u32, total: u32 },
     /// No slot is valid, and at least one is not empty.
     Damaged(Slots),

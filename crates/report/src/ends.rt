@@ -42,7 +42,7 @@ fn push_ends(job: &Job, ends: &[Outcome], out: &mut Bytes) -> Result<(), Memory>
     Ok(())
 }
 
-/// Appends the line of the ask at this place. `start` is the start plan's value.
+/// Appends the line of the ask with the index `place`. `start` is the start plan's value.
 fn push_ends_line(
     job: &Job,
     ends: &[Outcome],

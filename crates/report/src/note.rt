@@ -1,4 +1,5 @@
-//! The diagnostic of a call: one line that says why it ended. Allocates nothing.
+//! The diagnostic of a call: one line that says why the call ended. Nothing here allocates, so that
+//! out of memory can be reported.
 
 ghost use Rattle.std.specs.Prelude.{◌≡◌, ◌∷◌, codes, decimal, []};
 ghost use Rattle.report.specs.Ended.{ending_of, columns_kept};

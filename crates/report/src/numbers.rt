@@ -1,4 +1,4 @@
-//! Numbers as they are written in lines.
+//! Numbers as text.
 
 ghost use Rattle.std.specs.Prelude.{◌≡◌, ◌<◌, ◌≤◌, ◌^◌, ◌∷◌, decimal, replicate};
 ghost use Rattle.std.specs.Fmt.{signed_decimal};
@@ -37,7 +37,7 @@ pub fn push_fraction(out: &mut Bytes, top: i64, bottom: u64) -> Result<(), Memor
     push_denominator(out, bottom)
 }
 
-/// Appends a number of billionths as the whole part, a point and nine digits.
+/// Appends a number of billionths as its whole part, a point and nine digits.
 pub fn push_billionths(out: &mut Bytes, number: u64) -> Result<(), Memory>
     ensures { AppendsText out.old out.new (billionths number) result }
 {
@@ -50,7 +50,7 @@ pub fn push_key(out: &mut Bytes, key: &[u8; 32]) -> Result<(), Memory>
     ensures { AppendsText out.old out.new (encode_lower key.now) result }
 {
     let mut digits = [0; 64];
-    // Fails only if the buffer is not twice as long as the key, which it is.
+    // The call fails only if the buffer is not twice as long as the key. It is: 64 bytes for 32.
     let _ = encode_to_slice(key.as_slice(), &mut digits);
     out.append(&digits)
 }

@@ -30,7 +30,7 @@ fn push_origin(setting: &Setting, origin: &Origin, out: &mut Bytes) -> Result<()
     push_columns_line(&setting.columns, &setting.region, out)
 }
 
-/// Appends the line with the digest and the number of the bytes that were read.
+/// Appends the line with the SHA-256 and the number of all bytes that were read.
 fn push_source_line(origin: &Origin, out: &mut Bytes) -> Result<(), Memory>
     ensures { AppendsText out.old out.new (source_line origin.now) result }
 {
@@ -53,7 +53,7 @@ fn push_columns_line(columns: &Columns, region: &Text, out: &mut Bytes) -> Resul
     out.push(b'\n')
 }
 
-/// Appends the words of the line of the columns.
+/// Appends the columns line without its line feed.
 fn push_columns(columns: &Columns, region: &Text, out: &mut Bytes) -> Result<(), Memory>
     ensures { AppendsText out.old out.new (first_columns columns.now region.now ++ last_columns columns.now) result }
 {
@@ -61,7 +61,7 @@ fn push_columns(columns: &Columns, region: &Text, out: &mut Bytes) -> Result<(),
     push_last_columns(columns, out)
 }
 
-/// Appends the words up to those of a group.
+/// Appends the first part of the columns line, up to the columns of the group.
 fn push_first_columns(columns: &Columns, region: &Text, out: &mut Bytes) -> Result<(), Memory>
     ensures { AppendsText out.old out.new (first_columns columns.now region.now) result }
 {
@@ -79,7 +79,7 @@ fn push_first_columns(columns: &Columns, region: &Text, out: &mut Bytes) -> Resu
     push_group_words(columns, out)
 }
 
-/// Appends the words of the columns of frozen units and of lengths.
+/// Appends the last part of the columns line: the columns of frozen units and of lengths.
 fn push_last_columns(columns: &Columns, out: &mut Bytes) -> Result<(), Memory>
     ensures { AppendsText out.old out.new (last_columns columns.now) result }
 {

@@ -14,22 +14,22 @@ use audit_model::setting::Setting;
 use plan_core::job::Job;
 use std::alloc::Global;
 
-/// A bound on the bytes of all lines that belong to no ask and no origin.
+/// An upper bound on the total bytes of all lines except those of asks and of the origin.
 const FRAME_ROOM: usize = 2560;
 
-/// A bound on the bytes of one line of an ask.
+/// An upper bound on the bytes of one line of an ask.
 const LINE_ROOM: usize = 200;
 
-/// A bound on the bytes of the source line without the digest.
+/// An upper bound on the bytes of the source line without the digest.
 const SOURCE_ROOM: usize = 100;
 
-/// A bound on the bytes of the columns line without the names.
+/// An upper bound on the bytes of the columns line without the names.
 const COLUMNS_ROOM: usize = 70;
 
-/// The largest number of bytes that one byte of a name is escaped to.
+/// The greatest number of bytes that a JSON string takes for one byte of a name.
 const ESCAPE_ROOM: usize = 6;
 
-/// Reserves capacity for the job's report, whatever the outcomes. The contents of `out` are unchanged.
+/// Reserves capacity for any report on the job, whatever the outcomes are. The contents of `out` are unchanged.
 ///
 /// # Errors
 ///
@@ -53,8 +53,8 @@ pub fn reserve(alloc: Global, job: &Job, out: &mut Bytes) -> Result<(), Memory>
     Ok(())
 }
 
-/// Returns an upper bound on the bytes of any report on the job, or `None` if the names of the columns would exceed any
-/// memory.
+/// Returns an upper bound on the bytes of any report on the job. Returns `None` if the bound does not fit in `usize`,
+/// for which the column names must have 2^61 bytes or more.
 fn report_room(job: &Job) -> Option<usize>
     ensures enough { IfSome result (λ room. (outcomes : List Outcome) (stops : List (List ℕ)) (serial : Option (ℕ × List ℕ)) →
         AreOutcomesOf job.now outcomes → AreStopsOf job.now stops → IsSerialOf job.now serial →

@@ -16,7 +16,7 @@ use audit_model::memory::Memory;
 use audit_model::setting::Setting;
 use plan_core::job::Job;
 
-/// An upper bound on the number of a region.
+/// The maximum number of regions. Regions are numbered from 0.
 const REGIONS: usize = 5000;
 
 /// Appends a line for each rule that limits the plans.
@@ -43,7 +43,7 @@ fn push_cut_line(job: &Job, out: &mut Bytes) -> Result<(), Memory>
     push_line(out, &[Word::Text("max-cut"), Word::Number(u64::from(most))])
 }
 
-/// Appends the line with the limit on splits and the number of regions, if there are any.
+/// Appends the line with the limit on districts per region and the number of regions, if there are regions.
 fn push_split_line(job: &Job, out: &mut Bytes) -> Result<(), Memory>
     ensures { AppendsText out.old out.new (definition.split_line job.now.setting.max_split job.now.regions) result }
 {
@@ -62,8 +62,8 @@ fn push_split_line(job: &Job, out: &mut Bytes) -> Result<(), Memory>
     )
 }
 
-/// Appends the line with the limits on splits in all and on split regions, if there are regions and one of these is
-/// limited.
+/// Appends the line with the limits on splits in all and on split regions. The line is there if there are regions and
+/// one of the two numbers is limited.
 fn push_splits_line(job: &Job, out: &mut Bytes) -> Result<(), Memory>
     ensures { AppendsText out.old out.new (definition.splits_line job.now.setting.max_splits job.now.setting.max_split_regions job.now.regions) result }
 {
@@ -89,8 +89,8 @@ fn limits_splits(setting: &Setting) -> bool
     setting.max_splits < 995_000 || setting.max_split_regions < 5_000
 }
 
-/// Appends the line of the group, if there is one: the required number of majority districts, and that of the start
-/// plan.
+/// Appends the line of the group, if there is one: the required number of majority districts, and the start plan's
+/// number.
 fn push_group_line(job: &Job, out: &mut Bytes) -> Result<(), Memory>
     ensures { AppendsText out.old out.new (definition.group_line job.now.setting.group_districts (majorities job.now.setting.group_share job.now.group job.now.start) job.now.group.members) result }
 {
@@ -140,7 +140,7 @@ fn push_frozen_line(job: &Job, out: &mut Bytes) -> Result<(), Memory>
     )
 }
 
-/// Appends the lines with the length of the start plan's cut edges and its limit.
+/// Appends the lines with the total length of the start plan's cut edges and with the limit.
 fn push_length_lines(job: &Job, out: &mut Bytes) -> Result<(), Memory>
     ensures { AppendsText out.old out.new (definition.length_lines job.now) result }
 {
@@ -214,7 +214,7 @@ fn count_regions(regions: &[u32]) -> u32
     count_marked(&marked(regions))
 }
 
-/// Marks the numbers of the regions.
+/// Returns an array that is true at the index of each region that has a unit.
 fn marked(regions: &[u32]) -> [bool; REGIONS]
     requires { All (λ r. r < most_regions) regions.now }
     ensures { (r : ℕ) → r < most_regions → slice_index_or result r false ≡ has regions.now r }

@@ -17,7 +17,8 @@ use audit_model::setting::Ask;
 use outlier_tests::p_value;
 use plan_core::job::Job;
 
-/// Appends a line for each ask, if the serial test was requested. `serial` has the start plan's place and its ranks.
+/// Appends a line for each ask, if the serial test was requested. `serial` has the start plan's position in the run and
+/// its rank for each ask.
 pub fn push_serial_lines(
     job: &Job,
     serial: Option<(u32, [u64; 4])>,

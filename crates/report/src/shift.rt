@@ -12,7 +12,8 @@ use audit_model::memory::Memory;
 use audit_model::outcome::Outcome;
 use plan_core::job::Job;
 
-/// Appends the sum of each histogram count, if a histogram was requested.
+/// Appends the line with each histogram count added over the outcomes, if a histogram was
+/// requested.
 pub fn push_shift_line(job: &Job, sorted: &[Outcome], out: &mut Bytes) -> Result<(), Memory>
     requires { AreOutcomesOf job.now sorted.now }
     ensures { AppendsText out.old out.new (definition.shift_line job.now.setting.shift sorted.now) result }

@@ -44,7 +44,8 @@ fn push_stops(job: &Job, stops: &[[u32; 3]], out: &mut Bytes) -> Result<(), Memo
     Ok(())
 }
 
-/// Appends the line of an ask. `start` is the start plan's value, and `stop` the stop of its test.
+/// Appends the line of an ask. `start` is the start plan's value. `stop` has the stopping place and
+/// the numerator and denominator of the p-value.
 fn push_stopped_line(
     job: &Job,
     ask: Ask,

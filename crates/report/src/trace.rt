@@ -44,7 +44,7 @@ pub fn push_trace_head(job: &Job, out: &mut Bytes) -> Result<(), Memory>
     push_ask_lines(job, out)
 }
 
-/// Returns an upper bound on the bytes of a plan's line, for any legal plan after any other, and of the line that
+/// Returns an upper bound on the bytes of a line of a legal plan, whatever plan came before, and of the line that
 /// starts a trajectory.
 pub fn plan_line_room(job: &Job) -> usize
     ensures start { (id thin : ℕ) → length (definition.trace_id_line job.now id thin) ≤ result }
@@ -53,8 +53,8 @@ pub fn plan_line_room(job: &Job) -> usize
     PLAN_ROOM + job.units() as usize * UNIT_ROOM
 }
 
-/// Appends the line of a plan: the step, the moves so far, the numerators of the scores, and each unit whose district
-/// differs from the plan before. Allocates nothing.
+/// Appends the line of a plan: the step, the moves so far, the numerators of the scores, and the units whose district
+/// differs from that in the plan before. Allocates nothing.
 pub fn plan_line(
     step: u32,
     moved: u32,
@@ -105,7 +105,7 @@ fn push_value(values: &[i64], place: usize, out: &mut Bytes) -> Result<(), Memor
     push_next(out, &Word::Signed(values[place]))
 }
 
-/// Appends each unit whose district differs from the plan before, with its district.
+/// Appends each unit whose district differs from that in the plan before, with its new district.
 fn push_changes(before: &[u32], plan: &[u32], out: &mut Bytes) -> Result<(), Memory>
     requires { length before.now ≡ length plan.now }
     ensures { AppendsText out.old out.new (spaced (definition.change_words before.now plan.now)) result }
@@ -153,7 +153,7 @@ fn push_ask_line(job: &Job, ask: Ask, start: i64, out: &mut Bytes) -> Result<(),
     )
 }
 
-/// Appends the line that starts a trajectory: its id, its number of steps, and the number of steps between two of its
+/// Appends the line that starts a trajectory: its id, its number of steps, and the number of steps between two traced
 /// plans. Allocates nothing.
 pub fn trajectory_line(job: &Job, id: u32, thin: u32, out: &mut Bytes)
     requires room { length (definition.trace_id_line job.now id thin) ≤ out.old.spare }

@@ -1,4 +1,4 @@
-//! Numbers of a job that its lines need.
+//! Numbers of a job that the lines of its report contain.
 
 ghost use Rattle.std.specs.Prelude.{◌≡◌, ◌+◌, ◌≤◌, length};
 ghost use Rattle.audit_model.specs.Job.{total_votes};
@@ -34,7 +34,7 @@ pub fn ranked_count(job: &Job) -> u64
     u64::from(job.setting().ends) + 1
 }
 
-/// Returns the asks in order, at most four.
+/// Returns the job's asks, at most four.
 pub fn asks_of(job: &Job) -> &[Ask]
     ensures value { result.now ≡ job.now.setting.asks }
     ensures few { length result.now ≤ 4 }

@@ -27,7 +27,7 @@ pub fn push_walk_lines(job: &Job, sorted: &[Outcome], out: &mut Bytes) -> Result
     push_walks(job, walks_of(job, sorted), out)
 }
 
-/// Appends a line for each of the outcomes and each ask.
+/// Appends a line for each of these outcomes and each ask.
 fn push_walks(job: &Job, walks: &[Outcome], out: &mut Bytes) -> Result<(), Memory>
     requires { All (HasCounts job.now) walks.now }
     ensures { AppendsText out.old out.new (flat_map (lines_of job.now) walks.now) result }
@@ -48,7 +48,7 @@ fn push_walk(job: &Job, found: &Outcome, out: &mut Bytes) -> Result<(), Memory>
     Ok(())
 }
 
-/// Appends the line of the ask at this place. `start` is the start plan's value.
+/// Appends the line of the ask with the index `place`. `start` is the start plan's value.
 fn push_walk_line(
     job: &Job,
     found: &Outcome,

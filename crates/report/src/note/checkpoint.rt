@@ -12,7 +12,7 @@ use audit_io::sink::Sink;
 use audit_model::fault::CkptFault;
 use ckpt_store::slots::{Slot, Slots};
 
-/// Writes the diagnostic of two slots of which none is valid and one is not empty.
+/// Writes the diagnostic of two slots if neither is valid and at least one is not empty.
 pub(crate) fn tell_damaged<N: Sink>(note: &mut N, slots: &Slots)
     ensures { AddsLine (N.state note.old) (N.state note.new) (terms.as_line (codes "checkpoint: slot 0 " ∷ terms.slot_name (slot_view slots.now.zero) ∷ codes ", slot 1 " ∷ terms.slot_name (slot_view slots.now.one) ∷ [])) }
 {
@@ -27,7 +27,8 @@ pub(crate) fn tell_damaged<N: Sink>(note: &mut N, slots: &Slots)
     );
 }
 
-/// Writes the diagnostic of a newest slot that belongs to another job.
+/// Writes the diagnostic if the newest slot belongs to another job. `found` is the digest of that
+/// job, `wanted` that of this one.
 pub(crate) fn tell_other<'x, N: Sink>(note: &mut N, found: &'x [u8; 32], wanted: &'x [u8; 32])
     ensures { AddsLine (N.state note.old) (N.state note.new) (terms.as_line (codes "checkpoint: other job " ∷ encode_lower found.now ∷ codes ", this job " ∷ encode_lower wanted.now ∷ [])) }
 {

@@ -118,7 +118,8 @@ fn neighbor_line(place: u64, node: u32, words: &str) -> Line<'_>
     ])
 }
 
-// Returns the line about the length of an edge: these words, its column and the words after it.
+// Returns the line about the length of an edge. `before` and `after` stand around the name of the
+// column.
 fn length_line<'a>(
     place: u64,
     node: u32,
@@ -187,7 +188,7 @@ fn column_name(columns: &Columns, column: Column) -> &str
     }
 }
 
-// Returns the words for a column in which a node has no valid value.
+// Returns the words that come before the name of a column in which a node has no valid value.
 fn no_value(column: Column) -> &'static str
     ensures { result.now ≡ terms.no_value column }
 {

@@ -15,7 +15,8 @@ use audit_io::sink::Sink;
 use hex::encode_to_slice;
 use itoa::Buffer;
 
-/// Writes the line of these pieces, unless an earlier write failed. Returns true if nothing failed.
+/// Writes these pieces as one line. Writes nothing if `going` is false, which means that an earlier
+/// write failed. Returns true if no write has failed.
 pub fn add_line<N: Sink>(note: &mut N, going: bool, first: &[Piece], pieces: &[Piece]) -> bool
     ensures { AddsText (N.state note.old) (N.state note.new) going (terms.as_line (map piece_text first.now ++ map piece_text pieces.now)) result }
 {
@@ -24,11 +25,11 @@ pub fn add_line<N: Sink>(note: &mut N, going: bool, first: &[Piece], pieces: &[P
     add(note, going, b"\n")
 }
 
-/// Writes the line of these pieces.
+/// Writes these pieces as one line.
 pub(crate) fn say<N: Sink>(note: &mut N, first: &[Piece], pieces: &[Piece])
     ensures { AddsLine (N.state note.old) (N.state note.new) (terms.as_line (map piece_text first.now ++ map piece_text pieces.now)) }
 {
-    // Nothing follows the line, so a failure needs no answer.
+    // The line is the last output, so nothing depends on the result.
     let _ended = add_line(note, true, first, pieces);
 }
 
@@ -39,7 +40,7 @@ pub(crate) fn say_text<N: Sink>(note: &mut N, text: &str)
     say(note, &[Text(text)], &[]);
 }
 
-// Writes these pieces of a line, unless an earlier piece failed.
+// Writes these pieces of a line, if `going` is true. Returns false after a failure.
 fn add_pieces<N: Sink>(note: &mut N, going: bool, pieces: &[Piece]) -> bool
     ensures { (start : Stream) (said : List ℕ) → IsSaid start (N.state note.old) said going
         → IsSaid start (N.state note.new) (said ++ flat_map piece_text pieces.now) result }
@@ -51,7 +52,7 @@ fn add_pieces<N: Sink>(note: &mut N, going: bool, pieces: &[Piece]) -> bool
     going
 }
 
-// Writes this piece of a line, unless an earlier piece failed.
+// Writes this piece of a line, if `going` is true. Returns false after a failure.
 fn add_piece<N: Sink>(note: &mut N, going: bool, piece: &Piece) -> bool
     ensures { (start : Stream) (said : List ℕ) → IsSaid start (N.state note.old) said going
         → IsSaid start (N.state note.new) (said ++ piece_text piece.now) result }
@@ -66,7 +67,7 @@ fn add_piece<N: Sink>(note: &mut N, going: bool, piece: &Piece) -> bool
     }
 }
 
-// Writes these bytes of a line, unless an earlier piece failed.
+// Writes these bytes of a line, if `going` is true. Returns false after a failure.
 fn add<N: Sink>(note: &mut N, going: bool, piece: &[u8]) -> bool
     ensures { (start : Stream) (said : List ℕ) → IsSaid start (N.state note.old) said going
         → IsSaid start (N.state note.new) (said ++ piece.now) result }
@@ -84,7 +85,7 @@ fn digits_of(digest: &[u8; 32]) -> [u8; 64]
     ensures { result ≡ encode_lower digest.now }
 {
     let mut digits = [0; 64];
-    // Fails only if the buffer is not twice as long as the digest, which it is.
+    // The call fails only if the buffer is not twice as long as the digest. It is: 64 bytes for 32.
     let _ = encode_to_slice(digest.as_slice(), &mut digits);
     digits
 }

@@ -13,7 +13,7 @@ use audit_io::sink::Sink;
 use audit_model::fault::PlanFault;
 use audit_model::text;
 
-/// Writes the diagnostic of a refused plan of a table.
+/// Writes the diagnostic of a refused plan of a table, with the plan's name.
 pub(crate) fn say_named<N: Sink>(note: &mut N, name: &text::Text, fault: &PlanFault)
     ensures { AddsLine (N.state note.old) (N.state note.new) (terms.as_line (codes "plan " ∷ name.now ∷ codes ": " ∷ terms.plan_note fault.now)) }
 {
@@ -92,7 +92,7 @@ fn bounds_line(district: u32, population: u64, low: u64, high: u64) -> Line<'sta
     ])
 }
 
-// Returns the line about a district in two parts.
+// Returns the line about a district that is not contiguous. No path in it joins the two units.
 fn parts_line(district: u32, one: u32, other: u32) -> Line<'static>
     ensures { terms.as_line (map piece_text result) ≡ terms.as_line (terms.plan_note (Disconnected district one other)) }
 {
@@ -120,8 +120,8 @@ fn split_line(region: u32, districts: u32, most: u32) -> Line<'static>
     ])
 }
 
-// Returns the line about too few districts with a majority of the group. A share of one half is not
-// named.
+// Returns the line about too few districts with a majority of the group. The line gives the share
+// only if it is not one half.
 fn majorities_line(districts: u32, least: u32, share: u32) -> Line<'static>
     ensures { terms.as_line (map piece_text result) ≡ terms.as_line (terms.plan_note (TooFewMajorities districts least share)) }
 {
