@@ -20,7 +20,8 @@ use report::ended::Ended;
 use report::note::{add_line, tell};
 use report::piece::Piece::Text;
 
-/// Appends lines if nothing has failed before. Returns true if nothing has failed.
+/// Writes the lines if `going` is true, which means that no earlier write failed. Returns true if
+/// no write has failed.
 pub fn add_lines<O: Sink>(out: &mut O, going: bool, lines: &[&str]) -> bool
     ensures { AddsText (O.state out.old) (O.state out.new) going (on_lines (map (λ l. l.now) lines.now)) result }
 {
@@ -31,8 +32,7 @@ pub fn add_lines<O: Sink>(out: &mut O, going: bool, lines: &[&str]) -> bool
     going
 }
 
-// Appends a line for each argument if nothing has failed before. Returns true if nothing has
-// failed.
+// Writes a line for each argument if `going` is true. Returns true if no write has failed.
 fn add_arguments<O: Sink>(out: &mut O, going: bool, names: &[Name]) -> bool
     ensures { AddsText (O.state out.old) (O.state out.new) going (on_lines (map definition.argument_text names.now)) result }
 {
@@ -43,7 +43,7 @@ fn add_arguments<O: Sink>(out: &mut O, going: bool, names: &[Name]) -> bool
     going
 }
 
-// Writes the usage of a command. Returns true if nothing failed.
+// Writes the usage of a command. Returns true if no write failed.
 fn add_command<O: Sink>(out: &mut O, command: Command) -> bool
     ensures { IsSaid (O.state out.old) (O.state out.new) (on_lines (command_lines command)) result }
 {
@@ -52,7 +52,7 @@ fn add_command<O: Sink>(out: &mut O, command: Command) -> bool
     add_lines(out, going, foot_of(command))
 }
 
-/// Writes the version of a program. Returns true if nothing failed.
+/// Writes the version of a program. Returns true if no write failed.
 pub fn add_version<'x, O: Sink>(out: &mut O, program: &'x str, build: &Build<'x>) -> bool
     ensures { IsSaid (O.state out.old) (O.state out.new) (version_text program.now build.now) result }
 {
@@ -66,7 +66,7 @@ pub fn add_version<'x, O: Sink>(out: &mut O, program: &'x str, build: &Build<'x>
     add_line(out, going, &[], &[Text(build.kit)])
 }
 
-// Writes the answer to a question. Returns true if nothing failed.
+// Writes the answer to a question. Returns true if no write failed.
 fn write_answer<O: Sink>(out: &mut O, build: &Build<'_>, question: Question) -> bool
     ensures { IsSaid (O.state out.old) (O.state out.new) (answer_to build.now question) result }
 {

@@ -32,14 +32,14 @@ fn ask_of(word: &str) -> Option<Ask>
     Some(Ask { score, tail })
 }
 
-/// Returns true if a part of the text is the word.
+/// Returns true if one of the parts of the text between commas is the word.
 fn has_part(text: &str, word: &str) -> bool
     ensures { result ≡ list_any (λ part. bytes_eq part word.now) (parts_between 44 text.now) }
 {
     text.split(',').any(|part| part == word)
 }
 
-/// Returns true if a part of the text asks for the length of the cut edges.
+/// Returns true if one of the asks is for the length of the cut edges.
 pub fn asks_for_length(text: &str) -> bool
     ensures { result ≡ definition.asks_for_length text.now }
 {
@@ -65,7 +65,8 @@ pub fn are_asks(text: &str) -> bool
     false
 }
 
-/// Returns the asks among the parts of the text. The only error is out of memory.
+/// Returns the asks of the text, in order. Parts that are no ask are skipped. The only error is out
+/// of memory.
 pub fn asks_of(alloc: Global, text: &str) -> Result<AskList, Memory>
     ensures { IfOk result (λ asks. asks ≡ filter_map definition.ask_of (parts_between 44 text.now)) }
 {

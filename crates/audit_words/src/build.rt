@@ -1,6 +1,7 @@
 //! The build of a program.
 
-/// The version of a program, the commit of its sources, and the kit that proved and built it.
+/// The version of a program, the commit of its sources, and the toolchain (`kit`) that proved and
+/// built it.
 #[derive(Clone, Copy)]
 pub struct Build<'a> {
     pub version: &'a str,

@@ -17,14 +17,14 @@ use crate::values::{
 use audit_model::fault::Name;
 use audit_model::setting::Command;
 
-/// Returns the number that a name's value spells, or 0 if it is no number of 32 bits.
+/// Returns the number in the value of a name, or 0 if the value is no 32-bit number.
 pub fn number_at(words: &[String], name: Name) -> u32
     ensures { definition.number_named command.Check (pairs_in words.now) name < 2 ^ 32 → result ≡ definition.number_named command.Check (pairs_in words.now) name }
 {
     number_in(text_of(words, name))
 }
 
-/// Returns true if there is at least one trajectory, and not too many.
+/// Returns true if there are 1 to 100,000 trajectories.
 fn has_walks(walks: u32, ends: u32) -> bool
     ensures { result ≡ (nat_le 1 (walks + ends) && nat_le (walks + ends) most_trajectories) }
 {
@@ -32,7 +32,8 @@ fn has_walks(walks: u32, ends: u32) -> bool
     1 <= count && count <= 100_000
 }
 
-/// Returns true if something is saved or the budget covers every trajectory.
+/// Returns true if the run saves or its budget covers every trajectory. Without checkpoints, a run that stops at its
+/// budget would lose its outcomes.
 fn covers_walks(words: &[String], walks: u32, ends: u32, budget: u32) -> bool
     ensures { result ≡ (not (definition.is_number 0 0 (definition.text_of command.Check (pairs_in words.now) name.Save)) || nat_le (walks + ends) budget) }
 {
@@ -40,14 +41,15 @@ fn covers_walks(words: &[String], walks: u32, ends: u32, budget: u32) -> bool
         || u64::from(walks) + u64::from(ends) <= u64::from(budget)
 }
 
-/// Returns true if a test that stops early has endpoints to test, and the run neither saves nor resumes.
+/// Returns true if tests do not stop early, or if there are endpoints to test and the run neither saves nor resumes.
 fn stops_alone(words: &[String], stop: u32, ends: u32, save: u32) -> bool
     ensures { result ≡ ((stop == 0) || (nat_le 1 ends && (save == 0) && not (definition.is_yes command.Check (pairs_in words.now) name.Resume))) }
 {
     stop == 0 || (1 <= ends && save == 0 && text_of(words, Name::Resume) != "yes")
 }
 
-/// Returns true if the serial test is not requested or has a power of two of plans.
+/// Returns true if the serial test is not requested or its run has a power of two of plans. Only then do equally many
+/// draws give each position of the start plan.
 fn divides_draws(words: &[String], steps: u32) -> bool
     ensures { result ≡ (not (definition.is_yes command.Check (pairs_in words.now) name.Serial) || is_power_of_two (steps + 1)) }
 {
@@ -61,42 +63,42 @@ fn has_power_of_two_plans(steps: u32) -> bool
     (u64::from(steps) + 1).is_power_of_two()
 }
 
-/// Returns true if a limit has its default or its column is named.
+/// Returns true if a limit has its default, or if the column to which it applies is named.
 fn is_set_for(words: &[String], name: Name, default: u32, column: Name) -> bool
     ensures { definition.number_named command.Check (pairs_in words.now) name < 2 ^ 32 → result ≡ ((definition.number_named command.Check (pairs_in words.now) name == default) || not (definition.is_empty command.Check (pairs_in words.now) column)) }
 {
     number_at(words, name) == default || !text_of(words, column).is_empty()
 }
 
-/// Returns true if no base population is named or its group is.
+/// Returns true if no column of a base population is named, or if the column of the group is named too.
 fn has_group_of(words: &[String]) -> bool
     ensures { result ≡ definition.has_group_of command.Check (pairs_in words.now) }
 {
     text_of(words, Name::GroupOf).is_empty() || !text_of(words, Name::Group).is_empty()
 }
 
-/// Returns the limit on the length of cut edges, or 0 if its value is no number of 64 bits.
+/// Returns the limit on the length of cut edges, or 0 if the value is no 64-bit number.
 pub fn length_at(words: &[String]) -> u64
     ensures { definition.number_named command.Check (pairs_in words.now) name.MaxLength < 2 ^ 64 → result ≡ definition.number_named command.Check (pairs_in words.now) name.MaxLength }
 {
     length_in(text_of(words, Name::MaxLength))
 }
 
-/// Returns true if the length of cut edges is not limited or lengths are named.
+/// Returns true if the length of cut edges is not limited, or if the column of lengths is named.
 fn has_length(words: &[String], most: u64) -> bool
     ensures { result ≡ ((most == 1717986918000000) || not (definition.is_empty command.Check (pairs_in words.now) name.Length)) }
 {
     most == 1_717_986_918_000_000 || !text_of(words, Name::Length).is_empty()
 }
 
-/// Returns true if no part asks for the length of cut edges or lengths are named.
+/// Returns true if no ask is for the length of cut edges, or if the column of lengths is named.
 fn has_asked_length(words: &[String]) -> bool
     ensures { result ≡ definition.has_asked_length command.Check (pairs_in words.now) }
 {
     !asks_for_length(text_of(words, Name::Ask)) || !text_of(words, Name::Length).is_empty()
 }
 
-/// Returns true if there is one part or the run saves.
+/// Returns true if there is one part or the run saves. Several parts can be joined only by their checkpoints.
 fn saves_parts(parts: u32, save: u32) -> bool
     ensures { result ≡ ((parts == 1) || nat_le 1 save) }
 {
@@ -145,7 +147,7 @@ fn is_budget(words: &[String]) -> bool
         )
 }
 
-/// Returns true if the number of endpoints after which tests may stop is valid.
+/// Returns true if the number of endpoints in the tail that stops a test is valid.
 fn is_stop(words: &[String]) -> bool
     requires { RestsOnGood (pairs_in words.now) name.Stop }
     ensures { result ≡ definition.is_good command.Check (pairs_in words.now) name.Stop }
@@ -159,7 +161,7 @@ fn is_stop(words: &[String]) -> bool
         )
 }
 
-/// Returns true if the answer about the serial test is valid.
+/// Returns true if the value of `--serial` is valid.
 fn is_serial(words: &[String]) -> bool
     requires { RestsOnGood (pairs_in words.now) name.Serial }
     ensures { result ≡ definition.is_good command.Check (pairs_in words.now) name.Serial }
@@ -176,7 +178,7 @@ fn is_part_count(words: &[String]) -> bool
         && saves_parts(number_at(words, Name::Parts), number_at(words, Name::Save))
 }
 
-/// Returns true if the number of the part is valid.
+/// Returns true if the number of this run's part is valid.
 fn is_part(words: &[String]) -> bool
     requires { RestsOnGood (pairs_in words.now) name.Part }
     ensures { result ≡ definition.is_good command.Check (pairs_in words.now) name.Part }

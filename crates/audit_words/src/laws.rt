@@ -1,8 +1,8 @@
-//! Laws of the definitions, each the contract of a function that does nothing.
+//! Laws of the definitions. Each law is the contract of a function with an empty body.
 
 ghost use Rattle.audit_words.specs.Laws.{ArgumentsKeepLimits, CommandsAreSpelled, QuestionsWereRefused};
 
-/// Proves that arguments which ask for help or the version are refused as those of an audit.
+/// Proves that arguments that ask for help or the version are never valid arguments of an audit.
 pub fn questions_were_refused()
     ensures { QuestionsWereRefused }
 {}

@@ -1,4 +1,4 @@
-//! The table of argument names.
+//! The argument names of each command, and their defaults.
 
 ghost use Rattle.std.specs.Prelude.{◌≡◌, [], option_map};
 ghost use Rattle.audit_statement.specs.Words as definition;
@@ -144,7 +144,7 @@ const OF_TRACE: [Name; 26] = [
     Name::MaxLength,
 ];
 
-/// Returns the default value of a name, if the name may be omitted.
+/// Returns the default value of an argument, or `None` if it is required.
 pub fn default_of(name: Name) -> Option<&'static str>
     ensures { option_map (λ s. s.now) result ≡ definition.default_of name }
 {
@@ -167,7 +167,7 @@ pub fn default_of(name: Name) -> Option<&'static str>
     }
 }
 
-/// Returns the names of a command, in the order of the table.
+/// Returns the argument names of a command, in the order in which their values are checked.
 pub fn names_of(command: Command) -> &'static [Name]
     ensures { result.now ≡ definition.names_of command }
 {
@@ -199,7 +199,7 @@ pub fn command_of(word: &str) -> Option<Command>
     }
 }
 
-/// Returns the name of the command that the word spells.
+/// Returns the argument name that the word spells, if the command takes it.
 pub fn name_of(command: Command, word: &str) -> Option<Name>
     ensures { result ≡ definition.name_of command [] word.now }
 {

@@ -10,14 +10,14 @@ ghost use Rattle.audit_statement.specs.Words as definition;
 use crate::names::default_of;
 use audit_model::fault::Name;
 
-/// Returns the number of pairs. The last may have no value.
+/// Returns the number of pairs. The last pair may have no value.
 pub fn count(words: &[String]) -> usize
     ensures { result ≡ length (pairs_in words.now) }
 {
     words.len().div_ceil(2)
 }
 
-/// Returns the first word of the pair at a place.
+/// Returns the first word of the pair with the index `place`.
 pub fn name_at(words: &[String], place: usize) -> &str
     requires { place < length (pairs_in words.now) }
     ensures { result.now ≡ (slice_index_or (pairs_in words.now) place ([], None)).0 }
@@ -25,7 +25,8 @@ pub fn name_at(words: &[String], place: usize) -> &str
     words[2 * place].as_str()
 }
 
-/// Returns the second word of the pair at a place, or `None` for a last pair without one.
+/// Returns the second word of the pair with the index `place`, or `None` for a last pair without a
+/// value.
 pub fn value_at(words: &[String], place: usize) -> Option<&str>
     requires { place < length (pairs_in words.now) }
     ensures { option_map (λ s. s.now) result ≡ (slice_index_or (pairs_in words.now) place ([], None)).1 }
@@ -37,7 +38,7 @@ pub fn value_at(words: &[String], place: usize) -> Option<&str>
     }
 }
 
-/// Returns true if the first word of the pair at a place is that of an earlier pair.
+/// Returns true if an earlier pair has the first word of the pair with the index `place`.
 pub fn is_repeated(words: &[String], place: usize) -> bool
     requires { place < length (pairs_in words.now) }
     ensures { result ≡ definition.is_repeated command.Check (pairs_in words.now) place }

@@ -1,4 +1,4 @@
-//! The setting that valid values give.
+//! From valid values to the setting.
 
 ghost use Rattle.std.specs.Prelude.{◌≡◌, [], true, IfOk, codes};
 ghost use Rattle.audit_model.specs.declared.fault.Name.TheVariants as name;
@@ -27,8 +27,8 @@ pub fn copy_text(alloc: Global, word: &str) -> Result<Text, Memory>
     Ok(text)
 }
 
-/// Returns the column of a group's base population: the named one, or that of the population, or the empty text without
-/// a group.
+/// Returns the column of a group's base population: the value of `--group-of`, or else the column of the population.
+/// Returns the empty text if there is no group.
 fn whole_column(words: &[String]) -> &str
     ensures { result.now ≡ definition.whole_column (definition.text_of command.Check (pairs_in words.now) name.Group) (definition.text_of command.Check (pairs_in words.now) name.GroupOf) (definition.text_of command.Check (pairs_in words.now) name.Pop) }
 {
@@ -144,8 +144,8 @@ fn check_setting(alloc: Global, words: &[String]) -> Result<Setting, Memory>
     })
 }
 
-/// The graph of a run. A graph that is read has columns, regions with their limits, and the request for its origin. A
-/// generated grid has a size.
+/// The fields of a setting that depend on the source of the graph. A graph that is read may have columns, regions,
+/// limits and a request for its origin. A generated grid has a size, and defaults in the other fields.
 #[derive(Drop)]
 struct Ground {
     columns: Columns,

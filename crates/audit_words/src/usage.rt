@@ -87,7 +87,8 @@ pub fn head_of(command: Command) -> &'static [&'static str]
     }
 }
 
-/// Returns the lines after the arguments of a command: the syntax of a test.
+/// Returns the lines after the arguments of a command: the syntax of an ask, if the command takes
+/// asks.
 pub fn foot_of(command: Command) -> &'static [&'static str]
     ensures { map (λ l. l.now) result.now ≡ definition.foot_of command }
 {

@@ -1,4 +1,4 @@
-//! The forms of values.
+//! Tests and conversions of argument values: numbers, ranges, keys and answers.
 
 ghost use Rattle.std.specs.Prelude.{◌≡◌, ◌||◌, ◌<◌, ◌^◌, None, cond, codes, bytes_eq, unwrap_or};
 ghost use Rattle.std.specs.Result.{result_ok};
@@ -9,7 +9,7 @@ use audit_model::setting::Command;
 use hex::FromHex;
 use itoa::Buffer;
 
-/// Returns the number if the text spells one within the bounds, without leading zeros.
+/// Returns the number if the text spells a number from `low` to `high`, without leading zeros.
 pub fn number_within(low: u32, high: u32, text: &str) -> Option<u32>
     ensures { result ≡ cond (definition.is_number low high text.now) (definition.number_of text.now) None }
 {
@@ -22,21 +22,21 @@ pub fn number_within(low: u32, high: u32, text: &str) -> Option<u32>
     }
 }
 
-/// Returns true if the text spells a number within the bounds, without leading zeros.
+/// Returns true if the text spells a number from `low` to `high`, without leading zeros.
 pub fn is_number(low: u32, high: u32, text: &str) -> bool
     ensures { result ≡ definition.is_number low high text.now }
 {
     number_within(low, high, text).is_some()
 }
 
-/// Returns the number that the text spells, or 0 if it is no number of 32 bits.
+/// Returns the number that the text spells, or 0 if the text is no 32-bit number.
 pub fn number_in(text: &str) -> u32
     ensures { unwrap_or (definition.number_of text.now) 0 < 2 ^ 32 → result ≡ unwrap_or (definition.number_of text.now) 0 }
 {
     number_within(0, u32::MAX, text).unwrap_or(0)
 }
 
-/// Returns the number if the text spells one within the bounds of a limit on lengths, without leading zeros.
+/// Returns the number if the text spells a number from 0 to `high`, without leading zeros.
 fn length_within(high: u64, text: &str) -> Option<u64>
     ensures { result ≡ cond (definition.is_number 0 high text.now) (definition.number_of text.now) None }
 {
@@ -49,14 +49,14 @@ fn length_within(high: u64, text: &str) -> Option<u64>
     }
 }
 
-/// Returns true if the text spells a limit on the total length of cut edges, without leading zeros.
+/// Returns true if the text spells a valid limit on the total length of cut edges, without leading zeros.
 pub fn is_length(text: &str) -> bool
     ensures { result ≡ definition.is_number 0 1717986918000000 text.now }
 {
     length_within(1_717_986_918_000_000, text).is_some()
 }
 
-/// Returns the number that the text spells, or 0 if it is no number of 64 bits.
+/// Returns the number that the text spells, or 0 if the text is no 64-bit number.
 pub fn length_in(text: &str) -> u64
     ensures { unwrap_or (definition.number_of text.now) 0 < 2 ^ 64 → result ≡ unwrap_or (definition.number_of text.now) 0 }
 {

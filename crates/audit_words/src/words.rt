@@ -21,8 +21,9 @@ use std::alloc::Global;
 ///
 /// # Errors
 ///
-/// The first of these faults: no word, an unknown command, the first faulty pair, the first missing name of the table,
-/// and the first name with an invalid value. Or out of memory.
+/// The first of these faults, tested in this order: no word, an unknown command, the first faulty pair, the first
+/// missing name and the first name with an invalid value. Names are tested in the order of `names_of`. `Memory` may
+/// come at any point.
 pub fn read(alloc: Global, words: &[String]) -> Result<Setting, WordFault>
     ensures exact { MatchResult result (λ setting. setting_of (spoken words.now) ≡ Ok setting) (λ f. (f ≡ fault.Memory) ⊎ (setting_of (spoken words.now) ≡ Err f)) }
     ensures within { IfOk result (λ setting. IsSetting setting) }
@@ -62,7 +63,8 @@ fn unknown_name(alloc: Global, word: &str) -> WordFault
     }
 }
 
-/// Refuses the pair at a place if its first word is no name or a repeated one, or if it has no value.
+/// Refuses the pair with the index `place` if its first word is no name of the command, if an earlier pair has the
+/// name, or if the pair has no value.
 fn judge_pair(
     alloc: Global,
     command: Command,
@@ -95,7 +97,7 @@ fn judge_pairs(alloc: Global, command: Command, words: &[String]) -> Result<(), 
     Ok(())
 }
 
-/// Refuses the first name of the table that is missing.
+/// Refuses the first required name of the command that is missing.
 fn judge_missing(command: Command, words: &[String]) -> Result<(), WordFault>
     ensures { Tells result (fault_of_names command (pairs_in words.now)) }
 {
@@ -107,7 +109,7 @@ fn judge_missing(command: Command, words: &[String]) -> Result<(), WordFault>
     Ok(())
 }
 
-/// Refuses the first name of the table with an invalid value.
+/// Refuses the first name of the command with an invalid value.
 fn judge_values(command: Command, words: &[String]) -> Result<(), WordFault>
     requires { fault_of_pairs command (pairs_in words.now) ≡ None }
     ensures { Tells result (fault_of_values command (pairs_in words.now)) }
