@@ -38,9 +38,9 @@ pub struct GatherRequest<'a> {
 /// Gathers folders into the slots of `keeper` and reports the findings. A request that does not save only looks at the
 /// folders. Returns the exit status.
 ///
-/// The findings go to `out` if the union was saved or was not to be saved. Otherwise a line on `note` gives the reason
-/// for each refused folder, and the status is `REFUSED`. If the gathering or writing the findings failed, the
-/// diagnostic and the status are those of a run that fails for that reason.
+/// The findings go to `out` if the union is saved, or if the request does not save. If the request saves but a folder
+/// is refused, a line on `note` gives the reason for each refused folder, and the status is `REFUSED`. If the gathering
+/// fails or a write to `out` fails, the diagnostic and the status are those of an audit that fails for the same reason.
 pub fn gather_and_tell<C: Keeper, F: Keeper, O: Sink, N: Sink>(
     alloc: Global,
     request: &GatherRequest<'_>,
@@ -94,7 +94,7 @@ fn tell_found<O: Sink, N: Sink>(
     tell(&Ended::WriteFault, note)
 }
 
-// Writes the findings. Returns true if nothing failed.
+// Writes the findings. Returns true if no write failed.
 fn write_observed<O: Sink>(
     total: u32,
     names: &[String],
@@ -115,7 +115,7 @@ fn write_observed<O: Sink>(
     )
 }
 
-// Writes a line for each folder, unless an earlier write failed.
+// Writes a line for each folder if `going` is true. Returns true if no write has failed.
 fn add_folders<O: Sink>(names: &[String], findings: &[Finding], going: bool, out: &mut O) -> bool
     ensures { AddsText (O.state out.old) (O.state out.new) going (of_each (folder_line (map string_bytes names.now)) (map string_bytes names.now) findings.now) result }
 {
@@ -132,11 +132,11 @@ fn write_refusals<N: Sink>(names: &[String], observed: &GatherResult, note: &mut
     ensures { AddsLine (N.state note.old) (N.state note.new) (refusals (map string_bytes names.now) observed.now) }
 {
     let going = add_own_refusal(&observed.own, note);
-    // Nothing follows these lines, so a failure needs no answer.
+    // These lines are the last output, so nothing depends on the result.
     let _ended = add_refusals(names, observed.folders.as_slice(), going, note);
 }
 
-// Writes the reason why the working folder cannot be gathered into, if there is one.
+// Writes the reason why the working folder cannot take the union, if there is one. Returns true if no write failed.
 fn add_own_refusal<N: Sink>(own: &Finding, note: &mut N) -> bool
     ensures { AddsText (N.state note.old) (N.state note.new) true (own_refusal own.now) result }
 {
@@ -146,7 +146,7 @@ fn add_own_refusal<N: Sink>(own: &Finding, note: &mut N) -> bool
     add_own_line(note, true, &[Text("gather: ")], own)
 }
 
-// Writes a line for each folder that cannot be gathered, unless an earlier write failed.
+// Writes a line for each folder that cannot be gathered, if `going` is true. Returns true if no write has failed.
 fn add_refusals<N: Sink>(names: &[String], findings: &[Finding], going: bool, note: &mut N) -> bool
     ensures { AddsText (N.state note.old) (N.state note.new) going (of_each (folder_refusal (map string_bytes names.now)) (map string_bytes names.now) findings.now) result }
 {
@@ -159,7 +159,7 @@ fn add_refusals<N: Sink>(names: &[String], findings: &[Finding], going: bool, no
     going
 }
 
-// Writes the reason why a folder cannot be gathered, if there is one.
+// Writes the reason why a folder cannot be gathered, if there is one and `going` is true.
 fn add_refusal<'x, N: Sink>(
     names: &'x [String],
     name: &'x str,

@@ -91,7 +91,7 @@ fn folder_question(words: &[String]) -> Option<Question>
     }
 }
 
-// Writes the answer to a question. Returns true if nothing failed.
+// Writes the answer to a question. Returns true if no write failed.
 fn write_answer<O: Sink>(
     program: FolderProgram,
     build: &Build<'_>,
@@ -103,7 +103,8 @@ fn write_answer<O: Sink>(
     match question {
         Question::Usage => add_lines(out, true, usage_of(program)),
         Question::Version => add_version(out, program_name(program), build),
-        // No arguments ask for it: these programs have no commands of their own.
+        // No arguments ask this question, because the folder programs have no commands of their
+        // own.
         Question::Arguments(_) => true,
     }
 }
@@ -127,7 +128,7 @@ fn tell_answer<O: Sink, N: Sink>(
 /// Answers arguments that ask for help or the version. Returns the exit status: 0, or 5 if a write
 /// failed, with a line on `note`.
 ///
-/// Returns `None` for all other arguments, and then nothing was written.
+/// Returns `None` for all other arguments, and writes nothing.
 pub fn answer_words<O: Sink, N: Sink>(
     program: FolderProgram,
     build: &Build<'_>,

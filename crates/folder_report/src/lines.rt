@@ -13,14 +13,14 @@ use report::note::add_line;
 use report::piece::Piece;
 use report::piece::Piece::{Number, Text};
 
-// Returns the text after the number of outcomes.
+// Returns the text after the number of outcomes. `beside` is true if the folder's other slot is damaged.
 fn beside_of(beside: bool) -> &'static str
     ensures { result.now ≡ beside_text beside }
 {
     if beside { ", one slot is damaged" } else { "" }
 }
 
-// Returns the name of the folder with this number. The working folder has number 0.
+// Returns the name of the folder with this number. The working folder has number 0, the first of `names` number 1.
 fn name_of(names: &[String], number: usize) -> &str
     ensures { result.now ≡ name_of (map string_bytes names.now) number }
 {
@@ -33,8 +33,8 @@ fn name_of(names: &[String], number: usize) -> &str
     }
 }
 
-/// Writes the line of the working folder after these pieces, unless an earlier write failed. Returns true if nothing
-/// failed.
+/// Writes the pieces `first` and the finding on the working folder as one line, if `going` is true. Returns true if no
+/// write has failed.
 pub(crate) fn add_own_line<N: Sink>(
     out: &mut N,
     going: bool,
@@ -99,7 +99,7 @@ fn added_pieces(name: &str, count: u32, new: u32, beside: bool) -> [Piece<'_>; 8
     ]
 }
 
-// Returns the line of a folder of which there is nothing to count: its name and these words.
+// Returns the line of a folder that gives no outcomes: its name and these words.
 fn named_pieces<'x>(name: &'x str, words: &'x str) -> [Piece<'x>; 3]
     ensures { map piece_text result ≡ codes "folder " ∷ name.now ∷ words.now ∷ [] }
 {
@@ -120,7 +120,8 @@ fn differing_pieces<'x>(id: u32, other: &'x str, name: &'x str) -> [Piece<'x>; 6
     ]
 }
 
-/// Writes the line of a folder after these pieces, unless an earlier write failed. Returns true if nothing failed.
+/// Writes the pieces `first` and the finding on a folder as one line, if `going` is true. Returns true if no write has
+/// failed.
 pub(crate) fn add_folder_line<'x, N: Sink>(
     out: &mut N,
     going: bool,

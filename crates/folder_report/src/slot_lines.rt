@@ -13,7 +13,8 @@ use ckpt_store::slot_content::SlotContent;
 use report::note::{add_line, fault_name};
 use report::piece::Piece::{Digest, Number, Text};
 
-// Writes the line of a slot that holds a checkpoint.
+// Writes the line of a slot that holds a checkpoint, if `going` is true. Returns true if no write
+// has failed.
 fn add_whole_line<N: Sink>(out: &mut N, going: bool, slot: u8, checkpoint: &Checkpoint) -> bool
     ensures { AddsText (N.state out.old) (N.state out.new) going (slot_line slot (what.Whole checkpoint.now)) result }
 {
@@ -39,7 +40,7 @@ fn add_whole_line<N: Sink>(out: &mut N, going: bool, slot: u8, checkpoint: &Chec
     )
 }
 
-/// Writes the line of a slot, unless an earlier write failed. Returns true if nothing failed.
+/// Writes the line of a slot, if `going` is true. Returns true if no write has failed.
 pub(crate) fn add_slot_line<N: Sink>(
     out: &mut N,
     going: bool,
@@ -62,7 +63,8 @@ pub(crate) fn add_slot_line<N: Sink>(
     }
 }
 
-/// Writes the line of the newest slot, unless an earlier write failed.
+/// Writes the line that names the newest slot, if `going` is true. Returns true if no write has
+/// failed.
 pub(crate) fn add_newest_line<N: Sink>(out: &mut N, going: bool, newest: Option<u8>) -> bool
     ensures { AddsText (N.state out.old) (N.state out.new) going (as_line (newest_texts newest)) result }
 {
@@ -75,7 +77,7 @@ pub(crate) fn add_newest_line<N: Sink>(out: &mut N, going: bool, newest: Option<
     }
 }
 
-/// Writes the line of a job's progress, unless an earlier write failed.
+/// Writes the line of a job's progress, if `going` is true. Returns true if no write has failed.
 pub(crate) fn add_progress_line<N: Sink>(
     out: &mut N,
     going: bool,

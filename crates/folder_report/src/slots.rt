@@ -38,8 +38,8 @@ struct SlotsReport {
     total: u32,
 }
 
-/// Reports the contents of a folder's two slots and the newest of them. With a job it also reports the job's progress.
-/// Saves nothing. Returns the exit status.
+/// Reports the contents of a folder's two slots, and which of them is the newest. If a job is given, also reports the
+/// job's progress. Saves nothing. Returns the exit status.
 ///
 /// If a slot cannot be loaded or memory runs out, nothing is written to `out`, and a line on `note` gives the reason.
 pub fn tell_slots<C: Keeper, O: Sink, N: Sink>(
@@ -110,7 +110,7 @@ fn show<O: Sink, N: Sink>(shown: &SlotsReport, out: &mut O, note: &mut N) -> u8
     tell(&Ended::WriteFault, note)
 }
 
-// Writes the lines. Returns true if nothing failed.
+// Writes the lines. Returns true if no write failed.
 fn write_shown<O: Sink>(shown: &SlotsReport, out: &mut O) -> bool
     ensures { IsSaid (O.state out.old) (O.state out.new) (shown_text shown.now) result }
 {
@@ -121,7 +121,7 @@ fn write_shown<O: Sink>(shown: &SlotsReport, out: &mut O) -> bool
     add_progress(out, going, shown)
 }
 
-// Writes the progress of the job, if there is one.
+// Writes the progress of the job, if there is a job.
 fn add_progress<O: Sink>(out: &mut O, going: bool, shown: &SlotsReport) -> bool
     ensures { AddsText (O.state out.old) (O.state out.new) going (job_text shown.now.progress shown.now.total) result }
 {
