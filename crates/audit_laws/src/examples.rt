@@ -1,4 +1,4 @@
-//! Computed examples, so that each definition was tried on cases small enough to work out by hand.
+//! Computed examples of the definitions, on cases small enough to work out by hand.
 
 pub mod formats;
 pub mod frozen;

@@ -3,18 +3,19 @@
 ghost use Rattle.audit_laws.specs.Determined.{GivenJobsAreOfOneGraph};
 ghost use Rattle.audit_laws.specs.Taken.{GivenJobsAreTaken, ReadJobsAreGiven};
 
-/// Shows that JSON gives one graph. Two jobs with valid start plans that it gives by the same columns have the same
-/// units, edges, counts, districts and start plan.
+/// Shows that JSON determines the graph. Two jobs that one JSON gives have the same units, edges, counts, districts and
+/// start plan. Their columns must be the same, without lengths, and their start plans valid.
 pub fn given_jobs_are_of_one_graph()
     ensures { GivenJobsAreOfOneGraph }
 {}
 
-/// Shows that whatever is read from bytes is given by their JSON.
+/// Shows that a graph read from bytes is one that the JSON of the bytes gives.
 pub fn read_jobs_are_given()
     ensures { ReadJobsAreGiven }
 {}
 
-/// Shows that JSON of a graph with a valid start plan within the limits is accepted, if the setting has no rules.
+/// Shows that bytes are accepted if their JSON gives a graph within the limits, the start plan is valid, and the
+/// setting has no rules.
 pub fn given_jobs_are_taken()
     ensures { GivenJobsAreTaken }
 {}

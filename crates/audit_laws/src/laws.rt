@@ -1,4 +1,5 @@
-//! Laws of calls that ended and of the runs of one job. Each law is the contract of a function that does nothing.
+//! Laws of calls that ended and of the runs of one job. Each law is the contract of a function that does nothing. Calls
+//! in a body are made for their contracts.
 
 ghost use Rattle.audit_laws.specs.Ended.{EndedCallsKeepTheirPromise};
 ghost use Rattle.audit_laws.specs.Lost.{EndsAreStops, StopsKeepTheNewest, StopsLoseNothing};
@@ -14,8 +15,8 @@ use ckpt_store::laws::{
 };
 use outcome_book::union_laws::unions_are_right;
 
-/// States that a call has kept all that the top call promises, if it ended for a reason and left what that reason
-/// leaves.
+/// States that a call meets the top call's contract if it ended for one of the defined reasons and left what that
+/// reason requires.
 pub fn ended_calls_keep_their_promise()
     ensures { EndedCallsKeepTheirPromise }
 {
@@ -23,17 +24,16 @@ pub fn ended_calls_keep_their_promise()
     right_outcomes_are_consistent();
 }
 
-/// States that the manner of a run changes nothing of the job's digest, of what its trajectories find, and of its
-/// report. The manner is the command, the number of workers, the budget, what is saved and resumed, and which of how
-/// many parts is walked. So the report of one of several plans is the one that `run` gives for this plan alone. A run
-/// with or without histograms has the same digest, the same outcomes with their histograms, and the same consistent
-/// slots. So has a run with or without its origin, which only the report shows.
+/// States that the manner of a run changes neither the job's digest, nor what its trajectories find, nor its report.
+/// The manner is the command, the number of workers, the budget, saving, resuming and the part. Therefore `plans`
+/// reports on each plan as `run` would on that plan alone. Asking for histograms or for the origin changes the report,
+/// but neither the digest nor which slots are consistent.
 pub fn reruns_are_alike()
     ensures { RerunsAreAlike }
 {}
 
-/// States that a stop at any moment of a run, within a save or between two, keeps the newest slot of before or leaves a
-/// newer one. The run need not be one that returns: the law speaks of the save attempts so far.
+/// States that a stop at any moment of a run, within a save or between two saves, keeps the slot that was newest before
+/// the run or leaves a newer one. The law is about the save attempts so far, so it also covers runs that never return.
 pub fn stops_keep_the_newest()
     ensures { StopsKeepTheNewest }
 {
@@ -41,10 +41,10 @@ pub fn stops_keep_the_newest()
     outcomes_fit_without_histogram();
 }
 
-/// States that nothing that was saved is lost. A run may be stopped at any moment, also within a save, at any byte,
-/// whichever saves failed before, and whether it would ever return or not. The newest slot then holds all of each save
-/// that succeeded before. It is the slot with which the run opened, or holds all that the run opened with. A run that
-/// resumes starts from it.
+/// States that nothing that was saved is lost. A run may be stopped at any moment, also at any byte of a save. Saves
+/// may have failed before, and the run may be one that never returns. The newest slot then holds all outcomes of each
+/// save that succeeded. It also holds all initial outcomes of the run, unless it is still the slot from which the run
+/// started. A run that resumes starts from the newest slot.
 pub fn stops_lose_nothing()
     ensures { StopsLoseNothing }
 {
@@ -53,16 +53,16 @@ pub fn stops_lose_nothing()
     outcomes_fit_without_histogram();
 }
 
-/// States that the saves of a run that returned, cut off anywhere or not at all, are among those of which
-/// `stops_keep_the_newest` and `stops_lose_nothing` speak.
+/// States that `stops_keep_the_newest` and `stops_lose_nothing` also cover the save attempts of a run that returned,
+/// all of them or cut off within any of them.
 pub fn ends_are_stops()
     ensures { EndsAreStops }
 {}
 
 /// States that every run of a chain that ends with status 0 has written the report of one thread. The chain starts from
-/// consistent slots, and so from absent ones, in whichever version of the format. Its runs may be halted, killed at any
-/// moment and resumed. The report has histograms and an origin exactly where the run that wrote it asked for them,
-/// whatever the runs before it asked for.
+/// consistent slots, of either version of the format; empty slots are consistent. Its runs may be halted, killed at any
+/// moment and resumed. The report has a histogram, the serial test and an origin exactly if the run that wrote it asked
+/// for them, whatever the runs before it asked for.
 pub fn chains_write_one_report()
     ensures { ChainsWriteOneReport }
 {
@@ -72,10 +72,10 @@ pub fn chains_write_one_report()
     saves_leave_consistent_slots();
 }
 
-/// States that this also holds over any number of machines and folders. The slots of each folder come from consistent
-/// ones by runs of any part of the job, which ended or were killed, and by gatherings of such folders, which ended or
-/// were cut off. Then they are consistent, and each run from them that ends with status 0 has written the report of one
-/// thread.
+/// States the law of `chains_write_one_report` for any number of machines and folders. The slots of each folder are
+/// *reached*: they come from consistent slots by runs of any part of the job and by gatherings of reached folders. Runs
+/// and gatherings may have ended or been stopped anywhere. Reached slots are consistent, and each run from them that
+/// ends with status 0 has written the report of one thread.
 pub fn gathered_runs_write_one_report()
     ensures { GatheredRunsWriteOneReport }
 {
@@ -87,19 +87,19 @@ pub fn gathered_runs_write_one_report()
     a_stop_in_a_save_leaves_consistent_slots();
 }
 
-/// States that the slots that one call of `ckpt_store::whole::gather` leaves were reached, if they were before and all
-/// folders were.
+/// States that one call of `ckpt_store::whole::gather` leaves reached slots, if the slots before the call and all
+/// folders were reached.
 pub fn gatherings_reach()
     ensures { GatheringsReach }
 {}
 
-/// States that the slots that a gathering leaves were reached, if its save failed or was cut off.
+/// States that a gathering leaves reached slots also if its save failed or was cut off.
 pub fn cut_gatherings_reach()
     ensures { CutGatheringsReach }
 {}
 
-/// States that the plans of a trajectory give what the report says of it: its moves, the counts of a walk, and the
-/// scores of an endpoint trajectory.
+/// States that the plans of a trace agree with the report: they give a trajectory's moves, a walk's counts, and the
+/// scores at the end of an endpoint trajectory.
 pub fn traces_end_as_found()
     ensures { TracesEndAsFound }
 {}

@@ -1,5 +1,5 @@
 //! Consequences of the definitions in the top call's contract, up to the plain statement of what a call does.
-//! `examples` has small cases of all definitions. Every function here is empty and exists for its contract.
+//! `examples` has small cases of all definitions. Every function here does nothing and exists for its contract.
 #![tactic(auto)]
 
 pub mod examples;

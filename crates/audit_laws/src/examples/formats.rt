@@ -64,13 +64,14 @@ pub fn refused_graphs()
     ensures directed { reading (codes "{\"directed\":true,\"nodes\":[],\"adjacency\":[]}") columns ≡ Err fault.Directed }
 {}
 
-/// Shows that two texts of a path give one graph, however its edges are written.
+/// Shows that two texts of a path give the same graph. In the second text, edges are listed by only one of their units
+/// or twice, and a unit lists itself.
 pub fn read_paths()
     ensures path { reading path_text columns ≡ Ok (parsed_four path_of_four (Whole (pos 1) ∷ Whole (pos 2) ∷ [])) }
     ensures other { reading other_path_text columns ≡ Ok (parsed_four path_of_four (Whole (pos 1) ∷ Whole (pos 2) ∷ [])) }
 {}
 
-/// Shows the text of a cycle, with texts as ids and labels.
+/// Shows the graph read from the text of a cycle whose ids and labels are texts.
 pub fn read_cycle()
     ensures { reading cycle_text columns ≡ Ok (parsed_four cycle_of_four (Word (codes "01") ∷ Word (codes "02") ∷ [])) }
 {}
@@ -96,8 +97,8 @@ pub fn accepted_words()
         Ok (record (run_of 5000 1 8 0 1000 (record { score = Gap; tail = Low } ∷ record { score = Gap; tail = High } ∷ [])) { columns = columns }) }
 {}
 
-/// Shows that a budget that is too small is refused if nothing is saved. If the value of `--save` is no number, that is
-/// refused, and not the budget.
+/// Shows that a budget that is too small is refused if nothing is saved. If the value of `--save` is no number, that
+/// value is refused instead of the budget.
 pub fn small_budgets()
     ensures by_default { setting_of (small_budget []) ≡ Err (word.BadValue name.Budget) }
     ensures unsaved { setting_of (small_budget (codes "--save" ∷ codes "0" ∷ [])) ≡ Err (word.BadValue name.Budget) }
@@ -126,8 +127,8 @@ pub fn read_checkpoints()
     ensures old { outcomes_in (checkpoint_body 1 (replicate 32 0) 1 (found_once ∷ [])) ≡ found_once ∷ [] }
 {}
 
-/// Shows the outcomes a run resumes from: all of them without histograms, or with `--shift` those of walks only if they
-/// have one.
+/// Shows the outcomes from which a run resumes. Without `--shift` these are all saved outcomes, without their
+/// histograms. With `--shift`, walks without a histogram are left out.
 pub fn small_initial_outcomes()
     ensures without_histogram { initial_outcomes true (run_of 5000 1 8 1 8 []) (ours 0 (record found_once { bins = 9 ∷ [] } ∷ [])) absent ≡ Some (found_once ∷ []) }
     ensures binned { initial_outcomes true (record (run_of 5000 1 8 1 8 []) { shift = true }) (ours 0 (found_once ∷ record found_once { id = 1 } ∷ [])) absent ≡
@@ -151,7 +152,7 @@ pub fn small_notes()
     ensures slots { note columns (damaged (broken (ckpt.TooShort 40)) absent) ≡ codes "checkpoint: slot 0 too short, slot 1 absent" ++ 10 ∷ [] }
 {}
 
-/// Shows the newest slot, and the place of the next checkpoint.
+/// Shows the newest of two slots, and the place (slot and generation) of the next checkpoint.
 pub fn small_slots()
     ensures none { save_place absent absent ≡ (0, 0) }
     ensures one { save_place (ours 2 []) (broken (ckpt.TooShort 40)) ≡ (1, 0) }
@@ -164,13 +165,13 @@ pub fn first_neighbours_of_a_grid()
     ensures { neighbours_json 1 0 ≡ codes "[{\"id\":1},{\"id\":10}]" }
 {}
 
-/// Shows the outcome of the trajectory on the cycle, with the draws of its own stream.
+/// Shows the outcome of trajectory 0 on the cycle, with the draws of its own stream.
 pub fn drawn_outcome()
     ensures { outcome (job_of_four cycle_of_four (run_of 5000 1 8 0 1000 (record { score = Gap; tail = Low } ∷ record { score = Gap; tail = High } ∷ []))) (draw (replicate 32 0)) 0
         ≡ record { id = 0; moved = 3; values = pos 4 ∷ pos 8 ∷ pos 0 ∷ pos 0 ∷ []; bins = empty_histogram } }
 {}
 
-/// Shows the outcomes of one thread on two units, with only the start plan legal, and the whole report on them.
+/// Shows the whole report of one thread on a graph of two units, where no move is legal.
 pub fn report_on_two_units()
     ensures { report (job_of_two (run_of 500 1 3 2 8 (record { score = Gap; tail = Low } ∷ [])))
         (sequence (job_of_two (run_of 500 1 3 2 8 (record { score = Gap; tail = Low } ∷ []))) (draw (replicate 32 0))) [] None ≡

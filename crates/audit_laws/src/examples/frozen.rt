@@ -38,13 +38,13 @@ pub fn small_shares()
     ensures none { majorities 10000 group_of_four (0 ∷ 0 ∷ 1 ∷ 1 ∷ []) ≡ 0 }
 {}
 
-/// Shows that a trajectory does not move if all units are frozen.
+/// Shows that a trajectory makes no move if all units are frozen.
 pub fn walks_with_frozen()
     ensures { outcome (record (job_of_four path_of_four (run_of 5000 1 8 0 1000 (record { score = Seats; tail = Low } ∷ []))) { frozen = 1 ∷ 1 ∷ 1 ∷ 1 ∷ [] }) first_draws_alone 0
         ≡ record { id = 0; moved = 0; values = pos 9 ∷ pos 0 ∷ pos 0 ∷ pos 0 ∷ []; bins = empty_histogram } }
 {}
 
-/// Shows the lines of the share and of frozen units in the text of a check, below that of the
+/// Shows the lines of the share and of frozen units in the text of a check, below the line of the
 /// group.
 pub fn check_text_with_frozen()
     ensures { check_text (record (limited_job 12 9 1) { setting = record (limited_job 12 9 1).setting { group_share = 4999 }; frozen = 0 ∷ 1 ∷ 0 ∷ 1 ∷ [] }) ≡
@@ -74,7 +74,7 @@ pub fn words_with_frozen()
     ensures too_much { setting_of (run_words (codes "--ask" ∷ codes "gap:low" ∷ codes "--group" ∷ codes "g" ∷ codes "--group-share" ∷ codes "10001" ∷ [])) ≡ Err (word.BadValue name.GroupShare) }
 {}
 
-/// Shows frozen units that are read, and the faults of a missing and of an invalid flag.
+/// Shows frozen units as read from a column, and the faults of a missing and of an invalid flag.
 pub fn read_frozen()
     ensures numbers { reading path_text (record columns { frozen = codes "id" }) ≡
         Ok (record (parsed_four path_of_four (Whole (pos 1) ∷ Whole (pos 2) ∷ [])) { frozen = 0 ∷ 1 ∷ 1 ∷ 1 ∷ [] }) }

@@ -16,7 +16,7 @@ ghost use Rattle.audit_laws.specs.Jobs.{run_of, cycle_of_four, job_of_four, job_
 ghost use Rattle.audit_laws.specs.Lines.{run_words};
 ghost use Rattle.audit_laws.specs.Texts.{columns};
 
-/// Shows the histogram place of a plan, by its seats and those of the start plan.
+/// Shows the histogram bin of a plan, by its seats and those of the start plan, and the sums of two histograms.
 pub fn small_histograms()
     ensures same { bin_of 3 3 ≡ 4 }
     ensures fewer { bin_of 2 3 ≡ 3 }
@@ -42,8 +42,8 @@ pub fn fitting_histograms()
     ensures all { fits (job_of_four cycle_of_four (run_of 5000 1 8 0 1000 (record { score = Gap; tail = Low } ∷ record { score = Gap; tail = High } ∷ []))) (record found_once { bins = 0 ∷ 0 ∷ 0 ∷ 4 ∷ 5 ∷ 0 ∷ 0 ∷ 0 ∷ 0 ∷ [] }) ≡ true }
 {}
 
-/// Shows the stopping place of tests on five endpoints that need one, two or four of them in the tail, and a test with
-/// a missing endpoint.
+/// Shows the stopping places of tests that need one, two or four of five endpoints in the tail. Then shows a test
+/// decided by known outcomes, and one that a missing endpoint leaves open.
 pub fn small_stops()
     ensures one { stop Low (negsuc 0) (negsuc 6 ∷ pos 5 ∷ negsuc 0 ∷ pos 5 ∷ negsuc 6 ∷ []) 1 ≡ record { place = 1; top = 1; of = 1 } }
     ensures two { stop Low (negsuc 0) (negsuc 6 ∷ pos 5 ∷ negsuc 0 ∷ pos 5 ∷ negsuc 6 ∷ []) 2 ≡ record { place = 3; top = 2; of = 3 } }
@@ -54,15 +54,15 @@ pub fn small_stops()
         (record found_once { id = 2; values = negsuc 6 ∷ [] } ∷ record found_once { id = 0; values = negsuc 0 ∷ [] } ∷ []) ≡ None }
 {}
 
-/// Shows the place of the start plan in the run of the serial test.
+/// Shows the position of the start plan in the run of the serial test.
 pub fn small_places()
     ensures four { serial_place 0x903df1a0ade0b876 4 ≡ 2 }
     ensures many { serial_place 0x903df1a0ade0b876 1024 ≡ 118 }
     ensures first { draw (replicate 32 0) 8589934592 0 % 4 ≡ 0 }
 {}
 
-/// Shows arguments that request the serial test. Its run has a power of two of plans, and a number of steps that is no
-/// number is refused first.
+/// Shows arguments that request the serial test. The test is refused unless its run has a power of two of plans. An
+/// invalid number of steps is refused before the test.
 pub fn words_of_the_serial_test()
     ensures default { setting_of (run_words (codes "--slack" ∷ codes "5000" ∷ codes "--steps" ∷ codes "8" ∷ codes "--ask" ∷ codes "gap:low" ∷ codes "--serial" ∷ codes "no" ∷ [])) ≡
         Ok (record (run_of 5000 1 8 0 1000 (record { score = Gap; tail = Low } ∷ [])) { columns = columns }) }
@@ -75,7 +75,7 @@ pub fn words_of_the_serial_test()
     ensures unread_steps { setting_of (run_words (codes "--steps" ∷ codes "08" ∷ codes "--ask" ∷ codes "gap:low" ∷ codes "--serial" ∷ codes "yes" ∷ [])) ≡ Err (word.BadValue name.Steps) }
 {}
 
-/// Shows the result of the serial test on two units, with only the start plan legal.
+/// Shows the result of the serial test on a graph of two units, where no move is legal.
 pub fn serial_test_on_two_units()
     ensures { serial_of (job_of_two (run_of 500 1 3 0 8 (record { score = Gap; tail = Low } ∷ []))) (draw (replicate 32 0)) ≡
         record { place = 0; moved = 0; ranks = 4 ∷ 0 ∷ 0 ∷ 0 ∷ [] } }

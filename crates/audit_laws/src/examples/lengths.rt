@@ -1,4 +1,4 @@
-//! Computed examples of lengths of edges, of the length of cut edges and of its limit.
+//! Computed examples of lengths of edges, and of the total length of cut edges with its limit.
 
 ghost use Rattle.std.specs.Prelude.{◌≡◌, [], ◌∷◌, ◌++◌, codes, drop, take, Some, None, Ok, Err, true, false, pos};
 ghost use Rattle.audit_model.specs.declared.fault.GraphFault.TheVariants.{MissingLength, BadLength, UnequalLengths};
@@ -21,7 +21,7 @@ ghost use Rattle.audit_laws.specs.Jobs.{run_of, counts_of_votes, path_of_four, j
 ghost use Rattle.audit_laws.specs.Lines.{run_words};
 ghost use Rattle.audit_laws.specs.Texts.{columns, cycle_text, length_text, path_text, parsed_four, unequal_text};
 
-/// Shows that the length of cut edges adds up those between districts, each once, and is 0 without lengths.
+/// Shows that the total length of cut edges counts each cut edge once, and is 0 if edges have no lengths.
 pub fn small_lengths()
     ensures one { cut_length path_of_four (9 ∷ 9 ∷ 7 ∷ 7 ∷ 5 ∷ 5 ∷ []) (0 ∷ 0 ∷ 1 ∷ 1 ∷ []) ≡ 7 }
     ensures two { cut_length path_of_four (9 ∷ 9 ∷ 7 ∷ 7 ∷ 5 ∷ 5 ∷ []) (0 ∷ 1 ∷ 1 ∷ 0 ∷ []) ≡ 14 }
@@ -30,7 +30,7 @@ pub fn small_lengths()
     ensures no_lengths { cut_length path_of_four [] (0 ∷ 1 ∷ 0 ∷ 1 ∷ []) ≡ 0 }
 {}
 
-/// Shows that a plan with cut edges as long as the limit is legal, and one with longer ones is not.
+/// Shows that a plan is legal if the total length of its cut edges equals the limit, and not legal if it is greater.
 pub fn plans_with_lengths()
     ensures short { is_legal (job_of_lengths 7 []) (0 ∷ 0 ∷ 1 ∷ 1 ∷ []) ≡ true }
     ensures long { is_legal (job_of_lengths 6 []) (0 ∷ 0 ∷ 1 ∷ 1 ∷ []) ≡ false }
@@ -38,7 +38,8 @@ pub fn plans_with_lengths()
     ensures too_long { plan_fault (job_of_lengths 6 []) ≡ Some (plan.TooLong 7 6) }
 {}
 
-/// Shows a trajectory with the score, which moves to a plan with a cut edge of length 9 unless the limit is lower.
+/// Shows a trajectory with the score `cut-length`. It moves to a plan with a cut edge of length 9 unless the limit is
+/// lower.
 pub fn walks_with_lengths()
     ensures free { outcome (job_of_lengths 9 (record { score = CutLength; tail = Low } ∷ record { score = CutLength; tail = High } ∷ [])) first_draws_alone 0
         ≡ record { id = 0; moved = 1; values = pos 8 ∷ pos 9 ∷ pos 0 ∷ pos 0 ∷ []; bins = empty_histogram } }
@@ -46,7 +47,7 @@ pub fn walks_with_lengths()
         ≡ record { id = 0; moved = 0; values = pos 9 ∷ pos 9 ∷ pos 0 ∷ pos 0 ∷ []; bins = empty_histogram } }
 {}
 
-/// Shows the lines of lengths in the text of a check. That of the limit is left out if the limit is the largest.
+/// Shows the lines of lengths in the text of a check. The line of the limit is left out if the limit has its default.
 pub fn check_text_with_lengths()
     ensures limited { check_text (job_of_lengths 12 []) ≡
         codes "plan-check 1" ++ 10 ∷ codes "units 4 edges 3 districts 2" ++ 10 ∷ codes "population 4 slack 5000 low 1 high 3" ++ 10 ∷
@@ -56,8 +57,8 @@ pub fn check_text_with_lengths()
         codes "cut-length 7" ++ 10 ∷ codes "end" ++ 10 ∷ [] }
 {}
 
-/// Shows that the digest of a job has its fifth form exactly if edges have lengths. The limit and the lengths come
-/// last.
+/// Shows that the digest of a job has its fifth form exactly if edges have lengths. The limit and the lengths are the
+/// last bytes.
 pub fn bytes_with_lengths()
     ensures fifth { take 14 (job_bytes (job_of_lengths 258 [])) ≡ codes "district-job 5" }
     ensures behind { drop 218 (job_bytes (job_of_lengths 258 [])) ≡
@@ -66,7 +67,7 @@ pub fn bytes_with_lengths()
     ensures nothing_behind { drop 218 (job_bytes (job_of_four path_of_four (run_of 5000 1 8 0 1000 []))) ≡ [] }
 {}
 
-/// Shows arguments that name lengths. A limit or an ask without them is refused.
+/// Shows arguments that name the column of lengths. Without it, a limit on length and an ask for length are refused.
 pub fn words_with_lengths()
     ensures both { setting_of (run_words (codes "--slack" ∷ codes "5000" ∷ codes "--steps" ∷ codes "8" ∷ codes "--ask" ∷ codes "cut-length:low"
         ∷ codes "--length" ∷ codes "l" ∷ codes "--max-length" ∷ codes "9" ∷ [])) ≡
@@ -76,7 +77,7 @@ pub fn words_with_lengths()
     ensures too_much { setting_of (run_words (codes "--ask" ∷ codes "gap:low" ∷ codes "--length" ∷ codes "l" ∷ codes "--max-length" ∷ codes "1717986918000001" ∷ [])) ≡ Err (word.BadValue name.MaxLength) }
 {}
 
-/// Shows lengths that are read, and the faults of missing, of invalid and of unequal ones.
+/// Shows lengths as read from a graph, and the faults of missing, invalid and unequal lengths.
 pub fn read_lengths()
     ensures numbers { reading length_text (record columns { length = codes "l" }) ≡
         Ok (record (parsed_four path_of_four (Whole (pos 1) ∷ Whole (pos 2) ∷ [])) { counts = record (counts_of_votes (3 ∷ 1 ∷ 1 ∷ 2 ∷ []) (1 ∷ 2 ∷ 2 ∷ 1 ∷ []) 4) { lengths = 9 ∷ 9 ∷ 7 ∷ 7 ∷ 5 ∷ 5 ∷ [] } }) }

@@ -48,8 +48,8 @@ pub fn kept_limits()
     ensures too_few { meets_rules (record no_rules { group = group_of_four; group_districts = 2 }) 3 (0 ∷ 0 ∷ 1 ∷ 1 ∷ []) ≡ false }
 {}
 
-/// Shows that start plans beyond limits are refused for the first in their order: the splits of a region, splits in
-/// all, split regions, majorities.
+/// Shows that a start plan that breaks limits is refused for the first of them in this order: the splits of a region,
+/// splits in all, split regions, majorities.
 pub fn refused_by_limits()
     ensures split { plan_fault (record (limited_job 1 1 2) { setting = record (limited_job 1 1 2).setting { max_split = 1 } }) ≡ Some (TooManySplit 0 2 1) }
     ensures splits { plan_fault (limited_job 1 1 2) ≡ Some (TooManySplits 2 1) }
@@ -58,8 +58,8 @@ pub fn refused_by_limits()
     ensures none { plan_fault (limited_job 2 2 1) ≡ None }
 {}
 
-/// Shows the outcome of the trajectory on the path if no region may be split, and if each district has to keep its
-/// majority.
+/// Shows the outcome of the trajectory on the path if no region may be split, and if the group must keep two majorities
+/// or one.
 pub fn walks_within_limits()
     ensures splits { outcome (record (job_of_four path_of_four (record (run_of 5000 1 8 0 1000 (record { score = Seats; tail = Low } ∷ [])) { max_splits = 0 })) { regions = 0 ∷ 0 ∷ 1 ∷ 1 ∷ [] }) first_draws_alone 0
         ≡ record { id = 0; moved = 0; values = pos 9 ∷ pos 0 ∷ pos 0 ∷ pos 0 ∷ []; bins = empty_histogram } }
@@ -71,7 +71,7 @@ pub fn walks_within_limits()
         ≡ record { id = 0; moved = 1; values = pos 9 ∷ pos 0 ∷ pos 0 ∷ pos 0 ∷ []; bins = empty_histogram } }
 {}
 
-/// Shows the lines of these limits in the text of a check, below that of the splits of a region.
+/// Shows the lines of these limits in the text of a check, below the line of the splits of a region.
 pub fn check_text_with_limits()
     ensures { check_text (limited_job 12 9 1) ≡
         codes "plan-check 1" ++ 10 ∷ codes "units 4 edges 3 districts 2" ++ 10 ∷ codes "population 4 slack 5000 low 1 high 3" ++ 10 ∷
@@ -79,8 +79,9 @@ pub fn check_text_with_limits()
         codes "group-districts 1 of 1" ++ 10 ∷ codes "end" ++ 10 ∷ [] }
 {}
 
-/// Shows the bytes that a job's digest is computed from. They have the third form exactly if there is a group, or if
-/// there are regions and splits in all or split regions are limited.
+/// Shows the bytes that a job's digest is computed from. If edges have no lengths, no unit is frozen and the share has
+/// its default, this is when they have the third form: there is a group, or there are regions and a limit on splits in
+/// all or on split regions.
 pub fn bytes_of_limits()
     ensures splits { take 14 (job_bytes (record (job_of_four path_of_four (record (run_of 5000 1 8 0 1000 []) { max_splits = 2 })) { regions = 0 ∷ 1 ∷ 1 ∷ 0 ∷ [] })) ≡ codes "district-job 3" }
     ensures split_regions { take 14 (job_bytes (record (job_of_four path_of_four (record (run_of 5000 1 8 0 1000 []) { max_split_regions = 2 })) { regions = 0 ∷ 1 ∷ 1 ∷ 0 ∷ [] })) ≡ codes "district-job 3" }

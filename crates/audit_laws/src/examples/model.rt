@@ -1,4 +1,4 @@
-//! Computed examples of the model, each the contract of an empty function.
+//! Computed examples of plans, steps, scores, outcomes and runs. Each is the contract of an empty function.
 
 ghost use Rattle.std.specs.Prelude.{◌≡◌, ◌-◌, ◌^◌, [], ◌∷◌, Some, None, map, true, false, pos, negsuc};
 ghost use Rattle.audit_model.specs.declared.setting.Score.TheVariants.{Seats, MeanMedian, Gap, CutEdges};
@@ -34,7 +34,7 @@ pub fn legal_plans_of_a_path()
     ensures narrow { is_legal (job_of_four path_of_four (run_of 0 1 8 0 1000 [])) (0 ∷ 1 ∷ 1 ∷ 1 ∷ []) ≡ false }
 {}
 
-/// Shows the plans that the first eight draws visit on a path. Only the last of them moves.
+/// Shows the plans that the first eight draws visit on a path. Only the last draw moves a unit.
 pub fn visits_on_a_path()
     ensures third { visit (job_of_four path_of_four (run_of 5000 1 8 0 1000 [])) (first_draws_alone 0) (0 ∷ 0 ∷ 1 ∷ 1 ∷ []) 7 ≡ 0 ∷ 0 ∷ 1 ∷ 1 ∷ [] }
     ensures eighth { visit (job_of_four path_of_four (run_of 5000 1 8 0 1000 [])) (first_draws_alone 0) (0 ∷ 0 ∷ 1 ∷ 1 ∷ []) 8 ≡ 0 ∷ 1 ∷ 1 ∷ 1 ∷ [] }
@@ -75,7 +75,7 @@ pub fn small_numbers_of_billionths()
     ensures whole { p_value 3 3 ≡ 1000000000 }
 {}
 
-/// Shows the answers of a run machine for two ids.
+/// Shows the answers of two run machines, one with two ids and one with a single id.
 pub fn answers_of_a_small_run()
     ensures two { answers_to (new_machine 2 32)
         (event.Claim 0 ∷ event.Claim 1 ∷ event.Claim 2 ∷ event.Post 1 ∷ event.Save ∷ event.Post 1 ∷ event.Halt ∷ event.Claim 0 ∷ [])
@@ -119,7 +119,7 @@ pub fn more_outcomes()
         ≡ record { id = 0; moved = 1; values = pos 4 ∷ pos 0 ∷ pos 0 ∷ pos 0 ∷ []; bins = empty_histogram } }
 {}
 
-/// Shows the scores of the plans of these jobs.
+/// Shows the scores of plans on three units and with three districts.
 pub fn more_scores()
     ensures seats { plan_value (job_of_three (run_of 5000 1 8 0 1000 [])) (0 ∷ 1 ∷ 1 ∷ []) Seats ≡ pos 2 }
     ensures gap { plan_value (job_of_three (run_of 5000 1 8 0 1000 [])) (0 ∷ 1 ∷ 1 ∷ []) Gap ≡ pos 4 }
@@ -129,7 +129,7 @@ pub fn more_scores()
     ensures even { plan_value (job_of_four cycle_of_four (run_of 5000 1 8 0 1000 [])) (0 ∷ 1 ∷ 1 ∷ 1 ∷ []) MeanMedian ≡ pos 0 }
 {}
 
-/// Shows the local certificate, and units that may leave their district.
+/// Shows where the local certificate holds, and which units may leave their district.
 pub fn small_certificates()
     ensures ring_local { is_connected ring_of_six (is_mate ring_of_six (0 ∷ 0 ∷ 0 ∷ 0 ∷ 0 ∷ 0 ∷ 1 ∷ []) 0) ≡ false }
     ensures ring_leaves { is_connected ring_of_six (stays_behind (0 ∷ 0 ∷ 0 ∷ 0 ∷ 0 ∷ 0 ∷ 1 ∷ []) 0) ≡ true }
@@ -142,7 +142,7 @@ pub fn small_certificates()
     ensures triangle_local { is_connected triangle (is_mate triangle (0 ∷ 0 ∷ 0 ∷ 1 ∷ []) 0) ≡ true }
 {}
 
-/// Shows the draw that leads back, and a rejected proposal.
+/// Shows the mirrored draw, which leads back. The mirrored draw of a rejected proposal is the draw itself.
 pub fn small_mirrors()
     ensures back { mirrored (job_of_four path_of_four (run_of 5000 1 8 0 1000 [])) (0 ∷ 0 ∷ 1 ∷ 1 ∷ []) 0x8665eeb269b687c3 ≡ 0x8665eeb269b687c2 }
     ensures leads { next (job_of_four path_of_four (run_of 5000 1 8 0 1000 [])) (0 ∷ 1 ∷ 1 ∷ 1 ∷ []) 0x8665eeb269b687c2 ≡ 0 ∷ 0 ∷ 1 ∷ 1 ∷ [] }

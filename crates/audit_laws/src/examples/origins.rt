@@ -21,8 +21,8 @@ ghost use Rattle.audit_laws.specs.Jobs.{run_of, path_of_four, job_of_four, obser
 ghost use Rattle.audit_laws.specs.Lines.{run_words};
 ghost use Rattle.audit_laws.specs.Texts.{columns, path_text, path_and_plans, parsed_four, region_text};
 
-/// Shows arguments that set limits, name a group or request the origin. A limit is refused if the thing it limits is
-/// not named.
+/// Shows arguments that set limits, name a group or request the origin. A limit is refused if the column to which it
+/// applies is not named.
 pub fn words_of_limits()
     ensures all { setting_of (run_words (codes "--slack" ∷ codes "5000" ∷ codes "--steps" ∷ codes "8" ∷ codes "--ask" ∷ codes "gap:low"
         ∷ codes "--region" ∷ codes "r" ∷ codes "--max-splits" ∷ codes "12" ∷ codes "--max-split-regions" ∷ codes "9"
@@ -46,8 +46,8 @@ pub fn words_of_limits()
     ensures made { setting_of (codes "make" ∷ codes "--size" ∷ codes "3" ∷ codes "--source" ∷ codes "yes" ∷ []) ≡ Err (word.UnknownName (codes "--source")) }
 {}
 
-/// Shows a group read from a graph, which exceeds its base population in some units, and the first refusals for units
-/// without a number.
+/// Shows a group read from a graph, and the refusals of units without a column or without a number. The group exceeds
+/// its base population in some units.
 pub fn read_groups()
     ensures group { reading path_text (record columns { group = codes "a"; whole = codes "pop" }) ≡
         Ok (record (parsed_four path_of_four (Whole (pos 1) ∷ Whole (pos 2) ∷ [])) { group = record { members = 3 ∷ 1 ∷ 1 ∷ 2 ∷ []; whole = 1 ∷ 1 ∷ 1 ∷ 1 ∷ [] } }) }
@@ -71,8 +71,8 @@ pub fn small_origins()
     ensures observed { origin_of (record (run_of 5000 1 8 0 1000 []) { source = true }) (codes "{}") ≡ Some (record { sha256 = sha256 (codes "{}"); bytes = 2 }) }
 {}
 
-/// Shows the job of bytes, with its origin if the setting requests it. Each of several plans has the origin of the
-/// whole input.
+/// Shows the job that is made from bytes, with its origin if the setting requests it. Each of several plans has the
+/// origin of the whole input.
 pub fn jobs_with_origins()
     ensures untold { judged (record (run_of 5000 1 8 0 1000 []) { columns = columns }) path_text ≡ Ok (job_of_four path_of_four (record (run_of 5000 1 8 0 1000 []) { columns = columns })) }
     ensures observed { judged (record (run_of 5000 1 8 0 1000 []) { columns = columns; source = true }) path_text ≡

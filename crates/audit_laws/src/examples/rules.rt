@@ -55,8 +55,8 @@ pub fn check_text_with_rules()
         codes "max-cut 2" ++ 10 ∷ codes "max-split 1 regions 2" ++ 10 ∷ codes "end" ++ 10 ∷ [] }
 {}
 
-/// Shows the bytes that a job's digest is computed from: those without rules, then the limit on cut edges, the limit of
-/// the regions and the regions.
+/// Shows the bytes that a job's digest is computed from. The bytes of a job without rules come first, then the limit on
+/// cut edges, the limit on districts per region, and the regions.
 pub fn bytes_of_rules()
     ensures plain { take 14 (job_bytes (job_of_four path_of_four (run_of 5000 1 8 0 1000 []))) ≡ codes "district-job 1" }
     ensures length { length (job_bytes (job_of_four path_of_four (run_of 5000 1 8 0 1000 []))) ≡ 218 }

@@ -19,7 +19,8 @@ ghost use Rattle.audit_laws.specs.Jobs.{run_of, path_of_four, job_of_four, first
 ghost use Rattle.audit_laws.specs.Lines.{run_words};
 ghost use Rattle.audit_laws.specs.Texts.{columns, path_text, region_text, short_region_text, four_ids};
 
-/// Shows the regions of a path, the first refusal for a unit without one, and the ids of the units.
+/// Shows the regions of a path, the refusals of units without a region or without a valid label, and the ids of the
+/// units.
 pub fn small_regions()
     ensures read { region_reading region_text (codes "r") ≡ Ok (0 ∷ 1 ∷ 1 ∷ 0 ∷ []) }
     ensures missing { region_reading short_region_text (codes "r") ≡ Err (region.Missing 3) }
@@ -27,7 +28,7 @@ pub fn small_regions()
     ensures ids { id_reading path_text ≡ four_ids }
 {}
 
-/// Shows the two parts of an input.
+/// Shows the two parts of an input: graph and table.
 pub fn small_parts()
     ensures graph { graph_part (codes "ab" ++ 10 ∷ codes "c" ++ 10 ∷ []) ≡ codes "ab" }
     ensures table { table_part (codes "ab" ++ 10 ∷ codes "c" ++ 10 ∷ []) ≡ codes "c" ++ 10 ∷ [] }
@@ -62,21 +63,21 @@ pub fn jobs_of_plans()
         Err (codes "p", Disconnected 0 0 2) }
 {}
 
-/// Shows more refused arguments, beyond those of plain runs.
+/// Shows refused values of options that plain runs do not have.
 pub fn more_refused_words()
     ensures many_cut { setting_of (run_words (codes "--ask" ∷ codes "gap:low" ∷ codes "--max-cut" ∷ codes "400001" ∷ [])) ≡ Err (word.BadValue name.MaxCut) }
     ensures zero_in_front { setting_of (run_words (codes "--ask" ∷ codes "gap:low" ∷ codes "--max-cut" ∷ codes "02" ∷ [])) ≡ Err (word.BadValue name.MaxCut) }
     ensures no_answer { setting_of (run_words (codes "--ask" ∷ codes "gap:low" ∷ codes "--shift" ∷ codes "1" ∷ [])) ≡ Err (word.BadValue name.Shift) }
 {}
 
-/// Shows more accepted arguments, beyond those of plain runs.
+/// Shows accepted arguments with options that plain runs do not have.
 pub fn more_accepted_words()
     ensures { setting_of (run_words (codes "--slack" ∷ codes "5000" ∷ codes "--steps" ∷ codes "7" ∷ codes "--ask" ∷ codes "gap:low" ∷ codes "--ends" ∷ codes "3"
         ∷ codes "--max-cut" ∷ codes "2" ∷ codes "--shift" ∷ codes "yes" ∷ [])) ≡
         Ok (record (run_of 5000 1 7 3 1000 (record { score = Gap; tail = Low } ∷ [])) { columns = columns; max_cut = 2; shift = true }) }
 {}
 
-/// Shows arguments that name regions. A limit without regions is refused, and the empty text names none.
+/// Shows arguments that name regions. A limit without regions is refused. The empty text names no column.
 pub fn words_of_regions()
     ensures whole { setting_of (run_words (codes "--slack" ∷ codes "5000" ∷ codes "--steps" ∷ codes "8" ∷ codes "--ask" ∷ codes "gap:low"
         ∷ codes "--max-split" ∷ codes "1" ∷ codes "--region" ∷ codes "r" ∷ [])) ≡

@@ -6,7 +6,7 @@ ghost use Rattle.audit_model.specs.declared.setting.Tail.TheVariants.{Low};
 ghost use Rattle.audit_laws.specs.Jobs.{run_of, path_of_four, cycle_of_four, job_of_four, first_draws_alone};
 ghost use Rattle.audit_statement.specs.Trace.{first_lines, plan_line, range_lines, trace_text};
 
-/// Shows that the line of a plan lists the units whose district differs from the plan before.
+/// Shows that the line of a plan lists the units whose district differs from that in the plan before.
 pub fn line_of_a_plan()
     ensures { plan_line 8 3 (pos 4 ∷ negsuc 6 ∷ []) (0 ∷ 0 ∷ 1 ∷ 1 ∷ []) (0 ∷ 1 ∷ 1 ∷ 0 ∷ []) ≡ codes "8 3 4 -7 1:1 3:0" ++ 10 ∷ [] }
 {}
