@@ -35,7 +35,7 @@ use plan_core::job::Job;
 use report::ended::Ended;
 use std::alloc::Global;
 
-/// Returns the ending of refused arguments, or of out of memory.
+/// Converts a fault of the arguments to the reason why the call ends.
 pub fn word_end(fault: WordFault) -> Ended
     ensures { result ≡ word_ended fault }
 {
@@ -72,7 +72,7 @@ fn plan_end(fault: PlanFault) -> Ended
     }
 }
 
-// Returns the regions of a graph's text, or none if no column is named.
+// Returns the region of each unit, or an empty list if the setting names no column of regions.
 fn regions_of(alloc: Global, bytes: &[u8], column: &Text) -> Result<UnitList, RegionFault>
     requires graph { IsGraphText bytes.now }
     ensures read { MatchResult result (λ regions. regions_by column.now bytes.now ≡ Ok regions)
@@ -85,7 +85,7 @@ fn regions_of(alloc: Global, bytes: &[u8], column: &Text) -> Result<UnitList, Re
     read_regions(alloc, bytes, column)
 }
 
-// Adds these bytes as the job's origin, if its setting requests it.
+// Gives the job the digest and the number of these bytes as its origin, if the setting requests an origin.
 fn with_source(job: Job, bytes: &[u8]) -> Job
     ensures job { result ≡ definition.with_origin (definition.origin_of job.setting bytes.now) job }
     ensures sound { IsJob result }
@@ -146,8 +146,8 @@ fn judge_made(alloc: Global, setting: Setting, parsed: ReadParsed) -> Result<Job
     }
 }
 
-// Makes the job of the grid that the setting requests, or returns the reason why there is none. Reads no source and
-// makes no text of the grid, since the result of parsing the text is known.
+// Makes the job of the grid that the setting requests, or returns the reason why there is none. Reads no source, and
+// makes no text of the grid: `read_made` gives the graph to which the text would be parsed.
 fn prepare_grid(alloc: Global, setting: Setting) -> Result<Job, Ended>
     requires makes { setting.command ≡ command.Make }
     requires within { IsSetting setting }

@@ -9,10 +9,10 @@ use audit_model::buffers::Bytes;
 use audit_model::memory::Memory;
 use std::alloc::Global;
 
-/// The largest number of bytes of a graph.
+/// The maximum number of bytes of the source: the graph and, with `plans`, the table behind it.
 pub const MOST_BYTES: usize = 67_108_864;
 
-// The largest number of bytes of one read.
+// The maximum number of bytes of one read.
 const TURN: usize = 4096;
 
 /// The reason why the source was not read to its end.
@@ -31,7 +31,8 @@ impl From<Memory> for ReadEnd {
     }
 }
 
-/// Reads all bytes of the source, but at most one more than the limit.
+/// Reads all bytes of the source. Stops after one byte more than the limit, which shows that there
+/// are too many.
 pub fn read_source<S: Source>(alloc: Global, source: &mut S) -> Result<Bytes, ReadEnd>
     ensures { ReadsSource (S.state source.old) (S.state source.new) result }
 {

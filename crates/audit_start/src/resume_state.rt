@@ -1,4 +1,4 @@
-//! The start of a run: its initial outcomes and the place of its first save.
+//! The start of a run: its initial outcomes, and the place (slot and generation) of its first save.
 
 ghost use Rattle.std.specs.Prelude.{◌≡◌, ◌∷◌, [], ◌++◌, map, true, IfErr, IfOk, IsTrue, MatchResult, None, OnOk, Option, Some};
 ghost use Rattle.audit_model.specs.State.{Kept};
@@ -41,7 +41,7 @@ pub struct ResumeState {
     pub target: Option<Target>,
 }
 
-// Returns the place of the first save, by the slots.
+// Returns the place of the first save, which the slots decide, or `None` if the run does not save.
 fn target_of(job: &Job, slots: &Slots, digest: [u8; 32]) -> Option<Target>
     requires run { IsRunJob job.now }
     requires digest { digest ≡ definition.job_digest job.now }
@@ -90,7 +90,7 @@ fn has_no_histogram(outcome: &Outcome) -> bool
     outcome.bins.iter().all(|bin| *bin == 0)
 }
 
-// Appends the outcome, unless it is a walk's and has no histogram.
+// Appends the outcome, unless it is that of a walk and has no histogram.
 fn take_in(kept: &mut OutcomeList, walks: u32, outcome: &Outcome) -> Result<(), Memory>
     ensures { OnOk result (kept.new.items ≡ kept.old.items ++ taken_up true walks (outcome.now ∷ [])) }
 {
@@ -115,8 +115,8 @@ fn take_with_histogram(
     Ok(kept)
 }
 
-// Returns the outcomes that the job resumes from. A job with a histogram drops the walks without one, and a job without
-// drops all histograms. The only error is out of memory.
+// Returns the outcomes that the job resumes from. A job with a histogram drops the outcomes of walks that have none,
+// and walks them again. A job without a histogram drops all histograms. The only error is out of memory.
 fn take_up(alloc: Global, job: &Job, outcomes: &[Outcome]) -> Result<OutcomeList, Memory>
     ensures { IfOk result (λ l. l.items ≡ taken_up job.now.setting.shift job.now.setting.walks outcomes.now) }
 {
@@ -137,7 +137,7 @@ fn refusal(fault: StoreFault) -> Ended
     }
 }
 
-// Returns the start of a run that has looked at the slots.
+// Returns the start of a run that has found these slots.
 fn open_found(
     alloc: Global,
     job: &Job,
@@ -181,8 +181,8 @@ fn look_and_open<C: Keeper>(alloc: Global, job: &Job, keeper: &mut C) -> Result<
     }
 }
 
-/// Returns the start of the run: without outcomes unless it resumes, else with those of the newest slot that it resumes
-/// from. The slots are looked at only if the run saves or resumes, and none is changed.
+/// Returns the start of the run. A run that resumes starts with the outcomes of the newest slot. Any other run starts
+/// without outcomes. The slots are loaded only if the run saves or resumes. No slot is changed.
 pub fn open<C: Keeper>(alloc: Global, job: &Job, keeper: &mut C) -> Result<ResumeState, Ended>
     requires { IsRunJob job.now }
     ensures { Opens job.now (C.state keeper.old) (C.state keeper.new) result }
