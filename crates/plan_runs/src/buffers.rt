@@ -1,4 +1,4 @@
-//! The initial state of a run.
+//! The buffers of a run, filled with its initial outcomes and pending ids.
 
 ghost use Rattle.std.specs.Prelude.{◌≡◌, ◌<◌, IfOk};
 ghost use Rattle.audit_model.specs.Run.{total};
@@ -13,8 +13,8 @@ use outcome_book::book::Book;
 use plan_core::job::Job;
 use std::alloc::Global;
 
-/// The initial state of a run: a book of the initial outcomes, the ids to walk, and buffers for the outcomes by rising
-/// id and for the report.
+/// The buffers of a run before its walks: the outcome table with the initial outcomes (`book`), the ids to walk
+/// (`todo`), and the capacity for the outcomes by rising id (`sorted`) and for the report (`text`).
 #[derive(Drop)]
 pub struct RunBuffers {
     pub book: Book,
@@ -23,7 +23,7 @@ pub struct RunBuffers {
     pub text: Bytes,
 }
 
-// Makes the book of a run that starts with these outcomes.
+// Makes the outcome table of a run that starts with these outcomes.
 fn book_of(alloc: Global, job: &Job, outcomes: &[Outcome]) -> Result<Book, Memory>
     requires { IsStartOf job.now outcomes.now }
     ensures total { IfOk result (λ b. b.total ≡ total job.now) }
@@ -34,7 +34,7 @@ fn book_of(alloc: Global, job: &Job, outcomes: &[Outcome]) -> Result<Book, Memor
     Ok(book)
 }
 
-/// Makes the initial state of a run that starts with these outcomes. The only error is out of memory.
+/// Allocates the buffers of a run that starts with these outcomes. The only error is out of memory.
 pub fn make_buffers(alloc: Global, job: &Job, outcomes: &[Outcome]) -> Result<RunBuffers, Memory>
     requires { IsStartOf job.now outcomes.now }
     ensures buffers { IfOk result (AreBuffersFor job.now) }

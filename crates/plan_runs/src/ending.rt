@@ -24,21 +24,22 @@ use report::ended::Ended;
 use report::writing::write_all;
 use walker::walker::Walker;
 
-/// The ways a run can end after its walks. Out of memory is not among them: all memory is allocated before.
+/// The ways in which a run can end after its walks. Out of memory is not among them, because the run allocates all
+/// memory before its walks.
 #[derive(Clone, Copy)]
 pub enum Finished {
     /// The report was written in full.
     Done,
     /// The report was not written in full.
     WriteFault,
-    /// The run stopped after `done` trajectories in all. The rest is left to another run.
+    /// `done` of `total` trajectories have outcomes. Another run can walk the rest.
     Stopped { done: u32, total: u32 },
     /// A save failed.
     SaveFault,
 }
 
 impl Finished {
-    /// Returns the reason with which the call ends.
+    /// Converts the end of the run to the reason why the call ends.
     pub fn ended(self) -> Ended
         ensures { result ≡ ended_as self }
     {
@@ -61,7 +62,8 @@ fn stop(done: u32, total: u32, saved: Result<(), Failed>) -> Finished
     }
 }
 
-/// Returns the end of a run that wrote its report, in full or in part.
+/// Returns the end of a run that wrote its report, in full or in part. A failed write comes before a failed save, since
+/// only one of them can be reported.
 pub fn end(written: Result<(), Failed>, saved: Result<(), Failed>) -> Finished
     ensures { result ≡ ended_by written saved }
 {
@@ -72,7 +74,7 @@ pub fn end(written: Result<(), Failed>, saved: Result<(), Failed>) -> Finished
     }
 }
 
-// Returns the number of outcomes in the report.
+// Returns the number of outcomes that the report needs.
 fn due(job: &Job) -> u32
     ensures { result ≡ reported job.now }
 {

@@ -5,8 +5,9 @@ ghost use Rattle.std.specs.Prelude.{◌≡◌, ◌≤◌, [], length, take};
 use audit_model::buffers::{Bytes, OutcomeList};
 use audit_model::outcome::Outcome;
 
-/// The outcomes of a run by rising id, and the part of them that the report covers. It covers each outcome and no stop,
-/// or the outlier walks, which come first, and the stop of each test.
+/// The outcomes of a run by rising id, with the stops of tests that stop early. If tests stop early, the report covers
+/// the outcomes of the outlier walks, which come first, and the stop of each test. Otherwise it covers every outcome
+/// and no stop.
 #[derive(Drop)]
 pub struct Found {
     pub sorted: OutcomeList,

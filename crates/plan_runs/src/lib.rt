@@ -1,10 +1,11 @@
 //! The runs of a job: their memory, their walks with or without saves, their end, runs of several plans, and traces.
 //!
 //! A run has three steps. First all its memory is allocated (`resources`, and `saving` for a run that saves). Then it
-//! walks: in one part or until its tests have stopped (`walking`), or over a desk (`saving`). The outcomes are a
-//! `Found` in each case. Finally it ends (`ending`): it makes the serial test and writes the report, or says how much
-//! is pending. Runs of several plans (`plans`) allocate the memory of all plans before the first walk, and report one
-//! plan after the other. A trace (`tracing`) writes the plans of a range of trajectories at every N-th step.
+//! walks. A run that saves walks with the work queue of `tally_desk` (`saving`). Any other run walks all pending
+//! trajectories at once, or in rounds until its tests have stopped (`walking`). The outcomes are a `Found` in each
+//! case. Finally it ends (`ending`). If no trajectory is pending, it makes the serial test and writes the report. Runs
+//! of several plans (`plans`) allocate the memory of all plans before the first walk, and report one plan after the
+//! other. A trace (`tracing`) writes the plans of a range of trajectories at every N-th step.
 #![tactic(auto)]
 
 pub mod buffers;

@@ -1,4 +1,4 @@
-//! The next line of a trace.
+//! The buffer for the next line of a trace.
 
 ghost use Rattle.std.specs.Prelude.{◌≡◌, ◌≤◌, ◌+◌, length, IfOk};
 ghost use Rattle.audit_statement.specs.Along.{ask_values};
@@ -21,7 +21,7 @@ pub struct Pen {
     pub line: Bytes,
 }
 
-/// Allocates a pen.
+/// Allocates a pen whose previous plan is the start plan. Fails only if out of memory.
 pub fn make_pen(alloc: Global, job: &Job) -> Result<Pen, Memory>
     ensures { IfOk result (λ p. IsPen job.now p) }
 {
@@ -38,8 +38,8 @@ fn keep(before: &mut UnitList, plan: &[u32])
     before.as_mut_slice().copy_from_slice(plan);
 }
 
-/// Fills the buffer with the line that starts a trajectory. The trajectory's first plan is compared with the start
-/// plan. Allocates nothing.
+/// Fills the buffer with the line that starts a trajectory. The line of the trajectory's first plan will list the
+/// differences from the start plan. Allocates nothing.
 pub fn start_trajectory(job: &Job, id: u32, thin: u32, pen: &mut Pen)
     requires { IsPen job.now pen.old }
     ensures pen { IsPen job.now pen.new }

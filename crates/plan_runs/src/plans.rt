@@ -48,7 +48,7 @@ fn make_walk<J: Judge>(alloc: Global, plan: Named, judges: Vec<J>) -> Result<Pla
     }
 }
 
-// Makes the resources of all plans, with the constraints of each.
+// Makes the resources of all plans. `judges` has the constraints of each plan, in the order of the plans.
 fn make_walks<J: Judge>(
     alloc: Global,
     plans: Vec<Named>,
@@ -143,8 +143,8 @@ fn report_each<R: Threads + Sync, K: Sink, J: Judge + Send, G: Gate + Sync>(
     Ok(())
 }
 
-/// Allocates all memory of the plans with the constraints of each, walks one after the other, and writes their names
-/// and reports.
+/// Allocates the memory of all plans, then walks one plan after the other and writes its name and report. `judges` has
+/// the constraints of each plan: one for each worker, and one for the serial test.
 pub fn report_plans<R: Threads + Sync, K: Sink, J: Judge + Send, G: Gate + Sync>(
     rt: &Runtime<'_, R, G>,
     plans: Vec<Named>,

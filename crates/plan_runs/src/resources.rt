@@ -17,15 +17,16 @@ use sequential_test::pool::StoppingPool;
 use std::alloc::Global;
 use walker::walker::Walker;
 
-/// The workers of a run that saves nothing: for a run of all trajectories, or for one whose tests stop early.
+/// The workers of a run that saves nothing: a pool that walks all pending trajectories, or a pool that walks until the
+/// tests have stopped.
 #[derive(Drop)]
 pub enum Workers<J: Judge> {
     All(WorkerPool<J>),
     Early(StoppingPool<J>),
 }
 
-/// The resources of a run that saves nothing: the initial state, the workers, and the walker of the serial test if
-/// there is one.
+/// The resources of a run that saves nothing: the buffers, the workers, and the walker of the serial test if the test
+/// was requested.
 #[derive(Drop)]
 pub struct Resources<J: Judge> {
     pub buffers: RunBuffers,
@@ -33,7 +34,7 @@ pub struct Resources<J: Judge> {
     pub tester: Option<Walker<J>>,
 }
 
-// Makes a worker for each constraint, for a run with this initial state.
+// Makes a worker for each constraint, for a run with these buffers.
 fn make_workers<J: Judge>(
     alloc: Global,
     job: &Job,
@@ -53,7 +54,7 @@ fn make_workers<J: Judge>(
     Ok(Workers::All(pool))
 }
 
-// Makes the initial state of a run that starts with these outcomes, and its workers.
+// Allocates the buffers of a run that starts with these outcomes, and its workers.
 fn make_buffers_and_workers<J: Judge>(
     alloc: Global,
     job: &Job,
@@ -77,7 +78,7 @@ fn make_buffers_and_workers<J: Judge>(
     }
 }
 
-// Makes the resources of a run, with the walker of its serial test.
+// Makes the resources of a run. `tester` is the walker of its serial test, if the test was requested.
 fn make_with<J: Judge>(
     alloc: Global,
     job: &Job,

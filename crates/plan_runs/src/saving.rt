@@ -1,5 +1,5 @@
-//! A run that saves: it allocates its memory, walks over a desk that saves at intervals and at the end, and writes the
-//! report.
+//! A run that saves: its memory, its walk with the work queue of `tally_desk`, which saves at intervals and at the end,
+//! and its report.
 
 ghost use Rattle.std.specs.Prelude.{◌≡◌, IfErr, IfOk, true};
 ghost use Rattle.audit_statement.specs.Endings.{AreInitialOutcomes, saves};
@@ -47,7 +47,7 @@ pub struct SavedResources<J: Judge, C> {
     pub tester: Option<Walker<J>>,
 }
 
-// Makes a worker for each constraint but the last, and the walker of the serial test with the last.
+// Makes a worker for each constraint but the last. The last constraint is for the walker of the serial test.
 fn make_walkers<J: Judge>(
     alloc: Global,
     job: &Job,
@@ -118,7 +118,7 @@ pub fn make_saved_resources<J: Judge, C>(
 }
 
 /// Runs the workers with checkpoints, then writes the report if no trajectory is pending. Out of memory is reported
-/// before any step is taken.
+/// before any step is taken. Returns the reason why the call ends, and the keeper.
 pub fn run_saved<
     R: Threads + Wait + Sync,
     K: Sink,

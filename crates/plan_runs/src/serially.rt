@@ -31,7 +31,8 @@ pub fn make_tester<J: Judge>(
     Ok(Some(tester))
 }
 
-/// Returns the place and the ranks of the serial test, if it was requested. Allocates nothing.
+/// Makes the serial test if it was requested. Returns the start plan's position in the run, and a
+/// rank for each ask. Allocates nothing.
 pub fn test_serially<J: Judge>(job: &Job, tester: Option<Walker<J>>) -> Option<(u32, [u64; 4])>
     requires run { IsRunJob job.now }
     requires tester { IsTester job.now tester }

@@ -1,4 +1,4 @@
-//! The trajectories that are pending.
+//! The ids that a run walks.
 
 ghost use Rattle.std.specs.Prelude.{◌≡◌, ◌≤◌, IfOk};
 ghost use Rattle.audit_model.specs.JobOf.{IsJob};
@@ -20,8 +20,8 @@ fn lies_in_part(setting: &Setting, id: u32) -> bool
     id % setting.parts == setting.part
 }
 
-/// Returns the ids of the job's part without an outcome in the book, by rising id, at most `budget` of them. The only
-/// error is out of memory.
+/// Returns the pending ids of the part that the run walks, by rising id, at most `budget` of them. An id is pending if
+/// `book` has no outcome of it. The only error is out of memory.
 pub fn todo_of(alloc: Global, job: &Job, book: &Book, budget: u32) -> Result<UnitList, Memory>
     requires sound { IsJob job.now }
     ensures ids { IfOk result (λ ids. ids ≡ run_ids job.now book.now.outcomes budget) }

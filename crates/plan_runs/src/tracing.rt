@@ -28,7 +28,7 @@ use std::alloc::Global;
 use walker::walker::Walker;
 use walker::way::Way;
 
-/// The ids of the first and the last trajectory of a trace, and the number of steps between two of its plans.
+/// The ids of the first and the last trajectory of a trace, and the number of steps between two traced plans.
 #[derive(Clone, Copy)]
 pub struct TraceRange {
     pub first: u32,
@@ -36,7 +36,7 @@ pub struct TraceRange {
     pub thin: u32,
 }
 
-/// One trajectory of a trace, and the number of steps between two of its plans.
+/// One trajectory of a trace, and the number of steps between two traced plans.
 #[derive(Clone, Copy)]
 pub struct Traced {
     pub id: u32,
@@ -113,7 +113,7 @@ fn write_line<J: Judge, K: Sink>(
     write_all(out, pen.line.as_slice())
 }
 
-/// Returns the number of strides that make all steps. The last stride may be shorter.
+/// Returns the number of strides of `thin` steps that make `steps` steps. The last stride may be shorter.
 fn strides_of(steps: u32, thin: u32) -> u64
     requires { 0 < thin }
     ensures { result ≡ quotient_up steps thin }
@@ -121,8 +121,8 @@ fn strides_of(steps: u32, thin: u32) -> u64
     (u64::from(steps) + u64::from(thin) - 1) / u64::from(thin)
 }
 
-/// Walks a trajectory stride by stride, and writes a line after each stride. The line of the first plan is written
-/// before.
+/// Walks a trajectory in strides of `thin` steps, and writes a line after each stride. The caller has written the line
+/// of the first plan.
 fn write_strides<J: Judge, K: Sink>(
     job: &Job,
     traced: Traced,
@@ -250,7 +250,7 @@ fn find_hub<J: Judge>(job: &Job, last: u32, walker: &mut Walker<J>, hub: &mut Un
     }
 }
 
-/// Walks the range, and writes its lines and the last line.
+/// Walks the range, and writes its lines and the line `end`.
 fn write_body<J: Judge, K: Sink>(
     job: &Job,
     range: TraceRange,
@@ -275,7 +275,7 @@ fn write_body<J: Judge, K: Sink>(
     }
 }
 
-/// Writes the trace of a range while walking it. Allocates nothing.
+/// Walks the range and writes its trace, each line as soon as its plan is reached. Allocates nothing.
 fn write_trace<J: Judge, K: Sink>(
     job: &Job,
     range: TraceRange,
@@ -294,8 +294,8 @@ fn write_trace<J: Judge, K: Sink>(
     }
 }
 
-/// Walks a range of trajectories with this constraint and writes their plans while walking. All memory is allocated
-/// before the first write.
+/// Walks a range of trajectories with this constraint and writes their plans while it walks. Allocates all memory
+/// before the first write. Returns the reason why the call ends.
 pub fn trace<J: Judge, K: Sink>(
     alloc: Global,
     job: &Job,

@@ -1,4 +1,4 @@
-//! Walks a run that saves nothing, in one part or until each of its tests has stopped.
+//! The walk of a run that saves nothing: of all pending trajectories, or in rounds until each test has stopped.
 
 ghost use Rattle.std.specs.Prelude.{◌≡◌, false, length};
 ghost use Rattle.audit_statement.specs.Endings.{AreInitialOutcomes, saves};
