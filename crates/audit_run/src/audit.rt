@@ -1,4 +1,4 @@
-//! The call that does everything that the program does.
+//! The top call, which does everything that the program does.
 
 ghost use Rattle.std.specs.Prelude.{◌≡◌};
 ghost use Rattle.audit_statement.specs.Due.{LetsDueSaves};
@@ -19,7 +19,7 @@ use claim_counter::workers::Runtime;
 use std::sync::Wait;
 use std::thread::Threads;
 
-// Returns true if the arguments are those of the command on several plans.
+// Returns true if the arguments begin with the command `plans`.
 fn names_plans(words: &[String]) -> bool
     ensures { result ≡ are_of_plans (spoken words.now) }
 {
@@ -62,10 +62,10 @@ fn audit_asked<
 /// If the arguments ask for help or the version, the answer goes to `out`, and nothing is read or
 /// saved. The status is then 0, or 5 for a failed write.
 ///
-/// Otherwise the graph is read to its end, or to one byte more than 67,108,864. With several plans,
-/// a table follows its first line feed. `out` gets the text of a check, the report of a run, the
-/// trace of a run, or one report for each of several plans. `note` gets the reason of each status
-/// but 0:
+/// Otherwise the graph is read to its end, or to one byte more than 67,108,864. The command `make`
+/// reads nothing. With the command `plans`, the graph ends at the first line feed, and a table of
+/// plans follows. `out` gets the text of a check, the report of a run, the trace of a run, or one
+/// report for each of several plans. `note` gets the reason of each status but 0:
 ///
 /// - 1: refused arguments
 /// - 2: a refused graph, table or plan
@@ -77,8 +77,8 @@ fn audit_asked<
 /// - 8: slots from which a run cannot resume
 /// - 9: a failed save
 ///
-/// `rt` lends the threads, the allocator and the gate, which learns each trajectory before its
-/// walk. `build` is the build that `--version` reports.
+/// `rt` lends the threads, the allocator and the gate. The gate is called with the id of each
+/// trajectory before the trajectory is walked. `build` is the build that `--version` reports.
 pub fn audit<
     R: Threads + Wait + Sync,
     S: Source,

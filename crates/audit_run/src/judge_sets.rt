@@ -1,4 +1,4 @@
-//! The constraints of several plans.
+//! The constraints of several plans: a set for each plan.
 
 ghost use Rattle.std.specs.Prelude.{◌≡◌, ◌<◌, ◌^◌, ℕ, nat_le, All, Bool, IfOk};
 ghost use Rattle.std.specs.Fn.{FnReturnsAt};

@@ -1,9 +1,10 @@
 //! The audit as one call.
 //!
-//! `audit` passes the command on several plans to `several`, and every other to `single`. For one plan, `single` makes
-//! the job, writes the text of a check or does the rest of a run (`run`), and writes the diagnostic. For several,
-//! `plan_jobs` makes the jobs, `judge_sets` their constraints, and `plan_reports` allocates all memory, then walks and
-//! reports one plan after the other. `plain` and `sure` are the same call with stronger contracts for special cases.
+//! `audit` passes the command `plans` to `several`, and every other command to `single`. For one plan, `single` makes
+//! the job and writes the diagnostic. In between it writes the text of a check, runs the job (`run`) or writes a trace
+//! (`trace`). For several plans, `plan_jobs` makes the jobs and `judge_sets` their constraints. Then `plan_reports`
+//! allocates all memory, and walks and reports one plan after the other. `plain` and `sure` are the same call with
+//! stronger contracts for special cases.
 #![tactic(auto)]
 
 pub mod audit;

@@ -59,7 +59,7 @@ fn plans_end(fault: PlansFault, setting: Setting) -> Ended
     }
 }
 
-// Returns the ending of a call whose source was not read to its end.
+// Converts the reason why the source was not read to its end to the reason why the call ends.
 fn read_end(end: ReadEnd) -> Ended
     ensures { result ≡ read_ended end }
 {

@@ -1,4 +1,5 @@
-//! The rest of a call on several plans: all memory is allocated, then one plan after the other is walked and reported.
+//! The walks and reports of several plans: all memory is allocated, then one plan after the other is walked and
+//! reported.
 
 ghost use Rattle.std.specs.Prelude.{◌≡◌, ◌<◌, ℕ, [], List, length, All, slice_index_or};
 ghost use Rattle.plan_csv.specs.declared.named.Named.{Named as NamedOf};
@@ -24,7 +25,8 @@ fn first_of(plans: &[Named]) -> &Job
     &plans[0].job
 }
 
-// Reports on plans of a graph without regions, required majorities or frozen units.
+// Reports on plans without regions, required majorities or frozen units. The constraint on cut edges is enough for
+// them.
 fn report_cut<R: Threads + Sync, K: Sink, G: Gate + Sync>(
     rt: &Runtime<'_, R, G>,
     plans: Vec<Named>,
@@ -79,7 +81,7 @@ fn report_ruled<R: Threads + Sync, K: Sink, G: Gate + Sync>(
     }
 }
 
-/// Allocates all memory of the plans, walks one after the other, and writes their names and reports.
+/// Allocates the memory of all plans, then walks one plan after the other and writes its name and report.
 pub fn report_all<R: Threads + Sync, K: Sink, G: Gate + Sync>(
     rt: &Runtime<'_, R, G>,
     plans: Vec<Named>,

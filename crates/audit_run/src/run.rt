@@ -46,7 +46,7 @@ fn run_without_saves<R: Threads + Sync, K: Sink, J: Judge + Send, G: Gate + Sync
     }
 }
 
-// Runs a job from this start, with a constraint for each worker and one for the serial test.
+// Runs a job from this initial state. `judges` has a constraint for each worker and one for the serial test.
 fn run_with_judges<
     R: Threads + Wait + Sync,
     K: Sink,
@@ -87,7 +87,8 @@ fn run_with_judges<
     }
 }
 
-// Runs a job without regions, required majorities or frozen units from this start.
+// Runs a job without regions, required majorities or frozen units from this initial state. The constraint on cut edges
+// is enough for it.
 fn run_with_cut_limit<R: Threads + Wait + Sync, K: Sink, C: Keeper + Send, G: Gate + Sync>(
     rt: &Runtime<'_, R, G>,
     job: &Job,
@@ -117,7 +118,7 @@ fn run_with_cut_limit<R: Threads + Wait + Sync, K: Sink, C: Keeper + Send, G: Ga
     }
 }
 
-// Runs a job from this start, with the constraint of all its rules.
+// Runs a job from this initial state, with the constraint of all its rules.
 fn run_with_all_rules<R: Threads + Wait + Sync, K: Sink, C: Keeper + Send, G: Gate + Sync>(
     rt: &Runtime<'_, R, G>,
     job: &Job,
@@ -147,8 +148,9 @@ fn run_with_all_rules<R: Threads + Wait + Sync, K: Sink, C: Keeper + Send, G: Ga
     }
 }
 
-/// Runs the part of a job that its budget allows. It finds the initial outcomes, allocates all memory and walks. It
-/// saves at intervals and at the end if the setting asks for it, and writes the report if nothing is pending.
+/// Runs a job: finds the initial outcomes, allocates all memory, and walks the pending trajectories of its part, at
+/// most its budget. Saves at intervals and at the end if the setting asks for it, and writes the report if no
+/// trajectory is pending. Returns the reason why the call ends, and the keeper.
 pub fn run_job<R: Threads + Wait + Sync, K: Sink, C: Keeper + Send, G: Gate + Sync>(
     rt: &Runtime<'_, R, G>,
     job: &Job,

@@ -1,4 +1,4 @@
-//! The call on several plans of one graph.
+//! The command `plans`, on several plans of one graph.
 
 ghost use Rattle.std.specs.Prelude.{◌≡◌, true};
 ghost use Rattle.audit_run.specs.Stages.{PlansRunTo};
@@ -17,7 +17,7 @@ use report::ended::Ended;
 use report::note::tell;
 use std::thread::Threads;
 
-// Runs the command on several plans, up to the diagnostic.
+// Runs the command `plans`, but writes no diagnostic.
 fn run_plans<R: Threads + Sync, S: Source, K: Sink, G: Gate + Sync>(
     rt: &Runtime<'_, R, G>,
     words: &[String],
@@ -35,10 +35,10 @@ fn run_plans<R: Threads + Sync, S: Source, K: Sink, G: Gate + Sync>(
     }
 }
 
-/// Runs the command on several plans and returns the exit status. Looks at no slot.
+/// Runs the command `plans` and returns the exit status. Loads and saves no slot.
 ///
-/// The source is read to its end, or to one byte more than 67,108,864: the graph up to its first line feed, and the
-/// table after it. `out` gets the name and the report of each plan. `note` gets the reason of each status but 0:
+/// The source is read to its end, or to one byte more than 67,108,864. The graph ends at the first line feed, and the
+/// table follows. `out` gets the name and the report of each plan. `note` gets the reason of each status but 0:
 ///
 /// - 1: refused arguments
 /// - 2: a refused graph, table or plan

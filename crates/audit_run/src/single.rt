@@ -1,4 +1,4 @@
-//! The call on one plan.
+//! The commands on one plan.
 
 ghost use Rattle.std.specs.Prelude.{◌≡◌, IsTrue};
 ghost use Rattle.audit_model.specs.declared.setting.Command.TheVariants.{Check};
@@ -45,7 +45,7 @@ fn write_check<K: Sink>(alloc: Global, job: &Job, out: &mut K) -> Ended
     }
 }
 
-// Runs the command with this job.
+// Runs the command of the job's setting.
 fn run_command<R: Threads + Wait + Sync, K: Sink, C: Keeper + Send, G: Gate + Sync>(
     rt: &Runtime<'_, R, G>,
     job: &Job,
@@ -66,8 +66,8 @@ fn run_command<R: Threads + Wait + Sync, K: Sink, C: Keeper + Send, G: Gate + Sy
 
 /// Runs the command of the arguments on one plan. Returns the exit status and the keeper.
 ///
-/// The graph is read to its end, or to one byte more than 67,108,864. `out` gets the text of a check or the report of a
-/// run. `note` gets the reason of each status but 0:
+/// The graph is read to its end, or to one byte more than 67,108,864. With the command `make`, nothing is read. `out`
+/// gets the text of a check, the report of a run, or a trace. `note` gets the reason of each status but 0:
 ///
 /// - 1: refused arguments
 /// - 2: a refused graph or plan

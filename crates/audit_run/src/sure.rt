@@ -17,9 +17,13 @@ use std::thread::Threads;
 
 /// Runs the command of the arguments with I/O that never fails. Returns the exit status and the keeper.
 ///
-/// The status is 0 under three conditions, or 3 if out of memory. The arguments, the graph and the plan are accepted.
-/// The slots have valid initial outcomes for a run that resumes. Its part and its budget cover everything pending. For
-/// several plans the condition is that arguments, graph, regions, table and plans are accepted.
+/// The status is 0, or 3 if out of memory, under these conditions:
+///
+/// - The arguments, the graph and the plan are accepted.
+/// - If the run resumes, it finds initial outcomes in the slots.
+/// - The part and the budget of the run cover every pending trajectory.
+///
+/// With the command `plans`, the only condition is that arguments, graph, regions, table and plans are accepted.
 pub fn audit_surely<R: Threads + Wait + Sync, N: Sink, G: Gate + Sync>(
     rt: &Runtime<'_, R, G>,
     build: &Build<'_>,

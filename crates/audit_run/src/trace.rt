@@ -1,4 +1,4 @@
-//! The rest of a trace: its constraint, and the walk that writes it.
+//! The command `trace`: its constraint, and the walk that writes the plans.
 
 ghost use Rattle.std.specs.Prelude.{◌≡◌, ◌<◌, ◌≤◌, []};
 ghost use Rattle.audit_laws.specs.Calls.{Finishes};
@@ -29,7 +29,8 @@ fn range_of(job: &Job) -> TraceRange
     }
 }
 
-// Writes the trace of a job without regions, required majorities or frozen units.
+// Writes the trace of a job without regions, required majorities or frozen units. The constraint on cut edges is enough
+// for it.
 fn trace_cut<K: Sink>(alloc: Global, job: &Job, range: TraceRange, out: &mut K) -> Ended
     requires thin { 0 < range.thin }
     requires order { range.first ≤ range.last }
@@ -70,7 +71,7 @@ fn trace_ruled<K: Sink>(alloc: Global, job: &Job, range: TraceRange, out: &mut K
     }
 }
 
-// Allocates all memory of a trace, walks this range, and writes the plans while walking.
+// Allocates all memory of a trace, then walks this range and writes its plans while walking.
 fn trace_range<K: Sink>(alloc: Global, job: &Job, range: TraceRange, out: &mut K) -> Ended
     requires thin { 0 < range.thin }
     requires order { range.first ≤ range.last }
@@ -87,7 +88,7 @@ fn trace_range<K: Sink>(alloc: Global, job: &Job, range: TraceRange, out: &mut K
     }
 }
 
-/// Allocates all memory of a trace, walks the range that the arguments name, and writes the plans while walking.
+/// Allocates all memory of a trace, then walks the range that the arguments name and writes its plans while walking.
 pub fn trace_job<K: Sink>(alloc: Global, job: &Job, out: &mut K) -> Ended
     requires { job.now.setting.command ≡ Trace }
     ensures { (keeper : Kept) → Finishes job.now (K.state out.old) (K.state out.new) keeper keeper result }
