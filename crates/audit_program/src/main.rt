@@ -1,5 +1,5 @@
-//! The auditor as a program. The graph is on standard input, and the text goes to standard output. The reason of each
-//! status but 0 goes to standard error, and checkpoints go to two files of the working folder.
+//! The auditor as a program. It reads the graph from standard input and writes the text to standard output. For each
+//! exit status but 0 it writes the reason to standard error. Checkpoints go to two files of the working folder.
 #![tactic(auto)]
 
 mod this_build;
@@ -25,7 +25,7 @@ fn words_of<R: Env + AllocGlobal>(rt: &R) -> io::Result<Vec<String>> {
     Ok(words)
 }
 
-// Prints a diagnostic that no call wrote, and returns the exit status.
+// Ends the program before the top call: prints a diagnostic on standard error, and returns the exit code.
 fn end_with<R: Eprint>(rt: &R, note: &str, status: u8) -> ExitCode {
     match rt.eprintln(note) {
         Ok(()) => {}
