@@ -1,12 +1,12 @@
 //! Merges the outcomes that runs of one job have saved in several folders, such as those of its parts on several
 //! machines.
 //!
-//! The first arguments are the folders. From the first command on, they are the arguments of a run of the job, whose
-//! graph is on standard input. The outcomes of the job in the newest slot of each folder are added to those in the
-//! slots of the working folder. Nothing is saved if a folder holds no checkpoint of the job, or if two folders have
-//! different outcomes of one trajectory. A run that resumes in the working folder then walks the pending trajectories.
-//! With `--look yes` before the folders, it reports the progress of each folder and of the job, takes no lock and saves
-//! nothing.
+//! The first arguments are the folders. The first command begins the arguments of a run of the job, whose graph is on
+//! standard input. The outcomes of the job in the newest slot of each folder are added to those in the slots of the
+//! working folder. Nothing is saved if a folder holds no checkpoint of the job, or if two folders have different
+//! outcomes of one trajectory. A run that resumes in the working folder then walks the pending trajectories. With
+//! `--look yes` before the folders, the program only reports the progress of each folder and of the job. It then takes
+//! no lock and saves nothing.
 
 ghost use Rattle.std.specs.Prelude.{◌≡◌, ◌≤◌, Bool, IfOk, IfSome, List, false, length, map, not, string_bytes, true, ℕ};
 ghost use Rattle.audit_model.specs.Limits.{most_trajectories};
@@ -25,10 +25,10 @@ use report::ended::Ended;
 use std::alloc::AllocError;
 use std::process::ExitCode;
 
-// The slots of a folder of the system.
+// The slots of a folder of the file system.
 type FolderSlots<'a> = FolderKeeper<'a, SystemCalls<'a, HostRuntime>>;
 
-// Makes the slots of a folder.
+// Makes the slots of a folder. If `locks` is true, the folder is read only while no run holds its lock.
 fn slots_of<'a>(rt: &'a HostRuntime, folder: &'a str, locks: bool) -> FolderSlots<'a>
     ensures folder { result.place.folder.now ≡ folder.now }
     ensures locks { result.place.locks ≡ locks }
@@ -36,7 +36,7 @@ fn slots_of<'a>(rt: &'a HostRuntime, folder: &'a str, locks: bool) -> FolderSlot
     FolderKeeper::new(SystemCalls::new(rt), rt.alloc(), folder, locks)
 }
 
-// Makes the slots of each folder, whose locks are asked for or not.
+// Makes the slots of each folder. If `locks` is true, a folder is read only while no run holds its lock.
 fn keepers_of<'a>(
     rt: &'a HostRuntime,
     folders: &'a [String],
@@ -52,7 +52,7 @@ fn keepers_of<'a>(
     Ok(keepers)
 }
 
-// Looks at the folders and saves nothing.
+// Reports what the folders hold, and saves nothing.
 fn look(rt: &HostRuntime, job: &Job, folders: &[String], keepers: &mut [FolderSlots<'_>]) -> u8
     requires few { total job.now ≤ most_trajectories }
     requires names { length folders.now ≡ length keepers.old }
@@ -116,10 +116,10 @@ fn look_or_gather(
     gather_here(rt, job, folders, keepers)
 }
 
-/// Looks at the folders of the job, or gathers them.
+/// Gathers the folders of the job, or only reports what they hold if `looks` is true.
 pub fn gather_job(rt: &HostRuntime, job: &Job, folders: &[String], looks: bool) -> ExitCode {
     if job.total() > 100_000 {
-        // Unreachable: no job has more than 100,000 trajectories.
+        // Unreachable: no job has more than 100,000 trajectories. The test proves the precondition of the calls below.
         return exit_code_of(rt, Ended::NoMemory);
     }
     match keepers_of(rt, folders, !looks) {
@@ -132,7 +132,7 @@ pub fn gather_job(rt: &HostRuntime, job: &Job, folders: &[String], looks: bool) 
     }
 }
 
-// Runs the task with the arguments of a run. There has to be a folder, unless the task is only to look.
+// Gathers the folders for the job of the arguments `words`. Without `looks`, there must be a folder.
 fn run(rt: &HostRuntime, folders: &[String], words: &[String], looks: bool) -> ExitCode {
     if folders.is_empty() && !looks {
         return end_with(rt, "words: no folder", 1);
@@ -154,7 +154,7 @@ fn looks_by(words: &[String]) -> Option<bool>
     }
 }
 
-// Runs with the arguments after `--look`.
+// Runs the task with the arguments after `--look`, the first of which is its value.
 fn run_looking(rt: &HostRuntime, rest: &[String]) -> ExitCode {
     match looks_by(rest) {
         Some(looks) => run_split(rt, &rest[1..], looks),
@@ -162,13 +162,13 @@ fn run_looking(rt: &HostRuntime, rest: &[String]) -> ExitCode {
     }
 }
 
-// Splits the folders from the arguments of a run, and runs the task.
+// Splits the folders from the arguments of a run, and gathers.
 fn run_split(rt: &HostRuntime, words: &[String], looks: bool) -> ExitCode {
     let (folders, words) = words.split_at(count_folders(words));
     run(rt, folders, words, looks)
 }
 
-// Returns the number of folders, which stand before the first command.
+// Returns the number of folders, which are the words before the first command.
 fn count_folders(words: &[String]) -> usize
     ensures { result ≤ length words.now }
 {
@@ -191,7 +191,7 @@ fn begins_with_look(words: &[String]) -> bool
     }
 }
 
-/// Gathers the folders of the arguments, or only looks at them.
+/// Gathers the folders that the arguments name, or only reports what they hold.
 pub fn gather_by(rt: &HostRuntime, words: &[String]) -> ExitCode {
     if begins_with_look(words) {
         return run_looking(rt, &words[1..]);

@@ -17,7 +17,7 @@ use std::process::ExitCode;
 pub enum Task<'a> {
     /// A report on the slots of a folder.
     Slots(&'a str),
-    /// Gathering the slots of folders, or only looking at them if the flag is set.
+    /// Gathering the slots of folders, or only reporting what they hold if the flag is true.
     Gather(&'a [String], bool),
 }
 
@@ -44,7 +44,7 @@ fn run_read(rt: &HostRuntime, words: &[String], task: Task<'_>) -> ExitCode {
     }
 }
 
-// Returns the refusal of a command that saves nothing.
+// Returns the refusal of a command that saves nothing, as an unknown command.
 fn no_run(alloc: Global, command: &str) -> Ended {
     let mut word = Text::new(alloc);
     match word.push_str(command) {

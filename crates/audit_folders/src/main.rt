@@ -1,8 +1,9 @@
-//! Looks at folders with checkpoints of runs: one program under two names.
+//! One program under two names, for folders with checkpoints of runs.
 //!
-//! As `audit_slots`, or with the first argument `slots`, it reports the contents of a folder's two files and the newest
-//! of them. It also reports the number of finished trajectories of a run (`slots`). As `audit_gather`, or with the
-//! first argument `gather`, it merges the outcomes that runs of one job have saved in several folders (`gather`).
+//! As `audit_slots`, or with the first argument `slots`, it reports the contents of a folder's two checkpoint files,
+//! and which is the newest. With the arguments of a run, it also reports how many trajectories are done (`slots`). As
+//! `audit_gather`, or with the first argument `gather`, it merges the outcomes that runs of one job have saved in
+//! several folders (`gather`).
 #![tactic(auto)]
 
 mod exit_code;
@@ -69,7 +70,7 @@ fn run_named(rt: &HostRuntime, words: &[String]) -> ExitCode {
     }
 }
 
-// Runs the program that the called name stands for, or else the one that the first argument names.
+// Runs the program whose name was called, or else the one that the first argument names.
 fn run_called(rt: &HostRuntime, name: &str, words: &[String]) -> ExitCode {
     if name.ends_with("audit_slots") {
         return run_slots(rt, words);
@@ -87,7 +88,7 @@ fn run(rt: &HostRuntime, words: &[String]) -> ExitCode {
     }
 }
 
-// Ends the program if its arguments are not available.
+// Ends the program because its arguments are not available.
 fn end_without(rt: &HostRuntime, error: &io::Error) -> ExitCode {
     match error.kind() {
         io::ErrorKind::OutOfMemory => end_with(rt, "memory", 3),

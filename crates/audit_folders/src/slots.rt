@@ -1,5 +1,5 @@
-//! Reports the contents of a folder's two checkpoint files and the newest of them. With the arguments and the graph of
-//! a run, it also reports the number of finished trajectories.
+//! Reports the contents of a folder's two checkpoint files, and which is the newest. With the arguments and the graph
+//! of a run, also reports how many trajectories are done.
 //!
 //! The first argument is the folder, unless it is a command. Otherwise the files are those of the working folder. The
 //! arguments of the run follow, if any, and its graph is then on standard input. No file is changed, and the outcomes
@@ -26,7 +26,7 @@ pub fn show_folder(rt: &HostRuntime, folder: &str, job: Option<&Job>) -> ExitCod
     ExitCode::from(status)
 }
 
-// Reports the slots of the folder, and the progress of the arguments' job if there are any.
+// Reports the slots of the folder. If there are arguments of a run, also reports the progress of their job.
 fn show_words(rt: &HostRuntime, folder: &str, words: &[String]) -> ExitCode {
     if words.is_empty() {
         return show_folder(rt, folder, None);
@@ -34,7 +34,8 @@ fn show_words(rt: &HostRuntime, folder: &str, words: &[String]) -> ExitCode {
     run_words(rt, words, Task::Slots(folder))
 }
 
-/// Reports as the arguments ask. The first may be a folder.
+/// Reports on the folder that the first argument names, or else on the working folder. The arguments of a run may
+/// follow.
 pub fn show_by(rt: &HostRuntime, words: &[String]) -> ExitCode {
     if let Some((first, rest)) = words.split_first() {
         if command_of(first.as_str()).is_none() {

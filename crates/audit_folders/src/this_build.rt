@@ -2,7 +2,7 @@
 
 use audit_words::Build;
 
-/// The version of the package, the commit of the sources, and the kit.
+/// The version of the package, the commit of the sources, and the toolchain (`kit`).
 ///
 /// `scripts/install.sh` writes the commit of the clone that it builds in place of `unknown`, and
 /// restores `unknown` afterwards.
