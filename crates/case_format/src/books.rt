@@ -1,4 +1,4 @@
-//! A small outcome book.
+//! A small outcome table.
 
 use crate::names::begin_case;
 use audit_model::memory::Memory;
@@ -7,7 +7,7 @@ use outcome_book::book::Book;
 use std::alloc::Global;
 use std::io;
 
-// Makes a book with two posts and a merge.
+// Makes an outcome table by posting two outcomes and merging a third.
 fn book(alloc: Global) -> Result<Book, Memory> {
     let mut book = Book::with_room(alloc, 3)?;
     book.post(Outcome {
@@ -39,7 +39,7 @@ fn show_tally(rt: &HostRuntime, book: &Book) -> io::Result<()> {
     rt.println("")
 }
 
-/// Prints the number of the book's outcomes and the sum of their histograms.
+/// Prints the number of outcomes in the table and the sum of their histograms.
 pub fn show_book(rt: &HostRuntime) -> io::Result<()> {
     begin_case(rt, "book_tally")?;
     match book(rt.alloc()) {

@@ -18,14 +18,14 @@ const FOUND: Outcome = Outcome {
     bins: [0; 9],
 };
 
-// Makes a checkpoint of that outcome, with a digest of zeros and generation 2.
+// Makes a checkpoint of `FOUND`, with a digest of zeros and generation 2.
 fn checkpoint(alloc: Global) -> Result<Bytes, Memory> {
     let mut out = Bytes::with_room(alloc, 128)?;
     encode_old(&[0; 32], 2, &[FOUND], &mut out);
     Ok(out)
 }
 
-/// Prints the digest of the checkpoint's bytes, and its decoded contents.
+/// Prints the SHA-256 of the checkpoint's bytes, and the decoded contents.
 pub fn show_checkpoint(rt: &HostRuntime) -> io::Result<()> {
     begin_case(rt, "checkpoint_of_version_one")?;
     match checkpoint(rt.alloc()) {

@@ -1,4 +1,4 @@
-//! A gate that counts the announced ids, and a keeper that shares the count. The keeper checks that no save holds more
+//! A gate that counts the announced ids, and a keeper that shares the count. The keeper counts the saves that hold more
 //! outcomes than ids were announced.
 
 use crate::crowd::CrowdGate;
@@ -13,14 +13,14 @@ use std::alloc::{AllocError, Global};
 use std::sync::Arc;
 use std::sync::atomic::{AtomicU64, Ordering};
 
-/// The work of a gate besides counting.
+/// The task of a gate besides counting.
 #[derive(Drop)]
 pub enum Watch {
     /// No other work.
     Nothing,
-    /// Notes the ids, and may hold the first caller.
+    /// Notes the ids, and may hold its first caller.
     Noting(NotingGate),
-    /// Holds every caller until enough have begun.
+    /// Holds every caller until enough trajectories have begun.
     Crowd(CrowdGate),
     /// Notes the time of the first id.
     Timed(TimedGate),
@@ -32,7 +32,8 @@ pub struct CountingGate {
     watch: Watch,
 }
 
-// Written out, so that a function that drops a gate has one step for it and not one for each field.
+// Written by hand, so that the proof of a function that drops a gate has one step for the gate and not one for each
+// field.
 impl Drop for CountingGate {
     fn drop(self) {
         let CountingGate {
@@ -49,7 +50,7 @@ impl CountingGate {
         Ok(CountingGate { observed, watch })
     }
 
-    /// Returns the gate's work besides counting.
+    /// Returns the gate's task besides counting.
     pub fn watch(&self) -> &Watch {
         &self.watch
     }
@@ -59,7 +60,7 @@ impl CountingGate {
         self.observed.load(Ordering::SeqCst)
     }
 
-    /// Makes a keeper that compares each save with this count.
+    /// Makes a keeper that compares each save with the count of this gate.
     pub fn keeper<K>(&self, inner: K) -> Result<CountedKeeper<K>, AllocError>
     where
         K: Drop,
@@ -92,7 +93,8 @@ pub struct SaveCounts {
     pub early: u64,
 }
 
-/// A keeper that counts saves. In a run that saves with each post, it also counts early saves.
+/// A keeper that counts saves and early saves. The count of early saves is right if the run saves after each hand-in,
+/// because then the n-th save holds n outcomes.
 pub struct CountedKeeper<K> {
     inner: K,
     observed: Arc<AtomicU64, Global>,
@@ -102,7 +104,7 @@ pub struct CountedKeeper<K> {
 /// The keeper of a run.
 pub type RunKeeper = CountedKeeper<StopKeeper>;
 
-// Written out for the same reason as that of the gate.
+// Written by hand, for the same reason as `Drop` of the gate.
 impl<K: Drop> Drop for CountedKeeper<K> {
     fn drop(self) {
         let CountedKeeper {

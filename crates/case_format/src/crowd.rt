@@ -1,11 +1,11 @@
-//! A gate that holds every caller until enough have begun.
+//! A gate that holds every caller until enough trajectories have begun.
 
 use audit_io::gate::Gate;
 use std::sync::atomic::{AtomicU64, Ordering};
 use std::thread;
 
-/// A gate that holds each caller until `wanted` have begun, its own trajectory among them. It gives up after ten
-/// million looks.
+/// A gate that holds each caller until `wanted` trajectories have begun, the caller's own among them. It gives up after
+/// it has tested the count ten million times.
 #[derive(Drop)]
 pub struct CrowdGate {
     wanted: u64,
@@ -28,7 +28,7 @@ impl CrowdGate {
         self.begun.load(Ordering::SeqCst)
     }
 
-    /// Returns the number of callers that were let go too early.
+    /// Returns the number of callers for which the gate gave up.
     pub fn given_up_count(&self) -> u64 {
         self.given_up.load(Ordering::SeqCst)
     }

@@ -1,9 +1,9 @@
-//! Runs in which each call fails in turn, for each line of a file.
+//! Runs in which each call of one kind fails in turn. Each line of a file describes such runs.
 //!
 //! After its name a line has the kind of failing calls: `reads`, `writes`, `saves`, `loads` or `none`. Then come the
-//! most bytes of a read and of a write, and the contents of slots 0 and 1 before each run, as in `keeping`. The file of
-//! the graph and the arguments of the audit follow. The first such call fails in the first run, the second in the
-//! second, and so on, until a run ends with status 0 or 7.
+//! maximum number of bytes of a read or a write, and the contents of slots 0 and 1 before each run, as in `keeping`.
+//! The file of the graph and the arguments of the audit follow. In the n-th run the n-th call of the kind fails. The
+//! last run is the first that ends with status 0 or 7.
 
 use crate::run_setup::{Given, GraphSource, Watched};
 use crate::said::Said;
@@ -12,13 +12,13 @@ use crate::streams::{number, word};
 use std::str::SplitWhitespace;
 use std::test::Fail;
 
-/// The first run number that no line reaches.
+/// One more than the maximum number of runs of a line.
 pub const PAST_RUNS: u64 = 1000;
 
 /// The capacity of the output.
 const ROOM: usize = 4000;
 
-/// The part of a line that each of its runs shares.
+/// The part of a line that all its runs share.
 #[derive(Clone, Copy)]
 pub struct Setup<'a> {
     pub calls: &'a str,

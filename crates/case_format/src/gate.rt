@@ -1,14 +1,14 @@
-//! A gate that notes the announced ids, and may hold the first caller until others have begun.
+//! A gate that notes the announced ids, and may hold its first caller until other trajectories have begun.
 
 use audit_io::gate::Gate;
 use std::sync::atomic::{AtomicU64, Ordering};
 use std::thread;
 
-/// The number of ids with their own bit.
+/// The number of ids that are noted, each as a bit.
 const NOTED: u32 = 64;
 
-/// A gate that notes each id, and holds its first caller until `wanted` have begun, its own among them. It gives up
-/// after ten million looks.
+/// A gate that notes each id, and holds its first caller until `wanted` trajectories have begun, the caller's own among
+/// them. It gives up after it has tested the count ten million times.
 #[derive(Drop)]
 pub struct NotingGate {
     wanted: u64,
@@ -18,8 +18,8 @@ pub struct NotingGate {
 }
 
 impl NotingGate {
-    /// Makes a gate that nobody has called yet. It holds nobody if `wanted` is below 2, and is not shown if `wanted` is
-    /// 0.
+    /// Makes a gate that nobody has called yet. If `wanted` is below 2, the gate holds nobody. If `wanted` is 0, the
+    /// noted ids are not printed.
     pub fn new(wanted: u64) -> NotingGate {
         NotingGate {
             wanted,
@@ -39,7 +39,7 @@ impl NotingGate {
         self.wanted > 1
     }
 
-    /// Returns true if the first caller saw enough others begin.
+    /// Returns true if the gate held its first caller until enough trajectories had begun.
     pub fn has_seen(&self) -> bool {
         self.seen.load(Ordering::SeqCst) == 1
     }
@@ -54,7 +54,7 @@ impl NotingGate {
         id < NOTED && self.ids.load(Ordering::SeqCst) & (1 << id) != 0
     }
 
-    // Waits until `wanted` have begun.
+    // Waits until `wanted` trajectories have begun.
     fn hold(&self) {
         for _ in 0..10_000_000 {
             if self.announced_count() >= self.wanted {

@@ -1,6 +1,6 @@
-//! Runs at other kinds of gates, one for each line of a file. One gate holds every caller until three have begun, one
-//! shares a count with the keeper, and one has a clock. After its name a line has the file of the graph and the
-//! arguments of the audit. The status and the notes of the gate are printed.
+//! Runs with other kinds of gates, one for each line of a file. One gate holds every caller until three trajectories
+//! have begun, one shares a count with the keeper, and one has a clock. After its name a line has the file of the graph
+//! and the arguments of the audit. The output is the status and what the gate has counted.
 
 use crate::counted::SaveCounts;
 use crate::crowd::CrowdGate;
@@ -12,7 +12,7 @@ use crate::timed::TimedGate;
 use std::io;
 use std::str::SplitWhitespace;
 
-/// Parses a line for a run at such a gate.
+/// Parses a line for a run with the gate that `watched` names.
 pub fn parse_setup<'a>(parts: &mut SplitWhitespace<'a>, watched: Watched) -> Said<'a> {
     let given = Given {
         graph: GraphSource::File(word(parts)),
@@ -31,15 +31,15 @@ pub fn parse_setup<'a>(parts: &mut SplitWhitespace<'a>, watched: Watched) -> Sai
     }
 }
 
-/// Prints the status, the number of announced ids, and the number of callers let go before three had begun.
+/// Prints the status, the number of announced ids, and the number of callers for which the gate gave up.
 pub fn show_crowd(rt: &HostRuntime, status: u8, gate: &CrowdGate) -> io::Result<()> {
     let observed = gate.announced_count();
     let given_up = gate.given_up_count();
     println!(rt; "status {status} told {observed} given up {given_up}")
 }
 
-/// Prints the result of a run that saves with each post: its status, the number of announced ids, and the numbers of
-/// saves and of early saves.
+/// Prints the result of a run that saves after each hand-in: its status, the number of announced ids, and the numbers
+/// of saves and of early saves.
 pub fn show_counted(
     rt: &HostRuntime,
     status: u8,
@@ -52,8 +52,8 @@ pub fn show_counted(
     )
 }
 
-/// Prints the result of a run of one long walk: its status, the number of announced ids, and whether the first came in
-/// the first half of the time.
+/// Prints the result of a run of one long walk: its status, the number of announced ids, and whether the first id was
+/// announced in the first half of the time.
 pub fn show_timed(rt: &HostRuntime, status: u8, gate: &TimedGate) -> io::Result<()> {
     let early = gate.was_observed_early();
     let observed = gate.announced_count();

@@ -1,5 +1,5 @@
-//! Checks of graphs, one for each line of a file. After its name a line has the whole text of a graph, or `hex` and its
-//! bytes in hexadecimal digits.
+//! Checks of graphs, one for each line of a file. After its name a line has the whole text of a graph, or `hex` and the
+//! bytes of the text in hexadecimal digits.
 
 use crate::run_setup::{Given, GraphSource, READ, WRITE, Watched};
 use crate::said::Said;

@@ -2,14 +2,15 @@
 //!
 //! After its name a line has these parts in order:
 //!
-//! - The contents of slots 0 and 1 before the run: `absent`, the `same` as after the run before, that with its last
-//!   byte changed (`spoilt`), one byte too many (`long`), or a file of hexadecimal digits.
-//! - The number of the load that fails, and that of the save, or 0 for none.
+//! - The contents of slots 0 and 1 before the run. `absent` is an empty slot, and `same` the contents after the run
+//!   before. `spoilt` is `same` with its last byte changed. `long` is one byte more than a checkpoint can have. Any
+//!   other word names a file of hexadecimal digits.
+//! - The number of the load that fails, and the number of the save that fails, or 0 for none.
 //! - The capacity of the sink in bytes.
 //! - The file of the graph, and the arguments of the audit.
 //!
-//! In place of the number of a save, `2/40` is a stop within the second save that leaves 40 of its bytes. No later save
-//! changes anything.
+//! In place of the number of a save, `2/40` stands for a stop within the second save, which leaves 40 of its bytes. No
+//! later save changes a slot.
 
 use crate::run_setup::{Given, GraphSource, READ, WRITE, Watched};
 use crate::said::Said;

@@ -1,4 +1,4 @@
-//! Tests of a unit that leaves its district: by its neighbors, by a search, and by both.
+//! Tests that a unit may leave its district: by its neighbors (`local`), by a search, and by both.
 
 ghost use Rattle.std.specs.Prelude.{◌≡◌, ◌<◌};
 
@@ -13,7 +13,8 @@ use std::io;
 use std::marker::Brand;
 use std::sync::ledger::{Blank, Ledger};
 
-// Returns the answers of the three calls, if the plan fits the graph and has the unit.
+// Returns the answers of the three calls: local test, search, and both. All are false if the plan does not fit the
+// graph or the graph does not have the unit.
 fn answers<L: Ledger>(
     alloc: Global,
     graph: &Graph,
@@ -46,8 +47,8 @@ fn show_unit(rt: &HostRuntime, graph: &Graph, plan: &[u32], unit: u32) -> io::Re
     }
 }
 
-// Prints the answers for unit 0 of a ring of six with a neighbor in another district, and for unit 0 as the only one of
-// its district.
+// Prints the answers for unit 0 of a ring of six. In the first plan a neighbor outside the ring is in another district,
+// in the second unit 0 is alone in its district.
 fn show_ring(rt: &HostRuntime) -> io::Result<()> {
     begin_case(rt, "leaving_a_ring")?;
     let pairs = [(0, 1), (0, 5), (0, 6), (1, 2), (2, 3), (3, 4), (4, 5)];

@@ -1,17 +1,17 @@
-//! The named cases of `case_runner`. Each line of its files has the name of a case, which `names` prints, and describes
-//! one audit or many, over sources, sinks and keepers in memory. Calls that no command makes, or whose answer no
-//! contract states, are also here.
+//! The named cases of `case_runner`. Each line of its files has the name of a case, which `names` prints. A line
+//! describes one or more audits over sources, sinks and keepers in memory. Some calls that no command makes, or whose
+//! answer no contract states, are also here.
 //!
 //! The modules describe the files: `plain` describes `cases`, `graphs` describes `graphs`, `keeping` describes `slots`,
 //! `faults` describes `faults`, `gated` describes `crowds`, `counted` and `timed`, and `sure` describes `sure`. `lines`
 //! runs all but the last.
 //!
-//! The calls need no job. `books` posts outcomes, `checkpoints` writes one of the first version, and `machine` gives
-//! events to the run machine. `outside` saves in real files, `rings` looks for faces, `leaving` tests units that leave,
-//! and `texts` reads graphs. Calls on jobs are in `case_runner`.
+//! The calls here need no job. `books` fills an outcome table, `checkpoints` writes a checkpoint of the first version,
+//! and `machine` gives events to the run machine. `outside` saves in real files, `rings` looks for faces, `leaving`
+//! tests units that leave, and `texts` reads graphs. Calls on jobs are in `case_runner`.
 //!
-//! Proofs take longer with more values to drop at an early return, and with more generic types and traits. Fallible
-//! work is therefore done in small functions that take a `HostRuntime`.
+//! Proofs take longer if more values are dropped at an early return, and with more generic types and traits. Small
+//! functions that take a `HostRuntime` therefore do the work that can fail.
 #![tactic(auto)]
 
 pub mod books;

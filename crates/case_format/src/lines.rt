@@ -89,7 +89,8 @@ fn run_said<A: Fn(&mut Case, RunKeeper) -> (u8, RunKeeper)>(
     }
 }
 
-// Returns the first run number that no line of this kind reaches. The first run has number 1.
+// Returns one more than the maximum number of runs of a line of this kind. The first run has number
+// 1.
 fn past_runs(kind: Kind) -> u64 {
     match kind {
         Kind::Faults => PAST_RUNS,
@@ -97,7 +98,7 @@ fn past_runs(kind: Kind) -> u64 {
     }
 }
 
-// Prints the number of a run, if a line of this kind has many runs.
+// Prints the number of a run, if lines of this kind have several runs.
 fn show_number(rt: &HostRuntime, kind: Kind, run: u64) -> io::Result<()> {
     match kind {
         Kind::Faults => println!(rt; "run {run}"),

@@ -1,4 +1,4 @@
-//! The run machine over some events.
+//! Two runs of the run machine.
 
 ghost use Rattle.std.specs.Prelude.{◌≤◌};
 ghost use Rattle.audit_model.specs.Limits.{most_trajectories};
@@ -19,7 +19,7 @@ fn show_answer(rt: &HostRuntime, did: Did) -> io::Result<()> {
     }
 }
 
-// Prints the result of each event, and the numbers of done and saved ids at the end.
+// Prints the answer to each event, and the numbers of done and saved ids at the end.
 fn show_events(rt: &HostRuntime, core: &mut Core, events: &[Event]) -> io::Result<()> {
     rt.print("machine")?;
     for event in events {
@@ -29,7 +29,7 @@ fn show_events(rt: &HostRuntime, core: &mut Core, events: &[Event]) -> io::Resul
     println!(rt; "done {} saved {}", core.done().len(), core.saved().len())
 }
 
-// Prints the events of a new machine.
+// Prints the answers of a new machine for `total` ids to these events.
 fn show_run(rt: &HostRuntime, total: u32, events: &[Event]) -> io::Result<()>
     requires { total ≤ most_trajectories }
 {
@@ -54,7 +54,7 @@ fn show_two(rt: &HostRuntime) -> io::Result<()> {
     show_run(rt, 2, &events)
 }
 
-// Prints a run in which an open id is claimed again after a halt.
+// Prints a run in which an id that was claimed but not handed in is claimed again after a halt.
 fn show_again(rt: &HostRuntime) -> io::Result<()> {
     let events = [
         Event::Claim(32),

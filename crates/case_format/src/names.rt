@@ -1,5 +1,5 @@
-//! The names of cases. A line of output before the answer of each case has its name, so that a difference names its
-//! case.
+//! The names of cases. The output of each case begins with a line that has its name, so that a difference can be traced
+//! to its case.
 
 use std::io;
 

@@ -14,7 +14,7 @@ use audit_model::buffers::Bytes;
 use std::alloc::Global;
 use std::io;
 
-// Reads three bytes and returns their number.
+// Reads from a source of three bytes, and returns the number of bytes read.
 fn read_three(alloc: Global, room: &mut [u8]) -> usize
     requires { 0 < length room.old }
 {
@@ -25,7 +25,7 @@ fn read_three(alloc: Global, room: &mut [u8]) -> usize
     SureSource::new(text).read(room).unwrap_or(0)
 }
 
-// Reads three bytes into a buffer of four, and writes them.
+// Reads three bytes into a buffer of four, and writes the whole buffer.
 fn show_sure(rt: &HostRuntime) -> io::Result<()> {
     let mut room = [0; 4];
     let read = read_three(rt.alloc(), &mut room);
@@ -48,7 +48,7 @@ fn show_slot<C: Keeper>(
     }
 }
 
-// Saves in both slots of a keeper that accepts each save, and in the first once more.
+// Saves in slots 1 and 0 of a keeper that accepts each save, and in slot 0 once more.
 fn show_saves<C: Keeper>(rt: &HostRuntime, keeper: &mut C) -> io::Result<()>
     requires { (kept : Kept) (slot : ℕ) (bytes : List ℕ) → C.lets kept slot bytes }
 {
@@ -57,7 +57,7 @@ fn show_saves<C: Keeper>(rt: &HostRuntime, keeper: &mut C) -> io::Result<()>
     println!(rt; "saved {saved} {again}")
 }
 
-// Saves in both slots, and prints the first before and after.
+// Prints slot 0, saves in both slots, and prints both.
 fn show_keeper<C: Keeper>(rt: &HostRuntime, keeper: &mut C, room: &mut Bytes) -> io::Result<()>
     requires { (kept : Kept) (slot : ℕ) (bytes : List ℕ) → C.lets kept slot bytes }
 {
@@ -67,8 +67,8 @@ fn show_keeper<C: Keeper>(rt: &HostRuntime, keeper: &mut C, room: &mut Bytes) ->
     show_slot(rt, keeper, 1, room)
 }
 
-/// Prints the answers of a source and a sink that never fail. Then saves in both slots of the folder, and prints the
-/// first before and after.
+/// Prints the answers of a source and a sink that never fail. Then prints slot 0 of the working folder, saves in both
+/// slots, and prints both.
 pub fn show_outside(rt: &HostRuntime) -> io::Result<()> {
     begin_case(rt, "sure_streams")?;
     show_sure(rt)?;

@@ -1,8 +1,8 @@
 //! Runs over empty slots, one for each line of a file.
 //!
-//! After its name a line has the number of the read that fails, 0 for none, and the capacity of the sink in bytes. Then
-//! comes the number of trajectories that have to begin before the first one may walk, 0 for a gate that holds nobody
-//! and is not shown. The file of the graph and the arguments of the audit follow.
+//! After its name a line has the number of the read that fails, or 0 for none, and the capacity of the sink in bytes.
+//! Then comes the number of trajectories that must begin before the first one may walk. If it is 0, the gate holds
+//! nobody, and the announced ids are not printed. The file of the graph and the arguments of the audit follow.
 
 use crate::run_setup::{Given, GraphSource, READ, WRITE, Watched};
 use crate::said::Said;

@@ -1,4 +1,4 @@
-//! Faces of small graphs: the number found, and the number kept of a list.
+//! Faces of small graphs: the number that is found, and the number that is kept of a given list.
 
 use crate::names::begin_case;
 use audit_model::memory::Memory;
@@ -19,8 +19,8 @@ fn count_kept(alloc: Global, graph: &Graph, listed: &[Face]) -> Result<usize, Me
     Ok(list_faces(alloc, graph, listed)?.faces().len())
 }
 
-// Returns the number of faces of a triangle whose sides are all shared with triangles of smaller units. It is found
-// too: four in all.
+// Returns the number of faces of a graph with a triangle that shares each side with a triangle of a smaller unit. The
+// inner triangle is found too: four in all.
 fn faces_amid_three(alloc: Global) -> Result<usize, Memory> {
     let pairs = [
         (0, 3),
@@ -37,8 +37,8 @@ fn faces_amid_three(alloc: Global) -> Result<usize, Memory> {
     count_faces(alloc, &graph)
 }
 
-// Returns the number kept of a list with a square and a triangle twice each and a ring that is no face. Each face is
-// kept once.
+// Returns the number of faces that are kept of a list. The list has a square twice, a triangle twice, and a ring that
+// is no face. Each face is kept once.
 fn faces_kept(alloc: Global) -> Result<usize, Memory> {
     let pairs = [(0, 1), (0, 2), (1, 3), (2, 3), (2, 4), (3, 4)];
     let graph = Graph::from_pairs(alloc, 5, &pairs)?;
@@ -52,8 +52,8 @@ fn faces_kept(alloc: Global) -> Result<usize, Memory> {
     count_kept(alloc, &graph, &listed)
 }
 
-// Returns the number of faces of a unit with five others around it, without one side. The four triangles are found
-// although it has more than four neighbors.
+// Returns the number of faces of a unit with five others around it, of which the last and the first are not adjacent.
+// The four triangles are found although the unit has more than four neighbors.
 fn faces_of_fan(alloc: Global) -> Result<usize, Memory> {
     let pairs = [
         (0, 1),
@@ -77,8 +77,8 @@ fn faces_of_five(alloc: Global) -> Result<usize, Memory> {
     count_faces(alloc, &graph)
 }
 
-// Returns the number of faces of five units around a sixth, without one side: three triangles and a square, but not the
-// outer ring.
+// Returns the number of faces of five units around a sixth, to which one of the five is not adjacent: three triangles
+// and a square, but not the outer ring.
 fn faces_round_hub(alloc: Global) -> Result<usize, Memory> {
     let pairs = [
         (0, 1),
@@ -95,15 +95,15 @@ fn faces_round_hub(alloc: Global) -> Result<usize, Memory> {
     count_faces(alloc, &graph)
 }
 
-// Returns the number of faces of a triangle on a side of a ring of five: two.
+// Returns the number of faces of a ring of five units with a triangle on one side: two.
 fn faces_of_house(alloc: Global) -> Result<usize, Memory> {
     let pairs = [(0, 1), (0, 4), (0, 5), (1, 2), (1, 5), (2, 3), (3, 4)];
     let graph = Graph::from_pairs(alloc, 6, &pairs)?;
     count_faces(alloc, &graph)
 }
 
-// Returns the number of pentagons kept of a list. A pentagon is kept once, whichever unit comes first. A ring with a
-// unit twice or with a side that is no edge is not kept.
+// Returns the number of pentagons that are kept of a list. A pentagon is kept once, whichever unit comes first. A ring
+// with a unit twice or with a side that is no edge is not kept.
 fn pentagons_kept(alloc: Global) -> Result<usize, Memory> {
     let pairs = [(0, 1), (0, 2), (0, 4), (1, 2), (2, 3), (3, 4)];
     let graph = Graph::from_pairs(alloc, 5, &pairs)?;

@@ -15,10 +15,10 @@ use std::io;
 use std::str::SplitWhitespace;
 use std::test::Fail;
 
-/// The most bytes of a read, unless a line gives a number.
+/// The maximum number of bytes of a read, unless a line gives another.
 pub const READ: usize = 100;
 
-/// The most bytes of a write, unless a line gives a number.
+/// The maximum number of bytes of a write, unless a line gives another.
 pub const WRITE: usize = 10;
 
 /// The capacity of the diagnostic.
@@ -32,8 +32,8 @@ pub enum GraphSource<'a> {
     Hex(&'a str),
 }
 
-/// The work of a run's gate. It notes the ids and lets the first trajectory walk once enough have begun, holds each
-/// until three have begun, looks at the clock, or only counts.
+/// The task of a run's gate. `Noted` notes the ids, and holds the first trajectory until the given number have begun.
+/// `Crowd` holds each trajectory until three have begun. `Timed` notes the time of the first id. `Counted` only counts.
 #[derive(Clone, Copy)]
 pub enum Watched {
     Noted(u64),
@@ -42,8 +42,8 @@ pub enum Watched {
     Counted,
 }
 
-/// The source, the sink and the gate of a run: the graph, the most bytes of each read and of each write, and the
-/// capacity of the output. The number of a failing read or write is 0 if none fails.
+/// The source, the sink and the gate of a run: the graph, the maximum number of bytes of each read and of each write,
+/// and the capacity of the output. The number of a failing read or write is 0 if none fails.
 #[derive(Clone, Copy)]
 pub struct Given<'a> {
     pub graph: GraphSource<'a>,
@@ -82,7 +82,7 @@ pub fn case_of(
     }
 }
 
-// Makes the inputs of a run at this gate.
+// Makes the inputs of a run with this gate.
 fn case_at(
     rt: &HostRuntime,
     gate: CountingGate,
@@ -116,7 +116,7 @@ fn bytes_source(alloc: Global, bytes: &[u8], given: &Given<'_>) -> Result<MemSou
     Ok(source_of(alloc, bytes, given.most_read, given.failing_read)?)
 }
 
-// Makes the inputs of a run at this gate with this source.
+// Makes the inputs of a run with this gate and this source.
 fn case_over(
     alloc: Global,
     source: MemSource,

@@ -15,7 +15,8 @@ pub struct Case {
     pub gate: CountingGate,
 }
 
-// Written out, so that a function that drops a case has one step for it and not one for each part of a field.
+// Written by hand, so that the proof of a function that drops a case has one step for the case and not one for each
+// part of a field.
 impl Drop for Case {
     fn drop(self) {
         let Case {
@@ -37,7 +38,7 @@ pub struct SureCase {
     pub gate: NotingGate,
 }
 
-// Written out for the same reason as that of the other.
+// Written by hand, for the same reason as `Drop` of `Case`.
 impl Drop for SureCase {
     fn drop(self) {
         let SureCase {

@@ -20,7 +20,8 @@ pub struct Accepted {
     setting: Setting,
 }
 
-// Written out, so that a function that drops a setting has one step for it and not one for each of its texts.
+// Written by hand, so that the proof of a function that drops a setting has one step for the setting and not one for
+// each of its texts.
 impl Drop for Accepted {
     fn drop(self) {
         let Accepted { setting: _setting } = self;
@@ -49,7 +50,7 @@ impl Accepted {
         &self.setting.columns
     }
 
-    /// Forbids regions that lie in two districts.
+    /// Forbids split regions.
     pub fn strict(self) -> Accepted {
         let Accepted { setting } = self;
         Accepted {
@@ -102,7 +103,7 @@ pub fn setting_of_ends(alloc: Global) -> Option<Accepted> {
     read_setting(alloc, FIVE_ENDS)
 }
 
-/// Returns the name of a column.
+/// Copies the name of a column to a text.
 pub fn column_of(alloc: Global, name: &str) -> Result<Text, Memory> {
     let mut column = Text::new(alloc);
     column.push_str(name)?;

@@ -8,7 +8,7 @@ use crate::slots::show_slots;
 use audit_io::mem_keeper::MemKeeper;
 use std::io;
 
-/// Prints the result of a run in the form of its gate.
+/// Prints the result of a run, in the form that belongs to the kind of its gate.
 pub fn show_run(
     rt: &HostRuntime,
     status: u8,
@@ -25,8 +25,8 @@ pub fn show_run(
     }
 }
 
-// Prints the status and both outputs of a run. With `is_observed` it also prints the announced ids and both slots. The
-// ids are printed too if the gate is shown.
+// Prints the status and both outputs of a run. If `is_observed` is true, also prints the announced ids and both slots.
+// If `gate.is_shown()` is true, prints the ids in any case.
 fn show_noted(
     rt: &HostRuntime,
     status: u8,
@@ -62,7 +62,8 @@ fn show_texts(rt: &HostRuntime, case: &Case) -> io::Result<()> {
     rt.write_all(case.note.bytes())
 }
 
-// Prints whether the gate saw enough others begin, the number of announced ids, and the ids in rising order.
+// Prints the word `held` if the gate held its first caller until enough trajectories had begun. Then prints the number
+// of announced ids, and the ids in rising order.
 fn show_observed(rt: &HostRuntime, gate: &NotingGate) -> io::Result<()> {
     if gate.has_seen() {
         rt.print("held, ")?;

@@ -18,8 +18,8 @@ pub struct SlotContents<'a> {
     pub failing_load: u64,
 }
 
-/// The number of the save that fails, or 0. Also the number of the save within which the run is stopped, and the number
-/// of bytes that the stop leaves.
+/// The number of the save that fails (`failing`), or 0. Also the number of the save within which the run is stopped
+/// (`stop_at`), and the number of bytes that the stop leaves (`kept`).
 #[derive(Clone, Copy)]
 pub struct Saves {
     pub failing: u64,
@@ -50,7 +50,7 @@ pub fn saves_failing(failing: u64) -> Saves {
     }
 }
 
-/// Makes the keeper of a run at this gate. `same` stands for the contents that the run before left.
+/// Makes the keeper of a run with this gate. `before` has the slot contents that the run before left.
 pub fn keeper_of(
     rt: &HostRuntime,
     slot_contents: &SlotContents<'_>,

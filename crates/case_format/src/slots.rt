@@ -15,8 +15,8 @@ use std::test::Fail;
 /// One byte more than a checkpoint can have.
 const TOO_LONG: usize = 8_000_085;
 
-/// Returns the contents of a slot that a line names. They are nothing, the bytes of the run before, those with another
-/// last byte, too many zeros, or the bytes of a file of hexadecimal digits.
+/// Returns the contents of a slot that a word of a line names, as `keeping` describes. `before` has the contents that
+/// the run before left.
 pub fn slot_of(rt: &HostRuntime, said: &str, before: Option<&[u8]>) -> Result<Option<Bytes>, Fail> {
     let alloc = rt.alloc();
     match said {
@@ -109,7 +109,7 @@ fn show_digest(rt: &HostRuntime, bytes: &[u8]) -> io::Result<()> {
     println!(rt; " sha256 {digest}")
 }
 
-// Returns the number of bytes of an outcome in a version.
+// Returns the number of bytes of an outcome in a checkpoint of this version.
 fn width_of(version: u32) -> usize
     ensures some { 1 ≤ result }
     ensures few { result ≤ 80 }
@@ -117,7 +117,7 @@ fn width_of(version: u32) -> usize
     if version == 2 { 80 } else { 44 }
 }
 
-// Returns the bytes of the outcomes, if their number fits the header.
+// Returns the bytes of the outcomes, if they have the length that the header states.
 fn records_of(bytes: &[u8]) -> Option<&[u8]> {
     let width = width_of(number_at(bytes, 8)?);
     let count = number_at(bytes, 48)? as usize;

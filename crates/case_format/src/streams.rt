@@ -10,7 +10,8 @@ use std::num::ParseIntError;
 use std::str::SplitWhitespace;
 use std::test::Fail;
 
-/// Returns the next word of a line, or an empty one. An empty word is refused as a number and not found as a file.
+/// Returns the next word of a line, or an empty one. An empty word is an error where a number or the name of a file is
+/// expected.
 pub fn word<'a>(parts: &mut SplitWhitespace<'a>) -> &'a str {
     parts.next().unwrap_or("")
 }

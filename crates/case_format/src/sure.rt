@@ -1,7 +1,7 @@
 //! Runs in which nothing outside can fail, one for each line of a file.
 //!
 //! After its name a line has the contents of slots 0 and 1 before the run, as in `keeping`, the file of the graph, and
-//! the arguments of the audit. The output is dropped.
+//! the arguments of the audit. The text that the audit writes is dropped, since the sink keeps no bytes.
 
 use crate::gate::NotingGate;
 use crate::names::begin_line;
@@ -57,7 +57,7 @@ fn show(rt: &HostRuntime, status: u8, case: &SureCase) -> Result<(), Fail> {
     Ok(())
 }
 
-// Makes the run of a line whose slots have the contents that these words name.
+// Makes the run of a line. `zero` and `one` name the contents of the slots.
 fn run_case<A: Fn(&mut SureCase, SureKeeper) -> (u8, SureKeeper)>(
     rt: &HostRuntime,
     audit: &A,

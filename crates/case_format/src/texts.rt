@@ -42,7 +42,7 @@ fn show_read(rt: &HostRuntime, text: &[u8], columns: &Columns) -> io::Result<()>
     }
 }
 
-// Prints the numbers of the largest grid, with its districts in the column `district`.
+// Prints the numbers of units, edges, districts and faces of the largest grid.
 fn show_grid(rt: &HostRuntime, columns: &Columns) -> io::Result<()> {
     begin_case(rt, "text_of_largest_grid")?;
     match make(rt.alloc(), 30, [0; 32]) {
@@ -99,8 +99,8 @@ fn show_ids(rt: &HostRuntime, text: &[u8]) -> io::Result<()>
     }
 }
 
-// Prints the regions of the first party's votes, of the districts and of a column that only the first unit has. Then
-// prints the ids.
+// Prints the regions by three columns: the votes of the first party, the districts, and a column that only the first
+// unit has. Then prints the ids.
 fn show_graph_text(rt: &HostRuntime, text: &[u8]) -> io::Result<()>
     requires graph { IsGraphText text.now }
 {

@@ -5,7 +5,7 @@ use std::io;
 use std::sync::atomic::{AtomicU64, Ordering};
 use std::time::Instant;
 
-/// A gate that counts the announced ids and notes the microseconds from its making to the first one.
+/// A gate that counts the announced ids and notes the microseconds from its making to the first id.
 #[derive(Drop)]
 pub struct TimedGate {
     rt: HostRuntime,
