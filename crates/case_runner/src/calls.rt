@@ -10,7 +10,7 @@ use case_format::{
 };
 use std::{fs, io};
 
-// Prints the legality of jobs with regions, and with another plan.
+// Prints whether the start plans of three jobs are legal: two with regions, and one made anew from a given plan.
 fn show_jobs(rt: &HostRuntime, text: &[u8]) -> io::Result<()> {
     begin_case(rt, "job_with_split_region")?;
     show_job(rt, strict_job(rt.alloc(), text, "a"), Shown::Legal)?;
@@ -28,21 +28,21 @@ fn show_path_text(rt: &HostRuntime, text: &[u8]) -> io::Result<()> {
     show_job(rt, plain_job(rt.alloc(), text), Shown::Flips)
 }
 
-// Prints the calls on four units in a row.
+// Makes the calls on four units in a row, and prints their answers.
 fn show_path(rt: &HostRuntime) -> io::Result<()> {
     let text = fs::read(rt, "four_in_a_row.json")?;
     show_path_text(rt, text.as_slice())
 }
 
-// Prints the calls on a ring of six units with a seventh beside it. The ring's district has a hole, so counting alone
-// does not decide.
+// Prints flips on a ring of six units with a seventh unit outside. The district of the ring has a hole, so the kernel
+// needs searches.
 fn show_ring(rt: &HostRuntime) -> io::Result<()> {
     begin_case(rt, "flips_on_a_ring")?;
     let text = fs::read(rt, "ring_and_one.json")?;
     show_job(rt, plain_job(rt.alloc(), text.as_slice()), Shown::Flips)
 }
 
-// Prints the calls on the grid of 900 units.
+// Prints flips on the grid of 900 units.
 fn show_grid(rt: &HostRuntime) -> io::Result<()> {
     begin_case(rt, "flips_on_a_grid")?;
     show_job(rt, grid_job(rt.alloc()), Shown::Flips)

@@ -1,4 +1,4 @@
-//! Passes that draw numbers from a counter, in turn and in threads.
+//! Draw tokens (*passes*) that draw numbers from a shared counter, in turn and in threads.
 
 ghost use Rattle.std.specs.Prelude.{◌≡◌, false, All, IfOk};
 ghost use Rattle.claim_counter.specs.Passes.{own, BelongsTo};
@@ -10,7 +10,7 @@ use std::alloc::Global;
 use std::thread::Threads;
 use std::{io, thread};
 
-/// The number of numbers that the threads draw.
+/// The number of numbers that the threads draw: 0 to 99,999.
 const LIMIT: u32 = 100_000;
 
 // Draws once more, unless the pass has ended.
@@ -27,7 +27,7 @@ fn draw(claims: &Claims, pass: &mut Pass) -> Option<u32>
     }
 }
 
-// The numbers drawn in turn, whether all passes have ended, and the number of numbers given out.
+// The numbers drawn in turn, whether all passes have ended, and how many numbers the counter gave out.
 #[derive(Drop)]
 struct Turns {
     drawn: [Option<u32>; 6],
@@ -35,7 +35,7 @@ struct Turns {
     closed: u32,
 }
 
-// Lets three passes draw in turn, twice each, from three numbers.
+// Lets three passes draw in turn, twice each, from a counter of three numbers.
 fn draw_in_turn(alloc: Global) -> Result<Turns, Memory> {
     let (claims, mut first) = Claims::new(alloc, 3, 3)?;
     let mut second = claims.split(&mut first);
@@ -114,7 +114,7 @@ fn count(times: &mut [u32], number: usize) {
     }
 }
 
-// Makes a pass for each seat.
+// Splits a pass into one for each seat, and makes a drawer of each.
 fn make_pool(alloc: Global, claims: &Claims, mut pass: Pass) -> Result<Vec<Drawer>, Memory>
     requires pass { BelongsTo claims.now pass }
     requires before_end { (own pass).ended ≡ false }
@@ -154,14 +154,15 @@ fn times_of(pool: &[Drawer], number: usize) -> u32 {
     all
 }
 
-// Returns the number of numbers drawn exactly once by all passes together.
+// Returns how many numbers were drawn exactly once by all passes together. It is `LIMIT` if the counter is right.
 fn count_drawn_once(pool: &[Drawer]) -> usize {
     (0..LIMIT as usize)
         .filter(|number| times_of(pool, *number) == 1)
         .count()
 }
 
-// Lets the passes split off this one draw. Returns their number, and the number of numbers drawn exactly once.
+// Splits the pass into one for each seat and lets all draw. Returns the number of passes, and how many numbers were
+// drawn exactly once.
 fn draw_from<R: Threads + Sync>(
     rt: &R,
     alloc: Global,
@@ -176,7 +177,8 @@ fn draw_from<R: Threads + Sync>(
     Ok((pool.len(), count_drawn_once(pool.as_slice())))
 }
 
-// Lets passes for these seats draw. Returns their number, and the number of numbers drawn exactly once.
+// Makes a counter for `seats` passes and lets all draw. Returns the number of passes, and how many numbers were drawn
+// exactly once.
 fn draw_all<R: Threads + Sync>(
     rt: &R,
     alloc: Global,
@@ -195,7 +197,7 @@ fn show_drawn(rt: &HostRuntime, drawn: Result<(usize, usize), Memory>) -> io::Re
     }
 }
 
-// Prints the draws of passes in this number of threads.
+// Prints the result of `seats` passes that draw in as many threads.
 fn show_threads<R: Threads + Sync>(
     rt: &HostRuntime,
     threads: &R,
@@ -206,7 +208,7 @@ fn show_threads<R: Threads + Sync>(
     show_drawn(rt, draw_all(threads, rt.alloc(), seats))
 }
 
-/// Prints the draws of three passes in turn, and those of passes in threads.
+/// Prints the draws of three passes in turn, then the results of 1, 4 and 32 passes in threads.
 pub fn show_claims<R: Threads + Sync>(rt: &HostRuntime, threads: &R) -> io::Result<()> {
     show_turns(rt)?;
     show_threads(rt, threads, "draws_in_one_thread", 1)?;

@@ -1,4 +1,5 @@
-//! Desks at which two passes claim the first three ids of a job in turn, and the results of closing them.
+//! Work queues (*desks*) at which two draw tokens (*passes*) claim the first three ids of a job in turn. The state that
+//! each desk leaves is printed.
 
 ghost use Rattle.std.specs.Prelude.{◌≡◌, ℕ, ◌+◌, ◌≤◌, List, [], IfOk, IfSome, length};
 ghost use Rattle.case_runner.specs.Passes.{OwesNothing};
@@ -47,7 +48,7 @@ const WORDS: &str =
 /// The number of ids of a desk.
 const IDS: u32 = 3;
 
-// Claims an id, walks its trajectory and posts the outcome, unless the pass has ended.
+// Claims an id, walks its trajectory and hands the outcome in, unless the pass has ended.
 fn take_turn<R: Wait, C: Keeper, J: Judge>(
     rt: &R,
     job: &Job,
@@ -69,7 +70,7 @@ fn take_turn<R: Wait, C: Keeper, J: Judge>(
     }
 }
 
-// Lets two passes claim in turn until both have ended.
+// Lets two passes take turns until both have ended.
 fn take_turns<R: Wait, C: Keeper, J: Judge>(
     rt: &R,
     job: &Job,
@@ -91,7 +92,7 @@ fn take_turns<R: Wait, C: Keeper, J: Judge>(
     }
 }
 
-// Lets two passes claim all ids in turn, and closes the desk.
+// Splits the pass in two, lets both take turns for all ids, and closes the desk.
 fn serve<R: Wait, C: Keeper + Drop, J: Judge>(
     rt: &R,
     job: &Job,
@@ -116,7 +117,7 @@ fn serve<R: Wait, C: Keeper + Drop, J: Judge>(
     }
 }
 
-// Makes the save settings of a desk, with the first place taken from the slots.
+// Makes the save settings of a desk. The place of its first save is the one that follows from the slots.
 fn plan_of<C: Keeper>(alloc: Global, job: &Job, keeper: &mut C, every: u32) -> Option<DeskPlan>
     ensures digest { IfSome result (λ p. p.digest ≡ definition.job_digest job.now) }
     ensures every { IfSome result (λ p. p.save_every ≡ every) }
@@ -135,7 +136,7 @@ fn plan_of<C: Keeper>(alloc: Global, job: &Job, keeper: &mut C, every: u32) -> O
     }
 }
 
-// Makes an empty book, a list for all outcomes, and the first ids of the job.
+// Makes an empty outcome table, a list with room for all outcomes, and the first ids of the job.
 fn ids_of(alloc: Global, job: &Job) -> Result<(Book, OutcomeList, UnitList), Memory>
     ensures total { IfOk result (λ b. b.0.total ≡ total job.now) }
     ensures empty { IfOk result (λ b. b.0.outcomes ≡ []) }
@@ -149,7 +150,7 @@ fn ids_of(alloc: Global, job: &Job) -> Result<(Book, OutcomeList, UnitList), Mem
     Ok((book, sorted, ids))
 }
 
-// Makes the state of a run with an empty book, and the first ids of the job.
+// Makes the state of a run with an empty outcome table, and the first ids of the job.
 fn state_of<C: Keeper + Drop>(
     alloc: Global,
     job: &Job,
@@ -174,7 +175,7 @@ fn state_of<C: Keeper + Drop>(
     }
 }
 
-// Makes the desk and the first of its two passes. Here and in the functions below, the keeper accepts each save.
+// Makes the desk and the first of its two passes. Here and in the functions below, the keeper must accept each save.
 fn open<C: Keeper + Drop>(
     alloc: Global,
     job: &Job,
@@ -313,8 +314,8 @@ fn show_id(rt: &HostRuntime, book: &Book, id: u32) -> io::Result<()> {
     Ok(())
 }
 
-// Prints the ids of the book, the numbers of outcomes, save attempts and failed saves, and whether the last post was
-// saved.
+// Prints the ids in the outcome table, the numbers of outcomes, save attempts and failed saves, and whether the last
+// hand-in was saved.
 fn show_state(rt: &HostRuntime, every: u32, state: &RunState<RunKeeper>) -> io::Result<()> {
     print!(rt; "desk save-every {every} ids")?;
     for id in 0..12 {
@@ -382,8 +383,8 @@ fn job_of(alloc: Global, text: &[u8]) -> Result<Job, PlanFault> {
     }
 }
 
-/// Prints the results of desks of three ids: saves after each second post, after each third, and after each second with
-/// a failing first save.
+/// Prints the results of three desks. The first saves after each second hand-in, the second after each third. The third
+/// saves after each second, and its first save fails.
 pub fn show_desks<R: Wait>(rt: &HostRuntime, waiting: &R) -> io::Result<()> {
     let text = fs::read(rt, "cycle.json")?;
     match job_of(rt.alloc(), text.as_slice()) {

@@ -35,7 +35,8 @@ pub fn show_proposals(rt: &HostRuntime) -> io::Result<()> {
     Ok(())
 }
 
-// Prints the mirrored draw of one that moves a unit of the path, and a walk.
+// Prints the draw that mirrors a fixed draw, which moves a unit on the path. Then prints the counts
+// of a walk.
 fn show_state<J: Judge>(rt: &HostRuntime, job: &Job, state: &mut State<J>) -> io::Result<()>
     requires made { state.old.job ≡ job.now }
 {
@@ -71,7 +72,8 @@ fn show_guarded(rt: &HostRuntime, job: &Job, of_job: Rules) -> io::Result<()>
     )
 }
 
-/// Prints flips of a job without regions, required majorities or frozen units.
+/// Prints a mirrored draw and the counts of a walk of a job. Refuses regions, required majorities
+/// and frozen units.
 pub fn show_flips(rt: &HostRuntime, job: &Job) -> io::Result<()> {
     let rules = job.rules();
     if rules.regions.len() > 0 || rules.group_districts > 0 || rules.frozen.len() > 0 {

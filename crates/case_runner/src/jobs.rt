@@ -60,7 +60,7 @@ fn job_with(
     Job::with_regions(alloc, parsed, setting.into_setting(), regions)
 }
 
-/// Makes the job with the regions of this column, none of which may lie in two districts.
+/// Makes the job with the regions of this column, none of which may be split.
 pub fn strict_job(alloc: Global, text: &[u8], name: &str) -> Result<Job, PlanFault> {
     match setting(alloc) {
         Some(setting) => named_job(alloc, text, setting.strict(), name),
@@ -84,7 +84,7 @@ fn two_labels(alloc: Global) -> Result<LabelList, Memory>
     Ok(labels)
 }
 
-// Makes the job of two districts again, with its own plan as another plan.
+// Makes a job of two districts anew by `with_plan`, from a copy of its own start plan.
 fn again(alloc: Global, job: &Job) -> Result<Job, PlanFault> {
     let labels = two_labels(alloc)?;
     if job.districts() as usize != labels.len() {
@@ -93,7 +93,8 @@ fn again(alloc: Global, job: &Job) -> Result<Job, PlanFault> {
     job.with_plan(alloc, job.start().copy()?, labels)
 }
 
-/// Makes the job of a graph's text of two districts, with its own plan as another plan.
+/// Makes the job of the text of a graph with two districts, then makes it anew by `with_plan` from
+/// a copy of its start plan.
 pub fn other_job(alloc: Global, text: &[u8]) -> Result<Job, PlanFault> {
     match plain_job(alloc, text) {
         Ok(job) => {

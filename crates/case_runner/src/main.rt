@@ -1,12 +1,12 @@
 //! Whole audits over sources, sinks and keepers in memory: one for each line of the files `cases`, `slots`, `graphs`
 //! and `sure`, and many for each line of `faults`. The crate `case_format` describes the lines and the output.
 //!
-//! Each line and each call is a case with a name of its own. The output of a case begins with its name.
+//! Each line and each call is a case with its own name. The output of a case begins with the name.
 //!
 //! Then come public calls that no command of the auditor makes, calls whose answer no contract states, and the
-//! auditor's I/O over real files. Each call is made once and its answer printed. The next tests count the searches of
-//! walks, draw from counters in turn and in threads, claim and post at desks with two passes, and stop tests early. At
-//! last come audits at other kinds of gates: one for each line of the files `crowds`, `counted` and `timed`.
+//! auditor's I/O over real files. Each call is made once and its answer printed. The next cases count the searches of
+//! walks, draw from counters in turn and in threads, claim and hand in at desks, and find stopping places. The last
+//! cases are audits with other kinds of gates: one for each line of the files `crowds`, `counted` and `timed`.
 #![tactic(auto)]
 
 mod calls;
@@ -102,7 +102,7 @@ fn run_surely<R: Threads + Wait + Sync>(
     )
 }
 
-// Runs the audits of the lines of these files. `rt` prints, and `threads` has the threads.
+// Runs the audits of the lines of these files. `rt` prints, and `threads` starts the threads of the audits.
 fn run_lines<R: Threads + Wait + Sync>(
     rt: &HostRuntime,
     threads: &R,

@@ -1,4 +1,4 @@
-//! Real files that print each call that opens, writes or stores a file.
+//! Real files that print each call that opens, writes, truncates or syncs a file.
 
 use std::alloc::Allocator;
 use std::fs::{File, Metadata, OpenFile, OpenOptions};
@@ -6,8 +6,8 @@ use std::io;
 use std::io::{ErrorKind, Read, Seek, SeekFrom, Write};
 use std::rt::Files;
 
-/// The files of the system. Prints each opened file, and each call on it that writes or stores. Refuses every operation
-/// that no save needs.
+/// The files of the system, with a line of output for each opened file and for each call that writes, truncates or
+/// syncs it. Operations that no save needs are refused.
 #[derive(Drop)]
 pub struct NotedFiles<'a> {
     pub rt: &'a HostRuntime,
@@ -31,7 +31,7 @@ fn name_of(path: &str) -> &'static str {
     }
 }
 
-// Returns the printed name of the way a file is opened.
+// Returns the word that is printed for the way in which a file is opened.
 fn way_of(how: &OpenOptions) -> &'static str {
     if how.asks_create_new() {
         return "make";

@@ -1,4 +1,4 @@
-//! The order in which a save writes and stores.
+//! The order in which a save writes to files and syncs them.
 
 ghost use Rattle.std.specs.Prelude.{◌<◌};
 
@@ -24,7 +24,7 @@ fn show_save(rt: &HostRuntime, slot: u8, known: &mut Known) -> io::Result<()>
     save_through(&NotedFiles { rt }, slot, known)
 }
 
-// Saves in these slots in turn, as a process that has saved nothing yet.
+// Saves in three slots in turn, as a process does that has saved nothing before.
 fn show_process(rt: &HostRuntime, first: u8, second: u8, third: u8) -> io::Result<()>
     requires first { first < 2 }
     requires second { second < 2 }
@@ -51,15 +51,15 @@ fn show_full(rt: &HostRuntime) -> io::Result<()> {
     show_process(rt, 1, 0, 1)
 }
 
-// Saves in a folder whose first slot is gone.
+// Saves in a folder without slot 0.
 fn show_second_alone(rt: &HostRuntime) -> io::Result<()> {
     begin_case(rt, "saves_without_the_first_slot")?;
     fs::remove_file(rt, "audit-0.ckpt")?;
     show_process(rt, 0, 1, 0)
 }
 
-/// Prints the order in which saves write and store: in a folder without slots, in one with both,
-/// and in one whose first slot is gone.
+/// Prints the order in which saves write to files and sync them: in a folder without slots, in a
+/// folder with both, and in a folder without slot 0.
 pub fn show_saves(rt: &HostRuntime) -> io::Result<()> {
     show_empty(rt)?;
     show_full(rt)?;

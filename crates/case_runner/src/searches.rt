@@ -14,8 +14,8 @@ use std::sync::ledger::{Blank, Ledger};
 /// The number of steps of the walk.
 const STEPS: u32 = 100_000;
 
-// Makes the steps of the job's first walk. Returns the number of steps that changed the plan and the number that
-// searched. The state is asked before each step.
+// Makes the first steps of the job's first walk. Returns the number of steps that changed the plan, and the number that
+// searched. Before each step, `asks_search` tells whether the step will search.
 fn walk<J: Judge, L: Ledger>(job: &Job, state: &mut State<J>, steps: &mut Steps<L>) -> (u32, u32)
     requires made { state.old.job ≡ job.now }
 {

@@ -1,4 +1,4 @@
-//! The stopping place of a test of five endpoints, from the outcomes so far.
+//! The stopping places of tests with five endpoints, from the known outcomes.
 //!
 //! The start plan of the four units in a row has the gap -1 (over 26). The endpoints have -7, 5, -1, 5 and -7. Of
 //! these, -7, -1 and -7 are in the tail, at the places 1, 3 and 5.
@@ -62,8 +62,8 @@ fn show_stop(rt: &HostRuntime, job: &Job, hits: u32, posted: &[Outcome]) -> io::
     }
 }
 
-// Prints the stopping places of tests that need one, two and four endpoints in the tail, with all five outcomes in some
-// order.
+// Prints the stopping places of tests that need one, two and four endpoints in the tail. All five outcomes are known,
+// and they are not in the order of their ids.
 fn show_all(rt: &HostRuntime, job: &Job) -> io::Result<()> {
     begin_case(rt, "stop_with_each_end")?;
     let ends = [end(2, -1), end(4, -7), end(0, -7), end(3, 5), end(1, 5)];
@@ -72,7 +72,7 @@ fn show_all(rt: &HostRuntime, job: &Job) -> io::Result<()> {
     show_stop(rt, job, 4, &ends)
 }
 
-// Prints that a test is not decided while the second endpoint is missing.
+// Prints that a test of two hits is not decided while the second endpoint is missing.
 fn show_gap(rt: &HostRuntime, job: &Job) -> io::Result<()> {
     begin_case(rt, "stop_with_second_end_missing")?;
     let ends = [end(0, -7), end(2, -1), end(3, 5), end(4, -7)];
@@ -84,7 +84,7 @@ fn show_job(rt: &HostRuntime, job: &Job) -> io::Result<()> {
     show_gap(rt, job)
 }
 
-/// Prints the stopping places of tests of five endpoints, on the four units in a row.
+/// Prints the stopping places of tests with five endpoints, on four units in a row.
 pub fn show_ends(rt: &HostRuntime) -> io::Result<()> {
     let text = fs::read(rt, "four_in_a_row.json")?;
     match job_of(rt.alloc(), text.as_slice()) {
