@@ -40,7 +40,7 @@ KEY = ["--key", "0" * 64, "--slack", "1000", "--ask", "cut-edges:low,gap:high"]
 COLUMNS = ["--pop", "pop", "--first", "a", "--second", "b", "--district", "d"]
 
 
-def crossed(rows: typing.Any, columns: typing.Any, districts: typing.Any) -> bytes:
+def crossed(rows: int, columns: int, districts: int) -> bytes:
     """The bytes of a grid with both diagonals of each square: texts as ids, bands of rows as
     districts.
     """
@@ -71,8 +71,16 @@ def crossed(rows: typing.Any, columns: typing.Any, districts: typing.Any) -> byt
     ).encode()
 
 
-def once(program: typing.Any, words: typing.Any, data: typing.Any) -> typing.Any:
-    """Seconds of the processor, megabytes, and what was written."""
+class Run(typing.NamedTuple):
+    """What a run took, and what it wrote."""
+
+    seconds: float
+    megabytes: float
+    text: str
+
+
+def once(program: str, words: list[str], data: bytes) -> Run:
+    """Runs a program on these bytes, and counts the seconds of the processor."""
     with tempfile.TemporaryFile() as source, tempfile.TemporaryFile() as written:
         source.write(data)
         source.seek(0)
@@ -82,21 +90,29 @@ def once(program: typing.Any, words: typing.Any, data: typing.Any) -> typing.Any
         if child.returncode != 0:
             sys.exit(f"{program} {' '.join(words)} ended with {child.returncode}")
         written.seek(0)
-        return usage.ru_utime + usage.ru_stime, usage.ru_maxrss / 1024, written.read().decode()
+        seconds = usage.ru_utime + usage.ru_stime
+        return Run(seconds, usage.ru_maxrss / 1024, written.read().decode())
 
 
-def best(program: typing.Any, words: typing.Any, data: typing.Any) -> typing.Any:
+def best(program: str, words: list[str], data: bytes) -> Run:
     runs = [once(program, words, data) for _ in range(3)]
-    return min(run[0] for run in runs), max(run[1] for run in runs), runs[0][2]
+    return best_of(runs)
 
 
-def megabytes(memory: typing.Any) -> str:
+def best_of(runs: list[Run]) -> Run:
+    """Returns the least seconds and the most memory of some runs, with the text of the first."""
+    return Run(
+        min(run.seconds for run in runs), max(run.megabytes for run in runs), runs[0].text
+    )
+
+
+def megabytes(memory: float) -> str:
     """Returns a size of memory as text; what this script itself takes is the least to be seen."""
-    least = once("/bin/true", [], b"")[1]
+    least = once("/bin/true", [], b"").megabytes
     return f"{memory:.0f}" if memory > least + 1 else f"at most {memory:.0f}"
 
 
-def prepared(path: typing.Any, words: typing.Any, column: typing.Any) -> typing.Any:
+def prepared(path: str, words: list[str], column: str) -> tuple[bytes, list[str]]:
     """The bytes of a real map with the plan of this column as its districts, and the words of `run`
     for it.
     """
@@ -116,7 +132,7 @@ def prepared(path: typing.Any, words: typing.Any, column: typing.Any) -> typing.
         return graph.read(), ["run", *words[:6], "--district", column]
 
 
-def real_maps(folder: typing.Any) -> typing.Any:
+def real_maps(folder: typing.Optional[str]) -> list[tuple[str, str, list[str], tuple[int, int]]]:
     """Of each map its name, its file, the words for prepare.py, and its districts."""
     maps = [("tracts of upstate New York", str(DATA / "ny8.json"), shlex.split(TRACTS), (2, 8))]
     if folder is not None:
@@ -134,8 +150,8 @@ def real_maps(folder: typing.Any) -> typing.Any:
 
 
 def row_of(
-    program: typing.Any, name: typing.Any, command: typing.Any, data: typing.Any, steps: typing.Any
-) -> typing.Any:
+    program: str, name: str, command: list[str], data: bytes, steps: int
+) -> tuple[str, float]:
     """The row, and the seconds for a million steps."""
     words = [*command, *KEY]
     start, memory, report = best(program, [*words, "--steps", "1"], data)
@@ -153,10 +169,11 @@ def row_of(
     return row, million
 
 
-def spoken(least: typing.Any, most: typing.Any) -> str:
+def spoken(least: float, most: float) -> str:
     """How long 10^9 steps take, from the seconds for a million."""
     (low, unit), (high, last) = (
-        (1000 * it, "seconds") if it < 0.1 else (1000 * it / 60, "minutes") for it in (least, most)
+        (1000 * million, "seconds") if million < 0.1 else (1000 * million / 60, "minutes")
+        for million in (least, most)
     )
     if unit != last:
         return f"{low:.0f} {unit} to {high:.0f} {last}"
@@ -165,7 +182,7 @@ def spoken(least: typing.Any, most: typing.Any) -> str:
     )
 
 
-def told(of: typing.Any) -> str:
+def told(of: typing.Mapping[str, list[float]]) -> str:
     """Returns the time of a walk of 10^9 steps by the table, on each kind of graph."""
     said = "; ".join(
         f"{kind} {spoken(min(seconds), max(seconds))}" for kind, seconds in of.items() if seconds
@@ -173,7 +190,7 @@ def told(of: typing.Any) -> str:
     return f"By these rows a walk of 10^9 steps takes: {said}."
 
 
-def table(program: typing.Any, steps: typing.Any, most: typing.Any, folder: typing.Any) -> str:
+def table(program: str, steps: int, most: int, folder: typing.Optional[str]) -> str:
     lines = [
         (
             "| graph | units | edges | districts | start, s | a million steps, s | each further"
@@ -181,14 +198,14 @@ def table(program: typing.Any, steps: typing.Any, most: typing.Any, folder: typi
         ),
         "|---|---|---|---|---|---|---|---|",
     ]
-    of: typing.Any = {
+    of: dict[str, list[float]] = {
         "on the grids of `make`": [],
         "on real maps with eight districts or more": [],
         "on real maps with two districts": [],
         "with diagonals": [],
     }
 
-    def add(kind: typing.Any, name: typing.Any, command: typing.Any, data: typing.Any) -> None:
+    def add(kind: str, name: str, command: list[str], data: bytes) -> None:
         row, million = row_of(program, name, command, data, steps)
         lines.append(row)
         of[kind].append(million)
@@ -221,17 +238,19 @@ def table(program: typing.Any, steps: typing.Any, most: typing.Any, folder: typi
     return "\n".join([*lines, "", told(of)])
 
 
-def timed(program: typing.Any, words: typing.Any) -> typing.Any:
+def timed(program: str, words: list[str]) -> float:
     begin = time.perf_counter()
     once(program, words, b"")
     return time.perf_counter() - begin
 
 
-def workers(program: typing.Any, plain: typing.Any, steps: typing.Any) -> str:
+def workers(program: str, plain: typing.Optional[str], steps: int) -> str:
     """Returns the speed of four workers as a multiple of one's, of both programs, in turns."""
     words = ["make", "--size", "10", *KEY, "--walks", "16", "--steps", str(steps), "--workers"]
     programs = [("the auditor", program)] + ([("a plain program", plain)] if plain else [])
-    times: typing.Any = {(name, count): [] for name, _ in programs for count in ("1", "4")}
+    times: dict[tuple[str, str], list[float]] = {
+        (name, count): [] for name, _ in programs for count in ("1", "4")
+    }
     for _ in range(3):
         for count in ("1", "4"):
             for name, path in programs:
@@ -246,7 +265,7 @@ def workers(program: typing.Any, plain: typing.Any, steps: typing.Any) -> str:
     return "\n".join(lines)
 
 
-def write(text: typing.Any, kind: typing.Any, into: typing.Any) -> None:
+def write(text: str, kind: str, into: typing.Optional[str]) -> None:
     if into is None:
         print(text)
         return
@@ -258,7 +277,7 @@ def write(text: typing.Any, kind: typing.Any, into: typing.Any) -> None:
         file.write(f"{before}{BEGIN[kind]}\n{text}\n{END}{after}")
 
 
-def main(kind: typing.Any, words: typing.Any) -> None:
+def main(kind: str, words: argparse.Namespace) -> None:
     program = os.path.abspath(words.program)
     if kind == "workers":
         text = workers(program, words.plain and os.path.abspath(words.plain), words.steps)
@@ -267,7 +286,7 @@ def main(kind: typing.Any, words: typing.Any) -> None:
     write(text, kind, words.into)
 
 
-def arguments(kind: str, given: typing.List[str]) -> argparse.Namespace:
+def arguments(kind: str, given: list[str]) -> argparse.Namespace:
     parser = argparse.ArgumentParser(
         prog="python3 -m bench.cost_table", description=__doc__,
         formatter_class=argparse.RawDescriptionHelpFormatter,

@@ -26,6 +26,8 @@ import typing
 from tests.parsers import measuring
 
 
+Place = typing.Tuple[int, int]
+
 ROWS, COLUMNS = 50, 60
 WORDS = (
     "run --pop pop --first a --second b --district d --slack 1000 --ask cut-edges:low --key".split()
@@ -35,7 +37,7 @@ REGION, GROUP = ["--region", "county"], [
     "--group", "bvap", "--group-of", "vap", "--group-districts", "3",
 ]
 SPLITS, SPLIT_REGIONS = ["--max-splits", "60"], ["--max-split-regions", "30"]
-RULES: typing.Dict[str, typing.List[str]] = {
+RULES: dict[str, list[str]] = {
     "none": [],
     **{f"`--max-split {most}`": [*REGION, "--max-split", str(most)] for most in (4, 3, 2, 1)},
     "`--max-splits 60`": [*REGION, *SPLITS],
@@ -47,11 +49,13 @@ RULES: typing.Dict[str, typing.List[str]] = {
 }
 
 
-def neighbours_of(chance: typing.Any, rows: typing.Any, columns: typing.Any) -> typing.Any:
+def neighbours_of(chance: random.Random, rows: int, columns: int) -> dict[Place, set[Place]]:
     """The neighbours of each place: those of a grid, and some diagonals."""
-    near: typing.Any = {(row, column): set() for row in range(rows) for column in range(columns)}
+    near: dict[Place, set[Place]] = {
+        (row, column): set() for row in range(rows) for column in range(columns)
+    }
 
-    def join(one: typing.Any, other: typing.Any) -> None:
+    def join(one: Place, other: Place) -> None:
         near[one].add(other)
         near[other].add(one)
 
@@ -66,32 +70,34 @@ def neighbours_of(chance: typing.Any, rows: typing.Any, columns: typing.Any) -> 
 
 
 def map_of(
-    rows: typing.Any,
-    columns: typing.Any,
-    district: typing.Any,
-    county: typing.Any,
-    share: typing.Any,
-) -> typing.Any:
+    rows: int,
+    columns: int,
+    district: typing.Callable[[int, int], int],
+    county: typing.Callable[[int, int], str],
+    share: typing.Callable[[int, int], int],
+) -> str:
     """A map as the text of a file: the district and the county of a place, and what part of its
     people of voting age are of the group, in percent.
     """
     chance, of_age = random.Random(3000), random.Random(3001)
     near = neighbours_of(chance, rows, columns)
     number = {place: at for at, place in enumerate(near)}
-    nodes = [
-        {
-            "id": at,
-            "pop": chance.randint(900, 1100),
-            "a": chance.randint(0, 500),
-            "b": chance.randint(0, 500),
-            "d": district(*place),
-            "county": county(*place),
-        }
-        for place, at in number.items()
-    ]
-    for node, place in zip(nodes, number):
-        node["vap"] = node["pop"] * of_age.randint(70, 85) // 100
-        node["bvap"] = node["vap"] * (share(*place) + of_age.randint(-15, 15)) // 100
+    nodes: list[dict[str, object]] = []
+    for place, at in number.items():
+        people = chance.randint(900, 1100)
+        adults = people * of_age.randint(70, 85) // 100
+        nodes.append(
+            {
+                "id": at,
+                "pop": people,
+                "a": chance.randint(0, 500),
+                "b": chance.randint(0, 500),
+                "d": district(*place),
+                "county": county(*place),
+                "vap": adults,
+                "bvap": adults * (share(*place) + of_age.randint(-15, 15)) // 100,
+            }
+        )
     adjacency = [[{"id": number[other]} for other in sorted(others)] for others in near.values()]
     return json.dumps(
         {
@@ -104,7 +110,7 @@ def map_of(
     )
 
 
-def county_map() -> typing.Any:
+def county_map() -> str:
     return map_of(
         ROWS,
         COLUMNS,
@@ -114,7 +120,7 @@ def county_map() -> typing.Any:
     )
 
 
-def small_map() -> typing.Any:
+def small_map() -> str:
     """Two columns of three counties each; the middle county of each column is half in the upper
     district of the column, and half in the lower.
     """
@@ -127,7 +133,7 @@ def small_map() -> typing.Any:
     )
 
 
-def seconds_of(program: typing.Any, words: typing.Any, text: typing.Any) -> typing.Any:
+def seconds_of(program: str, words: list[str], text: str) -> tuple[float, str]:
     """The processor seconds of a run, and its report."""
     before = resource.getrusage(resource.RUSAGE_CHILDREN)
     run = subprocess.run([program, *words], input=text, capture_output=True, text=True, check=False)
@@ -137,14 +143,13 @@ def seconds_of(program: typing.Any, words: typing.Any, text: typing.Any) -> typi
     return after.ru_utime + after.ru_stime - before.ru_utime - before.ru_stime, run.stdout
 
 
-def best(
-    program: typing.Any, words: typing.Any, text: typing.Any, rounds: typing.Any
-) -> typing.Any:
+def best(program: str, words: list[str], text: str, rounds: int) -> tuple[float, str]:
     return min(seconds_of(program, words, text) for _ in range(rounds))
 
 
-def main(program: typing.Any, steps: typing.Any, rounds: typing.Any) -> None:
-    text, bare = county_map(), None
+def main(program: str, steps: int, rounds: int) -> None:
+    text = county_map()
+    bare: typing.Optional[float] = None
     print(
         (
             "| rules | a million steps, s | beside none | moves of a thousand steps"

@@ -19,7 +19,11 @@ import sys
 import typing
 
 from tests.parsers import measuring
-from bench.cost_table import once
+from bench.cost_table import Run, best_of, once
+
+Place = typing.Tuple[int, int]
+# The district of each place.
+Plan = typing.Dict[Place, int]
 
 ROWS, COLUMNS, DISTRICTS, PLANS = 90, 100, 10, 16
 WORDS = (
@@ -29,7 +33,7 @@ WORDS = (
 )
 
 
-def winding(by_rows: typing.Any) -> typing.Iterator[typing.Any]:
+def winding(by_rows: bool) -> typing.Iterator[Place]:
     """The places along a path through all rows, or all columns, each the other way than the one
     before.
     """
@@ -39,7 +43,7 @@ def winding(by_rows: typing.Any) -> typing.Iterator[typing.Any]:
             yield (line, at) if by_rows else (at, line)
 
 
-def plan_of(number: typing.Any) -> typing.Dict[typing.Any, typing.Any]:
+def plan_of(number: int) -> Plan:
     """The district of each place in the plan with this number."""
     size = ROWS * COLUMNS // DISTRICTS
     cuts = [size * d + (7 * number + 3 * d) % 41 - 20 for d in range(1, DISTRICTS)]
@@ -48,7 +52,7 @@ def plan_of(number: typing.Any) -> typing.Dict[typing.Any, typing.Any]:
     }
 
 
-def graph_of(plan: typing.Any) -> typing.Any:
+def graph_of(plan: Plan) -> str:
     """The text of the graph, with this plan as its own."""
     chance = random.Random(9000)
     number = {
@@ -88,7 +92,7 @@ def graph_of(plan: typing.Any) -> typing.Any:
     )
 
 
-def table_of(plans: typing.Any) -> str:
+def table_of(plans: list[Plan]) -> str:
     """The text of the table of these plans."""
     places = [(row, column) for row in range(ROWS) for column in range(COLUMNS)]
     lines = [["id", *(f"plan{number}" for number in range(1, len(plans) + 1))]]
@@ -96,31 +100,28 @@ def table_of(plans: typing.Any) -> str:
     return "\n".join(",".join(line) for line in lines) + "\n"
 
 
-def best(
-    program: typing.Any, words: typing.Any, data: typing.Any, rounds: typing.Any
-) -> typing.Any:
-    runs = [once(program, words, data.encode()) for _ in range(rounds)]
-    return min(run[0] for run in runs), max(run[1] for run in runs), runs[0][2]
+def best(program: str, words: list[str], data: str, rounds: int) -> Run:
+    return best_of([once(program, words, data.encode()) for _ in range(rounds)])
 
 
-def main(program: typing.Any, steps: typing.Any, rounds: typing.Any, write: typing.Any) -> None:
+def main(program: str, steps: int, rounds: int, write: bool) -> None:
     plans = [plan_of(number) for number in range(PLANS + 1)]
     graph, table = graph_of(plans[0]), table_of(plans[1:])
     if write:
         print(graph, table, sep="\n", end="")
         return
     words = [*WORDS, "--steps", str(steps)]
-    least = once("/bin/true", [], b"")[1]
+    least = once("/bin/true", [], b"").megabytes
     whole = best(program, ["plans", *words], graph + "\n" + table, rounds)
     alone = [best(program, ["run", *words], graph_of(plan), rounds) for plan in plans]
-    same = whole[2] == "".join(
-        f"plan {'d' if at == 0 else f'plan{at}'}\n{run[2]}" for at, run in enumerate(alone)
+    same = whole.text == "".join(
+        f"plan {'d' if at == 0 else f'plan{at}'}\n{run.text}" for at, run in enumerate(alone)
     )
-    print(f"all {len(plans)} plans in one call: {whole[0]:.2f} s, {whole[1]:.0f} MB")
-    print(f"the own plan alone: {alone[0][0]:.2f} s, {alone[0][1]:.0f} MB")
+    print(f"all {len(plans)} plans in one call: {whole.seconds:.2f} s, {whole.megabytes:.0f} MB")
+    print(f"the own plan alone: {alone[0].seconds:.2f} s, {alone[0].megabytes:.0f} MB")
     print(
-        f"each plan in a call of its own: {sum(run[0] for run in alone):.2f} s,"
-        f" {max(run[1] for run in alone):.0f} MB"
+        f"each plan in a call of its own: {sum(run.seconds for run in alone):.2f} s,"
+        f" {max(run.megabytes for run in alone):.0f} MB"
     )
     print(f"what the system counts for any program: {least:.0f} MB")
     print("the same reports" if same else "other reports")

@@ -23,11 +23,13 @@ import time
 import typing
 
 WAYS = ["no saving", "in memory", "on disk"]
+# A number of workers, and one of WAYS.
+Way = typing.Tuple[int, str]
 # Works for as long as this script does, however that ends.
 BUSY = "import os\nparent = os.getppid()\nwhile os.getppid() == parent: pass"
 
 
-def words_of(args: typing.Any, workers: typing.Any, save: typing.Any) -> typing.List[typing.Any]:
+def words_of(args: argparse.Namespace, workers: int, save: int) -> list[str]:
     return [
         "make", "--size", "3", "--slack", "5000", "--ask", "cut-edges:low", "--key", "0" * 64,
         "--walks", str(args.walks), "--steps", str(args.steps), "--workers", str(workers), "--save",
@@ -35,7 +37,9 @@ def words_of(args: typing.Any, workers: typing.Any, save: typing.Any) -> typing.
     ]
 
 
-def once(args: typing.Any, workers: typing.Any, save: typing.Any, parent: typing.Any) -> typing.Any:
+def once(
+    args: argparse.Namespace, workers: int, save: int, parent: typing.Optional[str]
+) -> tuple[float, bytes]:
     """Seconds, and the report."""
     with tempfile.TemporaryDirectory(dir=parent) as folder:
         begun = time.monotonic()
@@ -49,12 +53,12 @@ def once(args: typing.Any, workers: typing.Any, save: typing.Any, parent: typing
     return seconds, run.stdout
 
 
-def measured(args: typing.Any) -> typing.Any:
+def measured(args: argparse.Namespace) -> tuple[dict[Way, float], bool]:
     """The seconds of each round by the number of workers and the way, and whether all reports are
     the same.
     """
-    seconds: typing.Dict[typing.Any, typing.Any]
-    seconds, reports = {}, set()
+    seconds: dict[Way, list[float]] = {}
+    reports = set()
     for _ in range(args.rounds):
         for workers in args.workers:
             for way, save, parent in zip(
@@ -66,7 +70,7 @@ def measured(args: typing.Any) -> typing.Any:
     return {key: statistics.median(times) for key, times in seconds.items()}, len(reports) == 1
 
 
-def table_of(args: typing.Any, seconds: typing.Any) -> typing.Any:
+def table_of(args: argparse.Namespace, seconds: dict[Way, float]) -> tuple[list[str], bool]:
     """The lines of the table, and whether each ratio is as wanted."""
     lines, good = [
         (

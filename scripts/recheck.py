@@ -84,7 +84,8 @@ def draws_of(key: bytes, stream: int, begin: int, end: int) -> Iterator[int]:
 
 class Job:
     """The run of a report. Beside a table `plan` has labels by ids, or none: the graph's own."""
-    def __init__(self, data: bytes, lines: List[str], words: Dict[str, str], plan: Any) -> None:
+    def __init__(self, data: bytes, lines: List[str], words: Dict[str, str],
+                 plan: Optional[Dict[str, str]]) -> None:
         self.lines, self.words, self.labels = lines, words, plan
         text = "\n".join(line for line in lines if not line.startswith(("source ", "columns ")))
         self.n = n = {k: int([*re.findall(rf"(?:^| ){k} (\d+)", text, re.M), LIMITS.get(k, 0)][0])

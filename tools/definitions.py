@@ -20,19 +20,19 @@ import re
 import sys
 import typing
 
-from tools.reading_path import CRATES, TOP, Path, fields_of
+from tools.reading_path import CRATES, TOP, Key, ModuleKey, Path, fields_of
 
 IMPORT = re.compile(
     r"^(?:ghost |pub )*use Rattle\.(\w+)\.specs\.([\w.]+?)(?:\.\{(.*?)\}| as (\w+))?;?$"
 )
 
 
-def text_of(*path: typing.Any) -> typing.Any:
+def text_of(*path: str) -> str:
     with open(os.path.join(CRATES, *path), encoding="utf-8") as file:
         return file.read()
 
 
-def imports(text: typing.Any) -> typing.Iterator[typing.Any]:
+def imports(text: str) -> typing.Iterator[tuple[str, str, list[str]]]:
     """Each import of a module of specs/: the crate, the module, and the names that it brings in."""
     for line in text.splitlines():
         found = IMPORT.match(line.strip())
@@ -43,13 +43,13 @@ def imports(text: typing.Any) -> typing.Iterator[typing.Any]:
             ] + ([alias] if alias else [])
 
 
-def is_own(crate: typing.Any, module: typing.Any) -> typing.Any:
+def is_own(crate: str, module: str) -> bool:
     return not module.startswith("declared") and os.path.exists(
         os.path.join(CRATES, crate, "specs", module + ".antt")
     )
 
 
-def contracts_of_audit() -> typing.Iterator[typing.Any]:
+def contracts_of_audit() -> typing.Iterator[tuple[str, str]]:
     """The contracts of the top call: that of `audit`, and that of `audit_plainly`, which is `audit`
     with more clauses.
     """
@@ -58,7 +58,7 @@ def contracts_of_audit() -> typing.Iterator[typing.Any]:
         yield text, text[text.index(f"pub fn {name}<"):]
 
 
-def starts() -> typing.Iterator[typing.Any]:
+def starts() -> typing.Iterator[ModuleKey]:
     """The modules that the contracts of the top call name, and those that the traits of its
     arguments name.
     """
@@ -74,7 +74,7 @@ def starts() -> typing.Iterator[typing.Any]:
                 yield crate, module
 
 
-def reached() -> typing.Any:
+def reached() -> set[ModuleKey]:
     found, left = set(), list(starts())
     while left:
         at = left.pop()
@@ -88,11 +88,11 @@ def reached() -> typing.Any:
     return found
 
 
-def listed() -> typing.Any:
+def listed() -> set[ModuleKey]:
     """The modules that the document names, in the last column of a table or in a sentence, as
     `crate` Module, Module.
     """
-    found: typing.Set[typing.Any] = set()
+    found: set[ModuleKey] = set()
     with open(os.path.join(TOP, "docs", "claims", "DEFINITIONS.md"), encoding="utf-8") as file:
         for line in file:
             text = line.rstrip().rstrip("|").split("|")[-1] if line.startswith("|") else line
@@ -116,7 +116,7 @@ WHOLE = [
 ]
 
 
-def plain_fault() -> typing.Iterator[typing.Any]:
+def plain_fault() -> typing.Iterator[str]:
     """Why the plain statement is too long to be read in an hour, without the words of the command
     line, if it is.
     """
@@ -128,14 +128,14 @@ def plain_fault() -> typing.Iterator[typing.Any]:
         )
 
 
-def count_row(name: typing.Any, path: typing.Any) -> str:
+def count_row(name: str, path: Path) -> str:
     return (
         f"| {name} | {format(len(path.found), ',')} | {format(path.lines(), ',')} |"
         f" {len(path.kit)} |"
     )
 
 
-def count_table() -> typing.Iterator[typing.Any]:
+def count_table() -> typing.Iterator[str]:
     """Returns the size of each clause, as the lines of a table."""
     yield "| what is read | definitions | lines | names of the kit |"
     yield "|---|---|---|---|"
@@ -157,7 +157,7 @@ def count_table() -> typing.Iterator[typing.Any]:
     yield count_row("`AnswersOrAudits`", Path([WHOLE[2]]))
 
 
-def crate_table() -> typing.Iterator[typing.Any]:
+def crate_table() -> typing.Iterator[str]:
     """Returns the modules, definitions and lines of each crate behind the contract of
     `audit_plainly`, as a table.
     """
@@ -182,9 +182,9 @@ MARK = re.compile(r"<!-- (quote|counts|crates|contract)(?: (.*?))? -->$")
 TABLES = {"counts": count_table, "crates": crate_table}
 
 
-def quoted_names(words: typing.Any) -> typing.Iterator[typing.Any]:
+def quoted_names(words: str) -> typing.Iterator[Key]:
     """The definitions that a mark asks for: a crate, and then modules, each with its names."""
-    crate, module = None, None
+    crate, module = "", ""
     for word in words.split():
         if word.endswith(":"):
             crate, module = word[:-1].split(".", 1)
@@ -192,11 +192,11 @@ def quoted_names(words: typing.Any) -> typing.Iterator[typing.Any]:
             yield crate, module, word
 
 
-def quote(words: typing.Any) -> typing.Iterator[typing.Any]:
+def quote(words: str) -> typing.Iterator[str]:
     """The text of these definitions, each with the line over it that names what it depends on."""
     yield "```text"
-    shown: typing.List[typing.Any]
-    shown, first = [], True
+    shown: list[str] = []
+    first = True
     for crate, module, name in quoted_names(words):
         path = Path([], ())
         path.visit(crate, module, name)
@@ -211,15 +211,16 @@ def quote(words: typing.Any) -> typing.Iterator[typing.Any]:
     yield "```"
 
 
-def contract() -> typing.Any:
+def contract() -> list[str]:
     """The contract of the function that `main` calls, as it stands."""
     text = list(contracts_of_audit())[-1][1]
     return ["```text"] + text[: text.index("\n{\n")].split("\n") + ["```"]
 
 
-def renewed(text: typing.Any) -> str:
+def renewed(text: str) -> str:
     """The document with what its marks ask for written anew."""
-    lines, out, at = text.split("\n"), [], 0
+    out: list[str] = []
+    lines, at = text.split("\n"), 0
     while at < len(lines):
         out.append(lines[at])
         found = MARK.match(lines[at])
@@ -234,14 +235,14 @@ def renewed(text: typing.Any) -> str:
     return "\n".join(out)
 
 
-def quotes_in(text: typing.Any) -> typing.Iterator[typing.Any]:
+def quotes_in(text: str) -> typing.Iterator[Key]:
     for line in text.split("\n"):
         found = MARK.match(line)
         if found and found.group(1) == "quote":
             yield from quoted_names(found.group(2))
 
 
-def stale() -> typing.Iterator[typing.Any]:
+def stale() -> typing.Iterator[str]:
     """Returns what the documents do not quote, or not as it stands."""
     for path in QUOTING:
         with open(path, encoding="utf-8") as file:
@@ -267,7 +268,7 @@ def write_page() -> None:
 # ---- the list of modules
 
 
-def unlisted() -> typing.Iterator[typing.Any]:
+def unlisted() -> typing.Iterator[str]:
     """Returns what docs/claims/DEFINITIONS.md does not list, or lists in vain."""
     modules, documented = reached(), listed()
     for crate, module in sorted(modules - documented):
@@ -276,7 +277,7 @@ def unlisted() -> typing.Iterator[typing.Any]:
         yield f"docs/claims/DEFINITIONS.md lists what is not there: {crate} {module}"
 
 
-def code_below() -> typing.Iterator[typing.Any]:
+def code_below() -> typing.Iterator[str]:
     """The crates of this repository, beside the plain types, that the modules of the statement
     name.
     """
@@ -290,15 +291,16 @@ def code_below() -> typing.Iterator[typing.Any]:
         yield f"the statement stands on code: audit_statement names {crate}"
 
 
-def show_path(name: typing.Any) -> None:
+def show_path(name: str) -> None:
     """The definitions that one name comes to, with their lines."""
-    path = Path([tuple(name.split("."))])
+    crate, module, one = name.split(".")
+    path = Path([(crate, module, one)])
     for key in sorted(path.found):
         print(f"{len(path.found[key].lines):4} {'.'.join(key)}")
     print(f"{len(path.found)} definitions, {path.lines()} lines, {len(path.kit)} names of the kit")
 
 
-def main(word: typing.Any, name: typing.Any) -> int:
+def main(word: str, name: str) -> int:
     if word == "check":
         faults = list(unlisted()) + list(code_below()) + list(plain_fault()) + list(stale())
         print("\n".join(faults), end="\n" if faults else "")

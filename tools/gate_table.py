@@ -14,6 +14,7 @@ time, up to the last time that a process was seen. Memory is the most that the p
 crate and one kind held at one time; what two of them share counts twice.
 """
 import argparse
+import dataclasses
 import os
 import subprocess
 import sys
@@ -24,16 +25,28 @@ import typing
 BEGIN, END = "<!-- written by tools/gate_table.py -->", "<!-- end of what it wrote -->"
 KINDS = ["proof", "tests", "edits"]
 TICKS, PAGE = os.sysconf("SC_CLK_TCK"), os.sysconf("SC_PAGE_SIZE")
+# A crate, and the kind of work.
+Use = typing.Tuple[str, str]
 
 
-def crate_names() -> typing.List[typing.Any]:
+@dataclasses.dataclass(frozen=True)
+class Process:
+    """A process: its parent, its start, its processor seconds and its bytes of memory."""
+
+    parent: int
+    start: str
+    seconds: float
+    memory: int
+
+
+def crate_names() -> list[str]:
     with open("crates.txt", encoding="utf-8") as file:
         lines = [line.split("#")[0] for line in file]
     return [line.split(":")[0].split()[0] for line in lines if ":" in line]
 
 
-def lines_in(folder: typing.Any, ending: typing.Any) -> typing.Any:
-    """Returns the number of lines of the files of this ending; '' if there is no such folder."""
+def lines_in(folder: str, ending: str) -> int:
+    """Returns the number of lines of the files of this ending; 0 if there is no such folder."""
     count = 0
     for place, _, files in os.walk(folder):
         for name in files:
@@ -43,27 +56,27 @@ def lines_in(folder: typing.Any, ending: typing.Any) -> typing.Any:
     return count
 
 
-def edits_of(name: typing.Any) -> typing.Any:
+def edits_of(name: str) -> int:
     folder = f"crates/{name}/must-fail"
     return sum(one.endswith(".edit") for one in os.listdir(folder)) if os.path.isdir(folder) else 0
 
 
-def process(pid: typing.Any) -> typing.Any:
+def process(pid: int) -> typing.Optional[Process]:
     """The parent, the start, the seconds and the bytes of a process, or None if it has ended."""
     try:
         with open(f"/proc/{pid}/stat", encoding="utf-8", errors="replace") as file:
             parts = file.read().rpartition(")")[2].split()
     except OSError:
         return None
-    return {
-        "parent": int(parts[1]),
-        "start": parts[19],
-        "seconds": (int(parts[11]) + int(parts[12])) / TICKS,
-        "bytes": int(parts[21]) * PAGE,
-    }
+    return Process(
+        parent=int(parts[1]),
+        start=parts[19],
+        seconds=(int(parts[11]) + int(parts[12])) / TICKS,
+        memory=int(parts[21]) * PAGE,
+    )
 
 
-def words_of(pid: typing.Any) -> typing.Any:
+def words_of(pid: int) -> tuple[list[str], str]:
     try:
         with open(f"/proc/{pid}/cmdline", "rb") as file:
             words = file.read().decode("utf-8", "replace").split("\0")[:-1]
@@ -72,7 +85,7 @@ def words_of(pid: typing.Any) -> typing.Any:
         return [], ""
 
 
-def use_of(words: typing.Any, folder: typing.Any, crates: typing.Any) -> typing.Any:
+def use_of(words: list[str], folder: str, crates: list[str]) -> typing.Optional[Use]:
     """The crate and the kind of work that the words of a process name, or None."""
     if not words:
         return None
@@ -91,55 +104,54 @@ def use_of(words: typing.Any, folder: typing.Any, crates: typing.Any) -> typing.
 class Watch:
     """The time and memory of the processes under one process."""
 
-    def __init__(self, root: typing.Any, crates: typing.Any) -> None:
+    def __init__(self, root: int, crates: list[str]) -> None:
         self.root, self.crates = root, crates
-        self.most: typing.Dict[typing.Any, typing.Any]
-        self.seconds: typing.Dict[typing.Any, typing.Any]
-        self.uses: typing.Dict[typing.Any, typing.Any]
-        self.uses, self.seconds, self.most = {}, {}, {}
+        self.uses: dict[tuple[int, str], typing.Optional[Use]] = {}
+        self.seconds: dict[tuple[int, str], tuple[Use, float]] = {}
+        self.most: dict[Use, int] = {}
 
     def look(self) -> None:
-        seen = {int(one): process(one) for one in os.listdir("/proc") if one.isdigit()}
-        seen = {pid: one for pid, one in seen.items() if one}
-        now: typing.Dict[typing.Any, typing.Any] = {}
+        there = {int(one): process(int(one)) for one in os.listdir("/proc") if one.isdigit()}
+        seen = {pid: one for pid, one in there.items() if one}
+        now: dict[Use, int] = {}
         for pid, one in seen.items():
             use = self.use(pid, seen)
             if use:
-                key = pid, one["start"]
-                self.seconds[key] = use, one["seconds"]
-                now[use] = now.get(use, 0) + one["bytes"]
+                key = pid, one.start
+                self.seconds[key] = use, one.seconds
+                now[use] = now.get(use, 0) + one.memory
         for use, amount in now.items():
             self.most[use] = max(self.most.get(use, 0), amount)
 
-    def use(self, pid: typing.Any, seen: typing.Any) -> typing.Any:
+    def use(self, pid: int, seen: dict[int, Process]) -> typing.Optional[Use]:
         """Returns the crate and kind of work of a process, if it is under the root."""
         line = []
         while pid != self.root:
             if pid not in seen or pid <= 1:
                 return None
             line.append(pid)
-            pid = seen[pid]["parent"]
+            pid = seen[pid].parent
         for one in line:
-            use = self.known(one, seen[one]["start"])
+            use = self.known(one, seen[one].start)
             if use:
                 return use
         return None
 
-    def known(self, pid: typing.Any, start: typing.Any) -> typing.Any:
+    def known(self, pid: int, start: str) -> typing.Optional[Use]:
         # (a process may become another program, so one that named no crate is asked again)
         if not self.uses.get((pid, start)):
             words, folder = words_of(pid)
             self.uses[pid, start] = use_of(words, folder, self.crates)
         return self.uses[pid, start]
 
-    def sums(self) -> typing.Any:
-        sums: typing.Dict[typing.Any, typing.Any] = {}
+    def sums(self) -> dict[Use, float]:
+        sums: dict[Use, float] = {}
         for use, seconds in self.seconds.values():
             sums[use] = sums.get(use, 0) + seconds
         return sums
 
 
-def gate_words() -> typing.List[typing.Any]:
+def gate_words() -> list[str]:
     """The command of a gate that takes nothing from earlier runs."""
     told = subprocess.run(
         ["rt", "help"], stdout=subprocess.PIPE, stderr=subprocess.STDOUT, text=True, check=False
@@ -147,7 +159,7 @@ def gate_words() -> typing.List[typing.Any]:
     return ["rt", "ci", "--anew"] if "--anew" in told else ["rt", "ci"]
 
 
-def run(names: typing.Any, crates: typing.Any) -> typing.Any:
+def run(names: list[str], crates: list[str]) -> tuple[int, Watch]:
     """Runs the gate, and answers its status and what was seen of it."""
     gate = subprocess.Popen([*gate_words(), *names], stdout=sys.stderr)
     watch, ended = Watch(gate.pid, crates), threading.Event()
@@ -164,17 +176,18 @@ def run(names: typing.Any, crates: typing.Any) -> typing.Any:
     return status, watch
 
 
-def table(watch: typing.Any, crates: typing.Any) -> str:
+def table(watch: Watch, crates: list[str]) -> str:
     sums = watch.sums()
     heads = ["crate", "code", "definitions", "proofs", "edits"]
     for kind in KINDS:
         heads += [f"{kind}, s", f"{kind}, GB"]
-    rows = [heads, ["---"] * len(heads)]
+    edits = {name: edits_of(name) for name in crates}
+    rows: list[list[object]] = [[*heads], ["---"] * len(heads)]
     for name in crates:
-        row = [
+        row: list[object] = [
             f"`{name}`", lines_in(f"crates/{name}/src", ".rt"),
             lines_in(f"crates/{name}/specs", ".antt"), lines_in(f"crates/{name}/proofs", ".antt"),
-            edits_of(name),
+            edits[name],
         ]
         for kind in KINDS:
             is_seen = (name, kind) in sums
@@ -184,14 +197,14 @@ def table(watch: typing.Any, crates: typing.Any) -> str:
                 else ["", ""]
             )
         rows.append(row)
-    whole: typing.List[typing.Any] = ["all", "", "", "", sum(int(row[4]) for row in rows[2:])]
+    whole: list[object] = ["all", "", "", "", sum(edits.values())]
     for kind in KINDS:
         whole += [round(sum(amount for use, amount in sums.items() if use[1] == kind)), ""]
-    rows.append([str(cell) for cell in whole])
+    rows.append(whole)
     return "".join("| " + " | ".join(str(one) for one in row) + " |\n" for row in rows)
 
 
-def main(names: typing.Any, into: typing.Any) -> typing.Any:
+def main(names: list[str], into: typing.Optional[str]) -> int:
     crates = crate_names()
     status, watch = run(names, crates)
     text = table(watch, crates)

@@ -19,9 +19,14 @@ DECLARED = re.compile(
 )
 WORD = re.compile(r"[A-Za-z_][A-Za-z0-9_'\-]*")
 RUST_NAME = re.compile(r"\b[A-Z]\w+")
+# A crate, a module of it, and a name; the name is empty if the module itself is meant.
+Key = typing.Tuple[str, str, str]
+ModuleKey = typing.Tuple[str, str]
+# A line `module _ ..` with its place.
+Place = typing.Tuple[int, str]
 
 
-def indent_of(line: typing.Any) -> typing.Any:
+def indent_of(line: str) -> int:
     return len(line) - len(line.lstrip())
 
 
@@ -30,10 +35,10 @@ class Definition:
     their places.
     """
 
-    def __init__(self, key: typing.Any, lines: typing.Any, over: typing.Any = ()) -> None:
+    def __init__(self, key: Key, lines: list[str], over: typing.Sequence[Place] = ()) -> None:
         self.key, self.lines, self.over = key, lines, over
 
-    def words(self) -> typing.Set[typing.Any]:
+    def words(self) -> set[str]:
         """The names in it, without its comments and texts."""
         bare = (
             re.sub(r"--.*", "", re.sub(r'"[^"]*"', '""', line))
@@ -45,18 +50,19 @@ class Definition:
 class Module:
     """A module of specs/: what each name of its `use` lines stands for, and its definitions."""
 
-    def __init__(self, crate: typing.Any, name: typing.Any) -> None:
-        self.cases: typing.Dict[typing.Any, typing.Any]
-        self.definitions: typing.Dict[typing.Any, typing.Any]
-        self.uses: typing.Dict[typing.Any, typing.Any]
-        self.crate, self.name, self.uses, self.definitions, self.cases = crate, name, {}, {}, {}
+    def __init__(self, crate: str, name: str) -> None:
+        self.crate, self.name = crate, name
+        self.uses: dict[str, Key] = {}
+        self.definitions: dict[str, Definition] = {}
+        self.cases: dict[str, str] = {}
         path = os.path.join(CRATES, crate, "specs", name.replace(".", "/") + ".antt")
         with open(path, encoding="utf-8") as file:
             self.read(file.read().split("\n"))
 
-    def read(self, lines: typing.Any) -> None:
-        over: typing.List[typing.Any]
-        comment, over, at = [], [], 0
+    def read(self, lines: list[str]) -> None:
+        comment: list[str] = []
+        over: list[Place] = []
+        at = 0
         while at < len(lines):
             text = lines[at].strip()
             if text.startswith("--"):
@@ -74,7 +80,7 @@ class Module:
             comment = []
             at = end
 
-    def take_use(self, text: typing.Any) -> typing.Any:
+    def take_use(self, text: str) -> bool:
         found = USE.match(text)
         if found:
             crate, module, names, alias = found.groups()
@@ -83,12 +89,12 @@ class Module:
                 if parts[0]:
                     self.uses[parts[-1]] = (crate, module, parts[0])
             if alias:
-                self.uses[alias] = (crate, module, None)
+                self.uses[alias] = (crate, module, "")
         return bool(found)
 
     def take_definition(
-        self, lines: typing.Any, at: typing.Any, comment: typing.Any, over: typing.Any
-    ) -> typing.Any:
+        self, lines: list[str], at: int, comment: list[str], over: list[Place]
+    ) -> int:
         """Adds the definition that begins here, and answers where the next one may begin."""
         found = DECLARED.match(lines[at].strip())
         if not found:
@@ -107,7 +113,7 @@ class Module:
         return end
 
     @staticmethod
-    def goes_on(line: typing.Any, name: typing.Any, indent: typing.Any) -> typing.Any:
+    def goes_on(line: str, name: str, indent: int) -> bool:
         """The line is still the definition's: it stands further in, is an equation of the name, or
         closes a record.
         """
@@ -118,7 +124,7 @@ class Module:
         return deep > indent or (deep == indent and bool(equation))
 
 
-def declared_lines(crate: typing.Any, parts: typing.Any) -> typing.Any:
+def declared_lines(crate: str, parts: list[str]) -> tuple[list[str], list[list[str]]]:
     """The text of a type that is declared in src/, and the types of the same file that it names."""
     name = parts[-1]
     base = os.path.join(CRATES, crate, "src", *parts[:-1])
@@ -157,24 +163,26 @@ def declared_lines(crate: typing.Any, parts: typing.Any) -> typing.Any:
 class Path:
     """All that some names come to: `found` by key, and what the kit has of it."""
 
-    modules: typing.Dict[typing.Any, typing.Any] = {}
+    modules: dict[ModuleKey, Module] = {}
 
-    def __init__(self, roots: typing.Any, left_out: typing.Any = ()) -> None:
-        self.found: typing.Dict[typing.Any, typing.Any]
-        self.kit: typing.Set[typing.Any]
-        self.missing: typing.Set[typing.Any]
-        self.found, self.kit, self.missing, self.left_out = {}, set(), set(), set(left_out)
+    def __init__(
+        self, roots: typing.Iterable[Key], left_out: typing.Iterable[ModuleKey] = ()
+    ) -> None:
+        self.found: dict[Key, Definition] = {}
+        self.kit: set[Key] = set()
+        self.missing: set[tuple[str, ...]] = set()
+        self.left_out = set(left_out)
         self.waiting = list(roots)
         while self.waiting:
             self.visit(*self.waiting.pop())
 
     @classmethod
-    def module(cls, crate: typing.Any, name: typing.Any) -> typing.Any:
+    def module(cls, crate: str, name: str) -> Module:
         if (crate, name) not in cls.modules:
             cls.modules[crate, name] = Module(crate, name)
         return cls.modules[crate, name]
 
-    def visit(self, crate: typing.Any, module: typing.Any, name: typing.Any) -> None:
+    def visit(self, crate: str, module: str, name: str) -> None:
         if (crate, module) in self.left_out:
             return
         if not os.path.isdir(os.path.join(CRATES, crate)):
@@ -184,7 +192,7 @@ class Path:
         else:
             self.visit_definition(crate, module, name)
 
-    def visit_declared(self, crate: typing.Any, parts: typing.Any) -> None:
+    def visit_declared(self, crate: str, parts: list[str]) -> None:
         key = (crate, "declared", parts[-1])
         if key in self.found:
             return
@@ -195,7 +203,7 @@ class Path:
         self.found[key] = Definition(key, text)
         self.waiting.extend((crate, "declared." + ".".join(n), n[-1]) for n in near)
 
-    def visit_definition(self, crate: typing.Any, module: typing.Any, name: typing.Any) -> None:
+    def visit_definition(self, crate: str, module: str, name: str) -> None:
         here = self.module(crate, module)
         name = here.cases.get(name, name)
         if (crate, module, name) in self.found:
@@ -211,7 +219,7 @@ class Path:
             if w != name and (w in here.uses or w in here.definitions or w in here.cases)
         )
 
-    def lines(self, crate: typing.Any = None) -> typing.Any:
+    def lines(self, crate: typing.Optional[str] = None) -> int:
         """Returns the number of lines of these definitions, or of those of one crate."""
         found = {key: d for key, d in self.found.items() if crate in (None, key[0])}
         over = {(key[:2], line) for key, d in found.items() for line in d.over}
@@ -219,8 +227,8 @@ class Path:
 
 
 def fields_of(
-    crate: typing.Any, module: typing.Any, name: typing.Any
-) -> typing.Iterator[typing.Any]:
+    crate: str, module: str, name: str
+) -> typing.Iterator[tuple[str, list[Key]]]:
     """The fields of a record, and the names in the type of each, as roots of a path."""
     here = Path.module(crate, module)
     for line in here.definitions[name].lines:

@@ -16,9 +16,12 @@ import zipfile
 HERE = pathlib.Path(__file__).resolve().parent.parent
 PACKAGE = "district_audit"
 STAMP = (1980, 1, 1, 0, 0, 0)
+Files = typing.Mapping[str, typing.Union[str, bytes]]
+# What a front end passes to a hook; nothing here reads it.
+Settings = typing.Optional[typing.Mapping[str, object]]
 
 
-def section(name: typing.Any) -> typing.Dict[typing.Any, typing.Any]:
+def section(name: str) -> dict[str, str]:
     """The lines `key = value` of a section of pyproject.toml; Python reads TOML by itself only
     since 3.11.
     """
@@ -27,7 +30,7 @@ def section(name: typing.Any) -> typing.Dict[typing.Any, typing.Any]:
     return dict(re.findall(r"^([\w-]+) = (.*)$", found[1], re.MULTILINE)) if found else {}
 
 
-def texts(value: typing.Any) -> typing.Any:
+def texts(value: str) -> list[str]:
     """The texts in quotes of a value."""
     return re.findall(r'"([^"]*)"', value)
 
@@ -59,7 +62,7 @@ def entry_points() -> str:
     )
 
 
-def about() -> typing.Dict[typing.Any, typing.Any]:
+def about() -> dict[str, str]:
     """The files that say what a wheel is."""
     return {
         INFO + "/METADATA": metadata(),
@@ -68,7 +71,7 @@ def about() -> typing.Dict[typing.Any, typing.Any]:
     }
 
 
-def sources() -> typing.Dict[typing.Any, typing.Any]:
+def sources() -> dict[str, bytes]:
     """The files of the package, by their paths."""
     found = sorted(
         path
@@ -78,7 +81,7 @@ def sources() -> typing.Dict[typing.Any, typing.Any]:
     return {f"{PACKAGE}/{path.name}": path.read_bytes() for path in found}
 
 
-def wheel(folder: typing.Any, files: typing.Any) -> typing.Any:
+def wheel(folder: str, files: Files) -> str:
     """Writes a wheel, and answers its name."""
     name, record = NAME + "-py3-none-any.whl", []
     with zipfile.ZipFile(pathlib.Path(folder) / name, "w", zipfile.ZIP_DEFLATED) as archive:
@@ -93,7 +96,7 @@ def wheel(folder: typing.Any, files: typing.Any) -> typing.Any:
     return name
 
 
-def entry(path: typing.Any) -> typing.Any:
+def entry(path: str) -> zipfile.ZipInfo:
     one = zipfile.ZipInfo(path, STAMP)
     one.external_attr = 0o100644 << 16
     one.compress_type = zipfile.ZIP_DEFLATED
@@ -103,37 +106,37 @@ def entry(path: typing.Any) -> typing.Any:
 # ---- the hooks
 
 
-def get_requires_for_build_wheel(config_settings: typing.Any = None) -> typing.List[typing.Any]:
+def get_requires_for_build_wheel(config_settings: Settings = None) -> list[str]:
     return []
 
 
-def get_requires_for_build_sdist(config_settings: typing.Any = None) -> typing.List[typing.Any]:
+def get_requires_for_build_sdist(config_settings: Settings = None) -> list[str]:
     return []
 
 
-def get_requires_for_build_editable(config_settings: typing.Any = None) -> typing.List[typing.Any]:
+def get_requires_for_build_editable(config_settings: Settings = None) -> list[str]:
     return []
 
 
 def build_wheel(
-    wheel_directory: typing.Any,
-    config_settings: typing.Any = None,
-    metadata_directory: typing.Any = None,
-) -> typing.Any:
+    wheel_directory: str,
+    config_settings: Settings = None,
+    metadata_directory: typing.Optional[str] = None,
+) -> str:
     return wheel(wheel_directory, {**sources(), **about()})
 
 
 def build_editable(
-    wheel_directory: typing.Any,
-    config_settings: typing.Any = None,
-    metadata_directory: typing.Any = None,
-) -> typing.Any:
+    wheel_directory: str,
+    config_settings: Settings = None,
+    metadata_directory: typing.Optional[str] = None,
+) -> str:
     return wheel(wheel_directory, {PACKAGE + "_here.pth": f"{HERE}\n", **about()})
 
 
-def build_sdist(sdist_directory: typing.Any, config_settings: typing.Any = None) -> typing.Any:
+def build_sdist(sdist_directory: str, config_settings: Settings = None) -> str:
     name = f"{NAME}.tar.gz"
-    files: typing.Dict[str, typing.Union[str, bytes]] = {**sources(), "PKG-INFO": metadata()}
+    files: dict[str, typing.Union[str, bytes]] = {**sources(), "PKG-INFO": metadata()}
     for path in ("pyproject.toml", "README.md", "backend/in_tree.py"):
         files[path] = (HERE / path).read_bytes()
     with tarfile.open(
