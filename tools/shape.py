@@ -16,20 +16,23 @@ What is counted: crates, functions and the entries of dependencies; parameters (
 of proofs/ that stand below a comment; and the calls on the shortest way from the top call to the
 flip, by names as they stand in the text. A limit have: crates, those calls, types of one name,
 functions that are named by a participle, functions of more than 40 lines, files of more than 500,
-lines of code over 120 columns (clauses and texts are left out), and lemmas that nothing cites.
-Tests are left out. The counts read the text with patterns, and not as the prover does.
+lines of code over 120 columns (clauses and texts are left out), lemmas that nothing cites, and
+uses of the type `Any` in Python. Tests are left out, but not those in Python. The counts read the
+text with patterns, and not as the prover does.
 """
 import argparse
+import dataclasses
 import os
 import re
 import statistics
 import subprocess
 import sys
+import tokenize
 import typing
 from collections import defaultdict, deque
 
 from tests.checks import Checks
-from tools import uncited
+from tools import lint, uncited
 
 TOP = os.path.normpath(os.path.join(os.path.dirname(os.path.abspath(__file__)), ".."))
 BESIDE = ("httparse", "indexmap")
@@ -45,6 +48,7 @@ LIMITS = {
     "files_of_more_than_500_lines": 0,
     "lines_over_120_columns": 0,
     "lemmas_that_nothing_cites": 0,
+    "uses_of_any": 0,
 }
 # Functions of more than 40 lines with one `match`, whose arms are one row of a table each.
 TABLES = {"argument_text"}
@@ -60,7 +64,7 @@ PARTICLES = {"after", "again", "all", "at", "back", "by", "in", "of", "once", "u
 FIXED = {"done", "ended", "moved", "saved"}
 
 
-def files(folder: typing.Any, ending: typing.Any) -> typing.Iterator[typing.Any]:
+def files(folder: str, ending: str) -> typing.Iterator[tuple[str, str]]:
     for where, folders, names in os.walk(folder):
         folders[:] = [name for name in folders if name != "out"]
         for name in sorted(names):
@@ -69,7 +73,7 @@ def files(folder: typing.Any, ending: typing.Any) -> typing.Iterator[typing.Any]
                     yield os.path.join(where, name), file.read()
 
 
-def closing(text: typing.Any, at: typing.Any) -> typing.Any:
+def closing(text: str, at: int) -> int:
     """The place after the bracket that closes the one at this place."""
     pairs = {"(": ")", "{": "}", "[": "]"}
     depth = 0
@@ -83,7 +87,7 @@ def closing(text: typing.Any, at: typing.Any) -> typing.Any:
     return len(text)
 
 
-def parts_of(text: typing.Any) -> typing.Any:
+def parts_of(text: str) -> int:
     """Returns the number of parameters between these brackets."""
     depth, parts, some = 0, 0, False
     for k, c in enumerate(text):
@@ -98,24 +102,21 @@ def parts_of(text: typing.Any) -> typing.Any:
     return parts + some
 
 
+@dataclasses.dataclass(frozen=True)
 class Function:
-    def __init__(
-        self,
-        name: typing.Any,
-        file: typing.Any,
-        parameters: typing.Any,
-        requires: typing.Any,
-        body: typing.Any,
-    ) -> None:
-        self.name, self.file, self.parameters, self.requires, self.body = (
-            name, file, parameters, requires, body,
-        )
+    """A function with a body: how many parameters and `requires` it has, and its text."""
 
-    def lines(self) -> typing.Any:
+    name: str
+    file: str
+    parameters: int
+    requires: int
+    body: str
+
+    def lines(self) -> int:
         return max(0, len([line for line in self.body.splitlines() if line.strip()]) - 2)
 
 
-def functions(folder: typing.Any) -> typing.Iterator[typing.Any]:
+def functions(folder: str) -> typing.Iterator[Function]:
     """The functions with a body below a folder, without tests."""
     for file, text in files(folder, ".rt"):
         text = re.sub(r"//[^\n]*", "", text)
@@ -146,11 +147,11 @@ def functions(folder: typing.Any) -> typing.Iterator[typing.Any]:
                 at = closing(text, brace)
 
 
-def definitions(folder: typing.Any) -> typing.Any:
+def definitions(folder: str) -> dict[str, set[str]]:
     """Each name that stands at the left edge, or within a module's arguments, of a module of
     specs/.
     """
-    found = defaultdict(set)
+    found: dict[str, set[str]] = defaultdict(set)
     for file, text in files(folder, ".antt"):
         if "/specs/" not in file or file.endswith("Lib.antt"):
             continue
@@ -163,7 +164,7 @@ def definitions(folder: typing.Any) -> typing.Any:
     return found
 
 
-def lemmas(folder: typing.Any) -> typing.Any:
+def lemmas(folder: str) -> tuple[int, int]:
     """Returns the number of lemmas, and of those below a comment."""
     all_of_them, told = 0, 0
     for file, text in files(folder, ".antt"):
@@ -183,26 +184,38 @@ def lemmas(folder: typing.Any) -> typing.Any:
     return all_of_them, told
 
 
-def entries() -> typing.Any:
+def entries() -> tuple[int, int]:
     with open(os.path.join(TOP, "crates.txt"), encoding="utf-8") as file:
         lines = [line.split("#")[0] for line in file if ":" in line.split("#")[0]]
     return len(lines), sum(len(line.split(":", 1)[1].split()) for line in lines)
 
 
-def crate_of(file: typing.Any) -> typing.Any:
+def crate_of(file: str) -> str:
     return os.path.relpath(file, os.path.join(TOP, "crates")).split(os.sep)[0]
 
 
-def stands_on() -> typing.Dict[typing.Any, typing.Any]:
+def stands_on() -> dict[str, set[str]]:
     with open(os.path.join(TOP, "crates.txt"), encoding="utf-8") as file:
         lines = [line.split("#")[0] for line in file if ":" in line.split("#")[0]]
     return {line.split()[0].rstrip(":"): set(line.split(":", 1)[1].split()) for line in lines}
 
 
+@dataclasses.dataclass(frozen=True)
+class Shape:
+    """The functions below a folder, those of many parameters, the names of definitions that stand
+    in two modules or more, and the rows of the table.
+    """
+
+    found: list[Function]
+    many: list[Function]
+    double: dict[str, set[str]]
+    rows: dict[str, object]
+
+
 Call = typing.Tuple[str, str]
 
 
-def brought_into(text: str) -> typing.Dict[str, str]:
+def brought_into(text: str) -> dict[str, str]:
     """Returns the crate of each name that a file brings in."""
     brought = {}
     for path, names in re.findall(r"^use ([\w:]+)::(?:\{([^}]*)\}|\w+);", text, re.M | re.S):
@@ -213,17 +226,17 @@ def brought_into(text: str) -> typing.Dict[str, str]:
     return brought
 
 
-def calls_among(found: typing.Any) -> typing.Dict[Call, typing.Set[Call]]:
+def calls_among(found: list[Function]) -> dict[Call, set[Call]]:
     """Returns the calls of each function, each by its crate and its name.
 
     A call without a dot is of the same crate, or of the crate from which the file brings the name
     in; one with a dot is of the same crate, or of one on which it stands.
     """
-    homes: typing.Dict[str, typing.Set[str]] = defaultdict(set)
+    homes: dict[str, set[str]] = defaultdict(set)
     below = stands_on()
     for f in found:
         homes[f.name].add(crate_of(f.file))
-    calls: typing.Dict[Call, typing.Set[Call]] = defaultdict(set)
+    calls: dict[Call, set[Call]] = defaultdict(set)
     for f in found:
         crate = crate_of(f.file)
         with open(f.file, encoding="utf-8") as file:
@@ -239,15 +252,15 @@ def calls_among(found: typing.Any) -> typing.Dict[Call, typing.Set[Call]]:
     return calls
 
 
-def way(found: typing.Any, start: Call, end: Call) -> typing.List[Call]:
+def way(found: list[Function], start: Call, end: Call) -> list[Call]:
     """Returns the calls on the shortest way from one function to another."""
     calls = calls_among(found)
-    before: typing.Dict[Call, typing.Optional[Call]] = {start: None}
+    before: dict[Call, typing.Optional[Call]] = {start: None}
     left = deque([start])
     while left:
         at = left.popleft()
         if at == end:
-            path: typing.List[Call] = []
+            path: list[Call] = []
             step: typing.Optional[Call] = at
             while step is not None:
                 path.append(step)
@@ -260,13 +273,13 @@ def way(found: typing.Any, start: Call, end: Call) -> typing.List[Call]:
     return []
 
 
-def counts(folder: typing.Any) -> typing.Any:
+def counts(folder: str) -> Shape:
     found = list(functions(folder))
     many = [f for f in found if f.parameters > 6]
     double = {name: where for name, where in definitions(folder).items() if len(where) > 1}
     all_of_them, told = lemmas(folder)
     lines = sorted(f.lines() for f in found) or [0]
-    return (
+    return Shape(
         found,
         many,
         double,
@@ -292,19 +305,21 @@ def is_participle(name: str) -> bool:
     return first in PARTICIPLES or first.endswith("ed")
 
 
-def types_of_one_name(folder: str) -> typing.List[str]:
+def types_of_one_name(folder: str) -> list[str]:
     """Returns each type name that two files declare."""
-    found: typing.Dict[str, typing.Set[str]] = defaultdict(set)
+    found: dict[str, set[str]] = defaultdict(set)
     for file, text in files(folder, ".rt"):
         for name in re.findall(r"^(?:pub(?:\([a-z]+\))? )?(?:struct|enum|trait) (\w+)", text, re.M):
             found[name].add(os.path.relpath(file, folder))
     return [f"{name}: {', '.join(sorted(at))}" for name, at in sorted(found.items()) if len(at) > 1]
 
 
+# A type in quotes, such as that of a cast, which names `Any`.
+QUOTED = re.compile(r"^[\"'][^\n]*\btyping\.Any\b")
 CLAUSE = re.compile(r"^\s*(?:ensures|requires|ghost)\b[^{;]*\{.*?\}$", re.M | re.S)
 
 
-def wide_lines(folder: str) -> typing.List[str]:
+def wide_lines(folder: str) -> list[str]:
     """Returns the places of lines of code over 120 columns, without clauses and texts."""
     found = []
     for file, text in files(folder, ".rt"):
@@ -317,7 +332,19 @@ def wide_lines(folder: str) -> typing.List[str]:
     return found
 
 
-def above_limit(folder: str) -> typing.Dict[str, typing.List[str]]:
+def uses_of_any() -> list[str]:
+    """Returns the place of each name `Any` in the Python files, also of one in a quoted type."""
+    found = []
+    for path in lint.python_files(*lint.FOLDERS):
+        with open(os.path.join(TOP, path), "rb") as file:
+            for token in tokenize.tokenize(file.readline):
+                is_name = token.type == tokenize.NAME and token.string == "Any"
+                if is_name or token.type == tokenize.STRING and QUOTED.search(token.string):
+                    found.append(f"{path}:{token.start[0]}")
+    return found
+
+
+def above_limit(folder: str) -> dict[str, list[str]]:
     """Returns what each count with a limit counts."""
     own = list(functions(folder))
     return {
@@ -339,6 +366,7 @@ def above_limit(folder: str) -> typing.Dict[str, typing.List[str]]:
         ],
         "lines_over_120_columns": wide_lines(folder),
         "lemmas_that_nothing_cites": [f"{name} in {path}" for path, name in uncited.uncited()],
+        "uses_of_any": uses_of_any(),
     }
 
 
@@ -353,7 +381,7 @@ def check() -> int:
     return checks.finish()
 
 
-def toolchain(name: typing.Any) -> typing.Any:
+def toolchain(name: str) -> typing.Optional[str]:
     try:
         guide = subprocess.run(
             ["rt", "doc"], capture_output=True, text=True, check=True
@@ -364,18 +392,19 @@ def toolchain(name: typing.Any) -> typing.Any:
     return folder if os.path.isdir(folder) else None
 
 
-def main(words: typing.Any) -> None:
-    own, many, double, rows = counts(os.path.join(TOP, "crates"))
+def main(words: argparse.Namespace) -> None:
+    shape = counts(os.path.join(TOP, "crates"))
     crates, depends = entries()
-    path = way(own, ("audit_run", "audit"), ("flip_kernel", "flip"))
+    path = way(shape.found, ("audit_run", "audit"), ("flip_kernel", "flip"))
     table = {
         "crates": crates,
         "entries of dependencies": depends,
-        "functions by crate": f"{len(own) / crates:.1f}",
-        **rows,
+        "functions by crate": f"{len(shape.found) / crates:.1f}",
+        **shape.rows,
         "calls from `audit` to the flip": len(path),
     }
-    others = {name: counts(folder)[3] for name in BESIDE for folder in [toolchain(name)] if folder}
+    folders = {name: toolchain(name) for name in BESIDE}
+    others = {name: counts(folder).rows for name, folder in folders.items() if folder}
     print("| | this repository | " + " | ".join(f"`{name}`" for name in others) + " |")
     print("| --- " * (2 + len(others)) + "|")
     for row, value in table.items():
@@ -385,10 +414,10 @@ def main(words: typing.Any) -> None:
             + " |"
         )
     if words.many:
-        for f in sorted(many, key=lambda f: -int(f.parameters)):
+        for f in sorted(shape.many, key=lambda f: -f.parameters):
             print(f.parameters, f.name, os.path.relpath(f.file, TOP))
     if words.double:
-        for name, where in sorted(double.items()):
+        for name, where in sorted(shape.double.items()):
             print(name, ", ".join(sorted(where)))
     if words.counts:
         for name, counted in above_limit(os.path.join(TOP, "crates")).items():
