@@ -17,7 +17,8 @@ import typing
 from .errors import TypeRefused, ValueRefused
 from .graphs import is_whole
 
-Words = typing.Mapping[str, typing.Any]
+# The arguments of a call by their names: each has a type of its own, which `tested` looks at.
+Words = typing.Mapping[str, object]
 Call = typing.TypeVar("Call", bound=typing.Callable[..., object])
 
 MAPS, WALKS = ("check", "run", "plans", "trace"), ("run", "make", "plans", "trace")
@@ -37,7 +38,7 @@ class AsPrepared:
         return "AS_PREPARED"
 
 
-AS_PREPARED: typing.Any = AsPrepared()
+AS_PREPARED = AsPrepared()
 # Columns of a prepared graph that a call goes without where it says None.
 LEFT_BY_NONE = ("region", "group", "group_of", "freeze", "length")
 # Rules that `prepare` only looks at, each with the column that it needs.
@@ -611,7 +612,7 @@ def test_names(
 # ---- what stands in place of other arguments
 
 
-def plain_words(command: str, given: Words) -> dict[str, typing.Any]:
+def plain_words(command: str, given: Words) -> dict[str, object]:
     """Returns the arguments that were given, with the names that the program has.
 
     `population`, `tolerance` and `scores` become `pop`, `slack` and `ask`.
@@ -886,6 +887,17 @@ def number(named: Words, name: str) -> int | None:
     return int(typing.cast(int, value)) if is_whole(value) else None
 
 
+def count_in(named: Words, name: str) -> int:
+    """Returns a count that is given or by default, of arguments that were tested."""
+    return int(typing.cast(int, named.get(name, TABLE[name].default)))
+
+
+def text_in(named: Words, name: str) -> str | None:
+    """Returns the name of a column, of arguments that were tested; None where none is named."""
+    value = named.get(name)
+    return str(value) if value else None
+
+
 def flag(named: Words, name: str) -> bool:
     return named.get(name) in (True, "yes")
 
@@ -1017,8 +1029,9 @@ def group_share_beside(named: Words) -> Why:
 
 
 def ask_beside(named: Words) -> Why:
-    asks = named.get("ask", ())
-    asks = asks.split(",") if isinstance(asks, str) else asks
+    given = named.get("ask", ())
+    listed = given.split(",") if isinstance(given, str) else given
+    asks = typing.cast(typing.Sequence[object], listed)
     if named.get("length") or not any(str(ask).startswith("cut-length:") for ask in asks):
         return None
     return (

@@ -16,12 +16,16 @@ from .arguments import (
     LEFT_BY_NONE,
     RULES,
     TABLE,
+    AsPrepared,
+    Words,
+    count_in,
     documented,
     plain_words,
     refuse,
     shown_by,
     tested,
     tested_elections,
+    text_in,
 )
 from .districts import Plan, plan_of
 from .elections import ElectionReports, folder_of, left_in
@@ -38,7 +42,8 @@ from .errors import (
     WorkLeft,
     error_of,
 )
-from .preparing import Prepared, prepare
+from .graphs import Foreign
+from .preparing import Preparation, Prepared, prepare
 from .program import Ended, PathLike, call, found
 from .report import Audited, PlanCheck, Report, Rules, in_batch
 from .results import PlanReports
@@ -68,9 +73,9 @@ class Given:
 
     data: bytes
     words: list[str]
-    named: dict[str, typing.Any]
+    named: dict[str, object]
     """The words by their names."""
-    rules: dict[str, typing.Any] = dataclasses.field(default_factory=dict)
+    rules: Preparation = dataclasses.field(default_factory=lambda: Preparation())
     """The arguments of `prepare`."""
     table: str = ""
     """The table of plans, where there is one."""
@@ -78,29 +83,31 @@ class Given:
     @property
     def audited(self) -> Audited:
         """The graph and its preparation, as a report keeps them."""
-        columns = {name: self.named[name] for name in COLUMNS if self.named.get(name)}
-        rules = {name: value for name, value in self.rules.items() if name != "assignment"}
+        columns = {name: str(self.named[name]) for name in COLUMNS if self.named.get(name)}
+        rules = self.rules.copy()
+        rules.pop("assignment", None)
         return Audited(hashlib.sha256(self.data).hexdigest(), columns, rules)
 
 
-def words_in(arguments: typing.Mapping[str, typing.Any]) -> dict[str, typing.Any]:
+def words_in(arguments: Words) -> dict[str, object]:
     """Returns the words among the arguments of a call, and what is unknown behind them."""
     words = {
         name: value
         for name, value in arguments.items()
         if name not in NO_WORDS and value is not AS_PREPARED
     }
-    return {**words, **arguments["unknown"]}
+    return {**words, **typing.cast(Words, arguments["unknown"])}
 
 
-def given(command: str, graph: object, words: typing.Mapping[str, object]) -> Given:
+def given(command: str, graph: object, words: Words) -> Given:
     """Returns the bytes and the words of a call, after all arguments were tested.
 
     A graph's object, and whatever comes with an assignment or a rule, is prepared. Bytes, a path
     and what `prepare` answered go to the program as they are.
     """
     named = plain_words(command, words)
-    rules = {name: named.pop(name) for name in PREPARING if name in named}
+    taken = {name: named.pop(name) for name in PREPARING if name in named}
+    rules = typing.cast(Preparation, taken)
     if "assignment" in rules and "district" in named:
         raise PrepareRefused(
             "district and assignment are both given: each says in which districts the units are"
@@ -122,13 +129,13 @@ def given(command: str, graph: object, words: typing.Mapping[str, object]) -> Gi
         data = bytes_of_graph(graph)
         test_labels_of(data, named)
     else:
-        ready = ready_of(graph, named, rules)
-        data = ready.data
-        named.update(ready.columns)
+        prepared = prepared_for(graph, named, rules)
+        data = prepared.data
+        named.update(prepared.columns)
     return Given(data, words_of(command, named), named, rules)
 
 
-def columns_left(graph: Prepared, words: typing.Mapping[str, object]) -> dict[str, str]:
+def columns_left(graph: Prepared, words: Words) -> dict[str, str]:
     """Returns the columns of a prepared graph without those that are None in a call."""
     none = {name for name in LEFT_BY_NONE if name in words and words[name] is None}
     if "group" in none:
@@ -139,8 +146,8 @@ def columns_left(graph: Prepared, words: typing.Mapping[str, object]) -> dict[st
 def test_rules(
     command: str,
     graph: Prepared,
-    words: typing.Mapping[str, object],
-    named: typing.Mapping[str, object],
+    words: Words,
+    named: Words,
 ) -> None:
     """Refuses a call that would drop a rule which `prepare` was given.
 
@@ -167,7 +174,7 @@ def is_default(name: str, value: object) -> bool:
     return row is not None and isinstance(value, type(row.default)) and value == row.default
 
 
-def bytes_of_graph(graph: typing.Any) -> bytes:
+def bytes_of_graph(graph: PathLike | bytes | bytearray | memoryview) -> bytes:
     """Returns the bytes of a graph that is a path or bytes."""
     if isinstance(graph, str) and graph.lstrip()[:1] == "{":
         raise PrepareRefused(
@@ -179,24 +186,30 @@ def bytes_of_graph(graph: typing.Any) -> bytes:
     return bytes(graph)
 
 
-def ready_of(
-    graph: object, named: typing.Mapping[str, typing.Any], rules: typing.Mapping[str, typing.Any]
-) -> Prepared:
+def prepared_for(graph: object, named: Words, rules: Preparation) -> Prepared:
     """Prepares a graph for a call, and warns of values that are others then."""
     try:
-        columns = {"population": named["pop"], "first": named["first"], "second": named["second"]}
+        population, first, second = (str(named[name]) for name in ("pop", "first", "second"))
     except KeyError as name:
         raise TypeError(f"the column {name} is missing") from None
-    others = ("group", "group_of", "freeze", "length")
-    group = {name: named[name] for name in others if named.get(name)}
-    ready = prepare(
-        graph, **columns, district=named.get("district"), region=named.get("region") or None,
-        **group, **rules,
+    prepared = prepare(
+        graph,
+        population=population,
+        first=first,
+        second=second,
+        district=str(named["district"]) if "district" in named else None,
+        region=text_in(named, "region"),
+        group=text_in(named, "group"),
+        group_of=text_in(named, "group_of"),
+        freeze=text_in(named, "freeze"),
+        length=text_in(named, "length"),
+        **rules,
     )
-    changed = [str(change) for change in ready.changes if change.is_of_values] + ready.warnings
+    of_values = [str(change) for change in prepared.changes if change.is_of_values]
+    changed = of_values + prepared.warnings
     if changed:
         warnings.warn(GraphChanged("\n".join(changed)), stacklevel=4)
-    return ready
+    return prepared
 
 
 def raised(ended: Ended, asked: Given) -> Exception:
@@ -267,20 +280,20 @@ def check(
     second: str | None = None,
     district: str | None = None,
     assignment: object = None,
-    slack: int | None = AS_PREPARED,
+    slack: int | AsPrepared | None = AS_PREPARED,
     tolerance: float | None = None,
     max_cut: int = 400_000,
-    region: str | None = AS_PREPARED,
-    max_split: int | None = AS_PREPARED,
-    max_splits: int | None = AS_PREPARED,
-    max_split_regions: int | None = AS_PREPARED,
-    group: str | None = AS_PREPARED,
-    group_of: str | None = AS_PREPARED,
-    group_districts: int | None = AS_PREPARED,
-    group_share: int | None = AS_PREPARED,
-    freeze: str | None = AS_PREPARED,
-    length: str | None = AS_PREPARED,
-    max_length: int | None = AS_PREPARED,
+    region: str | AsPrepared | None = AS_PREPARED,
+    max_split: int | AsPrepared | None = AS_PREPARED,
+    max_splits: int | AsPrepared | None = AS_PREPARED,
+    max_split_regions: int | AsPrepared | None = AS_PREPARED,
+    group: str | AsPrepared | None = AS_PREPARED,
+    group_of: str | AsPrepared | None = AS_PREPARED,
+    group_districts: int | AsPrepared | None = AS_PREPARED,
+    group_share: int | AsPrepared | None = AS_PREPARED,
+    freeze: str | AsPrepared | None = AS_PREPARED,
+    length: str | AsPrepared | None = AS_PREPARED,
+    max_length: int | AsPrepared | None = AS_PREPARED,
     source: bool = False,
     numbers: str | None = None,
     missing: str | None = None,
@@ -332,9 +345,9 @@ def check(
     raise error
 
 
-def rules_of(plan: Plan, named: typing.Mapping[str, typing.Any]) -> Rules:
+def rules_of(plan: Plan, named: Words) -> Rules:
     """Returns the rules of a plan that the program refused."""
-    slack, count = int(named.get("slack", 500)), 10_000 * max(len(plan.districts), 1)
+    slack, count = count_in(named, "slack"), 10_000 * max(len(plan.districts), 1)
     people = sum(one.population for one in plan.districts)
     return Rules(slack, -(-(10_000 - slack) * people // count), (10_000 + slack) * people // count)
 
@@ -343,12 +356,12 @@ def rules_of(plan: Plan, named: typing.Mapping[str, typing.Any]) -> Rules:
 
 
 @typing.overload
-def run(graph: object, *, elections: None = None, **words: typing.Any) -> Report:
+def run(graph: object, *, elections: None = None, **words: Foreign) -> Report:
     ...
 
 
 @typing.overload
-def run(graph: object, *, elections: Elections, **words: typing.Any) -> ElectionReports:
+def run(graph: object, *, elections: Elections, **words: Foreign) -> ElectionReports:
     ...
 
 
@@ -372,20 +385,20 @@ def run(
     stop: int = 0,
     serial: bool = False,
     shift: bool = False,
-    slack: int | None = AS_PREPARED,
+    slack: int | AsPrepared | None = AS_PREPARED,
     tolerance: float | None = None,
     max_cut: int = 400_000,
-    region: str | None = AS_PREPARED,
-    max_split: int | None = AS_PREPARED,
-    max_splits: int | None = AS_PREPARED,
-    max_split_regions: int | None = AS_PREPARED,
-    group: str | None = AS_PREPARED,
-    group_of: str | None = AS_PREPARED,
-    group_districts: int | None = AS_PREPARED,
-    group_share: int | None = AS_PREPARED,
-    freeze: str | None = AS_PREPARED,
-    length: str | None = AS_PREPARED,
-    max_length: int | None = AS_PREPARED,
+    region: str | AsPrepared | None = AS_PREPARED,
+    max_split: int | AsPrepared | None = AS_PREPARED,
+    max_splits: int | AsPrepared | None = AS_PREPARED,
+    max_split_regions: int | AsPrepared | None = AS_PREPARED,
+    group: str | AsPrepared | None = AS_PREPARED,
+    group_of: str | AsPrepared | None = AS_PREPARED,
+    group_districts: int | AsPrepared | None = AS_PREPARED,
+    group_share: int | AsPrepared | None = AS_PREPARED,
+    freeze: str | AsPrepared | None = AS_PREPARED,
+    length: str | AsPrepared | None = AS_PREPARED,
+    max_length: int | AsPrepared | None = AS_PREPARED,
     source: bool = False,
     workers: int = 1,
     save: int = 0,
@@ -558,7 +571,7 @@ def watch_of(
     """Returns the progress display of a run."""
     total = total_of(asked)
     if kind == "steps" and asked.data:
-        steps = int(asked.named.get("steps" if walks_of(asked) else "hub_steps", 1000))
+        steps = count_in(asked.named, "steps" if walks_of(asked) else "hub_steps")
         words = words_of("trace", trace_words(asked.named, steps))
         return bars.StepClock(total, steps, [found("audit", program), *words], asked.data)
     if not saves:
@@ -573,15 +586,15 @@ def watch_of(
 
 def walks_of(asked: Given) -> int:
     """Returns the number of outlier walks of a run."""
-    return int(asked.named.get("walks", 1))
+    return count_in(asked.named, "walks")
 
 
 def total_of(asked: Given) -> int:
     """Returns the number of trajectories of a run."""
-    return walks_of(asked) + int(asked.named.get("ends", 0))
+    return walks_of(asked) + count_in(asked.named, "ends")
 
 
-def trace_words(named: typing.Mapping[str, typing.Any], steps: int) -> dict[str, typing.Any]:
+def trace_words(named: Words, steps: int) -> dict[str, object]:
     """Returns the words of a trace of a run's first trajectory, at a hundred of its steps."""
     there = {name for name, row in TABLE.items() if "trace" in row.commands}
     return {**{name: named[name] for name in named if name in there}, "thin": max(1, steps // 100)}
@@ -594,7 +607,7 @@ class Job:
         self.asked, self.place, self.saves, self.resumes = asked, place, saves, resumes
         self.slots = checkpoints.slots_in(place) if saves or resumes else []
         self.before = checkpoints.read_record(place) if saves or resumes else None
-        self.record: dict[str, typing.Any] = {}
+        self.record: checkpoints.Record | None = None
 
     def begin(self) -> None:
         """Keeps the arguments of a run that saves, so that they are there if it is killed."""
@@ -649,7 +662,7 @@ class Job:
         """Names the arguments in which another job differs, as far as they were kept."""
         if not error.line.startswith("checkpoint: other job"):
             return error
-        if self.before is None:
+        if self.before is None or self.record is None:
             said = f"no arguments of that job are kept in {str(self.place.absolute())!r}"
             return CheckpointRefused(error.line, said)
         differs = checkpoints.differences(self.before, self.record)
@@ -683,20 +696,20 @@ def plans(
     stop: int = 0,
     serial: bool = False,
     shift: bool = False,
-    slack: int | None = AS_PREPARED,
+    slack: int | AsPrepared | None = AS_PREPARED,
     tolerance: float | None = None,
     max_cut: int = 400_000,
-    region: str | None = AS_PREPARED,
-    max_split: int | None = AS_PREPARED,
-    max_splits: int | None = AS_PREPARED,
-    max_split_regions: int | None = AS_PREPARED,
-    group: str | None = AS_PREPARED,
-    group_of: str | None = AS_PREPARED,
-    group_districts: int | None = AS_PREPARED,
-    group_share: int | None = AS_PREPARED,
-    freeze: str | None = AS_PREPARED,
-    length: str | None = AS_PREPARED,
-    max_length: int | None = AS_PREPARED,
+    region: str | AsPrepared | None = AS_PREPARED,
+    max_split: int | AsPrepared | None = AS_PREPARED,
+    max_splits: int | AsPrepared | None = AS_PREPARED,
+    max_split_regions: int | AsPrepared | None = AS_PREPARED,
+    group: str | AsPrepared | None = AS_PREPARED,
+    group_of: str | AsPrepared | None = AS_PREPARED,
+    group_districts: int | AsPrepared | None = AS_PREPARED,
+    group_share: int | AsPrepared | None = AS_PREPARED,
+    freeze: str | AsPrepared | None = AS_PREPARED,
+    length: str | AsPrepared | None = AS_PREPARED,
+    max_length: int | AsPrepared | None = AS_PREPARED,
     source: bool = False,
     workers: int = 1,
     numbers: str | None = None,

@@ -13,7 +13,7 @@ import os
 import pathlib
 import typing
 
-from .arguments import TABLE
+from .arguments import TABLE, Words
 from .graphs import in_order, plain
 from .progress import Look
 
@@ -45,6 +45,17 @@ NO_JOB = frozenset(
         "length",
     )
 )
+
+
+class Record(typing.TypedDict):
+    """What is kept of a job beside its checkpoints."""
+
+    words: list[str]
+    job: dict[str, str]
+    """The arguments that belong to the job, by their names."""
+    graph: dict[str, str]
+    """Digests of the parts of the graph, by what they are."""
+    sha256: str
 
 
 @dataclasses.dataclass(frozen=True)
@@ -105,7 +116,7 @@ def digest_of(values: object) -> str:
     return hashlib.sha256(json.dumps(values).encode()).hexdigest()
 
 
-def aspects_of(data: bytes, named: typing.Mapping[str, typing.Any]) -> dict[str, str]:
+def aspects_of(data: bytes, named: Words) -> dict[str, str]:
     """Returns digests of what the graph gives to a job, by name; {} where it is unreadable."""
     try:
         root = json.loads(data.decode("utf-8"))
@@ -148,11 +159,11 @@ def aspects_of(data: bytes, named: typing.Mapping[str, typing.Any]) -> dict[str,
 
 
 def record_of(
-    command: str, data: bytes, named: typing.Mapping[str, typing.Any], words: typing.Sequence[str]
-) -> dict[str, typing.Any]:
+    command: str, data: bytes, named: Words, words: typing.Sequence[str]
+) -> Record:
     """Returns what is kept of a job beside its checkpoints."""
     given = dict(zip(words[1::2], words[2::2]))
-    job = {}
+    job: dict[str, str] = {}
     for name, row in TABLE.items():
         if command in row.commands and name not in NO_JOB:
             value = given.get(row.word, row.default)
@@ -167,17 +178,17 @@ def record_of(
     }
 
 
-def read_record(folder: pathlib.Path) -> dict[str, typing.Any] | None:
+def read_record(folder: pathlib.Path) -> Record | None:
     """Returns what is kept in a folder; None where nothing readable is."""
     try:
         found = json.loads((folder / RECORD).read_text(encoding="utf-8"))
         is_good = isinstance(found["job"], dict) and isinstance(found["graph"], dict)
     except (OSError, ValueError, KeyError, TypeError):
         return None
-    return typing.cast("dict[str, typing.Any]", found) if is_good else None
+    return typing.cast(Record, found) if is_good else None
 
 
-def write_record(folder: pathlib.Path, record: typing.Mapping[str, object] | None) -> None:
+def write_record(folder: pathlib.Path, record: Record | None) -> None:
     """Keeps a record in a folder, or takes it away. A folder that takes no file stays without."""
     path = folder / RECORD
     part = path.with_suffix(".part")
@@ -191,9 +202,7 @@ def write_record(folder: pathlib.Path, record: typing.Mapping[str, object] | Non
         pass
 
 
-def differences(
-    before: typing.Mapping[str, typing.Any], now: typing.Mapping[str, typing.Any]
-) -> list[str]:
+def differences(before: Record, now: Record) -> list[str]:
     """Returns a text for each argument, or part of the graph, in which two jobs differ."""
     found = []
     for name in dict.fromkeys((*before["job"], *now["job"])):

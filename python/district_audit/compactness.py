@@ -10,7 +10,7 @@ import math
 import typing
 
 from .errors import extra
-from .graphs import as_json
+from .graphs import Foreign, as_json
 
 if typing.TYPE_CHECKING:
     from .trace_plan import Plan, UnitTable
@@ -20,14 +20,21 @@ Point = typing.Tuple[float, float]
 Circle = typing.Tuple[float, float, float]
 
 
+class Geometries(typing.Protocol):
+    """A mapping from the graph's node ids to polygons, or a column of a GeoDataFrame."""
+
+    def items(self) -> typing.Iterable[tuple[Foreign, Foreign]]:
+        """Returns the pairs of id and polygon."""
+
+
 class Shapes:
     """The units' polygons, with what compactness needs of them."""
 
-    def __init__(self, geometries: typing.Any) -> None:
+    def __init__(self, geometries: Geometries) -> None:
         """Takes a mapping from the graph's node ids to shapely polygons, as the column `geometry`
         of a GeoDataFrame whose index are the ids. MissingExtra where shapely is not installed."""
         extra("shapely")
-        self.by_unit: dict[typing.Any, typing.Any] = dict(geometries.items())
+        self.by_unit: dict[object, Foreign] = dict(geometries.items())
         self.measures: Measures | None = None
 
     def of(self, plan: Plan) -> Measures:
@@ -40,7 +47,7 @@ class Shapes:
 class Measures:
     """Areas, perimeters, shared boundaries and hulls of the units of a trace."""
 
-    def __init__(self, table: UnitTable, by_unit: typing.Mapping[typing.Any, typing.Any]) -> None:
+    def __init__(self, table: UnitTable, by_unit: typing.Mapping[object, Foreign]) -> None:
         self.table = table
         missing = [unit for unit in self.table.ids if unit not in by_unit]
         if missing:
@@ -76,7 +83,7 @@ class Members:
         self.known = {key: value for key, value in self.known.items() if key[1] not in (old, new)}
 
 
-def hull_points(shape: typing.Any) -> list[Point]:
+def hull_points(shape: Foreign) -> list[Point]:
     """Returns the corners of a shape's convex hull."""
     hull = shape.convex_hull
     line = hull.exterior if hull.geom_type == "Polygon" else hull
@@ -84,7 +91,7 @@ def hull_points(shape: typing.Any) -> list[Point]:
 
 
 def by_district(sample: Sample, shapes: Shapes, name: str,
-                compute: typing.Callable[[Measures, set[int]], float]) -> dict[typing.Any, float]:
+                compute: typing.Callable[[Measures, set[int]], float]) -> dict[Foreign, float]:
     """Returns a number of each district by its label, computed anew where a district changed."""
     plan = sample.plan
     measures = shapes.of(plan)
@@ -97,7 +104,7 @@ def by_district(sample: Sample, shapes: Shapes, name: str,
             for district, label in enumerate(plan.table.labels)}
 
 
-def polsby_popper(sample: Sample, shapes: Shapes) -> dict[typing.Any, float]:
+def polsby_popper(sample: Sample, shapes: Shapes) -> dict[Foreign, float]:
     """Returns the Polsby-Popper score of each district, by its label: 4 pi A/P^2.
 
     A is the district's area and P its perimeter, 1 for a circle and less for all else. P is the
@@ -118,7 +125,7 @@ def polsby_popper_of(measures: Measures, units: set[int]) -> float:
     return 4 * math.pi * area / perimeter ** 2
 
 
-def reock(sample: Sample, shapes: Shapes) -> dict[typing.Any, float]:
+def reock(sample: Sample, shapes: Shapes) -> dict[Foreign, float]:
     """Returns the Reock score of each district, by its label: its area over that of the least
     circle around it.
 

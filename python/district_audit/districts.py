@@ -10,12 +10,13 @@ import json
 import typing
 from fractions import Fraction
 
+from .arguments import Words, count_in, text_in
 from .decimals import round_down
 from .errors import PrepareRefused
-from .graphs import Label
+from .graphs import Label, Row
 from .judging import Judged, parts_of
 from .lengths import Lengths, lengths_of
-from .preparing import MOST_CUT_LENGTH, Choices
+from .preparing import Choices
 
 
 @dataclasses.dataclass(frozen=True)
@@ -66,7 +67,7 @@ class Plan(typing.NamedTuple):
 class Table(typing.NamedTuple):
     """A graph that the program reads, as it stands in its JSON."""
 
-    rows: dict[Label, dict[str, typing.Any]]
+    rows: dict[Label, Row]
     neighbors: dict[Label, list[Label]]
     lengths: Lengths | None = None
     """The lengths of the edges; None where no column of them is named."""
@@ -99,31 +100,31 @@ def table_of(data: bytes, length: str | None = None) -> Table | None:
     )
 
 
-def plan_of(data: bytes, named: typing.Mapping[str, typing.Any]) -> Plan | None:
+def plan_of(data: bytes, named: Words) -> Plan | None:
     """Returns the districts and the faults of a plan; None where the graph itself is refused.
 
     `named` has the columns and the limits by the program's words.
     """
-    table = table_of(data, named.get("length") or None)
+    table = table_of(data, text_in(named, "length"))
     if table is None or not table.rows:
         return None
     choices = Choices(
-        named["pop"],
-        named["first"],
-        named["second"],
-        named["district"],
-        region=named.get("region") or None,
-        slack=int(named.get("slack", 500)),
-        max_split=int(named.get("max_split", 200)),
-        max_splits=int(named.get("max_splits", 995_000)),
-        max_split_regions=int(named.get("max_split_regions", 5000)),
-        group=named.get("group") or None,
-        group_of=named.get("group_of") or None,
-        group_districts=int(named.get("group_districts", 0)),
-        group_share=int(named.get("group_share", 5000)),
+        str(named["pop"]),
+        str(named["first"]),
+        str(named["second"]),
+        str(named["district"]),
+        region=text_in(named, "region"),
+        slack=count_in(named, "slack"),
+        max_split=count_in(named, "max_split"),
+        max_splits=count_in(named, "max_splits"),
+        max_split_regions=count_in(named, "max_split_regions"),
+        group=text_in(named, "group"),
+        group_of=text_in(named, "group_of"),
+        group_districts=count_in(named, "group_districts"),
+        group_share=count_in(named, "group_share"),
         show_all=True,
-        length=named.get("length") or None,
-        max_length=int(named.get("max_length", MOST_CUT_LENGTH)),
+        length=text_in(named, "length"),
+        max_length=count_in(named, "max_length"),
     )
     try:
         judged = Judged(table.rows, table.neighbors, choices, table.lengths)
@@ -131,7 +132,7 @@ def plan_of(data: bytes, named: typing.Mapping[str, typing.Any]) -> Plan | None:
         faults = list(judged.refusals)
         if not any(row[choices.first] + row[choices.second] for row in table.rows.values()):
             faults.append("no votes: both parties have none in any unit")
-        if cut > int(named.get("max_cut", 400_000)):
+        if cut > count_in(named, "max_cut"):
             faults.append(f"{cut} cut edges, more than {named['max_cut']}")
         edges = sum(map(len, table.neighbors.values())) // 2
         return Plan(

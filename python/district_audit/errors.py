@@ -3,6 +3,7 @@
 from __future__ import annotations
 
 import importlib
+import types
 import typing
 
 if typing.TYPE_CHECKING:
@@ -23,7 +24,7 @@ class AuditError(Exception):
         super().__init__(f"{line} ({labels})" if labels else line)
         self.line, self.labels = line, labels
 
-    def __reduce__(self) -> tuple[typing.Any, ...]:
+    def __reduce__(self) -> tuple[object, ...]:
         return type(self), (self.line, self.labels), self.__dict__
 
 
@@ -53,7 +54,7 @@ class ArgumentRefused(WordsRefused):
         self.argument, self.given, self.allowed, self.hint = argument, given, allowed, hint
         self.line = line
 
-    def __reduce__(self) -> tuple[typing.Any, ...]:
+    def __reduce__(self) -> tuple[object, ...]:
         return type(self), (
             str(self), self.argument, self.given, self.allowed, self.hint, self.line,
         )
@@ -162,7 +163,7 @@ class ProgramFailed(Exception):
         super().__init__(f"the program ended with status {status}: {line or 'it said nothing'}")
         self.status, self.line = status, line
 
-    def __reduce__(self) -> tuple[typing.Any, ...]:
+    def __reduce__(self) -> tuple[object, ...]:
         return type(self), (self.status, self.line)
 
 
@@ -190,7 +191,7 @@ class MissingExtra(ImportError):
             name=module,
         )
 
-    def __reduce__(self) -> tuple[typing.Any, ...]:
+    def __reduce__(self) -> tuple[object, ...]:
         return type(self), (self.name,)
 
 
@@ -205,7 +206,7 @@ EXTRAS = {
 }
 
 
-def extra(module: str) -> typing.Any:
+def extra(module: str) -> types.ModuleType:
     """An optional module; MissingExtra where it cannot be imported."""
     try:
         return importlib.import_module(module)
@@ -223,7 +224,7 @@ class Interrupted(KeyboardInterrupt):
         super().__init__(said)
         self.done, self.total, self.folder = done, total, folder
 
-    def __reduce__(self) -> tuple[typing.Any, ...]:
+    def __reduce__(self) -> tuple[object, ...]:
         return type(self), (str(self), self.done, self.total, self.folder)
 
 
@@ -237,7 +238,7 @@ class ReportRefused(ValueError):
         super().__init__(f"line {number}: {why}")
         self.number, self.why = number, why
 
-    def __reduce__(self) -> tuple[typing.Any, ...]:
+    def __reduce__(self) -> tuple[object, ...]:
         return type(self), (self.number, self.why)
 
 

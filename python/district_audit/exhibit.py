@@ -76,13 +76,26 @@ def write(path: PathLike, plans: Named, options: Options) -> None:
         file.write(data)
 
 
-def exhibit_plans(path: PathLike, plans: Named, **options: typing.Any) -> None:
+def exhibit_plans(
+    path: PathLike,
+    plans: Named,
+    *,
+    title: str = Options.title,
+    parties: tuple[str, str] | None = None,
+    graph: object = None,
+    columns: Columns | None = None,
+    command: str | None = None,
+    notes: typing.Sequence[str] = (),
+    epsilon: Number | None = None,
+    alpha: Number | None = None,
+) -> None:
     """Writes one page on several plans: what `district_audit.plans` returns, names and reports.
 
     The options are those of `Report.exhibit`. The district table is of the graph's own plan, the
     first. ValueError if the reports are not of one call, or are those of several elections.
     """
-    write(path, plans, Options(**options))
+    options = Options(title, parties, graph, columns, command, notes, epsilon, alpha)
+    write(path, plans, options)
 
 
 def page(plans: Named, options: Options) -> str:

@@ -8,7 +8,7 @@ import typing
 from .errors import PrepareRefused
 from .graphs import Label, Raw, in_order, is_whole, plain, raw_of
 from .lengths import lengths_of
-from .preparing import Prepared, flag_of, prepare
+from .preparing import Preparation, Prepared, flag_of, prepare
 from .report import HALF_SHARE, Report
 
 BILLION = 1_000_000_000
@@ -117,7 +117,7 @@ def data_of(report: Report, graph: object, columns: Columns) -> bytes:
     if isinstance(graph, (str, os.PathLike)):
         with open(graph, "rb") as file:
             return file.read()
-    rules = {} if report.audited is None else report.audited.rules
+    rules: Preparation = {} if report.audited is None else report.audited.rules
     try:
         return prepare(
             graph,

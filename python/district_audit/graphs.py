@@ -14,14 +14,34 @@ from .errors import PrepareRefused, extra
 
 SHOWN = 10
 
+# The package uses `Any` in these two lines alone: for a value of parsed JSON, whose type depends on
+# its place, and for what comes from the user or from a library without types, such as an argument
+# as it is passed, an id or a label of the graph, a frame, or a polygon.
+Json = typing.Any
+Foreign = typing.Any
+# A unit's columns, as the program reads them.
+Row = typing.Dict[str, Json]
+
 Label = typing.Union[int, str]
 Pair = typing.Tuple[object, object]
+# The attributes of a unit, its id among them, before anything of them is changed.
+Node = typing.Dict[str, object]
+
+
+class GraphLike(typing.Protocol):
+    """What is read of a graph of networkx or GerryChain."""
+
+    def nodes(self, data: bool) -> typing.Iterable[tuple[object, typing.Mapping[str, object]]]:
+        """Returns each unit's id and attributes."""
+
+    def adjacency(self) -> typing.Iterable[tuple[object, typing.Iterable[object]]]:
+        """Returns each unit's id and its neighbors, as a mapping to attributes or as ids alone."""
 
 
 class Raw(typing.NamedTuple):
     """A graph before anything of it is changed."""
 
-    nodes: list[dict[str, object]]
+    nodes: list[Node]
     """The attributes of each unit, its id among them, as `id`."""
     pairs: list[Pair]
     """The ids that are neighbours, as they stand in the graph."""
@@ -69,14 +89,14 @@ def raw_of(graph: object) -> Raw:
     if isinstance(graph, dict):
         return of_root(graph, "the graph")
     if hasattr(graph, "nodes") and hasattr(graph, "adjacency"):
-        return of_object(graph)
+        return of_object(typing.cast(GraphLike, graph))
     raise PrepareRefused(
         "a graph is an object with nodes(data=True) and adjacency(), a path, or bytes, and this is"
         f" {type(graph).__name__}"
     )
 
 
-def of_object(graph: typing.Any) -> Raw:
+def of_object(graph: GraphLike) -> Raw:
     """An object of networkx or of GerryChain."""
     nodes = [{**attributes, "id": node} for node, attributes in graph.nodes(data=True)]
     edges = [
@@ -93,7 +113,7 @@ def of_object(graph: typing.Any) -> Raw:
 
 
 def attributes_of(
-    graph: typing.Any, others: typing.Any, other: object
+    graph: GraphLike, others: typing.Iterable[object], other: object
 ) -> list[typing.Mapping[str, object]]:
     """The attributes of each edge to a neighbor: of several in a multigraph, of none in a graph
     whose adjacency lists ids alone.
@@ -150,7 +170,7 @@ def of_root(root: object, name: str) -> Raw:
 
 
 def edges_of(
-    root: dict[str, typing.Any], nodes: list[dict[str, object]]
+    root: dict[str, Json], nodes: list[Node]
 ) -> typing.Iterator[tuple[Pair, typing.Mapping[str, object]]]:
     """The ids of each edge, and its attributes."""
     if isinstance(root.get("adjacency"), list):

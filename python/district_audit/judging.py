@@ -8,7 +8,7 @@ import functools
 import typing
 
 from .decimals import percent_down
-from .graphs import SHOWN, Label, as_json, in_order, shown
+from .graphs import SHOWN, Label, Row, as_json, in_order, shown
 from .report import HALF_SHARE
 
 if typing.TYPE_CHECKING:
@@ -41,7 +41,7 @@ class Judged:
 
     def __init__(
         self,
-        rows: dict[Label, dict[str, typing.Any]],
+        rows: dict[Label, Row],
         neighbours: dict[Label, list[Label]],
         choices: Choices,
         lengths: Lengths | None = None,

@@ -20,6 +20,7 @@ import typing
 from .arguments import ONE_ELECTION, refuse
 from .calls import given, walked
 from .errors import ProgramMissing, ReportRefused, TypeRefused
+from .graphs import Json
 from .program import PathLike, found
 from .report import Report
 
@@ -102,7 +103,7 @@ class Manifest:
         return cls.of_values(value)
 
     @classmethod
-    def of_values(cls, value: dict[str, typing.Any]) -> Manifest:
+    def of_values(cls, value: dict[str, Json]) -> Manifest:
         """Returns the manifest with these values. Raises ManifestRefused."""
         command = value["command"]
         is_text = isinstance(command, list) and all(isinstance(word, str) for word in command)
@@ -154,7 +155,7 @@ def audit_to_file(
     progress: bool = False,
     program: PathLike | None = None,
     slots: PathLike | None = None,
-    **words: typing.Any,
+    **words: object,
 ) -> Report:
     """Audits a plan as `run` does, and writes its report and a manifest beside it.
 

@@ -11,7 +11,7 @@ import typing
 from decimal import Decimal
 from fractions import Fraction
 
-from .graphs import is_missing
+from .graphs import Foreign, is_missing
 from .report import TAILS, bound_of, rounded_up
 
 
@@ -54,7 +54,7 @@ class RankTest:
         return f"{self.tail} rank {self.rank} of {self.of} p {self.p}"
 
 
-def count_tail(values: typing.Iterable[typing.Any], tail: str) -> tuple[int, int]:
+def count_tail(values: typing.Iterable[Foreign], tail: str) -> tuple[int, int]:
     """Returns how many values are at most (`low`) or at least (`high`) the first, and how many
     there are. ValueError for another tail, a missing value, or fewer than two values. TypeError
     for texts, which compare by their letters, and for a mapping or a table in place of values."""
@@ -63,7 +63,7 @@ def count_tail(values: typing.Iterable[typing.Any], tail: str) -> tuple[int, int
     if isinstance(values, (str, bytes, typing.Mapping)) or hasattr(values, "columns"):
         raise TypeError(f"values is a sequence of numbers, and not a {type(values).__name__}: of a "
                         "table give one column")
-    first: typing.Any = None
+    first: Foreign = None
     count = total = 0
     for place, value in enumerate(values):
         if is_missing(value) or value != value:
@@ -81,7 +81,7 @@ def count_tail(values: typing.Iterable[typing.Any], tail: str) -> tuple[int, int
     return count, total
 
 
-def outlier_test(values: typing.Iterable[typing.Any], tail: str) -> OutlierTest:
+def outlier_test(values: typing.Iterable[Foreign], tail: str) -> OutlierTest:
     """Applies the outlier theorem of Chikina, Frieze and Pegden to the values of one walk.
 
     Parameters
@@ -122,7 +122,7 @@ def outlier_test(values: typing.Iterable[typing.Any], tail: str) -> OutlierTest:
     return OutlierTest(tail, count, total, bound_of(count, total))
 
 
-def rank_test(values: typing.Iterable[typing.Any], tail: str) -> RankTest:
+def rank_test(values: typing.Iterable[Foreign], tail: str) -> RankTest:
     """Applies the parallel test of Besag and Clifford to the values of endpoint plans.
 
     Parameters

@@ -17,6 +17,7 @@ from .arguments import (
     OTHERS,
     RULES,
     TABLE,
+    count_in,
     documented,
     plain_words,
     test_count,
@@ -25,9 +26,12 @@ from .arguments import (
 )
 from .errors import PrepareRefused, TypeRefused
 from .graphs import (
+    Foreign,
     Label,
+    Node,
     Pair,
     Raw,
+    Row,
     as_json,
     as_text,
     hashable,
@@ -41,6 +45,18 @@ from .graphs import (
 from .values import alike_in, faults_in, kind_of, repeated, why_no_label
 
 MOST_BYTES, MOST_VALUE, MOST_CUT_LENGTH = 67_108_864, 1_000_000_000, TABLE["max_length"].most
+
+
+class Preparation(typing.TypedDict, total=False):
+    """The arguments of `prepare` that the program does not have."""
+
+    numbers: str
+    missing: str
+    join: typing.Sequence[Pair]
+    keep: typing.Sequence[str]
+    fill_region: Label | None
+    own_region: bool
+    assignment: object
 
 
 @dataclasses.dataclass
@@ -168,7 +184,7 @@ class Prepared:
     rules: dict[str, int] = dataclasses.field(default_factory=dict)
     """The slack and the limits that are not the default. A call that leaves one out is refused."""
 
-    def __iter__(self) -> typing.Iterator[typing.Any]:
+    def __iter__(self) -> typing.Iterator[Foreign]:
         return iter((self.data, self.changes))
 
     def __repr__(self) -> str:
@@ -260,9 +276,8 @@ def prepare(
     if max_length != MOST_CUT_LENGTH and not length:
         raise PrepareRefused("max_length is given, and no length is")
     said = plain_words("prepare", {"slack": slack, "tolerance": tolerance})
-    slack = said.get("slack", 500)
     for name, count in (
-        ("slack", slack), ("max_split", max_split), ("max_splits", max_splits),
+        ("slack", said.get("slack", 500)), ("max_split", max_split), ("max_splits", max_splits),
         ("max_split_regions", max_split_regions), ("group_districts", group_districts),
         ("group_share", group_share), ("max_length", max_length),
     ):
@@ -287,7 +302,7 @@ def prepare(
         keep,
         fill_region,
         own_region,
-        int(slack or 0),
+        count_in(said, "slack"),
         max_split,
         max_splits,
         max_split_regions,
@@ -366,7 +381,7 @@ def free_name(taken: typing.Collection[str | None]) -> str:
 # ---- columns
 
 
-def asked_for(nodes: list[dict[str, typing.Any]], choices: Choices) -> None:
+def asked_for(nodes: list[Node], choices: Choices) -> None:
     """Refuses a column that no unit has, or has a value in: most likely its name is misspelt."""
     frozen = [choices.freeze] if choices.freeze else []
     for column in (*choices.counted, *choices.labelled, *choices.keep, *frozen):
@@ -379,11 +394,9 @@ def asked_for(nodes: list[dict[str, typing.Any]], choices: Choices) -> None:
             )
 
 
-def with_assignment(
-    nodes: list[dict[str, typing.Any]], choices: Choices
-) -> list[dict[str, typing.Any]]:
+def with_assignment(nodes: list[Node], choices: Choices) -> list[Node]:
     """The units with the districts of an assignment."""
-    given: typing.Any = choices.assignment
+    given: Foreign = choices.assignment
     if given is None:
         return nodes
     while not hasattr(given, "items") and hasattr(given, "assignment"):
@@ -426,7 +439,7 @@ def test_units(pairs: typing.Sequence[tuple[object, object]]) -> None:
         raise PrepareRefused(f"{len(faults)} units of the assignment are refused", faults)
 
 
-def hint_of_kind(left: typing.Iterable[object], nodes: list[dict[str, typing.Any]]) -> str:
+def hint_of_kind(left: typing.Iterable[object], nodes: list[Node]) -> str:
     """Says which kinds the ids have, where they would be the same as texts."""
     by_text = {as_text(node["id"]): node["id"] for node in nodes if not is_missing(node.get("id"))}
     for one in left:
@@ -500,14 +513,14 @@ class Rows:
         changes: Changes,
     ) -> None:
         self.choices, self.labels_of, self.changes = choices, labels_of, changes
-        self.rows: dict[Label, dict[str, typing.Any]] = {}
+        self.rows: dict[Label, Row] = {}
         self.faults: list[str] = []
         # The values before they were made whole, for each column of numbers that had any.
         self.before: dict[str, dict[Label, Fraction]] = {column: {} for column in choices.counted}
 
-    def take(self, name: Label, node: dict[str, typing.Any]) -> None:
+    def take(self, name: Label, node: Node) -> None:
         """Takes one unit in, or leaves it out, or notes why its values are refused."""
-        row: dict[str, typing.Any] = {}
+        row: Row = {}
         stays = [self.count(name, node, column, row) for column in self.choices.counted]
         stays += [self.label(name, node, column, row) for column in self.choices.labelled]
         if self.choices.freeze:
@@ -518,7 +531,7 @@ class Rows:
         if all(stays):
             self.rows[name] = row
 
-    def flag(self, name: Label, value: object, column: str, row: dict[str, typing.Any]) -> None:
+    def flag(self, name: Label, value: object, column: str, row: Row) -> None:
         """Writes whether a unit is frozen: true, false or a whole number."""
         if is_missing(value):
             self.faults.append(f"unit {as_json(name)}: {column} is missing")
@@ -532,7 +545,7 @@ class Rows:
             return
         row[column] = plain
 
-    def kept(self, name: Label, value: object, column: str, row: dict[str, typing.Any]) -> None:
+    def kept(self, name: Label, value: object, column: str, row: Row) -> None:
         """Writes a value that is kept and not audited; a missing one as null, which is a change."""
         if is_missing(value):
             row[column] = None
@@ -552,9 +565,7 @@ class Rows:
         self.changes.add(f"units left out, for a missing {column}", name, is_of_values=True)
         return False
 
-    def count(
-        self, name: Label, node: dict[str, typing.Any], column: str, row: dict[str, typing.Any]
-    ) -> bool:
+    def count(self, name: Label, node: Node, column: str, row: Row) -> bool:
         """Writes a number of people, of votes or of a group. Whether the unit stays."""
         value = node.get(column)
         if is_missing(value):
@@ -580,9 +591,7 @@ class Rows:
             )
         return True
 
-    def label(
-        self, name: Label, node: dict[str, typing.Any], column: str, row: dict[str, typing.Any]
-    ) -> bool:
+    def label(self, name: Label, node: Node, column: str, row: Row) -> bool:
         """Writes a district or a region. Whether the unit stays."""
         choices, value = self.choices, node.get(column)
         is_region = column == choices.region
@@ -617,7 +626,7 @@ class Rows:
 
 def suspicions(
     choices: Choices,
-    rows: dict[Label, dict[str, typing.Any]],
+    rows: dict[Label, Row],
     before: dict[str, dict[Label, Fraction]],
 ) -> list[str]:
     """Warnings of columns that are no counts of heads, and of what was lost where fractions were
@@ -674,12 +683,13 @@ def suspicions(
 
 def neighbours_of(
     pairs: typing.Sequence[tuple[Label, Label]],
-    rows: dict[Label, typing.Any],
+    rows: typing.Iterable[Label],
     names: typing.Sequence[Label],
     changes: Changes,
 ) -> dict[Label, set[Label]]:
     """For each unit that stays its neighbours."""
-    known, found = set(names), {unit: set() for unit in rows}  # type: ignore[var-annotated]
+    known = set(names)
+    found: dict[Label, set[Label]] = {unit: set() for unit in rows}
     for one, other in pairs:
         for end in (one, other):
             if end not in known:
@@ -759,7 +769,7 @@ def names_of(raw: Raw, changes: Changes) -> tuple[list[Label], typing.Callable[[
 
 
 def labels_in(
-    nodes: list[dict[str, typing.Any]], choices: Choices, changes: Changes
+    nodes: list[Node], choices: Choices, changes: Changes
 ) -> dict[str, typing.Callable[[object], Label]]:
     """How the labels of each column come from those of the graph."""
     found = {}
@@ -787,7 +797,7 @@ def labels_in(
 
 
 def is_mixed_by_choice(
-    nodes: list[dict[str, typing.Any]], column: str, there: list[object], choices: Choices
+    nodes: list[Node], column: str, there: list[object], choices: Choices
 ) -> bool:
     """Returns whether a region for units that have none is of another kind than the others."""
     if column != choices.region or len(there) == len(nodes):
@@ -798,7 +808,7 @@ def is_mixed_by_choice(
 
 
 def faults_of_labels(
-    names: list[Label], nodes: list[dict[str, typing.Any]], choices: Choices
+    names: list[Label], nodes: list[Node], choices: Choices
 ) -> list[str]:
     """A line for each unit whose district or region is unusable, or would be mistaken for another.
     """
@@ -908,7 +918,7 @@ def suspicions_of_lengths(column: str | None, found: lengths.Lengths | None) -> 
 
 
 def data_of(
-    rows: dict[Label, dict[str, typing.Any]],
+    rows: dict[Label, Row],
     neighbours: dict[Label, list[Label]],
     length: str | None = None,
     found: lengths.Lengths | None = None,

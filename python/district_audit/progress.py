@@ -62,12 +62,24 @@ class PlainBar:
             self.stream.flush()
 
 
+class Ticker(typing.Protocol):
+    """What is used of a bar of tqdm."""
+
+    n: int
+
+    def refresh(self) -> object:
+        """Draws the bar."""
+
+    def close(self) -> object:
+        """Leaves the bar as it is."""
+
+
 class TqdmBar:
     """A bar by tqdm, which also draws in notebooks."""
 
-    def __init__(self, tqdm: typing.Any) -> None:
+    def __init__(self, tqdm: typing.Callable[..., Ticker]) -> None:
         self.tqdm = tqdm
-        self.bar: typing.Any = None
+        self.bar: Ticker | None = None
 
     def show(self, done: int, total: int) -> None:
         if self.bar is None:

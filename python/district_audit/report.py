@@ -29,6 +29,7 @@ if typing.TYPE_CHECKING:
     import pandas
 
     from .districts import District, Plan
+    from .preparing import Preparation
 
     PathLike = typing.Union[str, "os.PathLike[str]"]
 
@@ -188,7 +189,7 @@ class Audited:
     """The 64 hexadecimal digits of the SHA-256 of the graph's bytes."""
     columns: typing.Mapping[str, str]
     """The names of the columns, by the words pop, first, second, district and so on."""
-    rules: typing.Mapping[str, typing.Any]
+    rules: Preparation
     """The arguments of `prepare`, except an assignment."""
 
     def is_of(self, data: bytes) -> bool:

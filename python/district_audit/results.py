@@ -12,6 +12,7 @@ if typing.TYPE_CHECKING:
     import pandas
 
 Pair = typing.Tuple[str, Report]
+Kind = typing.TypeVar("Kind", bound="NamedReports")
 
 
 class NamedReports(typing.List[Pair]):
@@ -25,14 +26,29 @@ class NamedReports(typing.List[Pair]):
         """The names, in order."""
         return [name for name, _ in self]
 
-    def __getitem__(self, name: typing.Any) -> typing.Any:
+    @typing.overload
+    def __getitem__(self, name: typing.SupportsIndex) -> Pair:
+        ...
+
+    @typing.overload
+    def __getitem__(self: Kind, name: slice) -> Kind:
+        ...
+
+    @typing.overload
+    def __getitem__(self, name: str) -> Report:
+        ...
+
+    def __getitem__(
+        self: Kind, name: typing.SupportsIndex | slice | str
+    ) -> Pair | Kind | Report:
         """Returns the report of a name, or the pair in a place, as of a list.
 
         KeyError where there is no report of this name, or several.
         """
+        if isinstance(name, slice):
+            return type(self)(super().__getitem__(name))
         if not isinstance(name, str):
-            found = super().__getitem__(name)
-            return type(self)(found) if isinstance(name, slice) else found
+            return super().__getitem__(name)
         reports = [report for other, report in self if other == name]
         if len(reports) != 1:
             many = "several have this name" if reports else "none has this name"

@@ -17,6 +17,7 @@ from fractions import Fraction
 from .report import BILLION
 
 if typing.TYPE_CHECKING:
+    from .graphs import Foreign
     from .traces import Sample
 
 Election = typing.Union[str, typing.Tuple[str, str], None]
@@ -40,7 +41,7 @@ def share(first: int, second: int) -> Fraction:
     return Fraction(first, first + second) if first + second else HALF
 
 
-def vote_shares(sample: Sample, election: Election = None) -> dict[typing.Any, Fraction]:
+def vote_shares(sample: Sample, election: Election = None) -> dict[Foreign, Fraction]:
     """Returns the first party's share in each district, by the district's label."""
     labels = sample.plan.table.labels
     return {label: share(*both) for label, both in zip(labels, votes(sample, election))}
@@ -178,7 +179,7 @@ def competitive(sample: Sample, margin: Share, election: Election = None) -> int
 
 # ---- groups, regions, edges
 
-def group_shares(sample: Sample, group: str, of: str) -> dict[typing.Any, Fraction | None]:
+def group_shares(sample: Sample, group: str, of: str) -> dict[Foreign, Fraction | None]:
     """Returns the group's part of those in the column `of` in each district, by its label; None
     where nobody is in that column."""
     members, whole = sample.totals(group), sample.totals(of)

@@ -61,7 +61,7 @@ def table_of(table: object, known: Known | None, districts: str) -> bytes:
     return written(plans)
 
 
-def bytes_of(table: typing.Any) -> bytes:
+def bytes_of(table: str | os.PathLike[str] | bytes | bytearray | memoryview) -> bytes:
     """Returns the bytes of a table that is the text, bytes or path of a CSV file."""
     if isinstance(table, str) and "\n" in table:
         return table.encode("utf-8")
@@ -90,7 +90,7 @@ def plans_of_csv(data: bytes) -> list[Named] | None:
     ]
 
 
-def plans_of(table: typing.Any) -> list[Named]:
+def plans_of(table: object) -> list[Named]:
     """Returns the plans of a dict, of a DataFrame, or of what has items() as these have."""
     if not hasattr(table, "items"):
         raise PrepareRefused(
@@ -128,7 +128,7 @@ def test_name(name: object) -> None:
         )
 
 
-def assigned(plan: typing.Any, name: str) -> list[tuple[object, object]]:
+def assigned(plan: object, name: str) -> list[tuple[object, object]]:
     """Returns the pairs of a plan: a dict, a Partition, its assignment, or a column of a frame."""
     while not hasattr(plan, "items") and hasattr(plan, "assignment"):
         plan = plan.assignment

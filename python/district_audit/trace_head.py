@@ -6,7 +6,7 @@ import warnings
 from fractions import Fraction
 
 from . import scores
-from .arguments import TABLE, number, plain_words
+from .arguments import TABLE, Words, number, plain_words
 from .errors import HeadNotCompared
 from .report import HALF_SHARE, MOST_SHARE, Line
 from .words import word_of
@@ -14,7 +14,6 @@ from .words import word_of
 if typing.TYPE_CHECKING:
     from .traces import Sample, Trace
 
-Words = typing.Mapping[str, typing.Any]
 OF_VOTES: dict[str, typing.Callable[[Sample], int | Fraction]] = {
     "seats": scores.seats, "mean-median": scores.mean_median, "gap": scores.efficiency_gap,
 }
@@ -102,7 +101,7 @@ class Head:
         edges = sum(map(len, self.table.neighbors)) // 2
         self.ask_that("the number of edges", self.head.edges, edges)
         if self.has("population", "pop"):
-            people = sum(self.table.column(self.named["pop"]))
+            people = sum(self.table.column(str(self.named["pop"])))
             self.ask_that("the population", self.head.population, people)
 
     def compare_rules(self) -> None:
@@ -114,21 +113,21 @@ class Head:
                 limit = TABLE[name].default if said is None else said
                 self.ask_that(name, limit, number(self.given, name))
         if rules.regions is not None and self.has("regions", "region"):
-            regions = self.table.regions(self.named["region"])
+            regions = self.table.regions(str(self.named["region"]))
             self.ask_that("the number of regions", rules.regions, len(set(regions)))
         if rules.majorities is not None and self.has("majorities", "group"):
             whole = str(self.named.get("group_of") or self.named.get("pop") or "")
             if whole or self.has("majorities", "group_of"):
                 share = HALF_SHARE if rules.group_share is None else rules.group_share
                 part = Fraction(share, MOST_SHARE)
-                own = scores.majorities(self.enacted, self.named["group"], whole, part)
+                own = scores.majorities(self.enacted, str(self.named["group"]), whole, part)
                 self.ask_that("the number of majorities", rules.majorities, own)
         if rules.frozen is not None and self.has("frozen units", "freeze"):
-            frozen = sum(map(bool, self.table.values(self.named["freeze"])))
+            frozen = sum(map(bool, self.table.values(str(self.named["freeze"]))))
             self.ask_that("the number of frozen units", rules.frozen, frozen)
 
         if rules.cut_length is not None and self.has("the length of cut edges", "length"):
-            own = scores.cut_length(self.enacted, self.named["length"])
+            own = scores.cut_length(self.enacted, str(self.named["length"]))
             self.ask_that("the length of cut edges", rules.cut_length, own)
 
     def compare_start(self, ask: Line) -> None:
@@ -138,8 +137,9 @@ class Head:
                           Fraction(scores.cut_edges(self.enacted)))
         elif ask.score == "cut-length":
             if self.has("cut-length", "length"):
+                length = str(self.named["length"])
                 self.ask_that("the enacted plan's cut-length", ask.start.fraction,
-                              Fraction(scores.cut_length(self.enacted, self.named["length"])))
+                              Fraction(scores.cut_length(self.enacted, length)))
         elif all(self.trace.election) or self.has(ask.score, "first", "second"):
             own = OF_VOTES[ask.score](self.enacted)
             self.ask_that(f"the enacted plan's {ask.score}", ask.start.fraction, own)

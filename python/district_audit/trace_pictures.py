@@ -20,11 +20,13 @@ if typing.TYPE_CHECKING:
 # With more different whole numbers than this a histogram has bins of several.
 MOST_BARS = 60
 LINES = ("-", "--", "-.", ":")
+# The id of a trajectory, of any type.
+Walk = typing.TypeVar("Walk")
 # More trajectories than this are all drawn alike, with one entry in the legend.
 MOST_LINES = 4
 
 
-def numbers_of(values: typing.Iterable[typing.Any]) -> list[float]:
+def numbers_of(values: typing.Iterable[typing.SupportsFloat]) -> list[float]:
     """Returns values as floats; ValueError for none at all or a missing one."""
     found = list(values)
     for place, value in enumerate(found):
@@ -58,7 +60,7 @@ def finished(figure: Figure, axes: Axes, title: str, name: str | None) -> Figure
     return figure
 
 
-def bins_of(values: typing.Sequence[float]) -> list[float]:
+def histogram_edges(values: typing.Sequence[float]) -> list[float]:
     """Returns the edges of a histogram's bins: one for each whole number where there are few."""
     low, high = min(values), max(values)
     if all(value == int(value) for value in values) and high - low < MOST_BARS:
@@ -67,7 +69,8 @@ def bins_of(values: typing.Sequence[float]) -> list[float]:
     return [low + width * place for place in range(41)]
 
 
-def histogram(values: typing.Iterable[typing.Any], *, enacted: typing.Any = None,
+def histogram(values: typing.Iterable[typing.SupportsFloat], *,
+              enacted: typing.SupportsFloat | None = None,
               title: str = "", label: str = "score", plans: str = "plans",
               name: str | None = None) -> Figure:
     """Draws a histogram of a score over samples, with the enacted plan marked.
@@ -86,8 +89,8 @@ def histogram(values: typing.Iterable[typing.Any], *, enacted: typing.Any = None
     found = numbers_of(values)
     mark = found[0] if enacted is None else float(enacted)
     figure, axes = new_figure(7, 4)
-    heights, _, _ = axes.hist(found, bins=bins_of([*found, mark]), color="0.85", edgecolor="0.3",
-                              linewidth=0.8)
+    heights, _, _ = axes.hist(found, bins=histogram_edges([*found, mark]), color="0.85",
+                              edgecolor="0.3", linewidth=0.8)
     top = 1.12 * max(heights)
     axes.set_ylim(0, top)
     axes.axvline(mark, color="black", linewidth=2, linestyle="--")
@@ -108,8 +111,8 @@ def histogram(values: typing.Iterable[typing.Any], *, enacted: typing.Any = None
     return finished(figure, axes, title, name)
 
 
-def box_plot(rows: typing.Iterable[typing.Sequence[typing.Any]], *,
-             enacted: typing.Sequence[typing.Any] | None = None, title: str = "",
+def box_plot(rows: typing.Iterable[typing.Sequence[typing.SupportsFloat]], *,
+             enacted: typing.Sequence[typing.SupportsFloat] | None = None, title: str = "",
              label: str = "share of the first party", name: str | None = None) -> Figure:
     """Draws a box for each place of ordered district shares, with the enacted plan's shares.
 
@@ -153,8 +156,8 @@ def box_plot(rows: typing.Iterable[typing.Sequence[typing.Any]], *,
     return finished(figure, axes, title, name)
 
 
-def running(walks: typing.Mapping[typing.Any, typing.Sequence[typing.Tuple[int, typing.Any]]], *,
-            enacted: typing.Any = None, title: str = "", label: str = "score",
+def running(walks: typing.Mapping[Walk, typing.Sequence[tuple[int, typing.SupportsFloat]]], *,
+            enacted: typing.SupportsFloat | None = None, title: str = "", label: str = "score",
             name: str | None = None) -> Figure:
     """Draws a score along the steps of one or more trajectories, with the enacted plan's value.
 

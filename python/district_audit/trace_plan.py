@@ -8,10 +8,21 @@ import numbers
 import typing
 from fractions import Fraction
 
-from .graphs import Label, as_json, as_text, hashable, in_order, is_missing, is_whole, plain, raw_of
+from .arguments import Words
+from .graphs import (
+    Foreign,
+    Label,
+    Row,
+    as_json,
+    as_text,
+    hashable,
+    in_order,
+    is_missing,
+    is_whole,
+    plain,
+    raw_of,
+)
 from .preparing import Prepared
-
-Row = typing.Mapping[str, typing.Any]
 
 
 def whole_number(value: object, rule: str) -> int:
@@ -59,11 +70,11 @@ class UnitTable:
     numbers.
     """
 
-    def __init__(self, data: bytes, graph: object, district: str, rules: Row) -> None:
+    def __init__(self, data: bytes, graph: object, district: str, rules: Words) -> None:
         """`data` is what the program reads, and `graph` what it was made of."""
         root = json.loads(data.decode("utf-8"))
-        self.rows: list[dict[str, typing.Any]] = root["nodes"]
-        self.adjacency: list[list[dict[str, typing.Any]]] = root["adjacency"]
+        self.rows: list[Row] = root["nodes"]
+        self.adjacency: list[list[Row]] = root["adjacency"]
         self.numbers = str(rules.get("numbers") or "error")
         self.missing = str(rules.get("missing") or "error")
         written_ids = [row["id"] for row in self.rows]
@@ -83,7 +94,7 @@ class UnitTable:
         self.around: list[list[int]] | None = None
         self.by_length: dict[str, list[dict[int, int]]] = {}
 
-    def enacted_labels(self, district: str, assignment: typing.Any) -> list[object]:
+    def enacted_labels(self, district: str, assignment: Foreign) -> list[object]:
         """Returns each unit's own district label, from its column or from an assignment."""
         if assignment is None:
             return [row.get(district) for row in self.own_rows]

@@ -15,9 +15,10 @@ from fractions import Fraction
 
 from . import progress as bars
 from . import scores as score_functions
-from .arguments import AS_PREPARED, documented, tested_elections
+from .arguments import AS_PREPARED, AsPrepared, Words, documented, tested_elections
 from .calls import Given, few_moves, given, warn_of_few_moves, words_in
 from .errors import extra
+from .graphs import Foreign
 from .program import PathLike, found
 from .trace_head import compared
 from .trace_plan import Plan, UnitTable, places_of
@@ -28,7 +29,6 @@ if typing.TYPE_CHECKING:
 
     from .words import Ask, Key
 
-Words = typing.Mapping[str, typing.Any]
 Ids = typing.Union[int, str, range, typing.Tuple[int, int]]
 """An id, a text as "0-3", "walks" or "ends", a range, or the first and the last id."""
 Elections = typing.Mapping[str, typing.Tuple[str, str]]
@@ -42,7 +42,7 @@ class StaleSample(RuntimeError):
 
 # ---- samples
 
-class Assignment(typing.Mapping[typing.Any, typing.Any]):
+class Assignment(typing.Mapping[Foreign, Foreign]):
     """A sample's plan: a mapping from the graph's own node ids to the plan's own district labels.
 
     It reads the trace's current plan and copies nothing. `dict(assignment)` copies it.
@@ -54,17 +54,17 @@ class Assignment(typing.Mapping[typing.Any, typing.Any]):
     def __repr__(self) -> str:
         return f"<Assignment of {self.sample!r}>"
 
-    def __getitem__(self, unit: typing.Any) -> typing.Any:
+    def __getitem__(self, unit: Foreign) -> Foreign:
         plan = self.sample.plan
         return plan.table.labels[plan.districts[plan.table.unit_of[unit]]]
 
-    def __iter__(self) -> typing.Iterator[typing.Any]:
+    def __iter__(self) -> typing.Iterator[Foreign]:
         return iter(self.sample.plan.table.ids)
 
     def __len__(self) -> int:
         return len(self.sample.plan.table.ids)
 
-    def items(self) -> typing.ItemsView[typing.Any, typing.Any]:
+    def items(self) -> typing.ItemsView[Foreign, Foreign]:
         """Returns the pairs of id and label, as a view of a copy."""
         plan = self.sample.plan
         labels = plan.table.labels
@@ -117,7 +117,7 @@ class Sample:
         """The district label of each node, as a mapping that copies nothing."""
         return Assignment(self)
 
-    def totals(self, column: str) -> dict[typing.Any, int]:
+    def totals(self, column: str) -> dict[Foreign, int]:
         """Returns the total of a column of people or votes in each district, by its label.
 
         Any column of whole numbers of the graph. KeyError where no unit has it, ValueError with the
@@ -135,7 +135,7 @@ class Sample:
         copied._turn = copied._plan.turn
         return copied
 
-    def partition(self, graph: typing.Any, **more: typing.Any) -> typing.Any:
+    def partition(self, graph: Foreign, **more: object) -> Foreign:
         """Returns a GerryChain Partition of a graph with this plan.
 
         `graph` is a GerryChain Graph with the same nodes, and the other arguments are those of
@@ -179,7 +179,7 @@ class Trace(typing.Iterator[Sample]):
             # The program's own refusal of a graph comes before whatever this finds in it.
             self.head, line = self.text.head()
             self.trajectory = self.text.trajectory(line, self.head, None)
-            self.table = UnitTable(sent.data, graph, sent.named["district"], words)
+            self.table = UnitTable(sent.data, graph, str(sent.named["district"]), words)
             self.election = self.read_columns(sent.named)
             self.length = str(sent.named.get("length", ""))
             self.check(sent.data, ids)
@@ -483,20 +483,20 @@ def trace(
     steps: int = 1000,
     ends: int = 0,
     hub_steps: int = 1000,
-    slack: int | None = AS_PREPARED,
+    slack: int | AsPrepared | None = AS_PREPARED,
     tolerance: float | None = None,
     max_cut: int = 400_000,
-    region: str | None = AS_PREPARED,
-    max_split: int | None = AS_PREPARED,
-    max_splits: int | None = AS_PREPARED,
-    max_split_regions: int | None = AS_PREPARED,
-    group: str | None = AS_PREPARED,
-    group_of: str | None = AS_PREPARED,
-    group_districts: int | None = AS_PREPARED,
-    group_share: int | None = AS_PREPARED,
-    freeze: str | None = AS_PREPARED,
-    length: str | None = AS_PREPARED,
-    max_length: int | None = AS_PREPARED,
+    region: str | AsPrepared | None = AS_PREPARED,
+    max_split: int | AsPrepared | None = AS_PREPARED,
+    max_splits: int | AsPrepared | None = AS_PREPARED,
+    max_split_regions: int | AsPrepared | None = AS_PREPARED,
+    group: str | AsPrepared | None = AS_PREPARED,
+    group_of: str | AsPrepared | None = AS_PREPARED,
+    group_districts: int | AsPrepared | None = AS_PREPARED,
+    group_share: int | AsPrepared | None = AS_PREPARED,
+    freeze: str | AsPrepared | None = AS_PREPARED,
+    length: str | AsPrepared | None = AS_PREPARED,
+    max_length: int | AsPrepared | None = AS_PREPARED,
     source: bool = False,
     last: bool = False,
     progress: bool = False,
@@ -548,14 +548,14 @@ def trace(
     if words["ask"] is None and words["scores"] is None:
         words["ask"] = "cut-edges:low"
     sent = given("trace", graph, words)
-    shown_ids = [int(one) for one in sent.named["ids"].split("-")]
+    shown_ids = [int(one) for one in str(sent.named["ids"]).split("-")]
     return Trace(ProgramLines(found("audit", program), sent), sent, graph, words,
                  ids=(shown_ids[0], shown_ids[-1]), elections=elections, last=last,
                  progress=progress)
 
 
 def with_elections(command: str, words: Words, elections: Elections | None
-                   ) -> dict[str, typing.Any]:
+                   ) -> dict[str, object]:
     """Returns the words, with the columns of the first election where none are named."""
     named = dict(words)
     if elections is not None:
@@ -586,16 +586,16 @@ def read_trace(
     slack: int | None = None,
     tolerance: float | None = None,
     max_cut: int | None = None,
-    region: str | None = AS_PREPARED,
+    region: str | AsPrepared | None = AS_PREPARED,
     max_split: int | None = None,
     max_splits: int | None = None,
     max_split_regions: int | None = None,
-    group: str | None = AS_PREPARED,
-    group_of: str | None = AS_PREPARED,
+    group: str | AsPrepared | None = AS_PREPARED,
+    group_of: str | AsPrepared | None = AS_PREPARED,
     group_districts: int | None = None,
     group_share: int | None = None,
-    freeze: str | None = AS_PREPARED,
-    length: str | None = AS_PREPARED,
+    freeze: str | AsPrepared | None = AS_PREPARED,
+    length: str | AsPrepared | None = AS_PREPARED,
     max_length: int | None = None,
     last: bool = False,
     numbers: str | None = None,

@@ -244,7 +244,7 @@ class Calls(common.ProgramCase):
             [(name, report.walks, report.rules) for name in ("d", "own")],
         )
         self.assertEqual(found[0][1].source, found[1][1].source)
-        self.assertFalse(found[0][1].source.is_of(ready.data))
+        self.assertFalse(anything(found[0][1].source).is_of(ready.data))
 
     def test_frozen_units_and_a_share(self) -> None:
         """All units of a district are frozen: it is the same in each plan of a trace, and a bad
