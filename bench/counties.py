@@ -26,7 +26,7 @@ import typing
 from tests.parsers import measuring
 
 
-Place = typing.Tuple[int, int]
+Place = tuple[int, int]
 
 ROWS, COLUMNS = 50, 60
 WORDS = (

@@ -21,9 +21,9 @@ import typing
 from tests.parsers import measuring
 from bench.cost_table import Run, best_of, once
 
-Place = typing.Tuple[int, int]
+Place = tuple[int, int]
 # The district of each place.
-Plan = typing.Dict[Place, int]
+Plan = dict[Place, int]
 
 ROWS, COLUMNS, DISTRICTS, PLANS = 90, 100, 10, 16
 WORDS = (

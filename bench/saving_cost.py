@@ -24,7 +24,7 @@ import typing
 
 WAYS = ["no saving", "in memory", "on disk"]
 # A number of workers, and one of WAYS.
-Way = typing.Tuple[int, str]
+Way = tuple[int, str]
 # Works for as long as this script does, however that ends.
 BUSY = "import os\nparent = os.getppid()\nwhile os.getppid() == parent: pass"
 

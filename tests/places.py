@@ -23,13 +23,13 @@ PROGRAMS = {
 BUILDS = "building a missing program"
 
 
-def package_environment() -> typing.Dict[str, str]:
+def package_environment() -> dict[str, str]:
     """Returns the environment in which Python finds the package of this checkout."""
     paths = [str(TOP / "python"), os.environ.get("PYTHONPATH", "")]
     return {**os.environ, "PYTHONPATH": os.pathsep.join(path for path in paths if path)}
 
 
-def package_command(name: str, python: str = sys.executable) -> typing.List[str]:
+def package_command(name: str, python: str = sys.executable) -> list[str]:
     """Returns the words that call a command of the package, such as `prepare`."""
     code = f"import sys; from district_audit.commands import {name}; sys.exit({name}())"
     return [python, "-c", code]
@@ -68,7 +68,7 @@ def program(name: str) -> pathlib.Path:
     return path.resolve()
 
 
-def linked(folder: pathlib.Path) -> typing.Tuple[pathlib.Path, pathlib.Path, pathlib.Path]:
+def linked(folder: pathlib.Path) -> tuple[pathlib.Path, pathlib.Path, pathlib.Path]:
     """Returns links in a folder to the program over folders, by each of its names.
 
     It does what the name says under which it is called: `audit_folders`, `audit_slots` and

@@ -26,7 +26,7 @@ BEGIN, END = "<!-- written by tools/gate_table.py -->", "<!-- end of what it wro
 KINDS = ["proof", "tests", "edits"]
 TICKS, PAGE = os.sysconf("SC_CLK_TCK"), os.sysconf("SC_PAGE_SIZE")
 # A crate, and the kind of work.
-Use = typing.Tuple[str, str]
+Use = tuple[str, str]
 
 
 @dataclasses.dataclass(frozen=True)

@@ -4,7 +4,6 @@ import os
 import pathlib
 import subprocess
 import sys
-import typing
 
 from tests.checks import Checks, run
 from tests.places import TOP
@@ -20,7 +19,7 @@ TYPED = {
 MODULES = {"MYPYPATH": os.pathsep.join((str(TOP / "python"), str(TOP)))}
 
 
-def python_files(*folders: str) -> typing.List[str]:
+def python_files(*folders: str) -> list[str]:
     """Returns the paths of the Python files in these folders, relative to the top."""
     found = [path for folder in folders for path in (TOP / folder).rglob("*.py")]
     if "tests" in folders:

@@ -20,10 +20,10 @@ DECLARED = re.compile(
 WORD = re.compile(r"[A-Za-z_][A-Za-z0-9_'\-]*")
 RUST_NAME = re.compile(r"\b[A-Z]\w+")
 # A crate, a module of it, and a name; the name is empty if the module itself is meant.
-Key = typing.Tuple[str, str, str]
-ModuleKey = typing.Tuple[str, str]
+Key = tuple[str, str, str]
+ModuleKey = tuple[str, str]
 # A line `module _ ..` with its place.
-Place = typing.Tuple[int, str]
+Place = tuple[int, str]
 
 
 def indent_of(line: str) -> int:

@@ -212,7 +212,7 @@ class Shape:
     rows: dict[str, object]
 
 
-Call = typing.Tuple[str, str]
+Call = tuple[str, str]
 
 
 def brought_into(text: str) -> dict[str, str]:

@@ -20,8 +20,8 @@ DECLARED = re.compile(
 )
 WORD = re.compile(r"[A-Za-z_][A-Za-z0-9_'\-]*")
 NO_LEMMAS = ("Lib", "Answers", "Invariants", "Proof", "Rows")
-Words = typing.Set[str]
-Names = typing.Dict[typing.Tuple[str, str], typing.Set[pathlib.Path]]
+Words = set[str]
+Names = dict[tuple[str, str], set[pathlib.Path]]
 
 
 STRING = re.compile(r'"(?:[^"\\\n]|\\.)*"')
@@ -49,9 +49,9 @@ def is_inside(paragraph: str, before: str) -> bool:
     return lines[0].startswith("    ") or not (heads and heads[-1].startswith("module"))
 
 
-def paragraphs(text: str) -> typing.List[str]:
+def paragraphs(text: str) -> list[str]:
     """Returns the paragraphs of a file, each with all that goes on with its declaration."""
-    found: typing.List[str] = []
+    found: list[str] = []
     for paragraph in re.split(r"\n{2,}", text):
         if found and is_inside(paragraph, "\n".join(found)):
             found[-1] += "\n\n" + paragraph
@@ -64,7 +64,7 @@ def crate_of(path: pathlib.Path) -> str:
     return path.relative_to(CRATES).parts[0]
 
 
-def read_all() -> typing.Dict[pathlib.Path, str]:
+def read_all() -> dict[pathlib.Path, str]:
     """Returns the text of each file of code, definitions and proofs."""
     return {
         path: path.read_text(encoding="utf-8")
@@ -93,7 +93,7 @@ def lemma_files(texts: typing.Mapping[pathlib.Path, str]) -> typing.Iterator[pat
             yield path
 
 
-def uncited() -> typing.List[typing.Tuple[str, str]]:
+def uncited() -> list[tuple[str, str]]:
     """Returns each lemma that nothing cites: its file and its name."""
     texts = read_all()
     words = {path: words_of(text) for path, text in texts.items()}

@@ -918,7 +918,7 @@ def beside_others(command: str, name: str, named: Words) -> tuple[str, str] | No
     return test(named) if test is not None and command in TABLE[name].commands else None
 
 
-Why = typing.Optional[typing.Tuple[str, str]]
+Why = typing.Optional[tuple[str, str]]
 
 
 def ends_beside(named: Words) -> Why:

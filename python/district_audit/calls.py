@@ -64,7 +64,7 @@ NO_WORDS = (
 
 COLUMNS = ("pop", "first", "second", "district", "region", "group", "group_of", "freeze", "length")
 
-Elections = typing.Mapping[str, typing.Tuple[str, str]]
+Elections = typing.Mapping[str, tuple[str, str]]
 
 
 @dataclasses.dataclass(frozen=True)

@@ -16,8 +16,8 @@ if typing.TYPE_CHECKING:
     from .trace_plan import Plan, UnitTable
     from .traces import Sample
 
-Point = typing.Tuple[float, float]
-Circle = typing.Tuple[float, float, float]
+Point = tuple[float, float]
+Circle = tuple[float, float, float]
 
 
 class Geometries(typing.Protocol):

@@ -31,7 +31,7 @@ from .report import MOST_REGIONS, MOST_SPLITS, Report
 PathLike = typing.Union[str, "os.PathLike[str]"]
 # A report with more lines than this is shown in part; its hash is of all of it.
 MOST_LINES = 2000
-Named = typing.Sequence[typing.Tuple[str, Report]]
+Named = typing.Sequence[tuple[str, Report]]
 
 STYLE = """
 @page { size: A4; margin: 18mm 16mm; }

@@ -7,7 +7,7 @@ from fractions import Fraction
 
 from .report import MOST_REGIONS, MOST_SPLITS, Ends, Report, Serial, Stop
 
-Parties = typing.Tuple[str, str]
+Parties = tuple[str, str]
 
 LIMITS = (
     (

@@ -20,12 +20,12 @@ SHOWN = 10
 Json = typing.Any
 Foreign = typing.Any
 # A unit's columns, as the program reads them.
-Row = typing.Dict[str, Json]
+Row = dict[str, Json]
 
 Label = typing.Union[int, str]
-Pair = typing.Tuple[object, object]
+Pair = tuple[object, object]
 # The attributes of a unit, its id among them, before anything of them is changed.
-Node = typing.Dict[str, object]
+Node = dict[str, object]
 
 
 class GraphLike(typing.Protocol):

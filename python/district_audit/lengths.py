@@ -16,7 +16,7 @@ from .graphs import Label, as_json, is_missing, is_whole
 MOST_LENGTH = 4_294_967_295
 
 Edge = typing.FrozenSet[Label]
-Between = typing.Tuple[Label, Label]
+Between = tuple[Label, Label]
 Attributes = typing.Mapping[str, object]
 
 

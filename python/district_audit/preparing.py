@@ -759,7 +759,7 @@ def names_of(raw: Raw, changes: Changes) -> tuple[list[Label], typing.Callable[[
     twice = [name for name, count in collections.Counter(names).items() if count > 1]
     if twice:
         raise PrepareRefused(f"several units have the same id: {shown(twice)}")
-    twice = typing.cast(typing.List[Label], repeated(names))
+    twice = typing.cast(list[Label], repeated(names))
     if twice:
         raise PrepareRefused(
             'several units have ids that differ only in their kind, as 1 and "1" do:'

@@ -11,11 +11,11 @@ if typing.TYPE_CHECKING:
     import matplotlib.figure
     import pandas
 
-Pair = typing.Tuple[str, Report]
+Pair = tuple[str, Report]
 Kind = typing.TypeVar("Kind", bound="NamedReports")
 
 
-class NamedReports(typing.List[Pair]):
+class NamedReports(list[Pair]):
     """A list of pairs, a name and a report, which also finds a report by its name."""
 
     what = "report"

@@ -20,7 +20,7 @@ if typing.TYPE_CHECKING:
     from .graphs import Foreign
     from .traces import Sample
 
-Election = typing.Union[str, typing.Tuple[str, str], None]
+Election = typing.Union[str, tuple[str, str], None]
 Share = typing.Union[int, str, Fraction, decimal.Decimal, float]
 
 HALF = Fraction(1, 2)

@@ -29,9 +29,9 @@ if typing.TYPE_CHECKING:
 
     from .words import Ask, Key
 
-Ids = typing.Union[int, str, range, typing.Tuple[int, int]]
+Ids = typing.Union[int, str, range, tuple[int, int]]
 """An id, a text as "0-3", "walks" or "ends", a range, or the first and the last id."""
-Elections = typing.Mapping[str, typing.Tuple[str, str]]
+Elections = typing.Mapping[str, tuple[str, str]]
 Score = typing.Callable[["Sample"], object]
 Scores = typing.Union[typing.Mapping[str, Score], typing.Sequence[typing.Union[str, Score]]]
 

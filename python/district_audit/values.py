@@ -26,7 +26,7 @@ MISSING_TEXTS = frozenset(
 MOST_EXACT = 2**53
 WHOLE_TEXT = re.compile(r"([+-]?)0*([0-9]+)(?:\.0*)?")
 
-Pairs = typing.Sequence[typing.Tuple[object, object]]
+Pairs = typing.Sequence[tuple[object, object]]
 
 
 def kind_of(value: object) -> str | None:

@@ -7,6 +7,7 @@ import pathlib
 import re
 import stat
 import tempfile
+import types
 import typing
 import unittest
 import warnings
@@ -17,28 +18,33 @@ TOP = pathlib.Path(__file__).resolve().parent.parent.parent
 EXAMPLES = TOP / "examples"
 CASES = TOP / "crates" / "case_runner"
 KEY = "0" * 64
-WORDS: typing.Dict[str, typing.Any] = dict(
-    pop="pop", first="a", second="b", district="d", slack=5000
-)
-COLUMNS: typing.Dict[str, typing.Any] = dict(population="pop", first="a", second="b", district="d")
-WALK: typing.Dict[str, typing.Any] = dict(WORDS, key=KEY, walks=12, steps=8, ask="gap:low")
+# The tests of the package use `Any` in this line alone. A value of JSON, or of an argument of a
+# call: each argument has a type of its own, and tests pass wrong ones, too.
+Value = typing.Any
+# The arguments of a call by their names, and the root of a graph's JSON.
+Words = dict[str, Value]
+Root = dict[str, Value]
+
+WORDS: Words = dict(pop="pop", first="a", second="b", district="d", slack=5000)
+COLUMNS: Words = dict(population="pop", first="a", second="b", district="d")
+WALK: Words = dict(WORDS, key=KEY, walks=12, steps=8, ask="gap:low")
 
 
-def lacking(what: typing.Any) -> None:
+def lacking(what: str) -> typing.NoReturn:
     """Fails where the variable CI is set; elsewhere skips the test, which is counted."""
     if os.environ.get("CI"):
         raise AssertionError(f"{what} is missing, and CI is set")
     raise unittest.SkipTest(f"{what} is missing")
 
 
-def needs(module: typing.Any) -> typing.Any:
+def needs(module: str) -> types.ModuleType:
     """The module, or what `lacking` does."""
     if importlib.util.find_spec(module) is None:
         lacking(module)
     return importlib.import_module(module)
 
 
-def built(crate: typing.Any, variable: typing.Any) -> typing.Any:
+def built(crate: str, variable: str) -> str:
     """The real program that the test command leaves in out/, or the one that a variable names."""
     path = os.environ.get(variable) or str(TOP / "crates" / crate / "out" / crate)
     if not os.access(path, os.X_OK):
@@ -46,7 +52,7 @@ def built(crate: typing.Any, variable: typing.Any) -> typing.Any:
     return path
 
 
-def slots(folder: typing.Any) -> typing.Any:
+def slots(folder: pathlib.Path) -> str:
     """Returns the program `audit_slots`: a link of that name in the folder, or what a variable
     names.
     """
@@ -75,7 +81,7 @@ class ProgramCase(FolderCase):
         super().setUp()
         self.program = built("audit_program", "DISTRICT_AUDIT")
 
-    def with_little_memory(self) -> typing.Any:
+    def with_little_memory(self) -> str:
         """A program that gets too little memory; a build with the address sanitizer reserves
         terabytes, and is refused what it asks for in another way."""
         if b"AddressSanitizer" in pathlib.Path(self.program).read_bytes():
@@ -83,7 +89,7 @@ class ProgramCase(FolderCase):
             return self.wrapper(f"ASAN_OPTIONS={few} exec PROGRAM")
         return self.wrapper("ulimit -v 60000; exec PROGRAM")
 
-    def wrapper(self, line: typing.Any) -> str:
+    def wrapper(self, line: str) -> str:
         """A program that runs the real one under other circumstances; in the line, PROGRAM stands
         for it with its words.
         """
@@ -97,17 +103,17 @@ class ProgramCase(FolderCase):
 class StandInGraph:
     """A stand-in with only the parts of GerryChain's documented Graph that the package uses."""
 
-    def __init__(self, root: typing.Any) -> None:
+    def __init__(self, root: Root) -> None:
         self.root = root
 
-    def nodes(self, data: bool = False) -> typing.List[typing.Any]:
+    def nodes(self, data: bool = False) -> list[tuple[object, dict[str, object]]]:
         assert data is True
         return [
             (node["id"], {key: value for key, value in node.items() if key != "id"})
             for node in self.root["nodes"]
         ]
 
-    def adjacency(self) -> typing.Iterator[typing.Any]:
+    def adjacency(self) -> typing.Iterator[tuple[object, dict[object, object]]]:
         for node, entries in zip(self.root["nodes"], self.root["adjacency"]):
             yield node["id"], {entry["id"]: {} for entry in entries}
 
@@ -115,47 +121,47 @@ class StandInGraph:
 class StandInAssignment:
     """A stand-in for a Partition's assignment, of which the package uses items()."""
 
-    def __init__(self, districts: typing.Any) -> None:
+    def __init__(self, districts: typing.Mapping[Value, object]) -> None:
         self.districts = districts
 
-    def items(self) -> typing.Any:
+    def items(self) -> typing.Iterable[tuple[object, object]]:
         return self.districts.items()
 
 
 class StandInPartition:
     """A stand-in for a Partition, of which the package uses the assignment."""
 
-    def __init__(self, districts: typing.Any) -> None:
+    def __init__(self, districts: typing.Mapping[Value, object]) -> None:
         self.assignment = StandInAssignment(districts)
 
 
-def example(name: typing.Any) -> typing.Any:
-    return json.loads((EXAMPLES / "data" / name).read_text(encoding="utf-8"))
+def example(name: str) -> Root:
+    root: Root = json.loads((EXAMPLES / "data" / name).read_text(encoding="utf-8"))
+    return root
 
 
-def readme_report() -> typing.Any:
+def blocks_of(text: str) -> typing.Iterator[str]:
+    """Yields the reports that a document prints."""
+    for block in re.findall("^```\\w*\n(.*?)^```$", text, re.DOTALL | re.MULTILINE):
+        if block.startswith("district-audit"):
+            yield block
+
+
+def readme_report() -> str:
     """The report that the README prints, which a court's reader would copy."""
     text = (TOP / "README.md").read_text(encoding="utf-8")
-    return next(
-        block
-        for block in re.findall("^```\\w*\n(.*?)^```$", text, re.DOTALL | re.MULTILINE)
-        if block.startswith("district-audit") and "ends seats" in block
-    )
+    return next(block for block in blocks_of(text) if "ends seats" in block)
 
 
-def groups_report() -> typing.Any:
+def groups_report() -> str:
     """The report on groups.json that examples/README.md prints, with each rule set and the source
     told; the plain model prints it.
     """
     text = (EXAMPLES / "README.md").read_text(encoding="utf-8").split("\n## groups.json\n")[1]
-    return next(
-        block
-        for block in re.findall("^```\\w*\n(.*?)^```$", text, re.DOTALL | re.MULTILINE)
-        if block.startswith("district-audit")
-    )
+    return next(blocks_of(text))
 
 
-def anything(value: object) -> typing.Any:
+def anything(value: object) -> Value:
     """Returns a value of a type that no checker judges, such as one that a call has to refuse."""
     return value
 
@@ -168,7 +174,7 @@ def found_in(form: str, text: str) -> re.Match[str]:
 
 
 @contextlib.contextmanager
-def environment(**values: typing.Any) -> typing.Iterator[typing.Any]:
+def environment(**values: typing.Optional[str]) -> typing.Iterator[None]:
     """Variables of the environment, for a while; None takes one away."""
     before = {name: os.environ.get(name) for name in values}
     try:

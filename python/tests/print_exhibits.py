@@ -14,7 +14,6 @@ import shutil
 import subprocess
 import sys
 import tempfile
-import typing
 
 from common import EXAMPLES
 from test_exhibit import COLUMNS, TEXTS, Page, page_of
@@ -25,11 +24,11 @@ CHROMIUM = [
 ]
 
 
-def run(*words: typing.Any) -> None:
+def run(*words: str) -> None:
     subprocess.run(words, check=True, stdout=subprocess.PIPE, stderr=subprocess.PIPE, timeout=900)
 
 
-def gray_faults(path: typing.Any) -> typing.Any:
+def gray_faults(path: pathlib.Path) -> list[str]:
     """Returns what is wrong with a page as PPM: color, or nothing on it."""
     data = path.read_bytes()
     head = re.match(rb"P6\s(\d+)\s(\d+)\s255\s", data)
@@ -39,7 +38,7 @@ def gray_faults(path: typing.Any) -> typing.Any:
     return faults + ([] if min(red) < 64 else [f"{path.name} is empty"])
 
 
-def faults_of(folder: typing.Any, name: typing.Any, text: typing.Any) -> typing.Any:
+def faults_of(folder: pathlib.Path, name: str, text: str) -> list[str]:
     """Makes, shows and prints one exhibit."""
     page, pdf = folder / (name + ".html"), folder / (name + ".pdf")
     page.write_text(text, encoding="utf-8")
@@ -60,12 +59,12 @@ def faults_of(folder: typing.Any, name: typing.Any, text: typing.Any) -> typing.
     )
 
 
-def squeezed(text: typing.Any) -> typing.Any:
+def squeezed(text: str) -> str:
     """A text without white space and without breaks within long words."""
     return re.sub(r"\s", "", text)
 
 
-def main() -> typing.Any:
+def main() -> bool:
     missing = [name for name in ("chromium", "pdftoppm", "pdftotext") if not shutil.which(name)]
     if missing:
         print(f"SKIPPED exhibits: missing: {', '.join(missing)}")
@@ -75,7 +74,7 @@ def main() -> typing.Any:
         return print_all(pathlib.Path(sys.argv[1] if len(sys.argv) > 1 else room))
 
 
-def print_all(folder: typing.Any) -> typing.Any:
+def print_all(folder: pathlib.Path) -> bool:
     """Makes and prints all exhibits, and returns whether one is not as it has to be."""
     folder.mkdir(parents=True, exist_ok=True)
     pages = {name.replace(" ", "_"): page_of(text) for name, text in TEXTS.items()}

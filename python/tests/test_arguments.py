@@ -12,7 +12,7 @@ import district_audit
 from district_audit import arguments, program, words
 
 CYCLE = common.EXAMPLES / "data" / "cycle.json"
-BASE: typing.Dict[str, typing.Any] = dict(
+BASE: common.Words = dict(
     common.COLUMNS, slack=5000, key=common.KEY, steps=8, ask="gap:low"
 )
 
@@ -22,17 +22,17 @@ class Refusals(common.ProgramCase):
 
     def refused(
         self,
-        said: typing.Any,
-        kind: typing.Any = ValueError,
-        call: typing.Any = district_audit.run,
-        **words: typing.Any,
-    ) -> typing.Any:
+        said: str,
+        kind: type[Exception] = ValueError,
+        call: typing.Callable[..., object] = district_audit.run,
+        **words: common.Value,
+    ) -> district_audit.ArgumentRefused:
         parts = [CYCLE] if call is not district_audit.make else []
         parts += anything([{}]) if call is district_audit.plans else []
         with self.assertRaises(kind) as caught:
             call(*parts, program="/there/is/none", **words)
         error = caught.exception
-        self.assertIsInstance(error, district_audit.ArgumentRefused)
+        assert isinstance(error, district_audit.ArgumentRefused)
         self.assertIsInstance(error, district_audit.WordsRefused)
         self.assertEqual(str(error), said)
         self.assertEqual(error.status, 1)
@@ -278,11 +278,11 @@ class Refusals(common.ProgramCase):
             }[call]
             base = {name: value for name, value in BASE.items() if name not in needed}
             with self.subTest(call=call):
-                self.refused(said, TypeError, call=call, **{**base, **anything(given)})
+                self.refused(said, TypeError, call=anything(call), **{**base, **anything(given)})
 
     def test_values_of_numpy_are_those_of_python(self) -> None:
         numpy = common.needs("numpy")
-        given: typing.Dict[str, typing.Any] = {
+        given: common.Words = {
             **BASE,
             "slack": numpy.int64(5000),
             "steps": numpy.int32(8),
@@ -310,7 +310,7 @@ class Refusals(common.ProgramCase):
 
 
 # For the drawn arguments: values that are good, at an end, past it, or of no use.
-DRAWN: typing.Dict[str, typing.List[typing.Any]] = {
+DRAWN: dict[str, list[object]] = {
     "slack": [0, 500, 10000, 10001, -1, "7", "07", "x"],
     "walks": [0, 1, 2, 100000, 100001],
     "steps": [1, 7, 8, 1000, 0, 10**9, 10**9 + 1],
@@ -358,7 +358,7 @@ DRAWN: typing.Dict[str, typing.List[typing.Any]] = {
 class Program(common.ProgramCase):
     """The package refuses exactly the arguments that the program refuses, by the same line."""
 
-    def verdicts(self, command: typing.Any, named: typing.Any) -> typing.Any:
+    def verdicts(self, command: str, named: arguments.Words) -> tuple[str, str]:
         """The lines of the package and of the program; '' where the words are taken.
 
         The graph is no JSON, so the program walks nothing.
@@ -399,7 +399,7 @@ class Program(common.ProgramCase):
     def test_one_bad_value_after_the_other(self) -> None:
         """Each value of each argument beside good ones; no chance is in it."""
         columns = {name: DRAWN[name][0] for name in ("pop", "first", "second", "district")}
-        good: typing.Dict[str, typing.Any] = {**columns, "key": common.KEY, "ask": "gap:low"}
+        good: common.Words = {**columns, "key": common.KEY, "ask": "gap:low"}
         for command in ("run", "trace"):
             for name, values in DRAWN.items():
                 for value in values:
@@ -480,7 +480,7 @@ class Pickling(unittest.TestCase):
         try:
             district_audit.run(CYCLE, **anything({**BASE, "slack": 0.05}))
         except district_audit.TypeRefused as why:
-            found: typing.List[BaseException] = [why]
+            found: list[BaseException] = [why]
         refused = district_audit.GraphRefused("plan: no votes", "labels")
         refused.faults = ["one", "two"]
         other = district_audit.CheckpointRefused("checkpoint: other job", "steps was 1 and is 2")

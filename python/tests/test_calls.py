@@ -19,9 +19,12 @@ from district_audit.words import words_of
 
 CYCLE = common.EXAMPLES / "data" / "cycle.json"
 # A run that takes long enough to be stopped in its midst, and saves often.
-LONG: typing.Dict[str, typing.Any] = {**common.WALK, "walks": 20000, "steps": 20000}
-GRID: typing.Dict[str, typing.Any] = dict(pop="TOTPOP", first="DEM", second="REP")
-ROUGH: typing.Dict[str, typing.Any] = dict(GRID, district="CD")
+LONG: common.Words = {**common.WALK, "walks": 20000, "steps": 20000}
+GRID: common.Words = dict(pop="TOTPOP", first="DEM", second="REP")
+ROUGH: common.Words = dict(GRID, district="CD")
+
+
+Refusal = typing.TypeVar("Refusal", bound=district_audit.AuditError)
 
 
 def interruptible() -> None:
@@ -125,7 +128,7 @@ class Calls(common.ProgramCase):
 
     def test_an_assignment_stands_for_a_column(self) -> None:
         root = common.example("grid.json")
-        words: typing.Dict[str, typing.Any] = dict(
+        words: common.Words = dict(
             slack=1000, key=common.KEY, steps=500, ask="cut-edges:low,seats:high",
             program=self.program,
         )
@@ -151,7 +154,7 @@ class Calls(common.ProgramCase):
         """With ten districts and more, too, where texts have another order than numbers."""
         graph = common.StandInGraph(common.example("nc.json"))
         plan = {node["id"]: int(node["PLAN11"]) for node in common.example("nc.json")["nodes"]}
-        words: typing.Dict[str, typing.Any] = dict(
+        words: common.Words = dict(
             population="BIR74", first="NWBIR74", second="WBIR74", slack=3000, key=common.KEY,
             steps=300, ask="cut-edges:low", numbers="nearest", program=self.program,
         )
@@ -170,7 +173,7 @@ class Calls(common.ProgramCase):
         )
 
     def test_plans_of_a_file_a_dict_and_a_frame(self) -> None:
-        words: typing.Dict[str, typing.Any] = dict(
+        words: common.Words = dict(
             ROUGH, slack=1000, key=common.KEY, steps=300, ask="cut-edges:low", program=self.program
         )
         of_file = district_audit.plans(
@@ -204,19 +207,19 @@ class Calls(common.ProgramCase):
         """The report of examples/README.md from the file, and the same numbers from what was
         prepared.
         """
-        words: typing.Dict[str, typing.Any] = dict(
+        words: common.Words = dict(
             max_splits=3, max_split_regions=3, group_districts=2, slack=1000, walks=1, steps=2047,
             ends=9, hub_steps=500, ask="mean-median:high,cut-edges:low",
             key=district_audit.key_of("groups"), source=True, program=self.program,
         )
-        columns: typing.Dict[str, typing.Any] = dict(
+        columns: common.Words = dict(
             pop="pop", first="a", second="b", district="d", region="county", group="bvap",
             group_of="vap",
         )
         path = common.EXAMPLES / "data" / "groups.json"
         report = district_audit.run(path, **columns, **words)
         self.assertEqual(str(report), common.groups_report())
-        self.assertTrue(report.source.is_of(path.read_bytes()))
+        self.assertTrue(anything(report.source).is_of(path.read_bytes()))
         ready = district_audit.prepare(
             path, **common.COLUMNS, region="county", group="bvap", group_of="vap"
         )
@@ -253,7 +256,7 @@ class Calls(common.ProgramCase):
         root = common.example("groups.json")
         for node in root["nodes"]:
             node["keep"] = [False, True, 0, 7][node["d"] % 4]
-        words: typing.Dict[str, typing.Any] = dict(
+        words: common.Words = dict(
             common.COLUMNS, district="d", slack=1000, group="bvap", group_of="vap",
             group_districts=1, group_share=4500, freeze="keep", source=True, program=self.program,
         )
@@ -263,7 +266,7 @@ class Calls(common.ProgramCase):
             (plan.rules.group_share, plan.rules.frozen, anything(plan.source).freeze),
             (4500, len(frozen), "keep"),
         )
-        walked: typing.Dict[str, typing.Any] = dict(walks=1, steps=3000, key=common.KEY)
+        walked: common.Words = dict(walks=1, steps=3000, key=common.KEY)
         report = district_audit.run(root, **words, **walked, ask="gap:low")
         self.assertEqual((report.rules, report.walks[0].moved > 0), (plan.rules, True))
         self.assertEqual(str(district_audit.Report.parse(str(report))), str(report))
@@ -300,7 +303,7 @@ class Calls(common.ProgramCase):
 
     def test_parts_do_not_change_the_report(self) -> None:
         """Three runs of a part each in one folder: the last finds nothing left."""
-        words: typing.Dict[str, typing.Any] = dict(
+        words: common.Words = dict(
             common.WALK, program=self.program, folder=self.folder, save=1, resume=True, parts=3
         )
         try:
@@ -320,13 +323,13 @@ class Exceptions(common.ProgramCase):
 
     def refused(
         self,
-        kind: typing.Any,
-        line: typing.Any,
-        call: typing.Any = district_audit.check,
-        graph: typing.Any = CYCLE,
-        program: typing.Any = None,
-        **words: typing.Any,
-    ) -> typing.Any:
+        kind: type[Refusal],
+        line: str,
+        call: typing.Callable[..., object] = district_audit.check,
+        graph: object = CYCLE,
+        program: typing.Optional[str] = None,
+        **words: common.Value,
+    ) -> Refusal:
         with self.assertRaises(kind) as caught:
             call(graph, program=program or self.program, **words)
         error = caught.exception
@@ -339,7 +342,7 @@ class Exceptions(common.ProgramCase):
     def test_1_words(self) -> None:
         error = self.refused(
             district_audit.WordsRefused, "words: bad value for --slack",
-            **{**common.WORDS, "slack": 10001},
+            **anything({**common.WORDS, "slack": 10001}),
         )
         self.assertEqual(
             (error.status, str(error)),
@@ -406,7 +409,7 @@ class Exceptions(common.ProgramCase):
         here from the file.
         """
         nodes = common.example("ny8.json")["nodes"]
-        split: typing.Dict[typing.Any, typing.Any] = {}
+        split: dict[str, set[object]] = {}
         for node in nodes:
             split.setdefault(node["COUNTY"], set()).add(node["PLAN8"])
         most = max(map(len, split.values()))
@@ -416,7 +419,7 @@ class Exceptions(common.ProgramCase):
             if len(split[county]) == most
         )
         self.assertNotEqual(county, str(number))
-        words: typing.Dict[str, typing.Any] = dict(
+        words: common.Words = dict(
             population="POP8", first="OWNING", second="OTHERS", district="PLAN8", numbers="nearest",
             region="COUNTY", slack=1000,
         )
@@ -440,7 +443,7 @@ class Exceptions(common.ProgramCase):
         )
 
     def test_1_and_2_further_rules(self) -> None:
-        words: typing.Dict[str, typing.Any] = dict(
+        words: common.Words = dict(
             common.WORDS, graph=common.EXAMPLES / "data" / "groups.json", slack=1000
         )
         for said, why in (
@@ -465,7 +468,9 @@ class Exceptions(common.ProgramCase):
                 "the group has a majority in 2 districts, fewer than 3",
             ),
         ):
-            error = self.refused(district_audit.GraphRefused, "plan: " + why, **words, **said)
+            error = self.refused(
+                district_audit.GraphRefused, "plan: " + why, **words, **anything(said)
+            )
             self.assertEqual(error.labels, "")
         self.refused(
             district_audit.GraphRefused, "graph: node 0 has no column bvapp", **words, group="bvapp"
@@ -510,7 +515,7 @@ class Exceptions(common.ProgramCase):
 
     def test_6_and_8_checkpoints(self) -> None:
         (self.folder / "audit-0.ckpt").mkdir()
-        words: typing.Dict[str, typing.Any] = dict(
+        words: common.Words = dict(
             common.WALK, call=district_audit.run, folder=self.folder, save=2, resume=True
         )
         self.refused(district_audit.CheckpointUnreadable, "checkpoint load fault", **words)
@@ -521,7 +526,7 @@ class Exceptions(common.ProgramCase):
         )
 
     def test_7_work_left(self) -> None:
-        words: typing.Dict[str, typing.Any] = dict(
+        words: common.Words = dict(
             common.WALK, folder=self.folder, save=2, budget=5
         )
         error = self.refused(
@@ -567,10 +572,10 @@ class Noted:
     """A bar that notes its calls."""
 
     def __init__(self) -> None:
-        self.shown: typing.List[typing.Any]
-        self.shown, self.ended = [], False
+        self.shown: list[tuple[int, int]] = []
+        self.ended = False
 
-    def show(self, done: typing.Any, total: typing.Any) -> None:
+    def show(self, done: int, total: int) -> None:
         self.shown.append((done, total))
 
     def end(self) -> None:
@@ -582,14 +587,14 @@ class Progress(common.ProgramCase):
         super().setUp()
         self.slots = common.slots(self.folder)
 
-    def run_with(self, **words: typing.Any) -> typing.Any:
+    def run_with(self, **words: common.Value) -> tuple[district_audit.Report, Noted]:
         bar = Noted()
         before, progress.new_bar = progress.new_bar, lambda: bar
         self.addCleanup(setattr, progress, "new_bar", before)
         try:
             report = district_audit.run(
-                CYCLE, program=self.program, slots=self.slots, folder=self.folder, progress=True,
-                **words,
+                CYCLE, program=self.program, folder=self.folder, progress=True,
+                **anything({"slots": self.slots, **words}),
             )
         finally:
             progress.new_bar = before
@@ -656,8 +661,7 @@ class Progress(common.ProgramCase):
         )
         own = checkpoints.look_in(self.folder, 12)
         self.assertEqual((own.done, own.total), (seen.done, seen.total))
-        self.slots = None
-        report, bar = self.run_with(**common.WALK, save=1, resume=True)
+        report, bar = self.run_with(slots=None, **common.WALK, save=1, resume=True)
         self.assertEqual((bar.shown[-1], bar.ended), ((12, 12), True))
         self.assertEqual(report, district_audit.run(CYCLE, program=self.program, **common.WALK))
 
@@ -741,15 +745,17 @@ class Progress(common.ProgramCase):
 class Kept(common.ProgramCase):
     """Tests of the record that the package keeps beside checkpoints."""
 
-    WORDS: typing.Dict[str, typing.Any] = dict(common.WALK, save=1)
+    WORDS: common.Words = dict(common.WALK, save=1)
 
-    def left(self, **words: typing.Any) -> None:
+    def left(self, **words: common.Value) -> None:
         with self.assertRaises(district_audit.WorkLeft):
             district_audit.run(
                 CYCLE, program=self.program, folder=self.folder, budget=5, **{**self.WORDS, **words}
             )
 
-    def refused(self, graph: typing.Any = CYCLE, **words: typing.Any) -> typing.Any:
+    def refused(
+        self, graph: object = CYCLE, **words: common.Value
+    ) -> district_audit.CheckpointRefused:
         with self.assertRaises(district_audit.CheckpointRefused) as caught:
             district_audit.run(
                 graph, program=self.program, folder=self.folder, resume=True,
@@ -829,7 +835,7 @@ class Kept(common.ProgramCase):
         self.assertEqual(named["thin"], 3000)
         command = [self.program, *words_of("trace", named)]
         clock = progress.StepClock(1, 300_000, command, sent.data, io.StringIO())
-        seen: typing.List[int] = []
+        seen: list[int] = []
         limit = time.monotonic() + 60
         while (not seen or seen[-1] != 300_000) and time.monotonic() < limit:
             step = clock.step()
@@ -897,7 +903,9 @@ class Commands(common.ProgramCase):
         "--key", common.KEY, "--steps", "8", "--ask", "gap:low",
     ]
 
-    def called(self, *words: typing.Any, graph: typing.Any = CYCLE) -> typing.Any:
+    def called(
+        self, *words: str, graph: typing.Union[pathlib.Path, bytes] = CYCLE
+    ) -> subprocess.CompletedProcess[bytes]:
         return subprocess.run(
             [
                 sys.executable,

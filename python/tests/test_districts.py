@@ -1,7 +1,6 @@
 """The table of the districts and every fault of a plan, beside what the program says."""
 import json
 import random
-import typing
 import unittest
 import xml.dom.minidom
 from fractions import Fraction
@@ -10,7 +9,7 @@ import common
 import district_audit
 from district_audit import GraphRefused, PlanCheck
 
-WORDS: typing.Dict[str, typing.Any] = dict(
+WORDS: common.Words = dict(
     common.COLUMNS, slack=1000, region="county", group="bvap", group_of="vap"
 )
 
@@ -24,7 +23,7 @@ class Tables(common.ProgramCase):
         self.assertTrue(plan.is_legal)
         self.assertEqual([one.label for one in plan.table], [1, 2, 3, 4])
         ideal = Fraction(sum(node["pop"] for node in nodes), 4)
-        split: typing.Dict[typing.Any, typing.Any] = {}
+        split: dict[object, set[object]] = {}
         for node in nodes:
             split.setdefault(node["county"], set()).add(node["d"])
         for number, one in enumerate(plan.table):
@@ -102,9 +101,9 @@ class Tables(common.ProgramCase):
 
 
 class Faults(common.ProgramCase):
-    def faults(self, root: typing.Any, **words: typing.Any) -> typing.Any:
+    def faults(self, root: object, **words: common.Value) -> common.Value:
         graph = json.dumps(root).encode()
-        said: typing.Dict[str, typing.Any] = dict(common.WORDS, **words)
+        said: common.Words = dict(common.WORDS, **words)
         try:
             answer = district_audit.check(graph, program=self.program, **said)
         except GraphRefused as why:
@@ -186,7 +185,7 @@ class Faults(common.ProgramCase):
             }
             if len({node["d"] for node in nodes}) < 2:
                 continue
-            words: typing.Dict[str, typing.Any] = dict(
+            words: common.Words = dict(
                 slack=chance.choice([3000, 10000, 10000]),
                 max_cut=chance.choice([4, 400000, 400000]), region="county",
                 max_split=chance.choice([1, 2, 2]),

@@ -1,43 +1,51 @@
 """Tests of the effect test: exact tails, and the theorem on chains that are enumerated whole."""
 import itertools
 import math
-import typing
 import unittest
 from decimal import Decimal
 from fractions import Fraction
 
-from common import EXAMPLES, KEY, ProgramCase, WORDS, anything, example, readme_report
+from common import EXAMPLES, KEY, ProgramCase, WORDS, Words, anything, example, readme_report
 
 import district_audit
 from district_audit import effect
 
 DRAWS = 2**64
+# A number a + b sqrt(x), as the pair of a and b.
+Surd = tuple[Fraction, Fraction]
+# The district of each unit, and the two ends of an edge.
+Plan = tuple[int, ...]
+Edge = tuple[int, int]
 
 
 # ---- the exact tail of a binomial whose chance is a square root, in numbers a + b sqrt(x)
 
 
-def times(one: typing.Any, other: typing.Any, x: typing.Any) -> typing.Any:
+def times(one: Surd, other: Surd, x: Fraction) -> Surd:
     return (one[0] * other[0] + one[1] * other[1] * x, one[0] * other[1] + one[1] * other[0])
 
 
-def powers(base: typing.Any, most: typing.Any, x: typing.Any) -> typing.Any:
+def powers(base: Surd, most: int, x: Fraction) -> list[Surd]:
     found = [(Fraction(1), Fraction(0))]
     for _ in range(most):
         found.append(times(found[-1], base, x))
     return found
 
 
-def exact_tail(walks: typing.Any, least: typing.Any, x: typing.Any) -> typing.Any:
+def exact_tail(walks: int, least: int, x: Fraction) -> Surd:
     """P(X >= least) as a pair (a, b) that stands for a + b sqrt(x)."""
     success = powers((Fraction(0), Fraction(1)), walks, x)
     failure = powers((Fraction(1), Fraction(-1)), walks, x)
     terms = [times(success[n], failure[walks - n], x) for n in range(least, walks + 1)]
     ways = [math.comb(walks, n) for n in range(least, walks + 1)]
-    return tuple(sum(way * term[part] for way, term in zip(ways, terms)) for part in (0, 1))
+    pairs = list(zip(ways, terms))
+    return (
+        sum((way * term[0] for way, term in pairs), Fraction()),
+        sum((way * term[1] for way, term in pairs), Fraction()),
+    )
 
 
-def reaches(billionths: typing.Any, pair: typing.Any, x: typing.Any) -> bool:
+def reaches(billionths: int, pair: Surd, x: Fraction) -> bool:
     """Returns whether a number of billionths is at least a + b sqrt(x), by signs and squares."""
     left, root = Fraction(billionths, 10**9) - pair[0], pair[1]
     if root >= 0:
@@ -52,7 +60,7 @@ class Chain:
     """All legal plans of a small map, and the number of draws from each to each."""
 
     def __init__(
-        self, votes: typing.Any, edges: typing.Any, districts: typing.Any, slack: typing.Any
+        self, votes: list[tuple[int, int, int]], edges: list[Edge], districts: int, slack: int
     ) -> None:
         self.votes, self.edges, self.districts, self.slack = votes, edges, districts, slack
         every = itertools.product(range(districts), repeat=len(votes))
@@ -67,10 +75,10 @@ class Chain:
                 row[there] = row.get(there, 0) + DRAWS // pairs
             self.ways.append(row)
 
-    def members(self, plan: typing.Any, district: typing.Any) -> typing.Set[typing.Any]:
+    def members(self, plan: Plan, district: int) -> set[int]:
         return {unit for unit, label in enumerate(plan) if label == district}
 
-    def is_legal(self, plan: typing.Any) -> bool:
+    def is_legal(self, plan: Plan) -> bool:
         total = sum(unit[0] for unit in self.votes)
         for district in range(self.districts):
             members = self.members(plan, district)
@@ -80,7 +88,7 @@ class Chain:
                 return False
         return True
 
-    def is_connected(self, members: typing.Any) -> bool:
+    def is_connected(self, members: set[int]) -> bool:
         seen = {min(members)}
         for _ in members:
             seen |= {
@@ -91,7 +99,7 @@ class Chain:
             }
         return bool(seen == members)
 
-    def value(self, score: typing.Any, plan: typing.Any) -> typing.Any:
+    def value(self, score: str, plan: Plan) -> int:
         sums = [
             [
                 sum(self.votes[unit][party] for unit in self.members(plan, district))
@@ -112,20 +120,18 @@ class Chain:
         middle = shares[(self.districts - 1) // 2] + shares[self.districts // 2]
         return self.districts * middle - 2 * sum(shares)
 
-    def is_extreme(
-        self, score: typing.Any, tail: typing.Any, start: typing.Any
-    ) -> typing.List[typing.Any]:
+    def is_extreme(self, score: str, tail: str, start: int) -> list[bool]:
         """For each plan whether it is at least as extreme as the start."""
         values = [self.value(score, plan) for plan in self.plans]
         if tail == "low":
             return [value <= values[start] for value in values]
         return [value >= values[start] for value in values]
 
-    def counts(self, extreme: typing.Any, start: typing.Any, steps: typing.Any) -> typing.Any:
+    def counts(self, extreme: list[bool], start: int, steps: int) -> list[int]:
         """For each count of extreme visits the number of DRAWS ** steps walks that have it."""
         now = {(start, 1): 1}
         for _ in range(steps):
-            after: typing.Dict[typing.Any, typing.Any] = {}
+            after: dict[tuple[int, int], int] = {}
             for (plan, count), many in now.items():
                 for other, ways in self.ways[plan].items():
                     key = (other, count + extreme[other])
@@ -137,29 +143,31 @@ class Chain:
         return found
 
 
-def chain_of(name: typing.Any, slack: typing.Any) -> typing.Any:
+def chain_of(name: str, slack: int) -> Chain:
     """The chain of an example's file."""
     root = example(name)
     place = {node["id"]: i for i, node in enumerate(root["nodes"])}
-    edges = {
+    pairs = {
         frozenset((place[node["id"]], place[entry["id"]]))
         for node, entries in zip(root["nodes"], root["adjacency"])
         for entry in entries
     }
+    edges = [(min(pair), max(pair)) for pair in pairs]
     votes = [(node["pop"], node["a"], node["b"]) for node in root["nodes"]]
-    return Chain(votes, [tuple(sorted(edge)) for edge in edges], 2, slack)
+    return Chain(votes, edges, 2, slack)
 
 
-def grid_of_six(districts: typing.Any) -> typing.Any:
+def grid_of_six(districts: int) -> Chain:
     votes = [(1, 3, 1), (1, 1, 2), (1, 1, 2), (1, 2, 1), (1, 4, 1), (1, 1, 3)]
     return Chain(votes, [(0, 1), (1, 2), (3, 4), (4, 5), (0, 3), (1, 4), (2, 5)], districts, 5000)
 
 
-def binomial_tail(walks: typing.Any, least: typing.Any, chance: typing.Any) -> typing.Any:
-    return sum(
+def binomial_tail(walks: int, least: int, chance: Fraction) -> Fraction:
+    terms = (
         math.comb(walks, n) * chance**n * (1 - chance) ** (walks - n)
         for n in range(least, walks + 1)
     )
+    return sum(terms, Fraction())
 
 
 class TailTests(unittest.TestCase):
@@ -221,7 +229,7 @@ class TheoremTests(unittest.TestCase):
     }
 
     def holds(
-        self, chain: typing.Any, chances: typing.Any, steps: typing.Any, others: typing.Any
+        self, chain: Chain, chances: list[int], steps: int, others: int
     ) -> None:
         """Checks both inequalities; `chances` has p(s) of each plan times DRAWS ** steps."""
         whole, plans = DRAWS**steps, len(chances)
@@ -351,7 +359,7 @@ class ProgramTests(ProgramCase):
     def test_counts_of_walks_have_the_exact_distribution(self) -> None:
         """2000 walks of the real program against p(s): each chance within five deviations."""
         walks, steps = 2000, 5
-        words: typing.Dict[str, typing.Any] = dict(
+        words: Words = dict(
             WORDS, key=KEY, walks=walks, steps=steps, ask="gap:low,cut-edges:high",
             program=self.program,
         )

@@ -28,38 +28,41 @@ import district_audit
 from district_audit import Report, exhibit
 
 VOID = {"meta"}
-COLUMNS: typing.Dict[str, typing.Any] = dict(pop="TOTPOP", first="DEM", second="REP", district="CD")
+COLUMNS: common.Words = dict(pop="TOTPOP", first="DEM", second="REP", district="CD")
+
+
+Attribute = tuple[str, typing.Optional[str]]
 
 
 class Page(html.parser.HTMLParser):
     """A parsed page: its tags in order, its attributes and words, and whether it is balanced."""
 
-    def __init__(self, text: typing.Any) -> None:
+    def __init__(self, text: str) -> None:
         super().__init__()
-        self.attributes: typing.List[typing.Any]
-        self.open: typing.List[typing.Any]
-        self.tags: typing.List[typing.Any]
-        self.words: typing.List[typing.Any]
-        self.tags, self.attributes, self.words, self.open, self.faults = [], [], [], [], []
+        self.tags: list[str] = []
+        self.attributes: list[Attribute] = []
+        self.words: list[str] = []
+        self.unclosed: list[str] = []
+        self.faults: list[str] = []
         self.feed(text)
         self.close()
-        self.faults += self.open
+        self.faults += self.unclosed
 
-    def handle_starttag(self, tag: typing.Any, attrs: typing.Any) -> None:
+    def handle_starttag(self, tag: str, attrs: list[Attribute]) -> None:
         self.tags.append(tag)
         self.attributes += attrs
         if tag not in VOID:
-            self.open.append(tag)
+            self.unclosed.append(tag)
 
-    def handle_startendtag(self, tag: typing.Any, attrs: typing.Any) -> None:
+    def handle_startendtag(self, tag: str, attrs: list[Attribute]) -> None:
         self.tags.append(tag)
         self.attributes += attrs
 
-    def handle_endtag(self, tag: typing.Any) -> None:
-        if not self.open or self.open.pop() != tag:
+    def handle_endtag(self, tag: str) -> None:
+        if not self.unclosed or self.unclosed.pop() != tag:
             self.faults.append(tag)
 
-    def handle_data(self, data: typing.Any) -> None:
+    def handle_data(self, data: str) -> None:
         self.words.append(data)
 
     @property
@@ -67,16 +70,13 @@ class Page(html.parser.HTMLParser):
         return " ".join(" ".join(self.words).split())
 
 
-def guide_report(word: typing.Any) -> typing.Any:
+def guide_report(word: str) -> str:
     """The report of the guide with a line that begins so."""
     text = (TOP / "docs" / "user" / "GUIDE.md").read_text(encoding="utf-8")
-    blocks = re.findall("^```\\w*\n(.*?)^```$", text, re.DOTALL | re.MULTILINE)
-    return next(
-        block for block in blocks if block.startswith("district-audit") and "\n" + word in block
-    )
+    return next(block for block in common.blocks_of(text) if "\n" + word in block)
 
 
-def shift_report() -> typing.Any:
+def shift_report() -> str:
     """The README's report with a histogram: 200002 plans, 44391 + 59205 of them seats:low."""
     text = readme_report().replace("district-audit 1", "district-audit 2")
     low = 44391 + 59205
@@ -118,12 +118,12 @@ TEXTS = {
 }
 
 
-def page_of(text: typing.Any, name: str = "", **options: typing.Any) -> typing.Any:
+def page_of(text: str, name: str = "", **options: common.Value) -> str:
     return exhibit.page([(name, Report.parse(text))], exhibit.Options(**options))
 
 
 class ExhibitTests(FolderCase):
-    def check_alone(self, text: typing.Any) -> typing.Any:
+    def check_alone(self, text: str) -> Page:
         """The page is whole, and nothing in it refers to anything outside of it."""
         page = Page(text)
         self.assertEqual(page.faults, [])
@@ -250,7 +250,7 @@ class ExhibitTests(FolderCase):
             node[bad] = node.pop("DEM")
             node["CD"] = bad + node["CD"]
         report = Report.parse(readme_report())
-        columns: typing.Dict[str, typing.Any] = dict(COLUMNS, first=bad)
+        columns: common.Words = dict(COLUMNS, first=bad)
         data = json.dumps(graph).encode("utf-8")
         options = exhibit.Options(graph=data, columns=columns)
         text = exhibit.page([(bad, report), (bad + "2", report)], options)
@@ -308,7 +308,7 @@ class ExhibitTests(FolderCase):
             self.assertEqual((cells["deviation"], cells["deviation share"]), ("+0.2", "0.00 %"))
             self.assertEqual(self.table_shares(group, whole), [wanted, wanted])
 
-    def table_shares(self, group: int, whole: int) -> typing.List[str]:
+    def table_shares(self, group: int, whole: int) -> list[str]:
         """Returns both shares in the exhibit's row of one district."""
         from district_audit import exhibit_districts
 
@@ -324,7 +324,7 @@ class ExhibitTests(FolderCase):
         first, last = graph["nodes"][0], graph["nodes"][-1]
         self.assertNotEqual(first["CD"], last["CD"])
 
-        def refused(why: typing.Any, change: typing.Any) -> None:
+        def refused(why: str, change: typing.Callable[[common.Root], object]) -> None:
             other = json.loads(json.dumps(graph))
             change(other)
             with self.assertRaisesRegex(ValueError, why):
@@ -385,7 +385,7 @@ class ExhibitTests(FolderCase):
         from fractions import Fraction
         from district_audit import exhibit_text as texts
 
-        calls: typing.List[typing.Callable[[], str]] = [
+        calls: list[typing.Callable[[], str]] = [
             lambda: texts.shown("ratio", Fraction(1)),
             lambda: texts.definition("ratio", ("Blue", "Green")),
             lambda: texts.question("ratio:low", ("Blue", "Green")),
@@ -407,7 +407,7 @@ class ExhibitTests(FolderCase):
         self.assertEqual(texts.decimal(Fraction(1, 8), 2, True), "+0.13")
 
 
-def shown(label: typing.Any) -> typing.Any:
+def shown(label: str) -> str:
     """A label as a page shows it: what cannot be seen is a code point."""
     for hidden in "\u202e\x07\udc80":
         label = label.replace(hidden, f"\\u{ord(hidden):04x}")
@@ -415,10 +415,10 @@ def shown(label: typing.Any) -> typing.Any:
 
 
 class ProgramTests(ProgramCase):
-    def printed_command(self, page: typing.Any) -> typing.Any:
+    def printed_command(self, page: Page) -> str:
         return next(words for words in page.words if words.startswith("district-audit "))
 
-    def repeats(self, name: typing.Any, columns: typing.Any, **words: typing.Any) -> None:
+    def repeats(self, name: str, columns: common.Words, **words: common.Value) -> None:
         """The command that an exhibit prints makes the report again, byte for byte."""
         report = district_audit.run(
             str(EXAMPLES / "data" / name), program=self.program, key=KEY, **columns, **words
@@ -465,7 +465,7 @@ class ProgramTests(ProgramCase):
         data = json.dumps(graph).encode()
         asks = "seats:low,mean-median:low,gap:low,cut-edges:low"
         for first, second, seats, sign in (("a", "b", 1, -1), ("b", "a", 2, 1)):
-            columns: typing.Dict[str, typing.Any] = dict(
+            columns: common.Words = dict(
                 pop="pop", first=first, second=second, district="d"
             )
             report = district_audit.run(
@@ -498,7 +498,7 @@ class ProgramTests(ProgramCase):
     def test_a_graph_in_memory_is_compared_by_its_bytes(self) -> None:
         """No score is asked that tells the votes, and the report does not name its source."""
         root = json.loads((EXAMPLES / "data" / "cycle.json").read_bytes())
-        words: typing.Dict[str, typing.Any] = dict(
+        words: common.Words = dict(
             WORDS, key=KEY, steps=8, ask="cut-edges:low", program=self.program
         )
         report = district_audit.run(common.StandInGraph(root), **words)
@@ -533,7 +533,7 @@ class ProgramTests(ProgramCase):
         root = json.loads((EXAMPLES / "data" / "cycle.json").read_bytes())
         root["nodes"][0]["a"] += 0.4
         ids = [node["id"] for node in root["nodes"]]
-        words: typing.Dict[str, typing.Any] = dict(
+        words: common.Words = dict(
             WORDS, key=KEY, steps=8, ask="cut-edges:low", program=self.program
         )
         with self.assertWarns(district_audit.GraphChanged):
@@ -560,7 +560,7 @@ class ProgramTests(ProgramCase):
     def test_plans_are_compared_with_the_graph(self) -> None:
         root = json.loads((EXAMPLES / "data" / "cycle.json").read_bytes())
         table = {"other": {node["id"]: node["d"] for node in root["nodes"]}}
-        words: typing.Dict[str, typing.Any] = dict(
+        words: common.Words = dict(
             WORDS, key=KEY, steps=8, ask="cut-edges:low", program=self.program
         )
         reports = district_audit.plans(common.StandInGraph(root), table, **words)
@@ -576,7 +576,7 @@ class ProgramTests(ProgramCase):
         graph = json.loads((EXAMPLES / "data" / "grid.json").read_bytes())
         for node in graph["nodes"]:
             node["A"], node["B"] = node["REP"], node["DEM"]
-        words: typing.Dict[str, typing.Any] = dict(population="TOTPOP", district="CD", slack=1000)
+        words: common.Words = dict(population="TOTPOP", district="CD", slack=1000)
         ready = district_audit.prepare(
             json.dumps(graph).encode(), first="A", second="B", keep=["DEM", "REP"], **words
         )
@@ -635,7 +635,7 @@ class ProgramTests(ProgramCase):
         self.assertIn("The enacted plan has 10.", text)
         self.assertIn("--length side", text)
 
-    def ruled(self) -> typing.Tuple[bytes, typing.Any, typing.Dict[str, str]]:
+    def ruled(self) -> tuple[bytes, Report, dict[str, str]]:
         """Returns a graph, a report of it with each rule but without its source, and the columns.
 
         `keep` freezes units 0 and 1 and `few` unit 0; each side is 2 long, and each `other` 3. The
@@ -714,11 +714,11 @@ class ProgramTests(ProgramCase):
         report.exhibit(path, columns=columns)
         self.assertNotIn("COLUMN_OF", path.read_text(encoding="utf-8"))
 
-    def turned(self) -> typing.Tuple[pathlib.Path, bytes, district_audit.PlanReports]:
+    def turned(self) -> tuple[pathlib.Path, bytes, district_audit.PlanReports]:
         """Returns a graph, a table of a plan with as many cut edges, and the reports of both."""
         path = EXAMPLES / "data" / "cycle.json"
         table = b"id,turned\nw,1\nx,2\ny,2\nz,1\n"
-        words: typing.Dict[str, typing.Any] = dict(WORDS, key=KEY, steps=8, ask="cut-edges:low")
+        words: common.Words = dict(WORDS, key=KEY, steps=8, ask="cut-edges:low")
         return path, table, district_audit.plans(path, table, program=self.program, **words)
 
     def test_another_plan_than_the_graphs_own_gets_no_table(self) -> None:

@@ -7,7 +7,6 @@ import json
 import math
 import pathlib
 import tempfile
-import typing
 import unittest
 
 import common  # noqa: F401  (finds the package)
@@ -17,7 +16,7 @@ from district_audit.districts import plan_of
 from district_audit.report import PlanCheck
 from district_audit.trace_plan import Plan, UnitTable
 
-COLUMNS: typing.Dict[str, typing.Any] = dict(
+COLUMNS: common.Words = dict(
     population="pop", first="a", second="b", district="d", length="shared_perim"
 )
 # A ring of four units; units 0 and 1 are one district.
@@ -25,7 +24,7 @@ RING = ((0, 1), (1, 2), (2, 3), (3, 0))
 MOST = 1_717_986_918_000_000
 
 
-def graph(*lengths: object) -> typing.Dict[str, typing.Any]:
+def graph(*lengths: object) -> common.Words:
     """Returns a ring whose edges have these lengths; those behind the fourth are the other
     direction's, of the first edge on.
     """
@@ -44,11 +43,11 @@ def graph(*lengths: object) -> typing.Dict[str, typing.Any]:
     }
 
 
-def prepared(root: object, **more: typing.Any) -> district_audit.Prepared:
+def prepared(root: object, **more: common.Value) -> district_audit.Prepared:
     return district_audit.prepare(root, **{**COLUMNS, **more})
 
 
-def written(ready: district_audit.Prepared) -> typing.Dict[typing.Tuple[int, int], object]:
+def written(ready: district_audit.Prepared) -> dict[tuple[int, int], object]:
     adjacency = json.loads(ready.data)["adjacency"]
     return {(u, one["id"]): one["shared_perim"] for u, row in enumerate(adjacency) for one in row}
 

@@ -11,7 +11,6 @@ import os
 import pathlib
 import subprocess
 import sys
-import typing
 import unittest
 
 import common
@@ -19,7 +18,7 @@ import district_audit
 from district_audit import manifest
 
 CYCLE = common.EXAMPLES / "data" / "cycle.json"
-WALK: dict[str, typing.Any] = common.WALK
+WALK: common.Words = common.WALK
 
 
 def digest(path: pathlib.Path) -> str:
@@ -29,7 +28,7 @@ def digest(path: pathlib.Path) -> str:
 class Manifests(common.ProgramCase):
     """Runs of the real program that leave a manifest."""
 
-    def audited(self, graph: object = CYCLE, **words: typing.Any) -> pathlib.Path:
+    def audited(self, graph: object = CYCLE, **words: common.Value) -> pathlib.Path:
         """Makes a run and returns the path of its manifest."""
         report = self.folder / "report"
         district_audit.audit_to_file(report, graph, program=self.program, **{**WALK, **words})
@@ -88,7 +87,7 @@ class Manifests(common.ProgramCase):
     def test_each_changed_file_is_found(self) -> None:
         """One byte more in the graph, in the report or in the program."""
         path = self.audited()
-        files: typing.Dict[str, typing.Any] = {
+        files: common.Words = {
             "graph": CYCLE,
             "report": self.folder / "report",
             "program": pathlib.Path(self.program),

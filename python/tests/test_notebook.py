@@ -3,7 +3,6 @@ import ast
 import contextlib
 import io
 import json
-import typing
 import unittest
 
 import common
@@ -16,7 +15,7 @@ class Notebook(common.ProgramCase):
         super().setUp()
         self.book = json.loads(NOTEBOOK.read_text(encoding="utf-8"))
 
-    def cells(self) -> typing.List[typing.Any]:
+    def cells(self) -> list[str]:
         """The text of each cell of code."""
         cells = self.book["cells"]
         return ["".join(cell["source"]) for cell in cells if cell["cell_type"] == "code"]
@@ -39,7 +38,7 @@ class Notebook(common.ProgramCase):
     def test_its_cells_run_in_order(self) -> None:
         for module in ("networkx", "pandas", "matplotlib"):
             common.needs(module)
-        space: typing.Dict[str, typing.Any] = {"__name__": "__main__"}
+        space: common.Words = {"__name__": "__main__"}
         said = io.StringIO()
         with common.environment(DISTRICT_AUDIT=self.program), contextlib.redirect_stdout(said):
             for number, text in enumerate(self.cells()):

@@ -78,11 +78,11 @@ NEWER_ARGUMENTS = {
 }
 
 
-def of_types_alone(tree: typing.Any) -> typing.Any:
+def of_types_alone(tree: ast.Module) -> set[ast.AST]:
     """The parts of a module that no run looks at: annotations, where `from __future__ import
     annotations` stands, and what only type checkers read.
     """
-    found: typing.Set[typing.Any] = set()
+    found: set[ast.AST] = set()
     if any(
         isinstance(node, ast.ImportFrom)
         and node.module == "__future__"
@@ -102,7 +102,7 @@ def of_types_alone(tree: typing.Any) -> typing.Any:
     return found
 
 
-def newer_than_3_9(tree: typing.Any) -> typing.Iterator[typing.Any]:
+def newer_than_3_9(tree: ast.Module) -> typing.Iterator[tuple[int, str]]:
     """Each use, in a module, of what Python 3.9 does not have, with its line."""
     passed = of_types_alone(tree)
     for node in ast.walk(tree):

@@ -7,21 +7,20 @@ import io
 import json
 import pathlib
 import tempfile
-import typing
 import unittest
 
 import common
 from common import anything
-from district_audit import PrepareRefused, commands, prepare
+from district_audit import Prepared, PrepareRefused, commands, prepare
 
-ROUGH: typing.Dict[str, typing.Any] = dict(
+ROUGH: common.Words = dict(
     population="TOTPOP", first="DEM", second="REP", district="CD"
 )
 
 
-def square(**changed: typing.Any) -> typing.Dict[typing.Any, typing.Any]:
+def square(**changed: common.Value) -> common.Root:
     """Four units round a square; for each name of a column the values that stand there instead."""
-    columns: typing.Dict[str, typing.Any] = {
+    columns: common.Words = {
         "pop": [1, 1, 1, 1],
         "a": [1, 2, 3, 4],
         "b": [4, 3, 2, 1],
@@ -43,12 +42,12 @@ def square(**changed: typing.Any) -> typing.Dict[typing.Any, typing.Any]:
     }
 
 
-def prepared(root: typing.Any, **said: typing.Any) -> typing.Any:
+def prepared(root: object, **said: common.Value) -> Prepared:
     return prepare(json.dumps(root).encode(), **anything({**common.COLUMNS, "slack": 5000, **said}))
 
 
 class Changes(unittest.TestCase):
-    def refused(self, why: typing.Any, root: typing.Any, **said: typing.Any) -> typing.Any:
+    def refused(self, why: str, root: object, **said: common.Value) -> PrepareRefused:
         with self.assertRaises(PrepareRefused) as caught:
             prepared(root, **said)
         self.assertIn(why, "\n".join([str(caught.exception), *caught.exception.faults]))
@@ -228,7 +227,7 @@ class Changes(unittest.TestCase):
             },
         )
         nodes = common.example("ny8.json")["nodes"]
-        said: typing.Dict[str, typing.Any] = dict(
+        said: common.Words = dict(
             population="POP8", first="OWNING", second="OTHERS", district="PLAN8", region="COUNTY",
             slack=1000,
         )

@@ -13,7 +13,7 @@ RING = ((0, 1), (1, 2), (2, 3), (3, 0))
 LENGTHS = (9, 7, 5, 3)
 
 
-def ring() -> typing.Dict[str, typing.Any]:
+def ring() -> common.Words:
     """Returns a ring of four units in two districts and two counties, with unit 0 frozen."""
     at = {}
     for (u, v), length in zip(RING, LENGTHS):
@@ -31,14 +31,14 @@ def ring() -> typing.Dict[str, typing.Any]:
 
 
 class Prepared(common.ProgramCase):
-    COLUMNS: typing.Dict[str, typing.Any] = dict(
+    COLUMNS: common.Words = dict(
         common.COLUMNS, region="c", group="g", freeze="f", length="length"
     )
-    WALK: typing.Dict[str, typing.Any] = dict(key=common.KEY, steps=8, ask="gap:low")
+    WALK: common.Words = dict(key=common.KEY, steps=8, ask="gap:low")
 
     def calls(self) -> typing.Iterator[typing.Callable[..., object]]:
         """Each call on a prepared graph."""
-        program = {"program": self.program}
+        program: common.Words = {"program": self.program}
         yield lambda ready, **words: district_audit.check(ready, **program, **words)
         yield lambda ready, **words: district_audit.run(ready, **program, **self.WALK, **words)
         yield lambda ready, **words: district_audit.plans(
@@ -82,7 +82,7 @@ class Prepared(common.ProgramCase):
         self.assertEqual(district_audit.check(ready, program=self.program).rules.slack, 500)
 
     def test_a_limit_that_is_a_fraction_is_hinted_at_whole(self) -> None:
-        columns: typing.Dict[str, typing.Any] = self.COLUMNS
+        columns: common.Words = self.COLUMNS
         for name, value, whole in (
             ("max_length", 370275 * 1.1, 407302), ("max_splits", 9.9, 9),
             ("group_districts", 1.5, 2), ("max_length", 12.0, 12),
@@ -112,7 +112,7 @@ class Prepared(common.ProgramCase):
 
     def test_cut_length_by_name(self) -> None:
         ready = district_audit.prepare(ring(), **anything({**self.COLUMNS, "freeze": None}))
-        words: typing.Dict[str, typing.Any] = dict(
+        words: common.Words = dict(
             self.WALK, thin=1, slack=5000, program=self.program
         )
         with district_audit.trace(ready, **words) as trace:
@@ -131,7 +131,7 @@ class Prepared(common.ProgramCase):
         lines = {"freeze": "frozen 1", "region": "max-split 200 regions 2",
                  "group": "group-districts 0 of 0", "length": "cut-length 10"}
         for name in ("", *lines):
-            words: typing.Dict[str, typing.Any] = {} if not name else {name: None}
+            words: common.Words = {} if not name else {name: None}
             if name != "region":
                 words["max_splits"] = None
             text = str(district_audit.check(ready, program=self.program, **words)).split("\n")

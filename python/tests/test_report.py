@@ -15,7 +15,10 @@ from district_audit.picture import percent
 from district_audit.report import bound_of
 
 
-def texts() -> typing.Any:
+Kind = type[typing.Union[Report, PlanCheck]]
+
+
+def texts() -> list[tuple[int, typing.Optional[str], str]]:
     """Each whole text that `case_runner` has to print: a check, a report, or the reports of several
     plans.
     """
@@ -123,7 +126,7 @@ class RoundTrip(unittest.TestCase):
         ):
             text = "\n".join(["plan-check 1", *head, *rules, "end", ""])
             self.assertEqual(str(PlanCheck.parse(text)), text)
-        none: typing.List[str] = []
+        none: list[str] = []
         for names, rules in (
             ('"" "" "" ""', none),
             ('"p q" "\\"" "\\\\" "\\u0001\\n\\u001f\x7f"', none),
@@ -249,7 +252,7 @@ class Values(unittest.TestCase):
 
 
 class Pictures(common.FolderCase):
-    def drawn(self, text: typing.Any) -> typing.Any:
+    def drawn(self, text: str) -> tuple[common.Value, str]:
         common.needs("matplotlib")
         report = Report.parse(text)
         figure = report.plot(str(self.folder / "picture"))
@@ -383,7 +386,7 @@ class Pictures(common.FolderCase):
 class Refusals(unittest.TestCase):
     """Texts that the program cannot have written are refused, at the first line where it shows."""
 
-    def refused(self, number: typing.Any, text: typing.Any, kind: typing.Any = Report) -> None:
+    def refused(self, number: int, text: str, kind: Kind = Report) -> None:
         with self.assertRaises(ReportRefused) as caught:
             kind.parse(text)
         self.assertEqual(caught.exception.number, number, str(caught.exception))

@@ -13,14 +13,14 @@ from common import anything
 import district_audit
 from district_audit import ElectionReports, NamedReports, PlanReports, Report, checkpoints
 
-WORDS: typing.Dict[str, typing.Any] = dict(
+WORDS: common.Words = dict(
     population="TOTPOP", district="CD", slack=1000, key=common.KEY, steps=300, walks=2, ends=3,
     hub_steps=50,
 )
 ELECTIONS = {"GOV18": ("DEM", "REP"), "SEN20": ("D2", "R2")}
 
 
-def root() -> typing.Any:
+def root() -> common.Root:
     """The grid with a second election, in which every other unit votes the other way round."""
     found = common.example("grid.json")
     for place, node in enumerate(found["nodes"]):
@@ -30,7 +30,7 @@ def root() -> typing.Any:
 
 
 class Elections(common.ProgramCase):
-    def run_with(self, graph: typing.Any, **words: typing.Any) -> typing.Any:
+    def run_with(self, graph: object, **words: common.Value) -> common.Value:
         return district_audit.run(
             graph, program=self.program,
             **anything({**WORDS, "ask": "gap:high,cut-edges:low", **words}),
@@ -108,8 +108,8 @@ class Elections(common.ProgramCase):
 
     def test_calls_of_one_election_say_so(self) -> None:
         data = json.dumps(root()).encode()
-        words: typing.Dict[str, typing.Any] = dict(WORDS, ask="gap:high", elections=ELECTIONS)
-        calls: typing.Dict[str, typing.Callable[[], object]] = {
+        words: common.Words = dict(WORDS, ask="gap:high", elections=ELECTIONS)
+        calls: dict[str, typing.Callable[[], object]] = {
             "plans takes": lambda: district_audit.plans(data, {}, **words),
             "check takes": lambda: district_audit.check(
                 data, population="TOTPOP", district="CD", **anything({"elections": ELECTIONS})
@@ -230,7 +230,7 @@ class Pictures(common.FolderCase):
         self.matplotlib = common.needs("matplotlib")
         self.report = Report.parse(common.readme_report())
 
-    def words(self, figure: typing.Any) -> str:
+    def words(self, figure: common.Value) -> str:
         """All words of a figure: those on it, the titles and the names of rows."""
         found = [text.get_text() for text in figure.texts]
         for axes in figure.axes:

@@ -28,7 +28,11 @@ ROWS = (
 )
 
 
-def graph_of(rows: typing.Any) -> typing.Dict[typing.Any, typing.Any]:
+# The two votes, the group, its whole, and the county of each place, by rows.
+Rows = typing.Sequence[typing.Sequence[tuple[int, int, int, int, str]]]
+
+
+def graph_of(rows: Rows) -> common.Root:
     """The rows as a graph in networkx's adjacency layout."""
     places = [(row, column) for row in range(len(rows)) for column in range(len(rows[0]))]
     nodes = [
@@ -60,12 +64,12 @@ class ScoreCase(common.FolderCase):
 
     def trace(
         self,
-        root: typing.Any,
+        root: common.Root,
         lines: str = "0 0 6",
         steps: int = 1,
         start: int = 6,
-        **more: typing.Any,
-    ) -> typing.Any:
+        **more: common.Value,
+    ) -> district_audit.Trace:
         """A trace of a graph, whose lines of plans are given."""
         nodes, labels = root["nodes"], {node["d"] for node in root["nodes"]}
         edges = {
@@ -93,7 +97,7 @@ class ScoreCase(common.FolderCase):
             path, trace_model.written(root), **trace_model.COLUMNS, **more
         )
 
-    def sample(self, rows: typing.Any = ROWS, **more: typing.Any) -> typing.Any:
+    def sample(self, rows: Rows = ROWS, **more: common.Value) -> district_audit.Sample:
         """The sample of the enacted plan."""
         return next(self.trace(graph_of(rows), "0 0 6\n1 0 6", **more))
 
@@ -350,7 +354,7 @@ class Compactness(ScoreCase):
         super().setUp()
         common.needs("shapely")
 
-    def squares(self) -> typing.Dict[typing.Any, typing.Any]:
+    def squares(self) -> dict[str, common.Value]:
         from shapely.geometry import box
 
         return {
@@ -479,13 +483,13 @@ class Compactness(ScoreCase):
             compactness.reock(self.sample(), compactness.Shapes(squares))
 
 
-def slow_radius(points: typing.Any) -> typing.Any:
+def slow_radius(points: typing.Iterable[compactness.Point]) -> float:
     """The radius of the least circle around some points, among all circles through two or three."""
-    points = list(dict.fromkeys(points))
-    found = [(points[0], 0.0)]
-    for (ax, ay), (bx, by) in itertools.combinations(points, 2):
+    corners = list(dict.fromkeys(points))
+    found = [(corners[0], 0.0)]
+    for (ax, ay), (bx, by) in itertools.combinations(corners, 2):
         found.append((((ax + bx) / 2, (ay + by) / 2), math.hypot(ax - bx, ay - by) / 2))
-    for (ax, ay), (bx, by), (cx, cy) in itertools.combinations(points, 3):
+    for (ax, ay), (bx, by), (cx, cy) in itertools.combinations(corners, 3):
         twice = 2 * (ax * (by - cy) + bx * (cy - ay) + cx * (ay - by))
         if abs(twice) > 1e-12:
             squares = ax * ax + ay * ay, bx * bx + by * by, cx * cx + cy * cy

@@ -22,7 +22,7 @@ class Pictures(common.FolderCase):
         super().setUp()
         common.needs("matplotlib")
 
-    def saved(self, draw: typing.Any) -> typing.Any:
+    def saved(self, draw: typing.Callable[[str], object]) -> str:
         """The texts of a picture's SVG; both files are there, in grey alone, and the same each
         time."""
         both = []
@@ -122,7 +122,7 @@ class Guide(common.FolderCase):
             re.DOTALL | re.MULTILINE,
         )
         self.assertGreaterEqual(len(blocks), 7)
-        names: typing.Dict[typing.Any, typing.Any]
+        names: dict[str, object]
         names, wanted, said = {}, [], []
         before = os.getcwd()
         os.chdir(self.folder)

@@ -1,6 +1,5 @@
 """Traces of the real program and of the plain model: every sample is as the model says."""
 import os
-import typing
 import unittest
 from fractions import Fraction
 
@@ -9,9 +8,10 @@ from common import anything
 import district_audit
 import trace_model
 from district_audit import scores
+from tests.oracle import model
 from trace_model import TextCase, drawn_jobs, tracing_program
 
-GRID: typing.Dict[str, typing.Any] = dict(
+GRID: common.Words = dict(
     population="TOTPOP", first="DEM", second="REP", district="CD"
 )
 # The number of jobs that are drawn for each of the tests against the model.
@@ -23,12 +23,12 @@ class AgainstTheModel(TextCase):
 
     def compare(
         self,
-        trace: typing.Any,
-        root: typing.Any,
-        job: typing.Any,
-        first: typing.Any,
-        last: typing.Any,
-        thin: typing.Any,
+        trace: district_audit.Trace,
+        root: common.Root,
+        job: model.Job,
+        first: int,
+        last: int,
+        thin: int,
     ) -> None:
         labels = sorted({node["d"] for node in root["nodes"]})
         ids = [node["id"] for node in root["nodes"]]
@@ -57,11 +57,11 @@ class AgainstTheModel(TextCase):
 
     def compare_scores(
         self,
-        sample: typing.Any,
-        root: typing.Any,
-        assignment: typing.Any,
-        job: typing.Any,
-        plan: typing.Any,
+        sample: district_audit.Sample,
+        root: common.Root,
+        assignment: dict[object, object],
+        job: model.Job,
+        plan: tuple[int, ...],
     ) -> None:
         hand = trace_model.scores_by_hand(root, assignment)
         ours = {
@@ -128,7 +128,7 @@ class AgainstTheModel(TextCase):
                 numbers="nearest",
                 **anything({name: column for name, column in columns.items() if name != "slack"}),
             )
-            words: typing.Dict[str, typing.Any] = dict(
+            words: common.Words = dict(
                 key=district_audit.key_of(path.name), walks=1, steps=steps, ends=1, hub_steps=steps,
                 ask="seats:low,mean-median:high,gap:low,cut-edges:low", slack=columns["slack"],
             )
@@ -175,7 +175,7 @@ class Tests(common.ProgramCase):
         self.program = tracing_program()
 
     def test_at_each_step_they_are_the_reports(self) -> None:
-        words: typing.Dict[str, typing.Any] = dict(
+        words: common.Words = dict(
             GRID, slack=1000, key=district_audit.key_of("each step"), walks=2, steps=3000, ends=9,
             hub_steps=400, ask=["seats:low", "mean-median:high", "gap:high", "cut-edges:low"],
             program=self.program,
@@ -188,7 +188,7 @@ class Tests(common.ProgramCase):
             "gap": scores.efficiency_gap,
             "cut-edges": scores.cut_edges,
         }
-        values: typing.Dict[typing.Any, typing.Any] = {}
+        values: dict[tuple[int, str], list[object]] = {}
         for sample in district_audit.trace(graph, ids="walks", thin=1, **words):
             for score, function in functions.items():
                 values.setdefault((sample.id, score), []).append(anything(function)(sample))
@@ -268,7 +268,7 @@ class Tests(common.ProgramCase):
     def test_an_assignment_in_place_of_a_column(self) -> None:
         root = common.example("grid.json")
         own = {node["id"]: "plan " + node["CD"] for node in root["nodes"]}
-        words: typing.Dict[str, typing.Any] = dict(
+        words: common.Words = dict(
             GRID, slack=1000, key=common.KEY, steps=100, thin=50, program=self.program
         )
         plain = [
@@ -287,7 +287,7 @@ class Tests(common.ProgramCase):
         )
 
     def test_refusals_of_the_program_come_at_the_call(self) -> None:
-        words: typing.Dict[str, typing.Any] = dict(
+        words: common.Words = dict(
             trace_model.COLUMNS, slack=5000, key=common.KEY, program=self.program
         )
         data = trace_model.written(trace_model.PATH)
@@ -309,7 +309,7 @@ class Tests(common.ProgramCase):
 
     def test_closing_ends_the_program(self) -> None:
         """Closed by hand, by a `with` block, and by leaving the loop."""
-        words: typing.Dict[str, typing.Any] = dict(
+        words: common.Words = dict(
             GRID, slack=1000, key=common.KEY, steps=10**9, thin=100, program=self.program
         )
         for way in ("close", "with", "leave"):

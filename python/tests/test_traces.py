@@ -67,7 +67,7 @@ trace id 2 steps 2 thin 2\n0 0 1 -4 2:0 => trace id 2 steps 2 thin 2\n0 0 0 -16 
 class Reading(TextCase):
     """What is read of a text, and which texts are refused, at which line."""
 
-    def refused(self, number: typing.Any, text: typing.Any, **more: typing.Any) -> str:
+    def refused(self, number: int, text: typing.Union[str, bytes], **more: common.Value) -> str:
         with self.assertRaises(district_audit.TraceRefused) as caught:
             for _ in self.read(text, **more):
                 pass
@@ -121,14 +121,15 @@ class Reading(TextCase):
         assignment = first.assignment
         self.assertEqual(assignment["x"], "p")
         next(trace)
-        for call in (
+        calls: list[typing.Callable[[], object]] = [
             lambda: assignment["x"],
             lambda: dict(first.assignment),
             lambda: first.totals("a"),
             first.frozen,
             lambda: scores.seats(first),
             lambda: len(assignment),
-        ):
+        ]
+        for call in calls:
             with self.assertRaises(district_audit.StaleSample):
                 call()
         self.assertEqual(
@@ -173,7 +174,7 @@ class Reading(TextCase):
             trace_model.COLUMNS, slack=5000, key=common.KEY, steps=4, ask="gap:low", source="yes"
         )
         text = trace_model.text_of(trace_model.job_of(setting, data), 0, 0, 1)
-        self.assertTrue(self.read(text).head.source.is_of(data))
+        self.assertTrue(anything(self.read(text).head.source).is_of(data))
         self.assertIn(
             "SHA-256",
             self.refused(
@@ -184,12 +185,12 @@ class Reading(TextCase):
 
     def test_the_head_is_compared_with_the_graph(self) -> None:
         """Each part of the head that another graph or another job would have is refused."""
-        whole: typing.Dict[str, typing.Any] = dict(
+        whole: common.Words = dict(
             COLUMNS, key=common.KEY, slack=5000, walks=1, steps=5, ends=2, hub_steps=2,
             ask="seats:low,gap:high", max_cut=400_000,
         )
         self.assertEqual(len(list(self.read(TEXT, words=whole))), 7)
-        changes: typing.List[typing.Tuple[str, typing.Any]] = [
+        changes: list[tuple[str, object]] = [
             ("walks", 2), ("steps", 4), ("ends", 3), ("hub_steps", 3), ("slack", 4000),
         ]
         changes += [("key", "1" * 64), ("ask", ["seats:low"]), ("max_cut", 2)]
@@ -237,7 +238,7 @@ class Reading(TextCase):
             node.update(county=county, group=group, whole=whole)
         rules = "max-split 2 regions 2\ngroup-districts 1 of 1\nwalks 1"
         text = TEXT.replace("walks 1", rules, 1)
-        named: typing.Dict[str, typing.Any] = dict(
+        named: common.Words = dict(
             COLUMNS, region="county", group="group", group_of="whole"
         )
         self.assertEqual(len(list(self.read(text, root, named))), 7)
@@ -249,7 +250,7 @@ class Reading(TextCase):
             (dict(group_share=4000), "", "", "group_share is 5000 there and 4000 here"),
         ):
             with self.subTest(why=why):
-                words: typing.Dict[str, typing.Any] = {**named, **anything(change)}
+                words: common.Words = {**named, **anything(change)}
                 said = self.refused(10, text.replace(old, new), graph=root, words=words)
                 self.assertIn(why, said)
 
@@ -260,7 +261,7 @@ class Reading(TextCase):
             node.update(group=group, whole=2, keep=keep)
         rules = "group-districts 1 of 2\ngroup-share 4900\nfrozen 2\nwalks 1"
         text = TEXT.replace("walks 1", rules, 1)
-        named: typing.Dict[str, typing.Any] = dict(
+        named: common.Words = dict(
             COLUMNS, group="group", group_of="whole", freeze="keep"
         )
         self.assertEqual(len(list(self.read(text, root, named))), 7)
@@ -370,7 +371,7 @@ class Reading(TextCase):
             root["nodes"][2]["more"] = value
             path = self.folder / "trace"
             path.write_text(TEXT, encoding="ascii")
-            columns: typing.Dict[str, typing.Any] = dict(trace_model.COLUMNS)
+            columns: common.Words = dict(trace_model.COLUMNS)
             trace = district_audit.read_trace(path, common.StandInGraph(root), **columns)
             with self.subTest(value=value), self.assertRaisesRegex(ValueError, 'unit "y".*' + why):
                 next(trace).totals("more")
@@ -390,7 +391,7 @@ class Reading(TextCase):
             node["c"] = 1
         path = self.folder / "trace"
         path.write_text(TEXT, encoding="ascii")
-        columns: typing.Dict[str, typing.Any] = {
+        columns: common.Words = {
             "population": "pop",
             "first": "a",
             "second": "b",
@@ -415,7 +416,7 @@ class Reading(TextCase):
         class Module:
             @staticmethod
             def Partition(
-                graph: typing.Any, assignment: typing.Any = None, **more: typing.Any
+                graph: object, assignment: object = None, **more: object
             ) -> str:
                 made.append((graph, assignment, more))
                 return "partition"
@@ -445,15 +446,15 @@ class Reading(TextCase):
 class Programs(TextCase):
     """Faults of the program, by stand-ins that write TEXT or a part of it."""
 
-    def program(self, line: typing.Any) -> str:
+    def program(self, line: str) -> str:
         path = self.folder / "program"
         (self.folder / "text").write_text(TEXT, encoding="ascii")
         path.write_text(f"#!/bin/sh\ncd '{self.folder}'\n{line}\n", encoding="ascii")
         path.chmod(0o755)
         return str(path)
 
-    def trace(self, line: typing.Any, **more: typing.Any) -> typing.Any:
-        words: typing.Dict[str, typing.Any] = dict(
+    def trace(self, line: str, **more: common.Value) -> district_audit.Trace:
+        words: common.Words = dict(
             trace_model.COLUMNS, key=common.KEY, slack=5000, walks=1, steps=5, ends=2, hub_steps=2,
             ids=(0, 2), thin=2,
         )
@@ -492,7 +493,7 @@ class Programs(TextCase):
 
     def test_a_refused_text_ends_the_program(self) -> None:
         trace = self.trace("sed 's/^4 2/4 9/' text; exec sleep 600")
-        process = trace.lines.process
+        process = anything(trace.lines).process
         with self.assertRaises(district_audit.TraceRefused):
             list(trace)
         self.assertIsNotNone(process.poll())
@@ -529,10 +530,10 @@ class Programs(TextCase):
     def test_progress(self) -> None:
         from district_audit import progress
 
-        shown: typing.List[typing.Any] = []
+        shown: list[common.Value] = []
 
         class Bar:
-            def show(self, done: typing.Any, total: typing.Any) -> None:
+            def show(self, done: int, total: int) -> None:
                 shown.append((done, total))
 
             def end(self) -> None:

@@ -10,11 +10,13 @@ import unittest
 import common
 from common import anything
 import district_audit
-from district_audit import PrepareRefused, values
+from district_audit import PlanReports, PrepareRefused, values
+
+Call = typing.Callable[[], object]
 
 UNITS = list("stuvwxyz")
-PLAN: typing.Dict[str, typing.Any] = dict(zip(UNITS, [1, 1, 1, 1, 2, 2, 2, 2]))
-WORDS: typing.Dict[str, typing.Any] = dict(
+PLAN: common.Words = dict(zip(UNITS, [1, 1, 1, 1, 2, 2, 2, 2]))
+WORDS: common.Words = dict(
     common.COLUMNS, slack=5000, key=common.KEY, ask="gap:low", steps=16
 )
 
@@ -41,7 +43,7 @@ ALIKE = [
 ]
 
 
-def of_numpy() -> typing.List[typing.Any]:
+def of_numpy() -> list[object]:
     """Missing values of numpy and pandas, where these are installed."""
     numpy, pandas = common.needs("numpy"), common.needs("pandas")
     return [
@@ -51,10 +53,13 @@ def of_numpy() -> typing.List[typing.Any]:
 
 
 def root_of(
-    labels: typing.Any, column: str = "d", units: typing.Any = UNITS, **more: typing.Any
-) -> typing.Dict[typing.Any, typing.Any]:
+    labels: typing.Iterable[object],
+    column: str = "d",
+    units: typing.Sequence[object] = UNITS,
+    **more: common.Value,
+) -> common.Root:
     """A cycle whose units have these labels in a column; d is the plan in any case."""
-    nodes = [
+    nodes: list[dict[str, object]] = [
         {"id": unit, "pop": 1, "a": 1, "b": 2, "d": PLAN[name]} for unit, name in zip(units, UNITS)
     ]
     for node, label in zip(nodes, labels):
@@ -63,7 +68,7 @@ def root_of(
     return {"nodes": nodes, "adjacency": adjacency}
 
 
-def with_one(label: typing.Any, place: int = 3) -> typing.Any:
+def with_one(label: object, place: int = 3) -> list[object]:
     """The labels of the plan, with another one in a place."""
     found = list(PLAN.values())
     found[place] = label
@@ -107,7 +112,7 @@ class Values(unittest.TestCase):
 
 
 class Case(common.ProgramCase):
-    def refused(self, call: typing.Any, *parts: typing.Any) -> typing.Any:
+    def refused(self, call: Call, *parts: str) -> PrepareRefused:
         """A call is refused by a line that names the unit v and has these parts."""
         with self.assertRaises(PrepareRefused) as caught:
             call()
@@ -121,13 +126,13 @@ class Case(common.ProgramCase):
         self.assertIn('unit "v"', str(caught.exception))
         return caught.exception
 
-    def calls(self, labels: typing.Any) -> typing.Dict[typing.Any, typing.Any]:
+    def calls(self, labels: typing.Sequence[object]) -> dict[str, Call]:
         """Each way by which labels of units come into the package."""
         plan = dict(zip(UNITS, labels))
         graph = common.StandInGraph(root_of(list(PLAN.values())))
         bare = {name: column for name, column in WORDS.items() if name != "district"}
         columns = {name: column for name, column in common.COLUMNS.items() if name != "district"}
-        said: typing.Dict[str, typing.Any] = dict(program=self.program)
+        said: common.Words = dict(program=self.program)
         return {
             "column": lambda: district_audit.check(
                 common.StandInGraph(root_of(labels)), **said, **common.COLUMNS, slack=5000
@@ -253,7 +258,7 @@ class Inputs(Case):
 class Files(Case):
     """Bytes and files, which go to the program as they are, are tested all the same."""
 
-    def calls_of(self, data: typing.Any) -> typing.Iterator[typing.Any]:
+    def calls_of(self, data: bytes) -> typing.Iterator[Call]:
         path = self.folder / "graph.json"
         path.write_bytes(data)
         for graph in (data, path, str(path)):
@@ -347,18 +352,20 @@ class UnitsCase(Case):
 
     GRAPH = root_of(list(PLAN.values()))
 
-    def no(self, why: typing.Any, call: typing.Any) -> None:
+    def no(self, why: str, call: Call) -> None:
         with self.assertRaises(PrepareRefused) as caught:
             call()
         self.assertIn(why, str(caught.exception))
 
-    def plans(self, table: typing.Any, graph: typing.Any = None, **said: typing.Any) -> typing.Any:
+    def plans(
+        self, table: object, graph: typing.Optional[common.Root] = None, **said: common.Value
+    ) -> PlanReports:
         return district_audit.plans(
             common.StandInGraph(self.GRAPH if graph is None else graph), table,
             program=self.program, **WORDS, **said,
         )
 
-    def prepared(self, assignment: typing.Any, graph: typing.Any = None) -> typing.Any:
+    def prepared(self, assignment: object, graph: object = None) -> district_audit.Prepared:
         columns = {name: column for name, column in common.COLUMNS.items() if name != "district"}
         return district_audit.prepare(
             self.GRAPH if graph is None else graph, **columns, assignment=assignment
@@ -368,10 +375,10 @@ class UnitsCase(Case):
 class Units(UnitsCase):
     """Ids: of the graph, of assignments, and of tables."""
 
-    def pairs(self, pairs: typing.Any) -> typing.Any:
+    def pairs(self, pairs: typing.Iterable[tuple[object, object]]) -> common.StandInAssignment:
         """An assignment whose items() have an id twice, as of a Series with a repeated index."""
         stand_in = common.StandInAssignment({})
-        stand_in.items = lambda: list(pairs)  # type: ignore[assignment]
+        setattr(stand_in, "items", lambda: list(pairs))
         return stand_in
 
     def test_units_that_are_missing_or_none_of_the_graph(self) -> None:
@@ -507,7 +514,7 @@ class Units(UnitsCase):
 
     def test_regions_that_are_filled(self) -> None:
         root = root_of([1, 1, None, None, 2, 2, 2, 2], "county")
-        said: typing.Dict[str, typing.Any] = dict(common.COLUMNS, region="county")
+        said: common.Words = dict(common.COLUMNS, region="county")
         self.assertEqual(district_audit.prepare(root, **said, fill_region=3).regions, [1, 2, 3])
         self.assertEqual(district_audit.prepare(root, **said, fill_region="2").regions, ["1", "2"])
         self.assertEqual(
@@ -631,8 +638,11 @@ class Frames(UnitsCase):
         self.pandas = common.needs("pandas")
 
     def frame(
-        self, labels: typing.Any, index: typing.Any = UNITS, dtype: typing.Any = object
-    ) -> typing.Any:
+        self,
+        labels: typing.Sequence[object],
+        index: typing.Sequence[object] = UNITS,
+        dtype: object = object,
+    ) -> common.Value:
         return self.pandas.DataFrame(
             {"one": list(PLAN.values()), "two": self.pandas.Series(labels, dtype=dtype)}
         ).set_axis(index)

@@ -8,17 +8,18 @@ from fractions import Fraction
 
 import common
 import district_audit
+from common import Root, Value, Words
 from tests.oracle import model
 
 SCORES = ["seats", "mean-median", "gap", "cut-edges"]
-COLUMNS: typing.Dict[str, typing.Any] = dict(pop="pop", first="a", second="b", district="d")
+COLUMNS: Words = dict(pop="pop", first="a", second="b", district="d")
 
 # A path of four units in two districts: a walk of five steps, in two of which unit 1 moves there
 # and back, and two endpoint trajectories, whose hub has unit 2 moved. The scores are worked by
 # hand. In ppqq both districts are tied, 4 to 4, and so are the second party's: twice the gap's
 # votes are (4 - 12) + (4 - 12) = -16. In pqqq they are (6 - 3) + (6 - 15) = -6, and in pppq
 # (6 - 12) + (6 - 4) = -4.
-PATH: typing.Dict[str, typing.Any] = {
+PATH: Root = {
     "directed": False,
     "multigraph": False,
     "graph": [],
@@ -52,7 +53,20 @@ end
 """
 
 
-def drawn_graph(dice: typing.Any) -> typing.Dict[typing.Any, typing.Any]:
+class Drawn(typing.NamedTuple):
+    """A drawn graph, words of a run, the model's job of both, and a trace of it: the first and the
+    last id, and the thinning.
+    """
+
+    root: Root
+    words: Words
+    job: model.Job
+    first: int
+    last: int
+    thin: int
+
+
+def drawn_graph(dice: random.Random) -> Root:
     """A connected graph with a legal plan of contiguous districts, columns of counties, a group and
     a second election, ids of both kinds, and the root object of its JSON."""
     rows, columns = dice.randint(2, 5), dice.randint(3, 6)
@@ -87,7 +101,7 @@ def drawn_graph(dice: typing.Any) -> typing.Dict[typing.Any, typing.Any]:
                 "bvap": dice.randint(0, 9),
             }
         )
-    entries: typing.Any = {place: [] for place in places}
+    entries: dict[tuple[int, int], list[object]] = {place: [] for place in places}
     for one, other in pairs:
         length = 1 + (5 * sum(one) + 3 * sum(other)) % 11
         entries[one].append({"length": length, "id": ids[other]})
@@ -101,7 +115,7 @@ def drawn_graph(dice: typing.Any) -> typing.Dict[typing.Any, typing.Any]:
     }
 
 
-def drawn_words(dice: typing.Any, steps: int = 120) -> typing.Any:
+def drawn_words(dice: random.Random, steps: int = 120) -> Words:
     """The words of a run, as keyword arguments of the package."""
     has_lengths = dice.random() < 0.4
     scores = [*SCORES, "cut-length"] if has_lengths else SCORES
@@ -109,7 +123,7 @@ def drawn_words(dice: typing.Any, steps: int = 120) -> typing.Any:
         f"{score}:{dice.choice(['low', 'high'])}"
         for score in dice.sample(scores, dice.randint(1, 4))
     ]
-    words: typing.Dict[str, typing.Any] = dict(
+    words: Words = dict(
         COLUMNS, slack=dice.choice([3000, 5000, 9000]), key=dice.randbytes(32).hex(),
         walks=dice.randint(1, 3), steps=dice.randint(1, steps), ends=dice.randint(0, 3),
         hub_steps=dice.randint(1, steps), ask=",".join(asks), max_cut=dice.choice([400000, 30]),
@@ -125,17 +139,18 @@ def drawn_words(dice: typing.Any, steps: int = 120) -> typing.Any:
     return words
 
 
-def job_of(words: typing.Any, data: typing.Any) -> typing.Any:
+def job_of(words: typing.Mapping[str, object], data: bytes) -> model.Job:
     """The model's job; model.Refused where the plan or the words are refused."""
     given = [
         part
         for name, value in words.items()
         for part in ("--" + name.replace("_", "-"), str(value))
     ]
-    return model.job_of(model.Setting(["run", *given]), data)
+    job: model.Job = model.job_of(model.Setting(["run", *given]), data)
+    return job
 
 
-def visited(job: typing.Any, number: typing.Any) -> typing.List[typing.Any]:
+def visited(job: model.Job, number: int) -> list[tuple[tuple[int, ...], int]]:
     """The plans and the moves of a trajectory: a list of both after each step, and how many
     steps."""
     setting, plan = job.setting, tuple(job.plan)
@@ -150,11 +165,11 @@ def visited(job: typing.Any, number: typing.Any) -> typing.List[typing.Any]:
     return list(zip(plans, moves))
 
 
-def shown_steps(steps: typing.Any, thin: typing.Any) -> typing.List[typing.Any]:
+def shown_steps(steps: int, thin: int) -> list[int]:
     return [*range(0, steps, thin), steps]
 
 
-def text_of(job: typing.Any, first: typing.Any, last: typing.Any, thin: typing.Any) -> str:
+def text_of(job: model.Job, first: int, last: int, thin: int) -> str:
     """The trace of some trajectories."""
     setting, start = job.setting, tuple(job.plan)
     lines = [
@@ -192,7 +207,7 @@ def text_of(job: typing.Any, first: typing.Any, last: typing.Any, thin: typing.A
     return "\n".join([*lines, "end", ""])
 
 
-def scores_by_hand(root: typing.Any, assignment: typing.Any) -> typing.Any:
+def scores_by_hand(root: Root, assignment: typing.Mapping[Value, Value]) -> dict[str, object]:
     """Scores of a plan from its graph, each by its plain definition, by the names of the tests."""
     nodes = root["nodes"]
     labels = sorted(set(assignment.values()))
@@ -200,16 +215,17 @@ def scores_by_hand(root: typing.Any, assignment: typing.Any) -> typing.Any:
         label: [node for node in nodes if assignment[node["id"]] == label] for label in labels
     }
 
-    def total(column: typing.Any) -> typing.List[typing.Any]:
+    def total(column: str) -> list[int]:
         return [sum(node[column] for node in by_label[label]) for label in labels]
 
-    found = {}
+    found: dict[str, Value] = {}
     for name, (first, second) in {"ab": ("a", "b"), "ce": ("c", "e")}.items():
         pairs = list(zip(total(first), total(second)))
         shares = sorted(Fraction(a, a + b) if a + b else Fraction(1, 2) for a, b in pairs)
+        halves = [Fraction(a + b, 2) for a, b in pairs]
         wasted = [
-            (a, max(0, b - Fraction(a + b, 2))) if b >= a else (a - Fraction(a + b, 2), b)
-            for a, b in pairs
+            (Fraction(a), b - half) if b >= a else (a - half, Fraction(b))
+            for (a, b), half in zip(pairs, halves)
         ]
         found["seats " + name] = sum(a > b for a, b in pairs)
         found["efficiency_gap " + name] = sum(b - a for a, b in wasted) / sum(
@@ -229,7 +245,7 @@ def scores_by_hand(root: typing.Any, assignment: typing.Any) -> typing.Any:
         for other in others
     }
     found["cut_edges"] = sum(len({of[unit] for unit in edge}) == 2 for edge in edges)
-    counties: typing.Dict[typing.Any, typing.Any] = {}
+    counties: dict[object, set[object]] = {}
     for node in nodes:
         counties.setdefault(node["county"], set()).add(of[node["id"]])
     found["splits"] = sum(len(those) - 1 for those in counties.values())
@@ -238,11 +254,11 @@ def scores_by_hand(root: typing.Any, assignment: typing.Any) -> typing.Any:
     return found
 
 
-def written(root: typing.Any) -> bytes:
+def written(root: object) -> bytes:
     return json.dumps(root).encode("utf-8")
 
 
-def drawn_jobs(seed: typing.Any, count: typing.Any) -> typing.Iterator[typing.Any]:
+def drawn_jobs(seed: int, count: int) -> typing.Iterator[Drawn]:
     """Drawn graphs with words that the model takes, the model's job, and ids and a thinning."""
     dice = random.Random(seed)
     while count:
@@ -254,10 +270,10 @@ def drawn_jobs(seed: typing.Any, count: typing.Any) -> typing.Iterator[typing.An
         first = dice.randrange(words["walks"] + words["ends"])
         last = dice.randrange(first, words["walks"] + words["ends"])
         count -= 1
-        yield root, words, job, first, last, dice.choice([1, 2, 7, 50, 1000])
+        yield Drawn(root, words, job, first, last, dice.choice([1, 2, 7, 50, 1000]))
 
 
-def tracing_program() -> typing.Any:
+def tracing_program() -> str:
     """The real program, which has to know `trace` with `--ids`."""
     program = common.built("audit_program", "DISTRICT_AUDIT")
     told = subprocess.run(
@@ -274,11 +290,11 @@ class TextCase(common.FolderCase):
 
     def read(
         self,
-        text: typing.Any,
-        graph: typing.Any = None,
-        words: typing.Any = None,
-        **more: typing.Any,
-    ) -> typing.Any:
+        text: typing.Union[str, bytes],
+        graph: object = None,
+        words: typing.Optional[Words] = None,
+        **more: Value,
+    ) -> district_audit.Trace:
         path = self.folder / "trace"
         path.write_bytes(text if isinstance(text, bytes) else text.encode("utf-8"))
         data = written(PATH if graph is None else graph)
