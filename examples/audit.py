@@ -18,14 +18,14 @@ for row, column in graph.nodes:
     graph.nodes[row, column].update(TOTPOP=100.0, DEM=votes, REP=100 - votes)
 plan = {(row, column): f"{row // 2 + 1:02}" for row, column in graph.nodes}
 
-ready = district_audit.prepare(
+prepared = district_audit.prepare(
     graph, population="TOTPOP", first="DEM", second="REP", assignment=plan
 )
-print(*ready.changes, *ready.warnings, *ready.notes, sep="\n")
-print(district_audit.check(ready))
+print(*prepared.changes, *prepared.warnings, *prepared.notes, sep="\n")
+print(district_audit.check(prepared))
 key = district_audit.key_of("the text that was announced, with the numbers of the lottery")
 report = district_audit.run(
-    ready, slack=1000, key=key, walks=2, steps=20000, ends=99, hub_steps=2000, workers=4,
+    prepared, slack=1000, key=key, walks=2, steps=20000, ends=99, hub_steps=2000, workers=4,
     shift=True, ask=["seats:low", "gap:high", "cut-edges:low"],
 )
 for line in report.walks:

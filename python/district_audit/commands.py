@@ -14,7 +14,7 @@ from . import progress as bars
 from .arguments import MOST_CUT_LENGTH
 from .errors import MissingExtra, PrepareRefused, ProgramMissing, ReportRefused
 from .preparing import Prepared
-from .preparing import prepare as prepared_of
+from .preparing import prepare as prepare_graph
 from .program import found, stop
 from .report import Report
 from .values import test_labels_of
@@ -130,16 +130,16 @@ def prepare_words() -> argparse.ArgumentParser:
     return parser
 
 
-def told(ready: Prepared, everything: bool) -> None:
+def print_findings(prepared: Prepared, everything: bool) -> None:
     """Prints what was changed, what looks wrong, what there is, and what the auditor would refuse.
     """
-    for change in ready.changes:
+    for change in prepared.changes:
         tell(change.text(everything))
-    for warning in ready.warnings:
+    for warning in prepared.warnings:
         tell("warning: " + warning)
-    for note in ready.notes:
+    for note in prepared.notes:
         tell(note)
-    for refusal in ready.refusals:
+    for refusal in prepared.refusals:
         tell("the auditor would refuse it: " + refusal)
 
 
@@ -147,7 +147,7 @@ def prepare(words: typing.Sequence[str] | None = None) -> int:
     """district-audit-prepare; answers the status."""
     args = prepare_words().parse_args(words)
     try:
-        ready = prepared_of(
+        prepared = prepare_graph(
             args.file, population=args.pop, first=args.first, second=args.second,
             district=args.district, region=args.region, numbers=args.numbers, missing=args.missing,
             join=args.join, keep=args.keep, fill_region=args.fill_region,
@@ -157,12 +157,12 @@ def prepare(words: typing.Sequence[str] | None = None) -> int:
             group_share=args.group_share, freeze=args.freeze, length=args.length,
             max_length=args.max_length, show_all=args.all,
         )
-        told(ready, args.all)
+        print_findings(prepared, args.all)
         if args.out:
             with open(args.out, "wb") as file:
-                file.write(ready.data)
+                file.write(prepared.data)
         else:
-            sys.stdout.buffer.write(ready.data)
+            sys.stdout.buffer.write(prepared.data)
             sys.stdout.flush()
     except (PrepareRefused, MissingExtra, OSError) as why:
         faults = why.faults if isinstance(why, PrepareRefused) else []
@@ -175,7 +175,7 @@ def prepare(words: typing.Sequence[str] | None = None) -> int:
             f" {said}{', of which these are the first' if len(some) < len(faults) else ''}"
         )
         return 2
-    return 1 if ready.refusals else 0
+    return 1 if prepared.refusals else 0
 
 
 # ---- picture

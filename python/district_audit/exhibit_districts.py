@@ -100,8 +100,8 @@ def refuse_another_plan(report: Report) -> None:
         raise ValueError(
             f"this is the report on plan {batch.name}, and the graph has the districts of plan"
             f" {batch.names[0]}, of which the table would be: leave graph out, or for a table of"
-            f" {batch.name} audit ready=prepare(graph, .., assignment=..) with the same key, and"
-            " give graph=ready"
+            f" {batch.name} audit prepared=prepare(graph, .., assignment=..) with the same key, and"
+            " give graph=prepared"
         )
 
 

@@ -316,7 +316,7 @@ def prepare(
         length,
         max_length,
     )
-    return prepared(raw_of(graph), choices)
+    return prepare_raw(raw_of(graph), choices)
 
 
 def votes_of(
@@ -819,7 +819,7 @@ def faults_of_labels(
     return faults
 
 
-def prepared(raw: Raw, choices: Choices) -> Prepared:
+def prepare_raw(raw: Raw, choices: Choices) -> Prepared:
     changes = Changes()
     if raw.is_directed:
         changes.add("the graph is directed: each edge is read as one in both directions")

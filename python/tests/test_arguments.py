@@ -12,9 +12,7 @@ import district_audit
 from district_audit import arguments, program, words
 
 CYCLE = common.EXAMPLES / "data" / "cycle.json"
-BASE: common.Words = dict(
-    common.COLUMNS, slack=5000, key=common.KEY, steps=8, ask="gap:low"
-)
+BASE: common.Words = dict(common.COLUMNS, slack=5000, key=common.KEY, steps=8, ask="gap:low")
 
 
 class Refusals(common.ProgramCase):
@@ -501,9 +499,9 @@ class Pickling(unittest.TestCase):
 
     def test_answers(self) -> None:
         report = district_audit.Report.parse(common.readme_report())
-        ready = district_audit.prepare(CYCLE, **common.COLUMNS)
+        prepared = district_audit.prepare(CYCLE, **common.COLUMNS)
         named = district_audit.PlanReports([("d", report)])
-        for one in (report, ready, named):
+        for one in (report, prepared, named):
             again = pickle.loads(pickle.dumps(one))
             self.assertEqual((type(again), again), (type(one), one))
 

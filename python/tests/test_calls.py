@@ -80,12 +80,12 @@ class Calls(common.ProgramCase):
         wanted = (
             "plan-check 1\nunits 4 edges 4 districts 2\npopulation 4 slack 5000 low 1 high 3\nend\n"
         )
-        ready = district_audit.prepare(CYCLE, **common.COLUMNS)
+        prepared = district_audit.prepare(CYCLE, **common.COLUMNS)
         for graph in (
-            CYCLE, str(CYCLE), CYCLE.read_bytes(), ready,
+            CYCLE, str(CYCLE), CYCLE.read_bytes(), prepared,
             common.StandInGraph(common.example("cycle.json")),
         ):
-            words = {"slack": 5000} if graph is ready else common.WORDS
+            words = {"slack": 5000} if graph is prepared else common.WORDS
             self.assertEqual(
                 str(district_audit.check(graph, program=self.program, **words)), wanted
             )
@@ -220,20 +220,20 @@ class Calls(common.ProgramCase):
         report = district_audit.run(path, **columns, **words)
         self.assertEqual(str(report), common.groups_report())
         self.assertTrue(anything(report.source).is_of(path.read_bytes()))
-        ready = district_audit.prepare(
+        prepared = district_audit.prepare(
             path, **common.COLUMNS, region="county", group="bvap", group_of="vap"
         )
         for graph, named in (
-            (ready, {}),
+            (prepared, {}),
             (common.StandInGraph(common.example("groups.json")), columns),
         ):
             other = district_audit.run(graph, **anything(named), **words)
             self.assertEqual(
                 (other.walks, other.ends, other.rules), (report.walks, report.ends, report.rules)
             )
-            self.assertTrue(anything(other.source).is_of(ready.data))
+            self.assertTrue(anything(other.source).is_of(prepared.data))
         plan = district_audit.check(
-            ready, program=self.program, slack=1000, max_splits=2, max_split_regions=2,
+            prepared, program=self.program, slack=1000, max_splits=2, max_split_regions=2,
             group_districts=2, source=True,
         )
         self.assertEqual(
@@ -241,13 +241,13 @@ class Calls(common.ProgramCase):
         )
         self.assertEqual(plan.source, other.source)
         own = {node["id"]: node["d"] for node in common.example("groups.json")["nodes"]}
-        found = district_audit.plans(ready, {"own": own}, **words)
+        found = district_audit.plans(prepared, {"own": own}, **words)
         self.assertEqual(
             [(name, one.walks, one.rules) for name, one in found],
             [(name, report.walks, report.rules) for name in ("d", "own")],
         )
         self.assertEqual(found[0][1].source, found[1][1].source)
-        self.assertFalse(anything(found[0][1].source).is_of(ready.data))
+        self.assertFalse(anything(found[0][1].source).is_of(prepared.data))
 
     def test_frozen_units_and_a_share(self) -> None:
         """All units of a district are frozen: it is the same in each plan of a trace, and a bad
@@ -526,9 +526,7 @@ class Exceptions(common.ProgramCase):
         )
 
     def test_7_work_left(self) -> None:
-        words: common.Words = dict(
-            common.WALK, folder=self.folder, save=2, budget=5
-        )
+        words: common.Words = dict(common.WALK, folder=self.folder, save=2, budget=5)
         error = self.refused(
             district_audit.WorkLeft, "stopped: 5 of 12 done", call=district_audit.run, **words
         )

@@ -82,13 +82,13 @@ class Tables(common.ProgramCase):
         self.assertIn("<td>30,184</td><td>+26.7</td><td>+0.08 %</td>", page)
         self.assertIn("rounded down, toward zero", page)
         self.assertEqual(repr(plan), "<PlanCheck: legal, 120 units, 4 districts, 120629 people>")
-        ready = district_audit.prepare(
+        prepared = district_audit.prepare(
             common.EXAMPLES / "data" / "rough.json", population="TOTPOP", first="DEM", second="REP",
             district="CD", numbers="nearest", missing="zero",
         )
-        self.assertLess(len(repr(ready)), 120)
-        xml.dom.minidom.parseString(f"<page>{ready._repr_html_()}</page>")
-        self.assertIn("missing values made 0", ready._repr_html_())
+        self.assertLess(len(repr(prepared)), 120)
+        xml.dom.minidom.parseString(f"<page>{prepared._repr_html_()}</page>")
+        self.assertIn("missing values made 0", prepared._repr_html_())
         report = district_audit.Report.parse(common.readme_report())
         self.assertEqual(
             repr(report),

@@ -465,9 +465,7 @@ class ProgramTests(ProgramCase):
         data = json.dumps(graph).encode()
         asks = "seats:low,mean-median:low,gap:low,cut-edges:low"
         for first, second, seats, sign in (("a", "b", 1, -1), ("b", "a", 2, 1)):
-            columns: common.Words = dict(
-                pop="pop", first=first, second=second, district="d"
-            )
+            columns: common.Words = dict(pop="pop", first=first, second=second, district="d")
             report = district_audit.run(
                 data, program=self.program, key=KEY, steps=1, ask=asks, **columns
             )
@@ -549,11 +547,11 @@ class ProgramTests(ProgramCase):
         root = json.loads((EXAMPLES / "data" / "cycle.json").read_bytes())
         root["nodes"][0]["a"] += 0.4
         graph = common.StandInGraph(root)
-        ready = district_audit.prepare(graph, numbers="floor", **common.COLUMNS)
+        prepared = district_audit.prepare(graph, numbers="floor", **common.COLUMNS)
         report = district_audit.run(
-            ready, slack=5000, key=KEY, steps=8, ask="cut-edges:low", program=self.program
+            prepared, slack=5000, key=KEY, steps=8, ask="cut-edges:low", program=self.program
         )
-        report.exhibit(self.folder / "x.html", graph=ready)
+        report.exhibit(self.folder / "x.html", graph=prepared)
         with self.assertRaisesRegex(ValueError, "the answer of `prepare` that was audited"):
             report.exhibit(self.folder / "y.html", graph=graph)
 
@@ -577,20 +575,20 @@ class ProgramTests(ProgramCase):
         for node in graph["nodes"]:
             node["A"], node["B"] = node["REP"], node["DEM"]
         words: common.Words = dict(population="TOTPOP", district="CD", slack=1000)
-        ready = district_audit.prepare(
+        prepared = district_audit.prepare(
             json.dumps(graph).encode(), first="A", second="B", keep=["DEM", "REP"], **words
         )
         report = district_audit.run(
-            ready, first="DEM", second="REP", key=KEY, steps=50, ask="cut-edges:low", source=True,
-            program=self.program, slack=1000,
+            prepared, first="DEM", second="REP", key=KEY, steps=50, ask="cut-edges:low",
+            source=True, program=self.program, slack=1000,
         )
         with tempfile.TemporaryDirectory() as folder:
             path = pathlib.Path(folder) / "page.html"
-            report.exhibit(path, graph=ready, parties=("D", "R"))
+            report.exhibit(path, graph=prepared, parties=("D", "R"))
             self.assertIn("--first DEM", Page(path.read_text(encoding="utf-8")).text)
             with self.assertRaises(ValueError):
                 report.exhibit(
-                    path, graph=ready,
+                    path, graph=prepared,
                     columns=dict(pop="TOTPOP", first="REP", second="DEM", district="CD"),
                 )
 
@@ -737,15 +735,15 @@ class ProgramTests(ProgramCase):
         self.assertIn("01 2 2 0.0 0.000 4 3 57.14", text)
         self.assertIn("The report is on plan d, the graph's own.", text)
         # The advice of the refusal leads to the same report.
-        ready = district_audit.prepare(
+        prepared = district_audit.prepare(
             str(graph), population="pop", first="a", second="b",
             assignment={"w": 1, "x": 2, "y": 2, "z": 1},
         )
         alone = district_audit.run(
-            ready, slack=5000, key=KEY, steps=8, ask="cut-edges:low", program=self.program
+            prepared, slack=5000, key=KEY, steps=8, ask="cut-edges:low", program=self.program
         )
         self.assertEqual(alone, plans["turned"])
-        alone.exhibit(path, graph=ready)
+        alone.exhibit(path, graph=prepared)
         text = Page(path.read_text(encoding="utf-8")).text
         self.assertIn("1 2 2 0.0 0.000 5 2 71.42", text)
 

@@ -43,44 +43,44 @@ def graph(*lengths: object) -> common.Words:
     }
 
 
-def prepared(root: object, **more: common.Value) -> district_audit.Prepared:
+def prepare_root(root: object, **more: common.Value) -> district_audit.Prepared:
     return district_audit.prepare(root, **{**COLUMNS, **more})
 
 
-def written(ready: district_audit.Prepared) -> dict[tuple[int, int], object]:
-    adjacency = json.loads(ready.data)["adjacency"]
+def written(prepared: district_audit.Prepared) -> dict[tuple[int, int], object]:
+    adjacency = json.loads(prepared.data)["adjacency"]
     return {(u, one["id"]): one["shared_perim"] for u, row in enumerate(adjacency) for one in row}
 
 
 class Preparing(unittest.TestCase):
     def test_whole_lengths_stay(self) -> None:
-        ready = prepared(graph(9, 7.0, 5, 0))
+        prepared = prepare_root(graph(9, 7.0, 5, 0))
         self.assertEqual(
-            written(ready),
+            written(prepared),
             {
                 (0, 1): 9, (1, 0): 9, (1, 2): 7, (2, 1): 7, (2, 3): 5, (3, 2): 5, (3, 0): 0,
                 (0, 3): 0,
             },
         )
-        self.assertEqual(ready.changes, [])
-        self.assertEqual(ready.columns["length"], "shared_perim")
-        self.assertIn("2 edges between districts, with 7 of shared_perim in all", ready.notes)
+        self.assertEqual(prepared.changes, [])
+        self.assertEqual(prepared.columns["length"], "shared_perim")
+        self.assertIn("2 edges between districts, with 7 of shared_perim in all", prepared.notes)
 
     def test_fractions_become_the_nearest_halves_the_even_one(self) -> None:
-        ready = prepared(graph(100.5, 101.5, 7.49, 1e6))
-        self.assertEqual([written(ready)[pair] for pair in RING], [100, 102, 7, 1_000_000])
-        (change,) = ready.changes
+        prepared = prepare_root(graph(100.5, 101.5, 7.49, 1e6))
+        self.assertEqual([written(prepared)[pair] for pair in RING], [100, 102, 7, 1_000_000])
+        (change,) = prepared.changes
         self.assertTrue(change.is_of_values)
         self.assertIn("3 of 4 made whole by `nearest`, halves the even one", str(change))
-        self.assertEqual(ready.warnings, [])
+        self.assertEqual(prepared.warnings, [])
 
     def test_great_loss_is_warned_of(self) -> None:
-        (warning,) = prepared(graph(0.4, 0.4, 0.4, 1)).warnings
+        (warning,) = prepare_root(graph(0.4, 0.4, 0.4, 1)).warnings
         self.assertIn("changes them by 54.5 percent in all", warning)
 
     def test_changes_that_cancel_out_are_warned_of(self) -> None:
         """The sum stays 4, and two of the four lengths change by 0.4."""
-        (warning,) = prepared(graph(0.6, 1.4, 1, 1)).warnings
+        (warning,) = prepare_root(graph(0.6, 1.4, 1, 1)).warnings
         self.assertIn("changes them by 20 percent in all", warning)
 
     def test_refusals_name_both_units(self) -> None:
@@ -98,32 +98,32 @@ class Preparing(unittest.TestCase):
             ((9, 7, 5, 3, 8), "edge 1 - 0: shared_perim is 9 in one place and 8 in another"),
         ):
             with self.subTest(said), self.assertRaises(district_audit.PrepareRefused) as found:
-                prepared(graph(*lengths))
+                prepare_root(graph(*lengths))
             self.assertEqual(found.exception.faults[0], said)
 
     def test_misspelt_column(self) -> None:
         with self.assertRaises(district_audit.PrepareRefused) as found:
-            prepared(graph(9, 7, 5, 3), length="perim")
+            prepare_root(graph(9, 7, 5, 3), length="perim")
         self.assertIn(
             "no edge has a column perim; the columns are shared_perim", str(found.exception)
         )
 
     def test_limit(self) -> None:
-        self.assertEqual(prepared(graph(9, 7, 5, 3), max_length=10).refusals, [])
-        (refusal,) = prepared(graph(9, 7, 5, 3), max_length=9).refusals
+        self.assertEqual(prepare_root(graph(9, 7, 5, 3), max_length=10).refusals, [])
+        (refusal,) = prepare_root(graph(9, 7, 5, 3), max_length=9).refusals
         self.assertEqual(refusal, "edges between districts have 10 of shared_perim, more than 9")
         with self.assertRaises(district_audit.PrepareRefused):
-            prepared(graph(9, 7, 5, 3), length=None, max_length=9)
+            prepare_root(graph(9, 7, 5, 3), length=None, max_length=9)
 
     def test_joined_units_have_no_length(self) -> None:
-        ready = prepared(graph(9, 7, 5, 3), join=[(0, 2)])
-        self.assertEqual((written(ready)[0, 2], written(ready)[2, 0]), (0, 0))
+        prepared = prepare_root(graph(9, 7, 5, 3), join=[(0, 2)])
+        self.assertEqual((written(prepared)[0, 2], written(prepared)[2, 0]), (0, 0))
 
     def test_without_a_column_nothing_is_written(self) -> None:
         root = graph(9, None, -5, "x")
-        ready = prepared(root, length=None)
-        self.assertNotIn(b"shared_perim", ready.data)
-        self.assertNotIn("length", ready.columns)
+        prepared = prepare_root(root, length=None)
+        self.assertNotIn(b"shared_perim", prepared.data)
+        self.assertNotIn("length", prepared.columns)
 
     def test_objects(self) -> None:
         try:
@@ -136,7 +136,7 @@ class Preparing(unittest.TestCase):
             made.add_node(node["id"], **{k: v for k, v in node.items() if k != "id"})
         for (u, v), length in zip(RING, (9.25, 7, 5, 3)):
             made.add_edge(u, v, shared_perim=length)
-        self.assertEqual([written(prepared(made))[pair] for pair in RING], [9, 7, 5, 3])
+        self.assertEqual([written(prepare_root(made))[pair] for pair in RING], [9, 7, 5, 3])
 
     def test_command(self) -> None:
         root = graph(9.5, 7, 5, 3)
@@ -154,12 +154,12 @@ class Preparing(unittest.TestCase):
                 status = commands.prepare(
                     [str(place / "graph.json"), *words, "--out", str(place / "out.json")]
                 )
-            ready = json.loads((place / "out.json").read_text())
+            prepared = json.loads((place / "out.json").read_text())
         self.assertEqual(status, 1)
         self.assertIn("10 of shared_perim, more than 9", note.getvalue())
         self.assertIn("more than 4000 of 10000", note.getvalue())
-        self.assertEqual([node["keep"] for node in ready["nodes"]], [False, True, False, False])
-        self.assertEqual(ready["adjacency"][0][0], {"shared_perim": 10, "id": 1})
+        self.assertEqual([node["keep"] for node in prepared["nodes"]], [False, True, False, False])
+        self.assertEqual(prepared["adjacency"][0][0], {"shared_perim": 10, "id": 1})
 
 
 class Reading(unittest.TestCase):
@@ -186,7 +186,7 @@ class Reading(unittest.TestCase):
 
     def test_table_of_a_plan(self) -> None:
         named = dict(pop="pop", first="a", second="b", district="d", length="shared_perim")
-        plan = plan_of(prepared(graph(9, 7, 5, 3)).data, {**named, "max_length": "9"})
+        plan = plan_of(prepare_root(graph(9, 7, 5, 3)).data, {**named, "max_length": "9"})
         assert plan is not None
         self.assertEqual(plan.cut_length, 10)
         self.assertEqual(
@@ -196,7 +196,7 @@ class Reading(unittest.TestCase):
 
 class Walking(unittest.TestCase):
     def test_tally_follows_each_move(self) -> None:
-        data = prepared(graph(9, 7, 5, 3)).data
+        data = prepare_root(graph(9, 7, 5, 3)).data
         plan = Plan(UnitTable(data, data, "d", {}), [0, 0, 1, 1])
         self.assertEqual(plan.cut_length("shared_perim"), 10)
         for unit, district, length in ((1, 1, 12), (0, 1, 0), (2, 0, 12), (3, 0, 10), (3, 1, 12)):

@@ -74,9 +74,9 @@ class Manifests(common.ProgramCase):
         self.assertEqual(done.stdout, (self.folder / "report").read_bytes())
 
     def test_a_graph_that_is_no_file_is_kept(self) -> None:
-        ready = district_audit.prepare(CYCLE, **common.COLUMNS)
-        path = self.audited(ready)
-        self.assertEqual((self.folder / "report.graph.json").read_bytes(), ready.data)
+        prepared = district_audit.prepare(CYCLE, **common.COLUMNS)
+        path = self.audited(prepared)
+        self.assertEqual((self.folder / "report.graph.json").read_bytes(), prepared.data)
         self.assertEqual(self.verified(path, "--program", self.program)[0], 0)
 
     def test_all_that_is_there_agrees(self) -> None:

@@ -238,8 +238,8 @@ class Package(common.FolderCase):
             + """
 import district_audit
 columns = dict(population="pop", first="a", second="b", district="d")
-ready = district_audit.prepare(sys.argv[1], **columns, slack=5000)
-assert ready.refusals == []
+prepared = district_audit.prepare(sys.argv[1], **columns, slack=5000)
+assert prepared.refusals == []
 from district_audit.progress import PlainBar, new_bar
 assert isinstance(new_bar(), PlainBar)
 assert "<table>" in district_audit.Report.parse(sys.argv[2])._repr_html_()

@@ -13,9 +13,7 @@ import common
 from common import anything
 from district_audit import Prepared, PrepareRefused, commands, prepare
 
-ROUGH: common.Words = dict(
-    population="TOTPOP", first="DEM", second="REP", district="CD"
-)
+ROUGH: common.Words = dict(population="TOTPOP", first="DEM", second="REP", district="CD")
 
 
 def square(**changed: common.Value) -> common.Root:
@@ -42,19 +40,19 @@ def square(**changed: common.Value) -> common.Root:
     }
 
 
-def prepared(root: object, **said: common.Value) -> Prepared:
+def prepare_root(root: object, **said: common.Value) -> Prepared:
     return prepare(json.dumps(root).encode(), **anything({**common.COLUMNS, "slack": 5000, **said}))
 
 
 class Changes(unittest.TestCase):
     def refused(self, why: str, root: object, **said: common.Value) -> PrepareRefused:
         with self.assertRaises(PrepareRefused) as caught:
-            prepared(root, **said)
+            prepare_root(root, **said)
         self.assertIn(why, "\n".join([str(caught.exception), *caught.exception.faults]))
         return caught.exception
 
     def test_a_good_graph_stays_as_it_is(self) -> None:
-        data, changes = prepared(square())
+        data, changes = prepare_root(square())
         self.assertEqual(changes, [])
         self.assertEqual(
             [(node["id"], node["pop"], node["d"]) for node in json.loads(data)["nodes"]],
@@ -70,8 +68,8 @@ class Changes(unittest.TestCase):
         self.assertEqual(
             (caught.exception.why, len(caught.exception.faults)), ("16 values are refused", 16)
         )
-        ready = prepare(rough, **ROUGH, numbers="nearest", missing="zero")
-        told = [str(change) for change in ready.changes]
+        prepared = prepare(rough, **ROUGH, numbers="nearest", missing="zero")
+        told = [str(change) for change in prepared.changes]
         self.assertIn(
             (
                 "column TOTPOP: fractions made whole by `nearest`: 14 units, which changes the"
@@ -81,7 +79,7 @@ class Changes(unittest.TestCase):
         )
         self.assertIn("column DEM: missing values made 0: 1 unit: 42", told)
         self.assertEqual(
-            (ready.notes, ready.refusals, ready.warnings),
+            (prepared.notes, prepared.refusals, prepared.warnings),
             (["100 units, 180 edges, 5 districts, 10000 people"], [], []),
         )
         self.assertEqual(
@@ -96,8 +94,8 @@ class Changes(unittest.TestCase):
             ("7.0", "error", 7), (1e9, "error", 10**9),
         ):
             with self.subTest(value=value, rule=rule):
-                ready = prepared(square(a=[value, 2, 3, 4]), numbers=rule)
-                self.assertEqual(json.loads(ready.data)["nodes"][0]["a"], whole)
+                prepared = prepare_root(square(a=[value, 2, 3, 4]), numbers=rule)
+                self.assertEqual(json.loads(prepared.data)["nodes"][0]["a"], whole)
         for value in (-1, 10**9 + 1, True, "x", [1], "inf"):
             with self.subTest(value=value):
                 self.refused("1 values are refused", square(a=[value, 2, 3, 4]), numbers="nearest")
@@ -124,46 +122,48 @@ class Changes(unittest.TestCase):
             missing="zero",
         )
         self.assertEqual(len(why.faults), 2)
-        filled = prepared(root, region="county", fill_region="rest")
+        filled = prepare_root(root, region="county", fill_region="rest")
         self.assertEqual(filled.regions, ["k", "rest"])
         self.assertIn(
             'column county: missing regions made "rest": 2 units: "t", "u"',
             [str(change) for change in filled.changes],
         )
-        self.assertEqual(len(prepared(root, region="county", own_region=True).regions), 3)
-        self.assertEqual(prepared(root, region="county", missing="drop").units, ["s", "v"])
+        self.assertEqual(len(prepare_root(root, region="county", own_region=True).regions), 3)
+        self.assertEqual(prepare_root(root, region="county", missing="drop").units, ["s", "v"])
         self.refused(
             'unit "t" has no d (choose missing="drop")', square(d=["x", None, "y", "y"]),
             missing="zero",
         )
 
     def test_shares_and_percentages_are_warned_of(self) -> None:
-        ready = prepared(square(a=[0.753, 0.25, 0.5, 0.9]), numbers="nearest")
-        self.assertIn("column a looks like shares and not like counts", ready.warnings[0])
-        ready = prepared(square(a=[75.3, 25.5, 50, 90], b=[24.7, 74.5, 50, 10]), numbers="nearest")
-        self.assertIn("columns a and b look like percentages", ready.warnings[-1])
-        ready = prepared(square(a=[1.4, 2.4, 3.4, 4.4]), numbers="nearest")
+        prepared = prepare_root(square(a=[0.753, 0.25, 0.5, 0.9]), numbers="nearest")
+        self.assertIn("column a looks like shares and not like counts", prepared.warnings[0])
+        prepared = prepare_root(
+            square(a=[75.3, 25.5, 50, 90], b=[24.7, 74.5, 50, 10]), numbers="nearest"
+        )
+        self.assertIn("columns a and b look like percentages", prepared.warnings[-1])
+        prepared = prepare_root(square(a=[1.4, 2.4, 3.4, 4.4]), numbers="nearest")
         self.assertIn(
-            "column a: making its values whole changes them by 13.8 percent in all", ready.warnings
+            "column a: making its values whole changes them by 13.8 percent in all",
+            prepared.warnings,
         )
         self.assertEqual(
-            prepared(square(a=[100.4, 200.4, 300, 400]), numbers="nearest").warnings, []
+            prepare_root(square(a=[100.4, 200.4, 300, 400]), numbers="nearest").warnings, []
         )
-        ready = prepared(
+        prepared = prepare_root(
             square(pop=[5000] * 4, a=[20.76, 75.6, 8.2, 11.43], b=[1000.2, 2000, 3000, 4000]),
             numbers="nearest",
         )
         self.assertEqual(
-            ready.warnings,
+            prepared.warnings,
             [
                 "column a may have percentages and not counts: all its values are from 0 to 100,"
                 " and a unit has 5000 people on average"
             ],
         )
-        self.assertEqual(
-            prepared(square(pop=[100] * 4, a=[20.9, 75.1, 60, 51]), numbers="nearest").warnings, []
-        )
-        self.assertEqual(prepared(square(a=[0, 1, 1, 0])).warnings, [])
+        prepared = prepare_root(square(pop=[100] * 4, a=[20.9, 75.1, 60, 51]), numbers="nearest")
+        self.assertEqual(prepared.warnings, [])
+        self.assertEqual(prepare_root(square(a=[0, 1, 1, 0])).warnings, [])
 
     def test_parts_are_told_and_joined(self) -> None:
         """Two islands, each a whole district, and one unit with no neighbour."""
@@ -172,24 +172,24 @@ class Changes(unittest.TestCase):
             "nodes": nodes,
             "adjacency": [[{"id": 1}], [], [{"id": 3}], [], [{"id": 5}], [], []],
         }
-        ready = prepared(root, slack=10000)
-        self.assertIn("units without a neighbor: 1: 6", ready.notes)
+        prepared = prepare_root(root, slack=10000)
+        self.assertIn("units without a neighbor: 1: 6", prepared.notes)
         self.assertIn(
             (
                 "the graph is in 4 parts, and a district lies in one of them (join=[(A, B)] makes"
                 " neighbors of two units)"
             ),
-            ready.notes,
+            prepared.notes,
         )
-        self.assertEqual(sum(note.startswith("a part of 2 units: ") for note in ready.notes), 2)
+        self.assertEqual(sum(note.startswith("a part of 2 units: ") for note in prepared.notes), 2)
         self.assertEqual(
             sum(
                 "is a part of its own, of 2 units: no walk can change it" in note
-                for note in ready.notes
+                for note in prepared.notes
             ),
             3,
         )
-        joined = prepared(root, slack=10000, join=[("5", "6"), (1, 2), (2, 3)])
+        joined = prepare_root(root, slack=10000, join=[("5", "6"), (1, 2), (2, 3)])
         self.assertIn(
             (
                 "the graph is in 2 parts, and a district lies in one of them (join=[(A, B)] makes"
@@ -211,16 +211,16 @@ class Changes(unittest.TestCase):
         """Counties of North Carolina with whole floats, and tracts of upstate New York with
         fractions; what is changed is counted here.
         """
-        ready = prepare(
+        prepared = prepare(
             common.EXAMPLES / "data" / "nc.json", population="BIR74", first="NWBIR74",
             second="WBIR74", district="PLAN11", slack=1000,
         )
         self.assertEqual(
-            (ready.refusals, ready.warnings, ready.notes),
+            (prepared.refusals, prepared.warnings, prepared.notes),
             ([], [], ["100 units, 231 edges, 11 districts, 329962 people"]),
         )
         self.assertEqual(
-            {change.what for change in ready.changes if change.units},
+            {change.what for change in prepared.changes if change.units},
             {
                 f"column {column}: whole floats written as whole numbers"
                 for column in ("BIR74", "NWBIR74", "WBIR74")
@@ -238,12 +238,12 @@ class Changes(unittest.TestCase):
         with self.assertRaises(PrepareRefused) as caught:
             prepare(common.EXAMPLES / "data" / "ny8.json", **said)
         self.assertEqual(len(caught.exception.faults), sum(map(len, broken.values())))
-        ready = prepare(common.EXAMPLES / "data" / "ny8.json", numbers="nearest", **said)
-        self.assertEqual((ready.refusals, ready.warnings), ([], []))
+        prepared = prepare(common.EXAMPLES / "data" / "ny8.json", numbers="nearest", **said)
+        self.assertEqual((prepared.refusals, prepared.warnings), ([], []))
         for column, units in broken.items():
             change = next(
                 change
-                for change in ready.changes
+                for change in prepared.changes
                 if change.what == f"column {column}: fractions made whole by `nearest`"
             )
             self.assertEqual(change.units, units)
@@ -258,15 +258,15 @@ class Changes(unittest.TestCase):
         self.assertIn("no unit has a column OWNNING", str(caught.exception))
 
     def test_what_the_auditor_would_refuse_has_its_number(self) -> None:
-        ready = prepare(common.EXAMPLES / "data" / "apart.json", **common.COLUMNS)
+        prepared = prepare(common.EXAMPLES / "data" / "apart.json", **common.COLUMNS)
         self.assertIn(
             (
                 'district 1 is in several parts; 1 of its 2 units lie apart: "w" (the auditor\'s'
                 " district 0)"
             ),
-            ready.refusals,
+            prepared.refusals,
         )
-        split = prepared(square(county=["k", "l", "k", "l"]), region="county", max_split=1)
+        split = prepare_root(square(county=["k", "l", "k", "l"]), region="county", max_split=1)
         self.assertEqual(
             split.refusals,
             [
@@ -289,24 +289,24 @@ class Changes(unittest.TestCase):
             "nodes": nodes,
             "adjacency": [[{"id": place + 1}] if place < 6 else [] for place in range(7)],
         }
-        ready = prepared(root, slack=10000, region="county")
+        prepared = prepare_root(root, slack=10000, region="county")
         self.assertEqual(
-            ready.notes,
+            prepared.notes,
             [
                 "7 units, 6 edges, 4 districts, 7 people",
                 '3 regions in county; "m" lies in the most districts, 3',
                 '2 regions lie in more than one district, with 3 splits in all: "l", "m"',
             ],
         )
-        self.assertEqual(ready.refusals, [])
+        self.assertEqual(prepared.refusals, [])
         self.assertEqual(
-            prepared(
+            prepare_root(
                 root, slack=10000, region="county", max_splits=3, max_split_regions=2
             ).refusals,
             [],
         )
         self.assertEqual(
-            prepared(
+            prepare_root(
                 root, slack=10000, region="county", max_splits=2, max_split_regions=1
             ).refusals,
             [
@@ -314,7 +314,7 @@ class Changes(unittest.TestCase):
                 "2 regions lie in more than one district, more than 1",
             ],
         )
-        whole = prepared(
+        whole = prepare_root(
             square(county=["k", "k", "l", "l"]), region="county", max_splits=0, max_split_regions=0
         )
         self.assertEqual(
@@ -327,13 +327,13 @@ class Changes(unittest.TestCase):
         people the group has a majority nowhere.
         """
         root = square(pop=[5, 5, 5, 5], g=[2, 1.0, 2, 0], w=[2, 3, 1, 3])
-        ready = prepared(root, group="g", group_of="w")
+        prepared = prepare_root(root, group="g", group_of="w")
         self.assertEqual(
-            [(node["g"], node["w"]) for node in json.loads(ready.data)["nodes"]],
+            [(node["g"], node["w"]) for node in json.loads(prepared.data)["nodes"]],
             [(2, 2), (1, 3), (2, 1), (0, 3)],
         )
         self.assertEqual(
-            ready.columns,
+            prepared.columns,
             {
                 "pop": "pop",
                 "first": "a",
@@ -344,7 +344,7 @@ class Changes(unittest.TestCase):
             },
         )
         self.assertEqual(
-            ready.notes,
+            prepared.notes,
             [
                 "4 units, 4 edges, 2 districts, 20 people",
                 'g has a majority of w in 1 of 2 districts: "x" (60.00 %)',
@@ -352,39 +352,40 @@ class Changes(unittest.TestCase):
             ],
         )
         self.assertEqual(
-            [str(change) for change in ready.changes],
+            [str(change) for change in prepared.changes],
             ['column g: whole floats written as whole numbers: 1 unit: "t"'],
         )
-        self.assertEqual(ready.refusals, [])
-        self.assertEqual(prepared(root, group="g", group_of="w", group_districts=1).refusals, [])
+        self.assertEqual(prepared.refusals, [])
+        prepared = prepare_root(root, group="g", group_of="w", group_districts=1)
+        self.assertEqual(prepared.refusals, [])
         self.assertEqual(
-            prepared(root, group="g", group_of="w", group_districts=2).refusals,
+            prepare_root(root, group="g", group_of="w", group_districts=2).refusals,
             ["g has a majority in 1 districts, fewer than 2"],
         )
-        ready = prepared(root, group="g", group_districts=1)
+        prepared = prepare_root(root, group="g", group_districts=1)
         self.assertEqual(
-            (ready.notes[-1], ready.refusals),
+            (prepared.notes[-1], prepared.refusals),
             (
                 "g has a majority of pop in 0 of 2 districts",
                 ["g has a majority in 0 districts, fewer than 1"],
             ),
         )
-        self.assertNotIn(b'"w"', ready.data)
-        self.assertEqual(ready.columns["group"], "g")
-        self.assertNotIn("group_of", ready.columns)
+        self.assertNotIn(b'"w"', prepared.data)
+        self.assertEqual(prepared.columns["group"], "g")
+        self.assertNotIn("group_of", prepared.columns)
         self.assertEqual(
-            prepared(square(g=[1, 0, 0, 0], w=[0, 0, 0, 0]), group="g", group_of="w").notes[1],
+            prepare_root(square(g=[1, 0, 0, 0], w=[0, 0, 0, 0]), group="g", group_of="w").notes[1],
             'g has a majority of w in 1 of 2 districts: "x" (of nobody)',
         )
 
     def test_a_column_that_is_named_twice_is_told_of_once(self) -> None:
-        ready = prepared(square(a=[1.0, 2, 3, 4]), group="a", group_of="a")
+        prepared = prepare_root(square(a=[1.0, 2, 3, 4]), group="a", group_of="a")
         self.assertEqual(
-            [str(change) for change in ready.changes],
+            [str(change) for change in prepared.changes],
             ['column a: whole floats written as whole numbers: 1 unit: "s"'],
         )
         self.assertEqual(
-            (ready.columns["first"], ready.columns["group"], ready.columns["group_of"]),
+            (prepared.columns["first"], prepared.columns["group"], prepared.columns["group_of"]),
             ("a", "a", "a"),
         )
 
@@ -401,19 +402,16 @@ class Changes(unittest.TestCase):
             square(g=[1] * 4, w=[1, 10**9 + 1, 1, 1]), group="g", group_of="w",
         )
         self.refused('unit "s": g, which is 0.5, is not whole', square(g=[0.5, 1, 1, 1]), group="g")
+        prepared = prepare_root(square(g=[1, None, 1, 1]), group="g", missing="zero")
         self.assertIn(
             'column g: missing values made 0: 1 unit: "t"',
-            [
-                str(change)
-                for change in prepared(square(g=[1, None, 1, 1]), group="g", missing="zero").changes
-            ],
+            [str(change) for change in prepared.changes],
         )
-        self.assertEqual(
-            prepared(square(g=[1, None, 1, 1]), group="g", missing="drop").units, ["s", "u", "v"]
-        )
+        prepared = prepare_root(square(g=[1, None, 1, 1]), group="g", missing="drop")
+        self.assertEqual(prepared.units, ["s", "u", "v"])
         self.assertIn(
             "column g looks like shares and not like counts",
-            prepared(square(g=[0.5, 0.25, 0.5, 0.9]), group="g", numbers="nearest").warnings[0],
+            prepare_root(square(g=[0.5, 0.25, 0.5, 0.9]), group="g", numbers="nearest").warnings[0],
         )
 
     def test_the_map_with_counties_and_a_group(self) -> None:
@@ -427,18 +425,18 @@ class Changes(unittest.TestCase):
             for label in (1, 2, 3, 4)
         }
         most = [label for label, (part, whole) in sums.items() if part > whole - part]
-        ready = prepare(
+        prepared = prepare(
             common.EXAMPLES / "data" / "groups.json", **common.COLUMNS, region="county",
             group="bvap", group_of="vap", group_districts=2, max_splits=2, max_split_regions=2,
         )
-        self.assertEqual((ready.refusals, ready.changes), ([], []))
+        self.assertEqual((prepared.refusals, prepared.changes), ([], []))
         self.assertEqual(
-            [note.split(" (")[0] for note in ready.notes if note.startswith("bvap")],
+            [note.split(" (")[0] for note in prepared.notes if note.startswith("bvap")],
             ["bvap has a majority of vap in 2 of 4 districts: 1"],
         )
         self.assertEqual(most, [1, 2])
         self.assertEqual(
-            {*json.loads(ready.data)["nodes"][0]},
+            {*json.loads(prepared.data)["nodes"][0]},
             {"id", "pop", "a", "b", "d", "county", "bvap", "vap"},
         )
 
@@ -446,7 +444,7 @@ class Changes(unittest.TestCase):
         root = square()
         root["adjacency"][0].append({"id": "s"})
         self.assertEqual(
-            [str(change) for change in prepared(root).changes],
+            [str(change) for change in prepare_root(root).changes],
             ['edges from a unit to itself, left out: 1 unit: "s"'],
         )
         root["adjacency"][0].append({"id": "w"})
@@ -460,7 +458,7 @@ class Changes(unittest.TestCase):
             "nodes": square()["nodes"],
             "links": [{"source": one, "target": other} for one, other in zip("stuv", "tuvs")],
         }
-        self.assertEqual(prepared(links).data, prepared(square()).data)
+        self.assertEqual(prepare_root(links).data, prepare_root(square()).data)
 
     def test_ids(self) -> None:
         self.refused(
@@ -474,11 +472,11 @@ class Changes(unittest.TestCase):
         for place, node in enumerate(root["nodes"]):
             node["id"] = float(place)
         root["adjacency"] = [[{"id": (place + 1) % 4}] for place in range(4)]
-        ready = prepared(root)
-        self.assertEqual(ready.units, ["0", "1", "2", "3"])
+        prepared = prepare_root(root)
+        self.assertEqual(prepared.units, ["0", "1", "2", "3"])
         self.assertIn(
             "ids: some are neither texts nor whole numbers, so all are written as texts",
-            [str(change) for change in ready.changes],
+            [str(change) for change in prepared.changes],
         )
 
     def test_what_is_no_graph(self) -> None:
@@ -504,17 +502,17 @@ class Objects(unittest.TestCase):
             graph.nodes[unit].update(pop=decimal.Decimal(2), a=1.0, b=float("nan"), d=unit[0])
         graph.add_edge((0, 0), (0, 0))
         graph.nodes[(0, 0)]["b"] = 3
-        ready = prepare(graph, **common.COLUMNS, missing="zero", slack=5000)
-        self.assertEqual(ready.notes, ["12 units, 17 edges, 3 districts, 24 people"])
-        self.assertEqual(ready.units[1], "[0, 1]")
-        self.assertEqual(ready.districts, [0, 1, 2])
+        prepared = prepare(graph, **common.COLUMNS, missing="zero", slack=5000)
+        self.assertEqual(prepared.notes, ["12 units, 17 edges, 3 districts, 24 people"])
+        self.assertEqual(prepared.units[1], "[0, 1]")
+        self.assertEqual(prepared.districts, [0, 1, 2])
         same = networkx.readwrite.json_graph.adjacency_data(graph)
         self.assertEqual(
             prepare(
                 json.dumps(same, default=float).encode(), **common.COLUMNS, missing="zero",
                 slack=5000,
             ).data,
-            ready.data,
+            prepared.data,
         )
 
     def test_networkx_graphml(self) -> None:
@@ -553,9 +551,10 @@ class Objects(unittest.TestCase):
     def test_stand_in_of_gerrychain(self) -> None:
         """An object with the documented attributes alone, as GerryChain's Graph has them."""
         graph = common.StandInGraph(common.example("grid.json"))
-        ready = prepare(graph, **ROUGH)
-        self.assertEqual(ready.notes, ["300 units, 563 edges, 6 districts, 30000 people"])
-        self.assertEqual(ready.data, prepare(common.EXAMPLES / "data" / "grid.json", **ROUGH).data)
+        prepared = prepare(graph, **ROUGH)
+        self.assertEqual(prepared.notes, ["300 units, 563 edges, 6 districts, 30000 people"])
+        of_file = prepare(common.EXAMPLES / "data" / "grid.json", **ROUGH)
+        self.assertEqual(prepared.data, of_file.data)
 
     def test_assignments(self) -> None:
         columns = {name: column for name, column in ROUGH.items() if name != "district"}

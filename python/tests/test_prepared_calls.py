@@ -31,20 +31,19 @@ def ring() -> common.Words:
 
 
 class Prepared(common.ProgramCase):
-    COLUMNS: common.Words = dict(
-        common.COLUMNS, region="c", group="g", freeze="f", length="length"
-    )
+    COLUMNS: common.Words = dict(common.COLUMNS, region="c", group="g", freeze="f", length="length")
     WALK: common.Words = dict(key=common.KEY, steps=8, ask="gap:low")
 
     def calls(self) -> typing.Iterator[typing.Callable[..., object]]:
         """Each call on a prepared graph."""
         program: common.Words = {"program": self.program}
-        yield lambda ready, **words: district_audit.check(ready, **program, **words)
-        yield lambda ready, **words: district_audit.run(ready, **program, **self.WALK, **words)
-        yield lambda ready, **words: district_audit.plans(
-            ready, {"own": {0: 0, 1: 0, 2: 1, 3: 1}}, **program, **self.WALK, **words
+        walk = {**program, **self.WALK}
+        yield lambda prepared, **words: district_audit.check(prepared, **program, **words)
+        yield lambda prepared, **words: district_audit.run(prepared, **walk, **words)
+        yield lambda prepared, **words: district_audit.plans(
+            prepared, {"own": {0: 0, 1: 0, 2: 1, 3: 1}}, **walk, **words
         )
-        yield lambda ready, **words: district_audit.trace(ready, **program, **self.WALK, **words)
+        yield lambda prepared, **words: district_audit.trace(prepared, **walk, **words)
 
     def closed(self, made: object) -> None:
         if isinstance(made, district_audit.Trace):
@@ -53,33 +52,33 @@ class Prepared(common.ProgramCase):
     def test_no_call_drops_a_rule_that_prepare_was_given(self) -> None:
         rules = dict(slack=5000, max_split=2, max_splits=9, max_split_regions=4,
                      group_districts=1, group_share=100, max_length=30)
-        ready = district_audit.prepare(ring(), **self.COLUMNS, **anything(rules))
-        self.assertEqual(ready.rules, rules)
+        prepared = district_audit.prepare(ring(), **self.COLUMNS, **anything(rules))
+        self.assertEqual(prepared.rules, rules)
         for call in self.calls():
             with self.assertRaises(district_audit.ValueRefused) as caught:
-                call(ready)
+                call(prepared)
             for name, value in rules.items():
                 self.assertIn(f"{name}={value}, or {name}=None for ", str(caught.exception))
             with self.assertRaises(district_audit.ValueRefused) as caught:
-                call(ready, **{name: rules[name] for name in rules if name != "max_splits"})
+                call(prepared, **{name: rules[name] for name in rules if name != "max_splits"})
             self.assertIn(
                 "prepare was given rules that this call leaves out: pass max_splits=9, or"
                 " max_splits=None for 995000", str(caught.exception)
             )
             for good in (rules, {**rules, "max_length": 40}, dict.fromkeys(rules)):
-                self.closed(call(ready, **anything(good)))
+                self.closed(call(prepared, **anything(good)))
 
     def test_a_tolerance_stands_for_the_slack(self) -> None:
-        ready = district_audit.prepare(ring(), **self.COLUMNS, tolerance=0.5)
-        check = district_audit.check(ready, tolerance=0.25, program=self.program)
+        prepared = district_audit.prepare(ring(), **self.COLUMNS, tolerance=0.5)
+        check = district_audit.check(prepared, tolerance=0.25, program=self.program)
         self.assertEqual(check.rules.slack, 2500)
         with self.assertRaises(district_audit.ValueRefused):
-            district_audit.check(ready, program=self.program)
+            district_audit.check(prepared, program=self.program)
 
     def test_rules_that_prepare_was_not_given_are_not_asked_for(self) -> None:
-        ready = district_audit.prepare(ring(), **self.COLUMNS)
-        self.assertEqual(ready.rules, {})
-        self.assertEqual(district_audit.check(ready, program=self.program).rules.slack, 500)
+        prepared = district_audit.prepare(ring(), **self.COLUMNS)
+        self.assertEqual(prepared.rules, {})
+        self.assertEqual(district_audit.check(prepared, program=self.program).rules.slack, 500)
 
     def test_a_limit_that_is_a_fraction_is_hinted_at_whole(self) -> None:
         columns: common.Words = self.COLUMNS
@@ -111,36 +110,35 @@ class Prepared(common.ProgramCase):
             self.assertIn(f"{hint} fractions whole and names missing values", str(caught.exception))
 
     def test_cut_length_by_name(self) -> None:
-        ready = district_audit.prepare(ring(), **anything({**self.COLUMNS, "freeze": None}))
-        words: common.Words = dict(
-            self.WALK, thin=1, slack=5000, program=self.program
-        )
-        with district_audit.trace(ready, **words) as trace:
+        prepared = district_audit.prepare(ring(), **anything({**self.COLUMNS, "freeze": None}))
+        words: common.Words = dict(self.WALK, thin=1, slack=5000, program=self.program)
+        with district_audit.trace(prepared, **words) as trace:
             rows = list(trace.rows(["cut_length"]))
         self.assertEqual(rows[0]["cut_length"], 10)  # the edges of 7 and 3
-        with district_audit.trace(ready, **anything({**words, "ask": "cut-length:low"})) as trace:
+        asked: common.Words = {**words, "ask": "cut-length:low"}
+        with district_audit.trace(prepared, **asked) as trace:
             self.assertEqual([row["cut_length"] for row in rows],
                              [sample.numerators[0] for sample in trace])
-        with district_audit.trace(ready, **words, length=None) as trace:
+        with district_audit.trace(prepared, **words, length=None) as trace:
             with self.assertRaises(ValueError) as caught:
                 list(trace.rows(["cut_length"]))
         self.assertIn('trace(.., length="shared_perim")', str(caught.exception))
 
     def test_a_column_that_is_none_is_left_out(self) -> None:
-        ready = district_audit.prepare(ring(), **self.COLUMNS, group_of="pop", max_splits=9)
+        prepared = district_audit.prepare(ring(), **self.COLUMNS, group_of="pop", max_splits=9)
         lines = {"freeze": "frozen 1", "region": "max-split 200 regions 2",
                  "group": "group-districts 0 of 0", "length": "cut-length 10"}
         for name in ("", *lines):
             words: common.Words = {} if not name else {name: None}
             if name != "region":
                 words["max_splits"] = None
-            text = str(district_audit.check(ready, program=self.program, **words)).split("\n")
+            text = str(district_audit.check(prepared, program=self.program, **words)).split("\n")
             for other, line in lines.items():
                 self.assertEqual(line in text, other != name, (name, line, text))
 
 
 class Frozen(unittest.TestCase):
-    def prepared(self, *frozen: int) -> district_audit.Prepared:
+    def prepare_frozen(self, *frozen: int) -> district_audit.Prepared:
         """Prepares a path of six units in three districts, with these units frozen."""
         nodes = [{"id": f"u{u}", "pop": 1, "a": 1, "b": 2, "d": u // 2, "f": int(u in frozen)}
                  for u in range(6)]
@@ -163,9 +161,9 @@ class Frozen(unittest.TestCase):
             ((1, 2, 3, 4), [f"{left}1", f"{closed}1"]),
             (tuple(range(6)), ["all units are frozen by f: no walk can change the plan"]),
         ):
-            ready = self.prepared(*frozen)
-            self.assertEqual(ready.warnings, warnings)
-            self.assertIn(f"{len(frozen)} of 6 units are frozen by f", ready.notes)
+            prepared = self.prepare_frozen(*frozen)
+            self.assertEqual(prepared.warnings, warnings)
+            self.assertIn(f"{len(frozen)} of 6 units are frozen by f", prepared.notes)
 
 
 if __name__ == "__main__":

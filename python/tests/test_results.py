@@ -54,12 +54,12 @@ class Elections(common.ProgramCase):
         wanted = self.run_with(json.dumps(root()).encode(), elections=ELECTIONS)
         self.assertEqual(self.run_with(common.StandInGraph(root()), elections=ELECTIONS), wanted)
         columns = {name: WORDS[name] for name in ("population", "district")}
-        ready = district_audit.prepare(root(), **columns, elections=ELECTIONS)
-        self.assertEqual(ready.elections, ELECTIONS)
-        self.assertEqual(self.run_with(ready, elections=ready.elections), wanted)
-        self.assertEqual(self.run_with(ready, first="D2", second="R2"), wanted["SEN20"])
+        prepared = district_audit.prepare(root(), **columns, elections=ELECTIONS)
+        self.assertEqual(prepared.elections, ELECTIONS)
+        self.assertEqual(self.run_with(prepared, elections=prepared.elections), wanted)
+        self.assertEqual(self.run_with(prepared, first="D2", second="R2"), wanted["SEN20"])
         with self.assertRaises(TypeError) as caught:
-            self.run_with(ready)
+            self.run_with(prepared)
         self.assertIn("the argument first is missing (or elections)", str(caught.exception))
 
     def test_votes_of_each_election_are_tested(self) -> None:

@@ -11,9 +11,7 @@ from district_audit import scores
 from tests.oracle import model
 from trace_model import TextCase, drawn_jobs, tracing_program
 
-GRID: common.Words = dict(
-    population="TOTPOP", first="DEM", second="REP", district="CD"
-)
+GRID: common.Words = dict(population="TOTPOP", first="DEM", second="REP", district="CD")
 # The number of jobs that are drawn for each of the tests against the model.
 JOBS = int(os.environ.get("TRACE_JOBS", "30"))
 
@@ -123,7 +121,7 @@ class AgainstTheModel(TextCase):
             ),
         )
         for path, columns, steps in maps:
-            ready = district_audit.prepare(
+            prepared = district_audit.prepare(
                 path,
                 numbers="nearest",
                 **anything({name: column for name, column in columns.items() if name != "slack"}),
@@ -132,19 +130,19 @@ class AgainstTheModel(TextCase):
                 key=district_audit.key_of(path.name), walks=1, steps=steps, ends=1, hub_steps=steps,
                 ask="seats:low,mean-median:high,gap:low,cut-edges:low", slack=columns["slack"],
             )
-            job = trace_model.job_of(
-                {**{name: column for name, column in ready.columns.items()}, **words}, ready.data
-            )
+            job = trace_model.job_of({**prepared.columns, **words}, prepared.data)
             for number in (0, 1):
                 plans = trace_model.visited(job, number)
-                trace = district_audit.trace(ready, ids=number, thin=20, program=program, **words)
+                trace = district_audit.trace(
+                    prepared, ids=number, thin=20, program=program, **words
+                )
                 moves = 0
                 for sample in trace:
                     plan, moves = plans[sample.step]
                     self.assertEqual(sample.moves, moves)
                     self.assertEqual(
                         list(sample.assignment.values()),
-                        [ready.districts[district] for district in plan],
+                        [prepared.districts[district] for district in plan],
                     )
                     self.assertEqual(
                         sample.scores,

@@ -238,9 +238,7 @@ class Reading(TextCase):
             node.update(county=county, group=group, whole=whole)
         rules = "max-split 2 regions 2\ngroup-districts 1 of 1\nwalks 1"
         text = TEXT.replace("walks 1", rules, 1)
-        named: common.Words = dict(
-            COLUMNS, region="county", group="group", group_of="whole"
-        )
+        named: common.Words = dict(COLUMNS, region="county", group="group", group_of="whole")
         self.assertEqual(len(list(self.read(text, root, named))), 7)
         for change, old, new, why in (
             ({}, "regions 2", "regions 3", "the number of regions is 3 there and 2 here"),
@@ -261,9 +259,7 @@ class Reading(TextCase):
             node.update(group=group, whole=2, keep=keep)
         rules = "group-districts 1 of 2\ngroup-share 4900\nfrozen 2\nwalks 1"
         text = TEXT.replace("walks 1", rules, 1)
-        named: common.Words = dict(
-            COLUMNS, group="group", group_of="whole", freeze="keep"
-        )
+        named: common.Words = dict(COLUMNS, group="group", group_of="whole", freeze="keep")
         self.assertEqual(len(list(self.read(text, root, named))), 7)
         for old, new, why in (
             ("1 of 2", "1 of 1", "the number of majorities is 1 there and 2 here"),
@@ -398,10 +394,10 @@ class Reading(TextCase):
             "district": "d",
         }
         for keep in ([], ["c"]):
-            ready = district_audit.prepare(
+            prepared = district_audit.prepare(
                 common.StandInGraph(root), keep=anything(keep), **columns
             )
-            sample = next(district_audit.read_trace(path, ready))
+            sample = next(district_audit.read_trace(path, prepared))
             if keep:
                 self.assertEqual(sample.totals("c"), {"p": 2, "q": 2})
             else:

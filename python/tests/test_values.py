@@ -16,9 +16,7 @@ Call = typing.Callable[[], object]
 
 UNITS = list("stuvwxyz")
 PLAN: common.Words = dict(zip(UNITS, [1, 1, 1, 1, 2, 2, 2, 2]))
-WORDS: common.Words = dict(
-    common.COLUMNS, slack=5000, key=common.KEY, ask="gap:low", steps=16
-)
+WORDS: common.Words = dict(common.COLUMNS, slack=5000, key=common.KEY, ask="gap:low", steps=16)
 
 
 # They stand for pandas' missing values, by the name of their type.
@@ -218,12 +216,12 @@ class Inputs(Case):
         for name, call in self.calls([float(label) for label in PLAN.values()]).items():
             with self.subTest(input=name):
                 call()
-        ready = district_audit.prepare(
+        prepared = district_audit.prepare(
             root_of([float(label) for label in PLAN.values()]), **common.COLUMNS
         )
-        self.assertEqual(ready.districts, ["1", "2"])
+        self.assertEqual(prepared.districts, ["1", "2"])
         self.assertEqual(
-            [change.what for change in ready.changes],
+            [change.what for change in prepared.changes],
             ["labels in d: some are neither texts nor whole numbers, so all are written as texts"],
         )
 
@@ -301,11 +299,13 @@ class Files(Case):
         district_audit.check(data, program=self.program, **common.COLUMNS, slack=5000)
 
     def test_another_column_of_what_was_prepared(self) -> None:
-        ready = district_audit.prepare(
+        prepared = district_audit.prepare(
             root_of([1, 1, 1, "1", 2, 2, 2, 2], "other"), **common.COLUMNS, keep=["other"]
         )
         self.refused(
-            lambda: district_audit.check(ready, program=self.program, district="other", slack=5000),
+            lambda: district_audit.check(
+                prepared, program=self.program, district="other", slack=5000
+            ),
             "other",
         )
 
@@ -365,7 +365,7 @@ class UnitsCase(Case):
             program=self.program, **WORDS, **said,
         )
 
-    def prepared(self, assignment: object, graph: object = None) -> district_audit.Prepared:
+    def prepare_with(self, assignment: object, graph: object = None) -> district_audit.Prepared:
         columns = {name: column for name, column in common.COLUMNS.items() if name != "district"}
         return district_audit.prepare(
             self.GRAPH if graph is None else graph, **columns, assignment=assignment
@@ -392,28 +392,30 @@ class Units(UnitsCase):
             "none of its ids is a unit's: its first id is 0, and the graph's first is \"s\"",
             lambda: self.plans({"one": dict(enumerate(PLAN.values()))}),
         )
-        self.no('unit "v" has no assignment', lambda: self.prepared(few))
+        self.no('unit "v" has no assignment', lambda: self.prepare_with(few))
         self.no(
             'the assignment names an unknown unit: "none"',
-            lambda: self.prepared({**PLAN, "none": 1}),
+            lambda: self.prepare_with({**PLAN, "none": 1}),
         )
 
     def test_ids_that_stand_there_twice(self) -> None:
         twice = self.pairs([*PLAN.items(), ("v", 2)])
         self.no('plan one: unit "v" has several labels', lambda: self.plans({"one": twice}))
-        self.no('unit "v" has several districts', lambda: self.prepared(twice))
+        self.no('unit "v" has several districts', lambda: self.prepare_with(twice))
         numbered = root_of(list(PLAN.values()), units=list(range(8)))
         mixed = self.pairs([*zip(range(8), PLAN.values()), ("3", 2)])
         self.no("plan one: unit 3 has several labels", lambda: self.plans({"one": mixed}, numbered))
-        self.no("unit 3 has several districts", lambda: self.prepared(mixed, numbered))
+        self.no("unit 3 has several districts", lambda: self.prepare_with(mixed, numbered))
 
     def test_ids_of_another_kind(self) -> None:
         numbered = root_of(list(PLAN.values()), units=list(range(8)))
         texts = {str(place): label for place, label in enumerate(PLAN.values())}
-        self.no('the assignment names an unknown unit: "0"', lambda: self.prepared(texts, numbered))
+        self.no(
+            'the assignment names an unknown unit: "0"', lambda: self.prepare_with(texts, numbered)
+        )
         self.no(
             '("0" is a text, and the graph\'s 0 a whole number)',
-            lambda: self.prepared(texts, numbered),
+            lambda: self.prepare_with(texts, numbered),
         )
         # A table has its ids as texts in any case, and is matched so.
         self.assertEqual(len(self.plans({"one": texts}, numbered)), 2)
@@ -430,11 +432,11 @@ class Units(UnitsCase):
             )
             self.no(
                 "the id in place 8 is missing",
-                lambda: self.prepared(self.pairs([*PLAN.items(), (one, 1)])),
+                lambda: self.prepare_with(self.pairs([*PLAN.items(), (one, 1)])),
             )
         for one in (True, 0.5, b"s"):
             self.no("not an id of a unit", lambda: self.plans({"one": {**PLAN, one: 1}}))
-            self.no("not an id of a unit", lambda: self.prepared({**PLAN, one: 1}))
+            self.no("not an id of a unit", lambda: self.prepare_with({**PLAN, one: 1}))
 
     def test_ids_of_the_graph(self) -> None:
         for one in (True, 0.5, {}):
@@ -474,15 +476,13 @@ class Units(UnitsCase):
     def test_an_assignment_is_one_column(self) -> None:
         frame = common.anything(common.StandInAssignment({"one": PLAN}))
         frame.columns = ["one"]
-        self.no("name one of its columns", lambda: self.prepared(frame))
+        self.no("name one of its columns", lambda: self.prepare_with(frame))
         self.no("name one of its columns", lambda: self.plans({"one": frame}))
 
     def test_both_ways_to_say_the_districts(self) -> None:
-        ready = district_audit.prepare(self.GRAPH, **common.COLUMNS)
-        for graph in (ready, common.StandInGraph(self.GRAPH)):
-            words = (
-                {} if graph is ready else {name: column for name, column in common.COLUMNS.items()}
-            )
+        prepared = district_audit.prepare(self.GRAPH, **common.COLUMNS)
+        for graph in (prepared, common.StandInGraph(self.GRAPH)):
+            words = {} if graph is prepared else common.COLUMNS
             self.no(
                 "district and assignment are both given",
                 lambda: district_audit.check(
@@ -544,14 +544,14 @@ class Units(UnitsCase):
             [numpy.int64(3), 0.5, numpy.float32(0.5), float("nan"), None, "x", True, NA],
         ):
             node["kept"] = value
-        ready = district_audit.prepare(root, **common.COLUMNS, keep=["kept"])
+        prepared = district_audit.prepare(root, **common.COLUMNS, keep=["kept"])
         self.assertEqual(
-            [node["kept"] for node in json.loads(ready.data)["nodes"]],
+            [node["kept"] for node in json.loads(prepared.data)["nodes"]],
             [3, 0.5, 0.5, None, None, "x", True, None],
         )
         self.assertIn(
             'column kept, which is kept: missing values written as null: 3 units: "v", "w", "z"',
-            [str(change) for change in ready.changes],
+            [str(change) for change in prepared.changes],
         )
         root["nodes"][3]["kept"] = float("inf")
         self.no(
@@ -655,7 +655,7 @@ class Frames(UnitsCase):
                 with self.subTest(value=value, dtype=dtype):
                     frame = self.frame(with_one(value), dtype=dtype)
                     self.no('plan two: unit "v" has no label', lambda: self.plans(frame))
-                    self.no('unit "v" has no assignment', lambda: self.prepared(frame["two"]))
+                    self.no('unit "v" has no assignment', lambda: self.prepare_with(frame["two"]))
         for dtype in ("string", "category"):
             frame = self.frame(["A", "A", "A", None, "B", "B", "B", "B"], dtype=dtype)
             self.no('plan two: unit "v" has no label', lambda: self.plans(frame))
@@ -682,8 +682,8 @@ class Frames(UnitsCase):
             lambda: self.plans(self.frame(good, [*"stu", None, *"wxyz"])),
         )
         series = self.frame(good, [*"stuv", "v", *"xyz"])["two"]
-        self.no('unit "v" has several districts', lambda: self.prepared(series))
-        self.no("name one of its columns", lambda: self.prepared(self.frame(good)))
+        self.no('unit "v" has several districts', lambda: self.prepare_with(series))
+        self.no("name one of its columns", lambda: self.prepare_with(self.frame(good)))
 
     def test_two_columns_of_one_name(self) -> None:
         frame = self.frame(list(PLAN.values()))
