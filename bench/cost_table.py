@@ -72,7 +72,7 @@ def crossed(rows: int, columns: int, districts: int) -> bytes:
 
 
 class Run(typing.NamedTuple):
-    """What a run took, and what it wrote."""
+    """The cost of a run, and the text that it wrote."""
 
     seconds: float
     megabytes: float

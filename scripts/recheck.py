@@ -53,7 +53,8 @@ def sampled(what: str, some: Sized, every: Sized) -> None:
 
 
 def rounded_up(name: str, top: int, of: int) -> str:
-    return "%s %d.%09d" % (name, *divmod(-(-top * BILLION // of), BILLION))  # rounded up
+    whole, part = divmod(-(-top * BILLION // of), BILLION)
+    return f"{name} {whole}.{part:09d}"
 
 
 @lru_cache(maxsize=8)
@@ -352,7 +353,7 @@ class Walk:
     def __init__(self, job: Job, plan: Sequence[int]) -> None:
         self.job, self.plan, d = job, list(plan), job.districts
         self.sums = {name: [0] * d for name in COLUMNS}
-        self.touch, self.open = [0] * (len(plan) * d), bytearray(len(plan) * d)
+        self.touch, self.is_open = [0] * (len(plan) * d), bytearray(len(plan) * d)
         self.spread, self.parts = [0] * (job.regions * d), [0] * job.regions
         apart = [n for (u, v), n in zip(job.edges, job.columns["--length"]) if plan[u] != plan[v]]
         self.cut, self.length = len(apart), sum(apart)
@@ -365,7 +366,7 @@ class Walk:
             self.sums[name][district] += sign * column[unit]
         for v in job.near[unit]:
             touch[v * d + district] += sign
-            self.open[v * d + district] = touch[v * d + district] > 0 and plan[v] != district
+            self.is_open[v * d + district] = touch[v * d + district] > 0 and plan[v] != district
         for region in job.columns["--region"][unit:unit + 1]:
             self.spread[region * d + district] += sign
             self.parts[region] += sign * (self.spread[region * d + district] == (sign > 0))
@@ -377,7 +378,7 @@ class Walk:
         self.add(unit, out, -1)
         self.plan[unit] = into
         self.add(unit, into, 1)
-        self.open[at + into], self.open[at + out] = 0, self.touch[at + out] > 0
+        self.is_open[at + into], self.is_open[at + out] = 0, self.touch[at + out] > 0
 
     def score(self, name: str) -> int:
         if name in ("cut-edges", "cut-length"):
@@ -451,7 +452,7 @@ class Walk:
 
     def go(self, stream: int, begin: int, end: int, with_first: int) -> Tally:
         """Makes the steps from begin to end - 1, and tallies the plans after each, or all."""
-        job, is_open, d, asks = self.job, self.open, self.job.districts, len(self.job.asks)
+        job, is_open, d, asks = self.job, self.is_open, self.job.districts, len(self.job.asks)
         limit = 2 ** 64 // (pairs := len(self.plan) * d) * pairs
         tally, moved, since, marks = [0] * (asks + 9), 0, begin - with_first, self.marks()
         for step, draw in enumerate(draws_of(job.key, stream, begin, end), begin):

@@ -17,7 +17,7 @@ HERE = pathlib.Path(__file__).resolve().parent.parent
 PACKAGE = "district_audit"
 STAMP = (1980, 1, 1, 0, 0, 0)
 Files = typing.Mapping[str, typing.Union[str, bytes]]
-# What a front end passes to a hook; nothing here reads it.
+# The settings that a front end passes to a hook; nothing here reads them.
 Settings = typing.Optional[typing.Mapping[str, object]]
 
 

@@ -92,7 +92,7 @@ class Argument:
         )
 
     @property
-    def type(self) -> str:
+    def type_text(self) -> str:
         """Its type, and its default where there is one, as a docstring has them."""
         kind = {
             "column": "str",
@@ -540,7 +540,7 @@ def documented(function: Call) -> Call:
             if name in own:
                 kind, text = own[name]
             elif name in TABLE:
-                kind, text = TABLE[name].type, TABLE[name].text
+                kind, text = TABLE[name].type_text, TABLE[name].text
             elif name in OTHERS:
                 kind, text = OTHERS[name]
             else:

@@ -48,7 +48,7 @@ NO_JOB = frozenset(
 
 
 class Record(typing.TypedDict):
-    """What is kept of a job beside its checkpoints."""
+    """The record of a job beside its checkpoints."""
 
     words: list[str]
     job: dict[str, str]

@@ -432,7 +432,7 @@ def provenance(
     ]
     if report.source is not None:
         what = "graph and table" if is_of_plans(plans) else "graph"
-        hashes.append((f"SHA-256 of the {what}, {report.source.bytes} bytes", report.source.sha256))
+        hashes.append((f"SHA-256 of the {what}, {report.source.size} bytes", report.source.sha256))
     if graph is not None:
         size, digest = len(graph.data), hashlib.sha256(graph.data).hexdigest()
         hashes.append((f"SHA-256 of the graph of Table 1, {size} bytes", digest))

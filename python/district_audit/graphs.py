@@ -14,8 +14,8 @@ from .errors import PrepareRefused, extra
 
 SHOWN = 10
 
-# The package uses `Any` in these two lines alone: for a value of parsed JSON, whose type depends on
-# its place, and for what comes from the user or from a library without types, such as an argument
+# The package uses `Any` in these two lines alone. `Json` is a value of JSON, whose type depends
+# on its place. `Foreign` is a value of the user or of a library without types, such as an argument
 # as it is passed, an id or a label of the graph, a frame, or a polygon.
 Json = typing.Any
 Foreign = typing.Any
@@ -29,7 +29,7 @@ Node = dict[str, object]
 
 
 class GraphLike(typing.Protocol):
-    """What is read of a graph of networkx or GerryChain."""
+    """The methods of a graph of networkx or GerryChain that are called here."""
 
     def nodes(self, data: bool) -> typing.Iterable[tuple[object, typing.Mapping[str, object]]]:
         """Returns each unit's id and attributes."""

@@ -40,7 +40,7 @@ class File:
 
     name: str
     sha256: str
-    bytes: int
+    size: int
 
     @classmethod
     def of(cls, path: PathLike) -> File:
@@ -67,6 +67,11 @@ class File:
         return cls(name, digest, size)
 
 
+def with_names(pairs: typing.Iterable[tuple[str, object]]) -> dict[str, object]:
+    """Returns fields by their names in a manifest, where a size is `bytes`."""
+    return {"bytes" if name == "size" else name: value for name, value in pairs}
+
+
 @dataclasses.dataclass(frozen=True)
 class Manifest:
     """Which command on which graph, by which program, made a report."""
@@ -86,7 +91,8 @@ class Manifest:
 
     def __str__(self) -> str:
         """Returns the manifest as JSON, in lines."""
-        return json.dumps({"format": FORMAT, **dataclasses.asdict(self)}, indent=1) + "\n"
+        values = dataclasses.asdict(self, dict_factory=with_names)
+        return json.dumps({"format": FORMAT, **values}, indent=1) + "\n"
 
     @classmethod
     def parse(cls, text: str) -> Manifest:
@@ -208,15 +214,15 @@ def compared(what: str, wanted: File, path: pathlib.Path | None) -> Checked:
         where = "no file is named" if path is None else f"{path} is not there"
         return Checked(what, None, f"{what} {wanted.name}: not checked, {where} (--{what} FILE)")
     came = File.of(path)
-    if came.sha256 == wanted.sha256 and came.bytes == wanted.bytes:
+    if came.sha256 == wanted.sha256 and came.size == wanted.size:
         return Checked(what, True, f"{what} {path}: agrees, sha256 {wanted.sha256}")
     return Checked(
         what,
         False,
         (
             f"{what} {path}: DIFFERS: the manifest says sha256 {wanted.sha256},"
-            f" {wanted.bytes} bytes; the file has {came.sha256},"
-            f" {came.bytes} bytes"
+            f" {wanted.size} bytes; the file has {came.sha256},"
+            f" {came.size} bytes"
         ),
     )
 

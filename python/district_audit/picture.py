@@ -171,7 +171,7 @@ def about(report: Report, parties: Parties = None) -> str:
         if setting.walks
         else "no walks"
     )
-    read = "" if source is None else f"\nsource sha256 {source.sha256}, {source.bytes} bytes"
+    read = "" if source is None else f"\nsource sha256 {source.sha256}, {source.size} bytes"
     return (
         f"{report.units} units, {report.districts} districts, {report.population} people;"
         f" {rules.low} to {rules.high} people a district (slack"

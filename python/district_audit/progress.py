@@ -63,7 +63,7 @@ class PlainBar:
 
 
 class Ticker(typing.Protocol):
-    """What is used of a bar of tqdm."""
+    """A bar of tqdm, as far as it is used here."""
 
     n: int
 
@@ -177,11 +177,11 @@ class StepClock(Clock):
         """`command` is the program with the words of `trace`, and `data` the graph."""
         super().__init__(total, stream)
         self.steps = steps
-        self.input, self.text = tempfile.TemporaryFile(), tempfile.TemporaryFile()
-        self.input.write(data)
-        self.input.seek(0)
+        self.graph, self.text = tempfile.TemporaryFile(), tempfile.TemporaryFile()
+        self.graph.write(data)
+        self.graph.seek(0)
         self.process = subprocess.Popen(
-            list(command), stdin=self.input, stdout=self.text, stderr=subprocess.DEVNULL
+            list(command), stdin=self.graph, stdout=self.text, stderr=subprocess.DEVNULL
         )
 
     def said(self, seconds: float) -> str:
@@ -206,7 +206,7 @@ class StepClock(Clock):
         """Ends the second process."""
         if self.process.poll() is None:
             stop(self.process)
-        self.input.close()
+        self.graph.close()
         self.text.close()
         super().end()
 

@@ -7,7 +7,6 @@ the report's nine places, which are rounded up.
 """
 from __future__ import annotations
 
-import builtins
 import dataclasses
 import hashlib
 import html
@@ -142,7 +141,7 @@ class Source:
     """The 64 hexadecimal digits of the SHA-256 of all bytes that were read; for several plans the
     table is among them.
     """
-    bytes: int
+    size: int
     """The number of these bytes."""
     population: str
     first: str
@@ -171,11 +170,11 @@ class Source:
         )
         words += [] if self.freeze is None else ["freeze", quoted(self.freeze)]
         words += [] if self.length is None else ["length", quoted(self.length)]
-        return [f"source sha256 {self.sha256} bytes {self.bytes}", " ".join(words)]
+        return [f"source sha256 {self.sha256} bytes {self.size}", " ".join(words)]
 
-    def is_of(self, data: builtins.bytes) -> bool:
+    def is_of(self, data: bytes) -> bool:
         """Returns whether these are the bytes that were read."""
-        return len(data) == self.bytes and hashlib.sha256(data).hexdigest() == self.sha256
+        return len(data) == self.size and hashlib.sha256(data).hexdigest() == self.sha256
 
 
 @dataclasses.dataclass(frozen=True)
@@ -1362,7 +1361,7 @@ class Report:
         about += (
             ""
             if self.source is None
-            else f"; source sha256 {self.source.sha256}, {self.source.bytes} bytes"
+            else f"; source sha256 {self.source.sha256}, {self.source.size} bytes"
         )
         shift = (
             ""

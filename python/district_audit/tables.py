@@ -13,8 +13,6 @@ from .graphs import as_json, as_text, is_missing, plain, shown
 from .values import faults_in, kind_of, missing_in, repeated
 
 MOST_PLANS = 16
-# The likely mistake where a column of a table has a label of its own for each unit.
-IDS = "if this column has the units' ids, make it the index: frame.set_index({name})"
 
 
 @dataclasses.dataclass
@@ -203,7 +201,11 @@ def test_count(name: str, count: int, known: Known) -> None:
     if count != known.districts:
         hint = ""
         if count == len(known.units):
-            hint = f"; {IDS.format(name=repr(name))}"
+            # The likely mistake where a column has a label of its own for each unit.
+            hint = (
+                "; if this column has the units' ids, make it the index:"
+                f" frame.set_index({name!r})"
+            )
         raise PrepareRefused(
             f"plan {name} has {count} districts, and the enacted plan has"
             f' {known.districts} (districts="any" takes it all the same){hint}'

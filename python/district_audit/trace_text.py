@@ -85,11 +85,11 @@ class ProgramLines:
     def __init__(self, program: str, sent: Given) -> None:
         self.sent = sent
         # Files in place of pipes: the program never waits for its input or for its note.
-        self.input = tempfile.TemporaryFile()
+        self.graph = tempfile.TemporaryFile()
         self.note = tempfile.TemporaryFile()
-        self.input.write(sent.data)
-        self.input.seek(0)
-        self.process = subprocess.Popen([program, *sent.words], stdin=self.input,
+        self.graph.write(sent.data)
+        self.graph.seek(0)
+        self.process = subprocess.Popen([program, *sent.words], stdin=self.graph,
                                         stdout=subprocess.PIPE, stderr=self.note)
 
     def read(self) -> bytes:
@@ -111,7 +111,7 @@ class ProgramLines:
         """Ends the program if it still runs."""
         if self.process.poll() is None:
             stop(self.process)
-        for file in (self.process.stdout, self.input, self.note):
+        for file in (self.process.stdout, self.graph, self.note):
             if file is not None:
                 file.close()
 
@@ -121,7 +121,7 @@ class ProgramLines:
 class Trajectory(typing.NamedTuple):
     """A trajectory of a trace."""
 
-    id: int
+    number: int
     steps: int
     thin: int
 
@@ -222,12 +222,12 @@ class Text:
             self.refuse("it does not have the form `trace id i steps S thin N`")
         one = Trajectory(*map(int, found_words.groups()))
         setting = head.setting
-        steps = setting.steps if one.id < setting.walks else setting.hub_steps
-        self.ask_that(one.id < setting.walks + setting.ends, "the id is out of range")
+        steps = setting.steps if one.number < setting.walks else setting.hub_steps
+        self.ask_that(one.number < setting.walks + setting.ends, "the id is out of range")
         self.ask_that(one.steps == steps, "the trajectory has another number of steps")
         self.ask_that(1 <= one.thin <= BILLION, "the thinning is out of range")
         if before is not None:
-            self.ask_that(one.id == before.id + 1 and one.thin == before.thin,
+            self.ask_that(one.number == before.number + 1 and one.thin == before.thin,
                           "the sections must be in order of rising id")
         return one
 

@@ -83,7 +83,7 @@ class Sample:
 
     def __init__(self, trace: Trace, plan: Plan, trajectory: Trajectory, shown: Shown) -> None:
         self.trace = trace
-        self.id: int = trajectory.id
+        self.id: int = trajectory.number
         """The trajectory: 0 to walks - 1 for the walks, then those of the endpoints."""
         self.step = shown.step
         """The number of steps from the first plan of the trajectory."""
@@ -219,12 +219,12 @@ class Trace(typing.Iterator[Sample]):
                              f"graph has {len(table.ids)} and {len(table.labels)}")
         if head.source is not None and not head.source.is_of(data):
             self.text.refuse("its SHA-256 is that of another file")
-        if ids is not None and self.trajectory.id != ids[0]:
+        if ids is not None and self.trajectory.number != ids[0]:
             self.text.refuse("it begins with another trajectory than was asked for")
 
     def steps_in_all(self) -> int:
         """Returns the number of steps of all trajectories that were asked for."""
-        first = self.trajectory.id
+        first = self.trajectory.number
         final = first if self.final_id is None else self.final_id
         setting = self.head.setting
         return sum(setting.steps if one < setting.walks else setting.hub_steps
@@ -233,8 +233,8 @@ class Trace(typing.Iterator[Sample]):
     def __repr__(self) -> str:
         head, one = self.head, self.trajectory
         state = "closed" if self.is_closed else f"at step {self.before.step} of {one.steps}"
-        return (f"<Trace of {head.units} units, {head.districts} districts: trajectory {one.id} "
-                f"{state}, thin {one.thin}>")
+        return (f"<Trace of {head.units} units, {head.districts} districts: "
+                f"trajectory {one.number} {state}, thin {one.thin}>")
 
     def __iter__(self) -> Trace:
         return self
@@ -285,10 +285,10 @@ class Trace(typing.Iterator[Sample]):
                     return Sample(self, self.plan, self.trajectory, shown)
                 continue
             self.done += self.trajectory.steps
-            self.moved[self.trajectory.id] = self.before.moves, self.trajectory.steps
+            self.moved[self.trajectory.number] = self.before.moves, self.trajectory.steps
             line = self.text.line("the line `end`")
             if line == "end":
-                self.text.ask_that(self.final_id in (None, self.trajectory.id),
+                self.text.ask_that(self.final_id in (None, self.trajectory.number),
                                    f"trajectories up to {self.final_id} are missing")
                 self.text.end()
                 few = few_moves("trajectory", self.moved, self.head.units)
@@ -319,7 +319,7 @@ class Trace(typing.Iterator[Sample]):
         made = shown.moves - before.moves
         ask_that(0 <= made <= shown.step - before.step, "the number of moves is out of range")
         most = made
-        if self.place == 0 and one.id >= self.head.setting.walks:
+        if self.place == 0 and one.number >= self.head.setting.walks:
             self.hub = self.hub or shown
             ask_that(shown == self.hub, "all endpoint trajectories begin at one hub")
             most = one.steps
