@@ -1,5 +1,6 @@
 """Traces of the real program and of the plain model: every sample is as the model says."""
 import os
+import typing
 import unittest
 from fractions import Fraction
 
@@ -59,7 +60,7 @@ class AgainstTheModel(TextCase):
         root: common.Root,
         assignment: dict[object, object],
         job: model.Job,
-        plan: tuple[int, ...],
+        plan: typing.Sequence[int],
     ) -> None:
         hand = trace_model.scores_by_hand(root, assignment)
         ours = {

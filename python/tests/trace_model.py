@@ -150,7 +150,7 @@ def job_of(words: typing.Mapping[str, object], data: bytes) -> model.Job:
     return job
 
 
-def visited(job: model.Job, number: int) -> list[tuple[tuple[int, ...], int]]:
+def visited(job: model.Job, number: int) -> list[tuple[typing.Sequence[int], int]]:
     """The plans and the moves of a trajectory: a list of both after each step, and how many
     steps."""
     setting, plan = job.setting, tuple(job.plan)
@@ -189,7 +189,7 @@ def text_of(job: model.Job, first: int, last: int, thin: int) -> str:
     for number in range(first, last + 1):
         plans = visited(job, number)
         lines.append(f"trace id {number} steps {len(plans) - 1} thin {thin}")
-        before = start
+        before: typing.Sequence[int] = start
         for step in shown_steps(len(plans) - 1, thin):
             plan, moved = plans[step]
             words = [
