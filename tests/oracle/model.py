@@ -7,7 +7,10 @@ or None. JSON is read as serde_json reads it: by Python's json with whole number
 most 127 levels, and neither lone surrogates nor numbers too great for a float. One worker is
 assumed for the slots.
 """
+from __future__ import annotations
+
 import csv
+import dataclasses
 import functools
 import hashlib
 import io
@@ -16,7 +19,8 @@ import math
 import re
 import struct
 import typing
-from collections import Counter, namedtuple
+from collections import Counter
+from collections.abc import Mapping, Sequence
 
 BILLION = 10**9
 MOST_INPUT = 67108864
@@ -126,21 +130,70 @@ WITH_COLUMN = {
 NO_BINS = (0,) * 9
 ALL_ASKS = {f"{score}:{tail}": (score, tail) for score in SCORES for tail in TAILS}
 
-End = namedtuple("End", "status out note slots")
-# The parts of a graph that are read. The regions are empty where no column is named, and so is the
-# group, which else is two lists: the group's, and the whole's. Of frozen units there is a truth
-# value for each unit, or nothing where no column is named; and of lengths one for each edge.
-Read = namedtuple(
-    "Read", "edges people first second plan districts regions group frozen lengths", defaults=([],)
-)
-# The digest and the number of the bytes that were read.
-Origin = namedtuple("Origin", "sha256 bytes")
+# The district of each unit.
+Plan = Sequence[int]
+# Two units, the smaller first.
+Edge = tuple[int, int]
+# An object of a JSON text.
+Entry = dict[str, object]
+# A score and a tail.
+Ask = tuple[str, str]
+# The bytes of both slots, or None where a slot is absent.
+Slots = Sequence[typing.Optional[bytes]]
+# The numbers of an outcome in a checkpoint: its id, its moves, four values and nine bins.
+Record = tuple[int, ...]
+Label = typing.TypeVar("Label", bound=typing.Hashable)
+
+
+class End(typing.NamedTuple):
+    """The end of a call."""
+
+    status: int
+    out: str
+    note: str
+    slots: list[bytes | None]
+
+
+class Outcome(typing.NamedTuple):
+    """The outcome of a trajectory: its moves, a value for each ask, and the histogram of seats."""
+
+    moved: int
+    values: Sequence[int]
+    bins: Sequence[int]
+
+
+@dataclasses.dataclass(frozen=True)
+class Graph:
+    """The parts of a graph that are read.
+
+    What no column is named for is empty: regions, frozen units (else a truth value for each unit),
+    lengths (else one for each edge) and the group (else two lists: the group's, and the whole's).
+    """
+
+    edges: list[Edge]
+    people: list[int]
+    first: list[int]
+    second: list[int]
+    plan: list[int]
+    districts: int
+    regions: list[int]
+    group: list[list[int]]
+    frozen: list[bool]
+    lengths: list[int]
+
+
+@dataclasses.dataclass(frozen=True)
+class Origin:
+    """The digest of the bytes that were read, and their number."""
+
+    sha256: bytes
+    length: int
 
 
 class Refused(Exception):
     """A refusal: its status and its note."""
 
-    def __init__(self, status: typing.Any, note: typing.Any) -> None:
+    def __init__(self, status: int, note: str) -> None:
         super().__init__(note)
         self.status, self.note = status, note
 
@@ -148,13 +201,13 @@ class Refused(Exception):
 # ---- words
 
 
-def number(text: typing.Any) -> typing.Any:
+def number(text: str) -> int | None:
     """The number that a text is, or None."""
     is_plain = text.isascii() and text.isdigit() and (text == "0" or text[0] != "0")
     return int(text) if is_plain and len(text) < 64 else None
 
 
-def ids_of(text: typing.Any) -> typing.Any:
+def ids_of(text: str) -> tuple[int | None, int | None]:
     """The first and the last id of a range `A-B`, or of `A`; None for one that is no number."""
     first, dash, last = text.partition("-")
     return number(first), number(last if dash else first)
@@ -163,7 +216,7 @@ def ids_of(text: typing.Any) -> typing.Any:
 class Setting:
     """The setting of words, or Refused."""
 
-    def __init__(self, words: typing.Any) -> None:
+    def __init__(self, words: Sequence[str]) -> None:
         if not words:
             raise Refused(1, "words: no command")
         self.command = words[0]
@@ -181,8 +234,8 @@ class Setting:
         self.numbers()
 
     @staticmethod
-    def pairs(words: typing.Any, names: typing.Any) -> typing.Any:
-        value = {}
+    def pairs(words: Sequence[str], names: Sequence[str]) -> dict[str, str]:
+        value: dict[str, str] = {}
         for at in range(0, len(words), 2):
             name = words[at]
             if name not in names:
@@ -261,9 +314,10 @@ class Setting:
         )
         self.group_share, self.freeze = self.of("--group-share"), value["--freeze"]
         self.length, self.max_length = value["--length"], self.of("--max-length")
+        self.asks: list[Ask] = []
         if self.command == "check":
-            self.asks, self.total, self.save, self.stop, self.resume, self.shift, self.serial = (
-                [], 0, 0, 0, False, False, False,
+            self.total, self.save, self.stop, self.resume, self.shift, self.serial = (
+                0, 0, 0, False, False, False,
             )
             return
         self.key = bytes.fromhex(value["--key"])
@@ -289,7 +343,7 @@ class NotJson(Exception):
     pass
 
 
-def whole(text: typing.Any) -> typing.Any:
+def whole(text: str) -> int | float:
     """A whole number of 64 bits, or a float, as serde_json keeps it."""
     if len(text) < 25 and text != "-0":
         value = int(text)
@@ -298,14 +352,14 @@ def whole(text: typing.Any) -> typing.Any:
     return fraction(text)
 
 
-def fraction(text: typing.Any) -> typing.Any:
+def fraction(text: str) -> float:
     value = float(text)
     if math.isinf(value):
         raise NotJson
     return value
 
 
-def no_constant(_text: typing.Any) -> None:
+def no_constant(_text: str) -> typing.NoReturn:
     raise NotJson
 
 
@@ -313,7 +367,7 @@ STRING = re.compile(rb'"(?:[^"\\]|\\.)*"', re.DOTALL)
 NO_BRACKET = re.compile(rb"[^][{}]+")
 
 
-def depth(data: typing.Any) -> typing.Any:
+def depth(data: bytes) -> int:
     """How deep brackets stand within brackets, outside texts."""
     level = most = 0
     for byte in NO_BRACKET.sub(b"", STRING.sub(b"", data)):
@@ -322,14 +376,14 @@ def depth(data: typing.Any) -> typing.Any:
     return most
 
 
-def has_lone_surrogate(data: typing.Any) -> bool:
+def has_lone_surrogate(data: bytes) -> bool:
     return any(re.search("[\ud800-\udfff]", json.loads(text)) for text in STRING.findall(data))
 
 
-def parsed(data: typing.Any) -> typing.Any:
+def parsed(data: bytes) -> object:
     """The value of a JSON text, or NotJson."""
     try:
-        value = json.loads(
+        value: object = json.loads(
             data.decode("utf-8"), parse_int=whole, parse_float=fraction, parse_constant=no_constant
         )
     except (ValueError, RecursionError) as error:
@@ -339,18 +393,18 @@ def parsed(data: typing.Any) -> typing.Any:
     return value
 
 
-def is_id(value: typing.Any) -> bool:
+def is_id(value: object) -> bool:
     return type(value) in (int, str)
 
 
-def refuse(note: typing.Any) -> None:
+def refuse(note: str) -> typing.NoReturn:
     raise Refused(2, "graph: " + note)
 
 
-def shape(root: typing.Any) -> typing.Any:
+def shape(root: object) -> tuple[list[object], list[list[object]]]:
     """The lists of nodes and of neighbours, or the refusal of the shape."""
 
-    def bad(part: typing.Any) -> None:
+    def bad(part: str) -> typing.NoReturn:
         refuse("bad shape of " + part)
 
     if type(root) is not dict:
@@ -372,11 +426,19 @@ def shape(root: typing.Any) -> typing.Any:
     return nodes, adjacency
 
 
-def places_of(nodes: typing.Any) -> typing.Any:
-    for at, node in enumerate(nodes):
-        if type(node) is not dict or not is_id(node.get("id")):
-            refuse(f"node {at} has no usable id")
-    places: typing.Dict[typing.Any, typing.Any] = {}
+def entries_of(values: list[object], kind: str, owner: str = "") -> list[Entry]:
+    """Returns the values, or refuses the first that is no object with a usable id."""
+    entries: list[Entry] = []
+    for at, value in enumerate(values):
+        if type(value) is not dict or not is_id(value.get("id")):
+            refuse(f"{kind} {at}{owner} has no usable id")
+        entries.append(value)
+    return entries
+
+
+def places_of(nodes: Sequence[Entry]) -> dict[object, int]:
+    """Returns the place of each id, or refuses the first that two nodes have."""
+    places: dict[object, int] = {}
     for at, node in enumerate(nodes):
         if node["id"] in places:
             refuse(f"nodes {places[node['id']]} and {at} have the same id")
@@ -384,11 +446,12 @@ def places_of(nodes: typing.Any) -> typing.Any:
     return places
 
 
-def edges_of(places: typing.Any, adjacency: typing.Any) -> typing.Any:
-    for at, entry in enumerate(adjacency):
-        for place, one in enumerate(entry):
-            if type(one) is not dict or not is_id(one.get("id")):
-                refuse(f"neighbour {place} of node {at} has no usable id")
+def neighbours_of(adjacency: list[list[object]]) -> list[list[Entry]]:
+    """Returns the entries of each node's neighbors, or refuses the first without a usable id."""
+    return [entries_of(row, "neighbour", f" of node {at}") for at, row in enumerate(adjacency)]
+
+
+def edges_of(places: dict[object, int], adjacency: Sequence[list[Entry]]) -> list[Edge]:
     for at, entry in enumerate(adjacency):
         for place, one in enumerate(entry):
             if one["id"] not in places:
@@ -405,8 +468,8 @@ def edges_of(places: typing.Any, adjacency: typing.Any) -> typing.Any:
 
 
 def lengths_of(
-    places: typing.Any, adjacency: typing.Any, edges: typing.Any, column: str
-) -> typing.List[int]:
+    places: dict[object, int], adjacency: Sequence[list[Entry]], edges: Sequence[Edge], column: str
+) -> list[int]:
     """The length of each edge, or the first refusal; none where no column is named."""
     if not column:
         return []
@@ -416,16 +479,11 @@ def lengths_of(
     for at, place, one in every:
         if column not in one:
             refuse(f"neighbour {place} of node {at} has no attribute {column}")
-    for at, place, one in every:
-        if type(one[column]) is not int or not 0 <= one[column] < 2**32:
-            refuse(
-                f"neighbour {place} of node {at} has no whole number from 0 to 4294967295 in"
-                f" attribute {column}"
-            )
-    found: typing.Dict[typing.Any, int] = {}
-    for at, place, one in every:
-        edge = tuple(sorted((at, places[one["id"]])))
-        if found.setdefault(edge, one[column]) != one[column]:
+    lengths = [length_in(at, place, one, column) for at, place, one in every]
+    found: dict[Edge, int] = {}
+    for (at, place, one), length in zip(every, lengths):
+        other = places[one["id"]]
+        if found.setdefault((min(at, other), max(at, other)), length) != length:
             refuse(
                 f"neighbour {place} of node {at} has another number in attribute {column} than the"
                 " same edge before"
@@ -433,43 +491,61 @@ def lengths_of(
     return [found[edge] for edge in edges]
 
 
-def is_count(value: typing.Any) -> bool:
-    """Returns whether a value is a whole number from 0 to a billion."""
-    return type(value) is int and 0 <= value <= BILLION
+def length_in(at: int, place: int, entry: Entry, column: str) -> int:
+    """Returns the length that an entry of a neighbor has, or refuses it."""
+    value = entry[column]
+    if type(value) is not int or not 0 <= value < 2**32:
+        refuse(
+            f"neighbour {place} of node {at} has no whole number from 0 to 4294967295 in"
+            f" attribute {column}"
+        )
+    return value
 
 
-def test_flag(at: typing.Any, node: typing.Any, column: typing.Any) -> None:
-    """Refuses a value in a column of frozen units that is neither true, false nor a whole number.
-    """
-    if type(node[column]) is not bool and not is_count(node[column]):
+def count_in(at: int, node: Entry, column: str) -> int:
+    """Returns the whole number from 0 to a billion that a node has in a column, or refuses it."""
+    value = node[column]
+    if type(value) is not int or not 0 <= value <= BILLION:
+        refuse(f"node {at} has no whole number from 0 to 1000000000 in column {column}")
+    return value
+
+
+def flag_in(at: int, node: Entry, column: str) -> bool:
+    """Returns whether a column of frozen units is true or above 0, or refuses another value."""
+    value = node[column]
+    if type(value) is bool:
+        return value
+    if type(value) is not int or not 0 <= value <= BILLION:
         refuse(
             f"node {at} has no true, false or whole number from 0 to 1000000000 in column {column}"
         )
+    return value > 0
 
 
 def columns_of(
-    nodes: typing.Any, columns: typing.Any, group: typing.Any, freeze: typing.Any
-) -> typing.Any:
-    """The lists of the three number columns, of the labels and of the two columns of a group, where
-    one is named, or the first refusal.
+    nodes: Sequence[Entry], columns: Sequence[str], group: Sequence[str], freeze: Sequence[str]
+) -> tuple[list[list[int]], list[object], list[bool]]:
+    """Returns the number columns with those of a group behind them, the labels, and which units are
+    frozen, or refuses the first value that is not as it must be.
     """
     for at, node in enumerate(nodes):
         for column in (*columns, *group, *freeze):
             if column not in node:
                 refuse(f"node {at} has no column {column}")
+    names = (*columns[:3], *group)
+    rows: list[list[int]] = []
+    frozen: list[bool] = []
     for at, node in enumerate(nodes):
-        for column in (*columns[:3], *group):
-            if not is_count(node[column]):
-                refuse(f"node {at} has no whole number from 0 to 1000000000 in column {column}")
-        for column in freeze:
-            test_flag(at, node, column)
-    for at, node in enumerate(nodes):
-        if not is_id(node[columns[3]]):
+        rows.append([count_in(at, node, column) for column in names])
+        frozen += [flag_in(at, node, column) for column in freeze]
+    labels = [node[columns[3]] for node in nodes]
+    for at, label in enumerate(labels):
+        if not is_id(label):
             refuse(f"node {at} has no usable label")
-    return tuple([node[column] for node in nodes] for column in (*columns, *group))
+    return [[row[place] for row in rows] for place in range(len(names))], labels, frozen
 
 
-def numbered(labels: typing.Any) -> typing.Any:
+def numbered(labels: Sequence[Label]) -> tuple[int, list[int]]:
     """Returns the number of labels, and each one's place among them in rising order, numbers before
     texts.
     """
@@ -478,7 +554,7 @@ def numbered(labels: typing.Any) -> typing.Any:
     return len(different), [place[label] for label in labels]
 
 
-def regions_of(nodes: typing.Any, column: typing.Any) -> typing.Any:
+def regions_of(nodes: Sequence[Entry], column: str) -> list[int]:
     """The region of each unit, and none where no column is named, or the first refusal."""
     if not column:
         return []
@@ -494,10 +570,8 @@ def regions_of(nodes: typing.Any, column: typing.Any) -> typing.Any:
     return regions
 
 
-def reading(data: typing.Any, setting: typing.Any) -> typing.Any:
-    """The edges, the three columns, the plan, the regions, the group and the frozen units of a
-    graph, or the first refusal.
-    """
+def reading(data: bytes, setting: Setting) -> Graph:
+    """Returns the parts of a graph that words ask for, or refuses it."""
     freeze = [setting.freeze] if setting.freeze else []
     if len(data) > MOST_INPUT:
         refuse(f"more than {MOST_INPUT} bytes")
@@ -505,28 +579,32 @@ def reading(data: typing.Any, setting: typing.Any) -> typing.Any:
         root = parsed(data)
     except NotJson:
         refuse("not JSON")
-    nodes, adjacency = shape(root)
+    values, rows = shape(root)
+    nodes = entries_of(values, "node")
     places = places_of(nodes)
+    adjacency = neighbours_of(rows)
     edges = edges_of(places, adjacency)
-    people, first, second, labels, *both = columns_of(nodes, setting.columns, setting.group, freeze)
+    (people, first, second, *both), labels, frozen = columns_of(
+        nodes, setting.columns, setting.group, freeze
+    )
     districts, plan = numbered(labels)
     if not 2 <= districts <= 200:
         refuse(f"{districts} districts, not 2 to 200")
     lengths = lengths_of(places, adjacency, edges, setting.length)
-    return Read(
+    return Graph(
         edges, people, first, second, plan, districts, regions_of(nodes, setting.region), both,
-        [node[column] > 0 for column in freeze for node in nodes], lengths,
+        frozen, lengths,
     )
 
 
 # ---- tables
 
 
-def refuse_table(note: typing.Any) -> None:
+def refuse_table(note: str) -> typing.NoReturn:
     raise Refused(2, "table: " + note)
 
 
-def records_of(data: typing.Any) -> typing.List[typing.Any]:
+def records_of(data: bytes) -> list[list[bytes]]:
     """The records of a table, each a list of fields of bytes: no empty lines, no byte order mark,
     and any line end.
     """
@@ -535,7 +613,7 @@ def records_of(data: typing.Any) -> typing.List[typing.Any]:
     return [[field.encode("latin-1") for field in row] for row in rows if row]
 
 
-def is_text(field: typing.Any) -> bool:
+def is_text(field: bytes) -> bool:
     try:
         field.decode("utf-8")
     except UnicodeDecodeError:
@@ -543,7 +621,7 @@ def is_text(field: typing.Any) -> bool:
     return True
 
 
-def plans_of(data: typing.Any, ids: typing.Any) -> typing.Any:
+def plans_of(data: bytes, ids: Sequence[bytes]) -> list[tuple[str, int, list[int]]]:
     """The name of each plan of a table, how many districts it has and the district of each unit, or
     the first refusal.
     """
@@ -562,7 +640,7 @@ def plans_of(data: typing.Any, ids: typing.Any) -> typing.Any:
     return made
 
 
-def names_of(records: typing.Any) -> typing.Any:
+def names_of(records: Sequence[list[bytes]]) -> list[bytes]:
     """Returns the names of the plans, which the first record of a table has behind the ids'."""
     for at, record in enumerate(records):
         if len(record) != len(records[0]) or not all(is_text(field) for field in record):
@@ -578,9 +656,9 @@ def names_of(records: typing.Any) -> typing.Any:
     return names
 
 
-def units_by_id(ids: typing.Any) -> typing.Dict[typing.Any, int]:
+def units_by_id(ids: Sequence[bytes]) -> dict[bytes, int]:
     """Returns the number of each unit by its id."""
-    units: typing.Dict[typing.Any, int] = {}
+    units: dict[bytes, int] = {}
     for unit, one in enumerate(ids):
         if one in units:
             refuse_table(f"units {units[one]} and {unit} share an id")
@@ -588,12 +666,12 @@ def units_by_id(ids: typing.Any) -> typing.Dict[typing.Any, int]:
     return units
 
 
-def rows_of(records: typing.Any, units: typing.Any) -> typing.Dict[typing.Any, typing.Any]:
+def rows_of(records: Sequence[list[bytes]], units: dict[bytes, int]) -> dict[bytes, list[bytes]]:
     """Returns the record of each unit by its id."""
     for at, record in enumerate(records[1:]):
         if record[0] not in units:
             refuse_table(f"record {at + 1} names no unit")
-    rows = {}
+    rows: dict[bytes, list[bytes]] = {}
     for at, record in enumerate(records[1:]):
         if record[0] in rows:
             refuse_table(f"record {at + 1} repeats a unit")
@@ -604,7 +682,7 @@ def rows_of(records: typing.Any, units: typing.Any) -> typing.Dict[typing.Any, t
 # ---- draws
 
 
-def block(key: typing.Any, stream: typing.Any, place: typing.Any) -> typing.List[typing.Any]:
+def block(key: bytes, stream: int, place: int) -> list[int]:
     start = [
         *struct.unpack("<4I", b"expand 32-byte k"), *struct.unpack("<8I", key), place & 0xFFFFFFFF,
         place >> 32, stream & 0xFFFFFFFF, stream >> 32,
@@ -624,7 +702,7 @@ def block(key: typing.Any, stream: typing.Any, place: typing.Any) -> typing.List
 
 
 @functools.lru_cache(maxsize=4096)
-def draws(key: typing.Any, stream: typing.Any, count: typing.Any) -> typing.Any:
+def draws(key: bytes, stream: int, count: int) -> list[int]:
     return [draw for place in range(-(-count // 8)) for draw in block(key, stream, place)][:count]
 
 
@@ -634,14 +712,14 @@ def draws(key: typing.Any, stream: typing.Any, count: typing.Any) -> typing.Any:
 class Job:
     """A graph, its plan and a setting, where the plan is not refused."""
 
-    def __init__(self, setting: typing.Any, read: typing.Any, origin: typing.Any = None) -> None:
+    def __init__(self, setting: Setting, graph: Graph, origin: Origin | None = None) -> None:
         self.setting, self.origin = setting, origin
-        (
-            self.edges, self.people, self.first, self.second, self.plan, self.districts,
-            self.regions, self.group, self.frozen, self.lengths,
-        ) = read
+        self.edges, self.lengths = graph.edges, graph.lengths
+        self.people, self.first, self.second = graph.people, graph.first, graph.second
+        self.plan, self.districts = graph.plan, graph.districts
+        self.regions, self.group, self.frozen = graph.regions, graph.group, graph.frozen
         self.units, self.population = len(self.plan), sum(self.people)
-        self.neighbours: typing.Any = [[] for _ in self.plan]
+        self.neighbours: list[list[int]] = [[] for _ in self.plan]
         for u, v in self.edges:
             self.neighbours[u].append(v)
             self.neighbours[v].append(u)
@@ -732,13 +810,13 @@ class Job:
                 ),
             )
 
-    def sums(self, plan: typing.Any, column: typing.Any) -> typing.Any:
+    def sums(self, plan: Plan, column: Sequence[int]) -> list[int]:
         sums = [0] * self.districts
         for district, amount in zip(plan, column):
             sums[district] += amount
         return sums
 
-    def reached(self, members: typing.Any) -> typing.Any:
+    def reached(self, members: set[int]) -> set[int]:
         """The members to which paths within them lead from the least one."""
         found, todo = {min(members)}, [min(members)]
         while todo:
@@ -748,29 +826,29 @@ class Job:
                     todo.append(v)
         return found
 
-    def cut(self, plan: typing.Any) -> typing.Any:
+    def cut(self, plan: Plan) -> int:
         return sum(plan[u] != plan[v] for u, v in self.edges)
 
-    def cut_length(self, plan: typing.Any) -> typing.Any:
+    def cut_length(self, plan: Plan) -> int:
         """The total length of the cut edges; 0 where edges have no lengths."""
         return sum(
             length for (u, v), length in zip(self.edges, self.lengths) if plan[u] != plan[v]
         )
 
-    def districts_of_regions(self, plan: typing.Any) -> typing.List[typing.Any]:
+    def districts_of_regions(self, plan: Plan) -> list[int]:
         """For each region, how many districts a plan gives to its units."""
         pairs = Counter(region for region, _ in set(zip(self.regions, plan)))
         return [pairs[region] for region in sorted(pairs)]
 
-    def splits(self, plan: typing.Any) -> typing.Any:
+    def splits(self, plan: Plan) -> int:
         """How often regions are split in all: each by one less than the number of its districts."""
         return sum(districts - 1 for districts in self.districts_of_regions(plan))
 
-    def split_regions(self, plan: typing.Any) -> typing.Any:
+    def split_regions(self, plan: Plan) -> int:
         """Returns the number of regions in more than one district."""
         return sum(districts > 1 for districts in self.districts_of_regions(plan))
 
-    def majorities(self, plan: typing.Any) -> typing.Any:
+    def majorities(self, plan: Plan) -> int:
         """In how many districts the group has more than its share of the whole; none where there is
         no group.
         """
@@ -782,7 +860,7 @@ class Job:
             for part, all_of_it in zip(members, whole)
         )
 
-    def meets_rules(self, plan: typing.Any) -> bool:
+    def meets_rules(self, plan: Plan) -> bool:
         setting = self.setting
         return (
             self.cut(plan) <= setting.max_cut
@@ -798,7 +876,7 @@ class Job:
             )
         )
 
-    def is_legal(self, plan: typing.Any) -> typing.Any:
+    def is_legal(self, plan: Plan) -> bool:
         if any(not self.low <= people <= self.high for people in self.sums(plan, self.people)):
             return False
         for district in range(self.districts):
@@ -807,7 +885,7 @@ class Job:
                 return False
         return self.meets_rules(plan)
 
-    def walk(self, plan: typing.Any, stream: typing.Any, steps: typing.Any) -> typing.Any:
+    def walk(self, plan: Plan, stream: int, steps: int) -> tuple[list[Plan], int]:
         """The plans visited, and the moves."""
         visited, moved, pairs = [plan], 0, self.units * self.districts
         for draw in draws(self.setting.key, stream, steps):
@@ -820,7 +898,7 @@ class Job:
             visited.append(plan)
         return visited, moved
 
-    def value(self, plan: typing.Any, score: typing.Any) -> typing.Any:
+    def value(self, plan: Plan, score: str) -> int:
         pairs = list(zip(self.sums(plan, self.first), self.sums(plan, self.second)))
         if score == "seats":
             return sum(a > b for a, b in pairs)
@@ -836,7 +914,7 @@ class Job:
         count = self.districts
         return count * (shares[(count - 1) // 2] + shares[count // 2]) - 2 * sum(shares)
 
-    def denominator(self, score: typing.Any) -> typing.Any:
+    def denominator(self, score: str) -> int:
         return {
             "seats": 1,
             "cut-edges": 1,
@@ -845,13 +923,13 @@ class Job:
             "gap": 2 * (sum(self.first) + sum(self.second)),
         }[score]
 
-    def limits_splits(self) -> typing.Any:
+    def limits_splits(self) -> bool:
         """Returns whether there are regions whose splits, or whose split ones, are limited."""
         return bool(self.regions) and (
             self.setting.max_splits < MOST_SPLITS or self.setting.max_split_regions < MOST_REGIONS
         )
 
-    def digest(self) -> typing.Any:
+    def digest(self) -> bytes:
         setting = self.setting
         further = self.limits_splits() or self.group
         limited = setting.max_cut < MOST_CUT or self.regions or self.group or self.frozen
@@ -898,14 +976,14 @@ class Job:
         return hashlib.sha256(b"".join(parts)).digest()
 
 
-OUTCOMES: typing.Dict[typing.Any, typing.Any] = {}
+OUTCOMES: dict[typing.Hashable, list[Outcome]] = {}
 
 
-def is_inside(value: typing.Any, start: typing.Any, tail: typing.Any) -> bool:
+def is_inside(value: int, start: int, tail: str) -> bool:
     return bool(value <= start if tail == "low" else value >= start)
 
 
-def histogram_of(job: typing.Any, visited: typing.Any) -> typing.Any:
+def histogram_of(job: Job, visited: Sequence[Plan]) -> tuple[int, ...]:
     """Returns the histogram of seats against the start's: 4 fewer or less, 3 fewer, up to 4 more or
     above.
     """
@@ -915,7 +993,7 @@ def histogram_of(job: typing.Any, visited: typing.Any) -> typing.Any:
     return tuple(bins)
 
 
-def outcomes(job: typing.Any, key: typing.Any) -> typing.Any:
+def outcomes(job: Job, key: typing.Hashable) -> list[Outcome]:
     """The moves, the values and the bins of each trajectory, by id; those from the hub have bins of
     0.
     """
@@ -926,7 +1004,7 @@ def outcomes(job: typing.Any, key: typing.Any) -> typing.Any:
     for walk in range(setting.walks):
         visited, moved = job.walk(plan, 2 * walk, setting.steps)
         found.append(
-            (
+            Outcome(
                 moved,
                 [
                     sum(is_inside(job.value(one, score), first, tail) for one in visited)
@@ -935,27 +1013,26 @@ def outcomes(job: typing.Any, key: typing.Any) -> typing.Any:
                 histogram_of(job, visited),
             )
         )
-    hub = job.walk(plan, 1, setting.hub_steps)[0][-1] if setting.ends else None
+    hub = job.walk(plan, 1, setting.hub_steps)[0][-1] if setting.ends else plan
     for end in range(setting.ends):
         visited, moved = job.walk(hub, 2 * end + 3, setting.hub_steps)
-        found.append((moved, [job.value(visited[-1], score) for score, _ in setting.asks], NO_BINS))
+        values = [job.value(visited[-1], score) for score, _ in setting.asks]
+        found.append(Outcome(moved, values, NO_BINS))
     if len(OUTCOMES) > 20000:
         OUTCOMES.clear()
     OUTCOMES[key] = found
     return found
 
 
-def asked(job: typing.Any, key: typing.Any) -> typing.List[typing.Any]:
+def asked(job: Job, key: typing.Hashable) -> list[Outcome]:
     """Returns the outcomes, with histograms only where the job asks for them."""
     return [
-        (moved, values, bins if job.setting.shift else NO_BINS)
+        Outcome(moved, values, bins if job.setting.shift else NO_BINS)
         for moved, values, bins in outcomes(job, key)
     ]
 
 
-def stop_of(
-    values: typing.Any, start: typing.Any, tail: typing.Any, enough: typing.Any
-) -> typing.Any:
+def stop_of(values: Sequence[int], start: int, tail: str, enough: int) -> tuple[int, int, int]:
     """Returns the least number of values that have enough in the tail, and their part; else all
     values, and one more than those in the tail.
     """
@@ -967,7 +1044,7 @@ def stop_of(
     return len(values), count + 1, len(values) + 1
 
 
-def serial(job: typing.Any) -> typing.Any:
+def serial(job: Job) -> tuple[int, list[int]]:
     """The place of the start plan in one run through it, and for each ask how many plans of the run
     are in its tail.
     """
@@ -987,17 +1064,17 @@ def serial(job: typing.Any) -> typing.Any:
 # ---- texts
 
 
-def billionths(n: typing.Any) -> str:
+def billionths(n: int) -> str:
     return f"{n // BILLION}.{n % BILLION:09d}"
 
 
-def bound(count: typing.Any, of: typing.Any) -> typing.Any:
+def bound(count: int, of: int) -> int:
     least = -(-2 * count * BILLION * BILLION // of)
     root = math.isqrt(least)
     return root if root * root >= least else root + 1
 
 
-def head(job: typing.Any) -> typing.Any:
+def head(job: Job) -> list[str]:
     setting = job.setting
     lines = [
         f"units {job.units} edges {len(job.edges)} districts {job.districts}",
@@ -1026,12 +1103,12 @@ def head(job: typing.Any) -> typing.Any:
     )
 
 
-def quoted(text: typing.Any) -> typing.Any:
+def quoted(text: str) -> str:
     """A text as JSON writes it, with the shortest escapes, and only where JSON wants one."""
     return json.dumps(text, ensure_ascii=False)
 
 
-def origin_lines(job: typing.Any) -> typing.List[typing.Any]:
+def origin_lines(job: Job) -> list[str]:
     """Returns the lines of the source, if the words ask for them."""
     if job.origin is None:
         return []
@@ -1043,23 +1120,23 @@ def origin_lines(job: typing.Any) -> typing.List[typing.Any]:
     )
     words += ["freeze", quoted(setting.freeze)] if setting.freeze else []
     words += ["length", quoted(setting.length)] if setting.length else []
-    return [f"source sha256 {job.origin.sha256.hex()} bytes {job.origin.bytes}", " ".join(words)]
+    return [f"source sha256 {job.origin.sha256.hex()} bytes {job.origin.length}", " ".join(words)]
 
 
-def check_text(job: typing.Any) -> str:
+def check_text(job: Job) -> str:
     return "\n".join(["plan-check 1", *origin_lines(job), *head(job), "end", ""])
 
 
-def p_value(top: typing.Any, of: typing.Any) -> str:
+def p_value(top: int, of: int) -> str:
     return f"p {billionths(-(-top * BILLION // of))}"
 
 
-def part(rank: typing.Any, of: typing.Any) -> str:
+def part(rank: int, of: int) -> str:
     """Returns a rank among a number of plans, and their fraction."""
     return f"rank {rank} of {of} {p_value(rank, of)}"
 
 
-def report(job: typing.Any, found: typing.Any) -> str:
+def report(job: Job, found: Sequence[Outcome]) -> str:
     """The report on these outcomes, given by rising id as moves, values and bins."""
     setting = job.setting
     lines = [
@@ -1111,13 +1188,13 @@ def report(job: typing.Any, found: typing.Any) -> str:
 # ---- checkpoints
 
 
-def sealed(front: typing.Any) -> typing.Any:
+def sealed(front: bytes) -> bytes:
     return front + hashlib.sha256(front).digest()
 
 
 def checkpoint(
-    digest: typing.Any, generation: typing.Any, found: typing.Any, version: int = 2
-) -> typing.Any:
+    digest: bytes, generation: int, found: Mapping[int, Outcome], version: int = 2
+) -> bytes:
     """The bytes of a checkpoint of outcomes, a map from the id to the moves, the values and the
     bins; in version 1 without the bins.
     """
@@ -1134,27 +1211,38 @@ def checkpoint(
     )
 
 
-Slot = namedtuple("Slot", "fault job generation records")
+@dataclasses.dataclass(frozen=True)
+class Slot:
+    """The state of a slot: its fault; or None, the digest of its job, its generation and records.
+    """
+
+    fault: str | None
+    job: bytes = b""
+    generation: int = 0
+    records: Sequence[Record] = ()
 
 
-def decoded(data: typing.Any) -> typing.Any:
+def decoded(data: bytes | None) -> Slot:
     """Returns a slot as it is, whatever the job."""
-    fault = size_fault(data) or head_fault(data)
+    fault = size_fault(data)
+    if data is None or fault:
+        return Slot(fault)
+    fault = head_fault(data)
     if fault:
-        return Slot(fault, None, None, None)
+        return Slot(fault)
     version, generation = (struct.unpack_from(">I", data, at)[0] for at in (8, 44))
     records = [
         (*one, *NO_BINS)[:15]
         for one in struct.iter_unpack(">IQ4q" if version == 1 else ">IQ4q9I", data[52:-32])
     ]
     if any(one[0] >= other[0] for one, other in zip(records, records[1:])):
-        return Slot("bad order", None, None, None)
+        return Slot("bad order")
     if sealed(data[:-32]) != data:
-        return Slot("bad digest", None, None, None)
+        return Slot("bad digest")
     return Slot(None, data[12:44], generation, records)
 
 
-def size_fault(data: typing.Any) -> str:
+def size_fault(data: bytes | None) -> str:
     """Returns the fault of a slot that is no file or has too many or too few bytes; '' if none."""
     if data is None:
         return "absent"
@@ -1176,7 +1264,7 @@ def head_fault(data: bytes) -> str:
     return "bad count" if count > 100000 or len(data) != 84 + size * count else ""
 
 
-def fits(setting: typing.Any, one: typing.Any) -> typing.Any:
+def fits(setting: Setting, one: Record) -> bool:
     is_walk, asks = one[0] < setting.walks, len(setting.asks)
     values, bins = one[2:6], one[6:]
     return (
@@ -1188,27 +1276,25 @@ def fits(setting: typing.Any, one: typing.Any) -> typing.Any:
     )
 
 
-def looked(setting: typing.Any, digest: typing.Any, data: typing.Any) -> typing.Any:
+def looked(setting: Setting, digest: bytes, data: bytes | None) -> Slot:
     slot = decoded(data)
     if (
         slot.fault is None
         and slot.job == digest
         and not all(fits(setting, one) for one in slot.records)
     ):
-        return Slot("unfit", None, None, None)
+        return Slot("unfit")
     return slot
 
 
-def newest(slots: typing.Any) -> typing.Any:
+def newest(slots: Sequence[Slot]) -> int | None:
     intact = [at for at in (0, 1) if slots[at].fault is None]
     if len(intact) == 2:
         return 1 if slots[1].generation == (slots[0].generation + 1) % 3 else 0
     return intact[0] if intact else None
 
 
-def initial_outcomes(
-    slots: typing.Any, digest: typing.Any, setting: typing.Any
-) -> typing.Dict[typing.Any, typing.Any]:
+def initial_outcomes(slots: Sequence[Slot], digest: bytes, setting: Setting) -> dict[int, Outcome]:
     """The outcomes from which a run goes on: bare ones where it asks for no bins, and else the
     walks that have theirs and all ends.
     """
@@ -1219,31 +1305,34 @@ def initial_outcomes(
         raise Refused(8, f"checkpoint: slot 0 {slots[0].fault}, slot 1 {slots[1].fault}")
     if slots[at].job != digest:
         raise Refused(8, f"checkpoint: other job {slots[at].job.hex()}, this job {digest.hex()}")
-    found = {
-        one[0]: (one[1], list(one[2:2 + len(setting.asks)]), one[6:]) for one in slots[at].records
-    }
+    asks = len(setting.asks)
+    found = {one[0]: Outcome(one[1], list(one[2:2 + asks]), one[6:]) for one in slots[at].records}
     if not setting.shift:
-        return {one: (moved, values, NO_BINS) for one, (moved, values, _) in found.items()}
+        return {one: outcome._replace(bins=NO_BINS) for one, outcome in found.items()}
     return {
-        one: outcome for one, outcome in found.items() if one >= setting.walks or any(outcome[2])
+        one: outcome for one, outcome in found.items() if one >= setting.walks or any(outcome.bins)
     }
+
+
+def outcomes_in(slot: Slot) -> dict[int, Outcome]:
+    """Returns the outcomes of a slot by id, each with four values and nine bins."""
+    return {one[0]: Outcome(one[1], one[2:6], one[6:]) for one in slot.records}
 
 
 # ---- traces
 
 
-def trajectory_lines(
-    job: typing.Any, id: typing.Any, thin: typing.Any, hub: typing.Any
-) -> typing.Any:
-    """The lines of the trajectory with this id, by the model's walk."""
-    setting, start = job.setting, tuple(job.plan)
-    if id < setting.walks:
-        first, stream, steps = start, 2 * id, setting.steps
+def trajectory_lines(job: Job, number: int, thin: int, hub: Plan) -> list[str]:
+    """Returns the lines of the trajectory with this id, by the model's walk."""
+    setting = job.setting
+    before: Plan = tuple(job.plan)
+    if number < setting.walks:
+        first, stream, steps = before, 2 * number, setting.steps
     else:
-        first, stream, steps = hub, 2 * (id - setting.walks) + 3, setting.hub_steps
+        first, stream, steps = hub, 2 * (number - setting.walks) + 3, setting.hub_steps
     visited = job.walk(first, stream, steps)[0]
-    lines, before, moved, shown = (
-        [f"trace id {id} steps {steps} thin {thin}"], start, 0, {*range(0, steps, thin), steps},
+    lines, moved, shown = (
+        [f"trace id {number} steps {steps} thin {thin}"], 0, {*range(0, steps, thin), steps},
     )
     for step in range(steps + 1):
         moved += step > 0 and visited[step] != visited[step - 1]
@@ -1255,7 +1344,7 @@ def trajectory_lines(
     return lines
 
 
-def trace_text(job: typing.Any, first: typing.Any, last: typing.Any, thin: typing.Any) -> str:
+def trace_text(job: Job, first: int, last: int, thin: int) -> str:
     """The trace of the trajectories from the first id to the last."""
     setting, start = job.setting, tuple(job.plan)
     hub = job.walk(start, 1, setting.hub_steps)[0][-1]
@@ -1274,55 +1363,59 @@ def trace_text(job: typing.Any, first: typing.Any, last: typing.Any, thin: typin
         ),
         *asks,
     ]
-    for id in range(first, last + 1):
-        lines += trajectory_lines(job, id, thin, hub)
+    for number in range(first, last + 1):
+        lines += trajectory_lines(job, number, thin, hub)
     return "\n".join([*lines, "end", ""])
+
+
+def asked_trace(job: Job) -> str:
+    """Returns the trace of the trajectories that the words ask for, by good words."""
+    first, last = ids_of(job.setting.value["--ids"])
+    if first is None or last is None:
+        raise ValueError("the range of ids is no range")
+    return trace_text(job, first, last, job.setting.of("--thin"))
 
 
 # ---- the whole call
 
 
-def run(job: typing.Any, slots: typing.Any) -> typing.Any:
+def run(job: Job, slots: Slots) -> End:
     setting, digest = job.setting, job.digest()
-    seen = (
-        [looked(setting, digest, data) for data in slots]
-        if setting.save or setting.resume
-        else None
-    )
+    uses_slots = setting.save or setting.resume
+    seen = [looked(setting, digest, data) for data in slots] if uses_slots else []
     found = initial_outcomes(seen, digest, setting) if setting.resume else {}
     todo = [one for one in range(setting.part, setting.total, setting.parts) if one not in found][
         : setting.budget
     ]
     every = asked(job, digest) if todo else []
-    slots, counts = list(slots), []
+    after, counts, slot, generation = list(slots), [], 0, 0
     if setting.save:
         at = newest(seen)
-        slot, generation = (0, 0)
-        if seen is not None and at is not None:
+        if at is not None:
             slot, generation = 1 - at, (seen[at].generation + 1) % 3
         counts = list(range(setting.save, len(todo) + 1, setting.save))
         counts += [len(todo)] if not counts or counts[-1] != len(todo) else []
     for count in counts:
-        slots[slot] = checkpoint(
+        after[slot] = checkpoint(
             digest, generation, {**found, **{one: every[one] for one in todo[:count]}}
         )
         slot, generation = 1 - slot, (generation + 1) % 3
     found = {**found, **{one: every[one] for one in todo}}
     if len(found) < setting.total:
-        return End(7, "", f"stopped: {len(found)} of {setting.total} done\n", slots)
-    return End(0, report(job, [found[one] for one in sorted(found)]), "", slots)
+        return End(7, "", f"stopped: {len(found)} of {setting.total} done\n", after)
+    return End(0, report(job, [found[one] for one in sorted(found)]), "", after)
 
 
-def origin_of(setting: typing.Any, data: typing.Any) -> typing.Any:
+def origin_of(setting: Setting, data: bytes) -> Origin | None:
     """The origin of a job of these bytes, where the words ask for it."""
     return Origin(hashlib.sha256(data).digest(), len(data)) if setting.source else None
 
 
-def job_of(setting: typing.Any, graph: typing.Any) -> typing.Any:
+def job_of(setting: Setting, graph: bytes) -> Job:
     return Job(setting, reading(graph, setting), origin_of(setting, graph))
 
 
-def jobs_of(setting: typing.Any, data: typing.Any) -> typing.Any:
+def jobs_of(setting: Setting, data: bytes) -> list[tuple[str, Job]]:
     """The name and the job of each plan: of the graph's own, and of each plan of the table behind
     the first line feed.
     """
@@ -1330,18 +1423,19 @@ def jobs_of(setting: typing.Any, data: typing.Any) -> typing.Any:
     if len(data) > MOST_INPUT:
         refuse(f"more than {MOST_INPUT} bytes")
     read, origin = reading(graph, setting), origin_of(setting, data)
-    ids = [str(node["id"]).encode("utf-8") for node in parsed(graph)["nodes"]]
-    plans = plans_of(table, ids)
+    nodes = entries_of(shape(parsed(graph))[0], "node")
+    plans = plans_of(table, [str(node["id"]).encode("utf-8") for node in nodes])
     jobs = [(setting.columns[3], Job(setting, read, origin))]
     for name, districts, plan in plans:
+        changed = dataclasses.replace(read, plan=plan, districts=districts)
         try:
-            jobs.append((name, Job(setting, read._replace(plan=plan, districts=districts), origin)))
+            jobs.append((name, Job(setting, changed, origin)))
         except Refused as refusal:
             raise Refused(2, refusal.note.replace("plan:", f"plan {name}:", 1)) from refusal
     return jobs
 
 
-def audit(words: typing.Any, graph: typing.Any, slots: typing.Any) -> typing.Any:
+def audit(words: Sequence[str], graph: bytes, slots: Slots) -> End:
     """How a call with ample memory, over files that do not fail, must end."""
     try:
         setting = Setting(words)
@@ -1359,10 +1453,7 @@ def audit(words: typing.Any, graph: typing.Any, slots: typing.Any) -> typing.Any
         if setting.command == "check":
             return End(0, check_text(job), "", list(slots))
         if setting.command == "trace":
-            first, last = ids_of(setting.value["--ids"])
-            return End(
-                0, trace_text(job, first, last, setting.of("--thin")), "", list(slots),
-            )
+            return End(0, asked_trace(job), "", list(slots))
         return run(job, slots)
     except Refused as refusal:
         return End(refusal.status, "", refusal.note + "\n", list(slots))
