@@ -17,31 +17,34 @@ runs there were.
 """
 # RUN: {auditor} 3 2
 # NEEDS: networkx
+from __future__ import annotations
+
 import argparse
+import dataclasses
 import pathlib
 import random
 import subprocess
 import sys
 import tempfile
-import typing
+from collections.abc import Sequence
 
+from tests.checks import End
 from tests.differential import compare_walks
-from tests.oracle.checkpoints import fault, generation_and_count, old_checkpoint, records
+from tests.oracle.checkpoints import fault, generation_and_count, old_checkpoint, outcomes_in
 
 SLOTS = ("audit-0.ckpt", "audit-1.ckpt")
 
 
-def words_of(job: typing.Any, numbers: typing.Any, asks: typing.Any) -> typing.Any:
+def words_of(job: compare_walks.Job, asked: compare_walks.Trajectories) -> list[str]:
     words = [
         "run", "--pop", "POP", "--first", "A", "--second", "B", "--district", "CD", "--slack",
-        str(job.slack), "--key", job.key.hex(), "--ask", ",".join(":".join(ask) for ask in asks),
+        str(job.slack), "--key", job.key.hex(), "--ask",
+        ",".join(":".join(ask) for ask in asked.asks),
     ]
-    for name, number in zip(("--walks", "--steps", "--ends", "--hub-steps"), numbers):
-        words += [name, str(number)]
-    return words + compare_walks.rule_words(job)
+    return words + compare_walks.trajectory_words(asked) + compare_walks.rule_words(job)
 
 
-def spoil(chance: typing.Any, folder: typing.Any) -> None:
+def spoil(chance: random.Random, folder: str) -> None:
     """Changes a byte of one file, where there is one."""
     file = pathlib.Path(folder, chance.choice(SLOTS))
     if file.exists() and file.stat().st_size > 0:
@@ -50,7 +53,7 @@ def spoil(chance: typing.Any, folder: typing.Any) -> None:
         file.write_bytes(content)
 
 
-def intact(folder: typing.Any) -> typing.List[typing.Any]:
+def intact(folder: str) -> list[bytes | None]:
     """The bytes of each file, or None where it is not intact."""
     files = [pathlib.Path(folder, name) for name in SLOTS]
     return [
@@ -59,34 +62,33 @@ def intact(folder: typing.Any) -> typing.List[typing.Any]:
     ]
 
 
-def age(folder: typing.Any) -> None:
+def age(folder: str) -> None:
     """Writes all intact files in the first version of the format, without bins."""
     for name, data in zip(SLOTS, intact(folder)):
         if data:
-            found = {one[0]: (one[1], one[2:6]) for one in records(data)}
+            generation = generation_and_count(data)[0]
             pathlib.Path(folder, name).write_bytes(
-                old_checkpoint(data[12:44], generation_and_count(data)[0], found)
+                old_checkpoint(data[12:44], generation, outcomes_in(data))
             )
 
 
-def saved(folder: typing.Any, walks: typing.Any, shift: typing.Any) -> typing.Any:
+def saved(folder: str, walks: int, shift: str) -> int:
     """Returns the number of outcomes from which a run goes on, 0 if no file is valid."""
-    files = intact(folder)
-    if None in files:
-        newest = files[0] or files[1]
+    zero, one = intact(folder)
+    if zero is None or one is None:
+        newest = zero or one
     else:
-        first, second = (generation_and_count(data)[0] for data in files)
-        newest = files[1] if second == (first + 1) % 3 else files[0]
-    return (
-        sum(shift == "no" or one[0] >= walks or any(one[6:]) for one in records(newest))
-        if newest
-        else 0
+        first, second = (generation_and_count(data)[0] for data in (zero, one))
+        newest = one if second == (first + 1) % 3 else zero
+    if newest is None:
+        return 0
+    return sum(
+        shift == "no" or number >= walks or any(outcome.bins)
+        for number, outcome in outcomes_in(newest).items()
     )
 
 
-def run(
-    program: typing.Any, words: typing.Any, text: typing.Any, folder: typing.Any, limit: typing.Any
-) -> typing.Any:
+def run(program: str, words: Sequence[str], text: str, folder: str, limit: float) -> End | None:
     """The status and the output of a run, or None where it was killed."""
     try:
         done = subprocess.run(
@@ -94,19 +96,37 @@ def run(
         )
     except subprocess.TimeoutExpired:
         return None
-    return done.returncode, done.stdout, done.stderr
+    return End(done.returncode, done.stdout, done.stderr)
+
+
+@dataclasses.dataclass
+class Counts:
+    """The numbers of runs, of those that were killed, and of those that refused damaged files."""
+
+    runs: int = 0
+    killed: int = 0
+    within: int = 0
+    """The number of killed runs that had saved more before."""
+    refused: int = 0
+
+
+@dataclasses.dataclass(frozen=True)
+class Audit:
+    """The program, its words, the number of walks and the graph; and the words of workers and save,
+    empty where they are drawn.
+    """
+
+    program: str
+    words: list[str]
+    walks: int
+    text: str
+    workers: str
+    save: str
 
 
 def chain(
-    chance: typing.Any,
-    program: typing.Any,
-    words: typing.Any,
-    walks: typing.Any,
-    text: typing.Any,
-    folder: typing.Any,
-    counts: typing.Any,
-    fixed: typing.Any,
-) -> typing.Any:
+    chance: random.Random, audit: Audit, folder: str, counts: Counts
+) -> tuple[str, list[str]]:
     """The output of the run of a chain that ends with status 0, and the words that asked this run
     for the serial test, the tally and the origin.
     """
@@ -114,29 +134,30 @@ def chain(
     while True:
         shift, serial, source = (chance.choice(("no", "yes")) for _ in range(3))
         asked = ["--shift", shift, "--serial", serial, "--source", source]
-        workers, save = fixed[0] or str(chance.randint(1, 4)), fixed[1] or str(chance.randint(1, 3))
+        workers = audit.workers or str(chance.randint(1, 4))
+        save = audit.save or str(chance.randint(1, 3))
         parts = chance.choice((1, 1, 2, 3, 7))
         more = [
             *asked, "--save", save, "--resume", resume, "--budget", str(chance.randint(0, 30)),
             "--workers", workers, "--parts", str(parts), "--part", str(chance.randrange(parts)),
         ]
         limit = chance.uniform(0.001, 0.03) if chance.random() < 0.6 else 60
-        before = saved(folder, walks, shift)
-        answer = run(program, words + more, text, folder, limit)
-        counts["runs"] += 1
-        left = saved(folder, walks, shift)
+        before = saved(folder, audit.walks, shift)
+        answer = run(audit.program, audit.words + more, audit.text, folder, limit)
+        counts.runs += 1
+        left = saved(folder, audit.walks, shift)
         if resume == "yes" and left < before:
             return f"a resumed run left {left} of {before} outcomes", asked
         if answer is None:
-            counts["killed"] += 1
-            counts["within"] += left > before
-        elif answer[0] == 0:
-            return answer[1], asked
-        elif answer[0] == 8:
-            counts["refused"] += 1
-        elif answer[0] != 7:
-            return f"status {answer[0]}: {answer[2]}", asked
-        resume = "no" if answer is not None and answer[0] == 8 else "yes"
+            counts.killed += 1
+            counts.within += left > before
+        elif answer.status == 0:
+            return answer.out, asked
+        elif answer.status == 8:
+            counts.refused += 1
+        elif answer.status != 7:
+            return f"status {answer.status}: {answer.note}", asked
+        resume = "no" if answer is not None and answer.status == 8 else "yes"
         if chance.random() < 0.1:
             spoil(chance, folder)
         if chance.random() < 0.1:
@@ -144,13 +165,12 @@ def chain(
 
 
 def main(
-    program: typing.Any, graphs: str = "20", seed: str = "1", workers: str = "", save: str = ""
+    program: str, graphs: int = 20, seed: int = 1, workers: str = "", save: str = ""
 ) -> int:
     program = str(pathlib.Path(program).resolve())
-    chance = random.Random(int(seed))
-    same = 0
-    counts = {"runs": 0, "killed": 0, "within": 0, "refused": 0}
-    for number in range(int(graphs)):
+    chance = random.Random(seed)
+    same, counts = 0, Counts()
+    for number in range(graphs):
         job = compare_walks.drawn_job(chance)
         numbers = (
             chance.randint(1, 30), 2 ** chance.randint(5, 14) - 1, chance.randint(0, 20),
@@ -160,24 +180,27 @@ def main(
             (score, chance.choice(("low", "high")))
             for score in ("seats", "mean-median", "gap", "cut-edges")
         ]
-        words, text = words_of(job, numbers, asks), compare_walks.document(job)
+        words = words_of(job, compare_walks.Trajectories(*numbers, asks))
+        text = compare_walks.document(job)
+        audit = Audit(program, words, numbers[0], text, workers, save)
         with tempfile.TemporaryDirectory() as folder:
-            found, asked = chain(
-                chance, program, words, numbers[0], text, folder, counts, (workers, save)
-            )
+            found, asked = chain(chance, audit, folder, counts)
             wanted = run(program, [*words, *asked], text, folder, 600)
-        if wanted[0] == 0 and found == wanted[1]:
+        if wanted is None:
+            print(f"graph {number} of seed {seed}: no end within 600 seconds")
+        elif wanted.status == 0 and found == wanted.out:
             same += 1
         else:
             print(
-                f"graph {number} of seed {seed}: wanted\n{wanted[1]}{wanted[2]}but found\n{found}"
+                f"graph {number} of seed {seed}: wanted\n{wanted.out}{wanted.note}but found\n"
+                f"{found}"
             )
     print(
-        f"same in {same} of {graphs} chains of {counts['runs']} runs, of which"
-        f" {counts['killed']} were killed, {counts['within']} of them after they had saved more,"
-        f" and {counts['refused']} refused damaged files"
+        f"same in {same} of {graphs} chains of {counts.runs} runs, of which"
+        f" {counts.killed} were killed, {counts.within} of them after they had saved more,"
+        f" and {counts.refused} refused damaged files"
     )
-    return 0 if same == int(graphs) else 1
+    return 0 if same == graphs else 1
 
 
 def arguments() -> argparse.Namespace:

@@ -8,28 +8,36 @@ hangs together. Ends with status 0 and prints how many answers were the same.
 # RUN: {auditor} examples/data/cycle.json pop a b d 5000
 # NEEDS: networkx
 # QUICK
+from __future__ import annotations
+
 import argparse
 import json
 import random
 import subprocess
 import sys
 import typing
+from collections.abc import Sequence
 
 import networkx
 
+# The value of an arbitrary JSON text, whose types nobody knows.
+Json = typing.Any
 
-def read(document: typing.Any) -> typing.Any:
+
+def read(document: Json) -> networkx.Graph:
     """The graph as networkx reads it, without edges from a node to itself."""
     simple = networkx.Graph(networkx.readwrite.json_graph.adjacency_graph(document))
     simple.remove_edges_from(list(networkx.selfloop_edges(simple)))
     return simple
 
 
-def rank(label: typing.Any) -> typing.Any:
-    return (1, label.encode()) if isinstance(label, str) else (0, label)
+def rank(label: int | str) -> tuple[int, int | bytes]:
+    if isinstance(label, str):
+        return 1, label.encode()
+    return 0, label
 
 
-def expected(document: typing.Any, pop: typing.Any, district: typing.Any, slack: typing.Any) -> str:
+def expected(document: Json, pop: str, district: str, slack: int) -> str:
     """The check text, or the line that says why the plan is refused."""
     graph = read(document)
     units = list(graph.nodes)
@@ -58,9 +66,7 @@ def expected(document: typing.Any, pop: typing.Any, district: typing.Any, slack:
     )
 
 
-def found(
-    program: typing.Any, document: typing.Any, columns: typing.Any, slack: typing.Any
-) -> typing.Any:
+def found(program: str, document: Json, columns: Sequence[str], slack: int) -> str:
     words = [
         "check", "--pop", columns[0], "--first", columns[1], "--second", columns[2], "--district",
         columns[3], "--slack", str(slack),
@@ -71,7 +77,7 @@ def found(
     return run.stdout + run.stderr
 
 
-def drawn(document: typing.Any, district: typing.Any, random_number: typing.Any) -> typing.Any:
+def drawn(document: Json, district: str, chance: random.Random) -> Json:
     """Returns the graph with a plan of five districts that grow from drawn units, and a few stray
     units.
     """
@@ -79,17 +85,17 @@ def drawn(document: typing.Any, district: typing.Any, random_number: typing.Any)
     units = list(graph.nodes)
     plan = {}
     border = []
-    for d, unit in enumerate(random_number.sample(units, min(5, len(units)))):
+    for d, unit in enumerate(chance.sample(units, min(5, len(units)))):
         plan[unit] = d
         border.append(unit)
     while border:
-        unit = border.pop(random_number.randrange(len(border)))
+        unit = border.pop(chance.randrange(len(border)))
         for other in graph.neighbors(unit):
             if other not in plan:
                 plan[other] = plan[unit]
                 border.append(other)
-    if random_number.random() < 0.7:
-        plan[random_number.choice(units)] = random_number.randrange(5)
+    if chance.random() < 0.7:
+        plan[chance.choice(units)] = chance.randrange(5)
     other = json.loads(json.dumps(document))
     for node in other["nodes"]:
         node[district] = plan.get(node["id"], 0)
@@ -97,18 +103,12 @@ def drawn(document: typing.Any, district: typing.Any, random_number: typing.Any)
 
 
 def main(
-    program: typing.Any,
-    path: typing.Any,
-    pop: typing.Any,
-    first: typing.Any,
-    second: typing.Any,
-    district: typing.Any,
-    slack: typing.Any,
+    program: str, path: str, pop: str, first: str, second: str, district: str, slack: int
 ) -> None:
     columns = [pop, first, second, district]
     with open(path) as file:
         document = json.load(file)
-    cases = [(document, columns, int(slack))]
+    cases = [(document, columns, slack)]
     cases += [(document, [column, pop, first, district], 10000) for column in columns[:3]]
     numbers = random.Random(1)
     cases += [(drawn(document, district, numbers), columns, 10000) for _ in range(50)]

@@ -12,20 +12,28 @@ prints how many of each shape there were, and the moves in them.
 """
 # RUN: {auditor} 8 2 500
 # NEEDS: networkx
+from __future__ import annotations
+
 import argparse
-import collections
 import random
 import sys
-import typing
+from collections import Counter
 
 import networkx
 
-from tests.differential.compare_walks import Job, drawn_graph, drawn_plan, found, report
+from tests.differential.compare_walks import (
+    Job,
+    Trajectories,
+    drawn_graph,
+    drawn_plan,
+    found,
+    report,
+)
 
 ASKS = [("seats", "low"), ("mean-median", "high"), ("gap", "low"), ("cut-edges", "high")]
 
 
-def tree(chance: typing.Any) -> typing.Any:
+def tree(chance: random.Random) -> networkx.Graph:
     count = chance.randint(4, 40)
     graph = networkx.Graph()
     graph.add_node(0)
@@ -34,11 +42,11 @@ def tree(chance: typing.Any) -> typing.Any:
     return graph
 
 
-def ring(chance: typing.Any) -> typing.Any:
+def ring(chance: random.Random) -> networkx.Graph:
     return networkx.cycle_graph(chance.randint(4, 40))
 
 
-def double_ring(chance: typing.Any) -> typing.Any:
+def double_ring(chance: random.Random) -> networkx.Graph:
     """Two rings, one inside the other, with some of the spokes between them, and now and then a
     slanting one.
     """
@@ -53,15 +61,15 @@ def double_ring(chance: typing.Any) -> typing.Any:
     return graph
 
 
-def wheel(chance: typing.Any) -> typing.Any:
+def wheel(chance: random.Random) -> networkx.Graph:
     return networkx.wheel_graph(chance.randint(5, 30))
 
 
-def complete(chance: typing.Any) -> typing.Any:
+def complete(chance: random.Random) -> networkx.Graph:
     return networkx.complete_graph(chance.randint(4, 14))
 
 
-def torus(chance: typing.Any) -> typing.Any:
+def torus(chance: random.Random) -> networkx.Graph:
     graph = networkx.grid_2d_graph(chance.randint(3, 7), chance.randint(3, 7), periodic=True)
     if chance.random() < 0.5:
         wide, high = 1 + max(x for x, _ in graph), 1 + max(y for _, y in graph)
@@ -73,7 +81,7 @@ def torus(chance: typing.Any) -> typing.Any:
     return graph
 
 
-def ringed(chance: typing.Any) -> typing.Any:
+def ringed(chance: random.Random) -> networkx.Graph:
     """A drawn graph of which some units have a ring round them that alone touches them, and now and
     then a ring round that.
     """
@@ -102,7 +110,7 @@ SHAPES = {
 }
 
 
-def numbered(chance: typing.Any, graph: typing.Any) -> typing.Any:
+def numbered(chance: random.Random, graph: networkx.Graph) -> networkx.Graph:
     """Returns the graph with its units numbered in a drawn order."""
     names = list(graph)
     chance.shuffle(names)
@@ -113,7 +121,7 @@ def numbered(chance: typing.Any, graph: typing.Any) -> typing.Any:
     return relabelled
 
 
-def drawn_job(chance: typing.Any, shape: typing.Any) -> typing.Any:
+def drawn_job(chance: random.Random, shape: str) -> Job:
     while True:
         graph = numbered(chance, SHAPES[shape](chance))
         districts = chance.randint(2, min(5, len(graph) // 2))
@@ -126,18 +134,17 @@ def drawn_job(chance: typing.Any, shape: typing.Any) -> typing.Any:
                 return job
 
 
-def main(program: typing.Any, graphs: str = "50", seed: str = "1", steps: str = "2000") -> int:
-    chance = random.Random(int(seed))
-    moves: typing.Any
-    same: typing.Any
-    tried: typing.Any
-    same, tried, moves = collections.Counter(), collections.Counter(), collections.Counter()
-    for number in range(int(graphs)):
+def main(program: str, graphs: int = 50, seed: int = 1, steps: int = 2000) -> int:
+    chance = random.Random(seed)
+    same: Counter[str] = Counter()
+    tried: Counter[str] = Counter()
+    moves: Counter[str] = Counter()
+    for number in range(graphs):
         shape = list(SHAPES)[number % len(SHAPES)]
         job = drawn_job(chance, shape)
-        numbers = (1, int(steps), 3, int(steps) // 10)
-        wanted = report(job, *numbers, ASKS)
-        answer = found(program, job, numbers, ASKS, chance.randint(1, 4))
+        asked = Trajectories(1, steps, 3, steps // 10, ASKS)
+        wanted = report(job, asked)
+        answer = found(program, job, asked, chance.randint(1, 4))
         tried[shape] += 1
         same[shape] += answer == wanted
         moves[shape] += int(

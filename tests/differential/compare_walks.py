@@ -15,6 +15,8 @@ reports are the same, and prints how many were.
 # RUN: {auditor} 5 2
 # NEEDS: networkx
 # QUICK
+from __future__ import annotations
+
 import argparse
 import hashlib
 import json
@@ -24,6 +26,7 @@ import struct
 import subprocess
 import sys
 import typing
+from collections.abc import Iterator, Sequence
 
 import networkx
 
@@ -34,15 +37,40 @@ MOST_SPLITS = 995_000
 MOST_REGIONS = 5000
 NO_BINS = [0] * 9
 
+# The district of each unit.
+Plan = list[int]
+# A score and a tail.
+Ask = tuple[str, str]
+# The name of a region.
+Label = typing.Union[int, str]
 
-def quarter(x: typing.Any, a: typing.Any, b: typing.Any, c: typing.Any, d: typing.Any) -> None:
+
+class Trajectories(typing.NamedTuple):
+    """The numbers of walks and ends, the numbers of steps of each, and the asks."""
+
+    walks: int
+    steps: int
+    ends: int
+    hub_steps: int
+    asks: Sequence[Ask]
+
+
+class Outcome(typing.NamedTuple):
+    """The outcome of a trajectory: its moves, a number for each ask, and the histogram of seats."""
+
+    moved: int
+    values: Sequence[int]
+    bins: Sequence[int]
+
+
+def quarter(x: list[int], a: int, b: int, c: int, d: int) -> None:
     for p, q, r, turn in ((a, b, d, 16), (c, d, b, 12), (a, b, d, 8), (c, d, b, 7)):
         x[p] = (x[p] + x[q]) & 0xFFFFFFFF
         mixed = x[r] ^ x[p]
         x[r] = ((mixed << turn) | (mixed >> (32 - turn))) & 0xFFFFFFFF
 
 
-def block(key: typing.Any, stream: typing.Any, number: typing.Any) -> typing.List[typing.Any]:
+def block(key: bytes, stream: int, number: int) -> list[int]:
     """Sixteen words of ChaCha20 with a 64-bit block counter and a 64-bit stream number."""
     start = list(struct.unpack("<4I", b"expand 32-byte k")) + list(struct.unpack("<8I", key))
     start += [number & 0xFFFFFFFF, number >> 32, stream & 0xFFFFFFFF, stream >> 32]
@@ -56,7 +84,7 @@ def block(key: typing.Any, stream: typing.Any, number: typing.Any) -> typing.Lis
     return [(u + v) & 0xFFFFFFFF for u, v in zip(x, start)]
 
 
-def draws(key: typing.Any, stream: typing.Any) -> typing.Iterator[typing.Any]:
+def draws(key: bytes, stream: int) -> Iterator[int]:
     number = 0
     while True:
         words = block(key, stream, number)
@@ -66,17 +94,19 @@ def draws(key: typing.Any, stream: typing.Any) -> typing.Iterator[typing.Any]:
 
 
 class Job:
+    """A graph, its start plan, and the rules; a rule that is not set refuses no plan."""
+
     def __init__(
         self,
-        graph: typing.Any,
-        plan: typing.Any,
-        people: typing.Any,
-        first: typing.Any,
-        second: typing.Any,
-        districts: typing.Any,
-        slack: typing.Any,
-        key: typing.Any,
-        max_cut: typing.Any = NO_LIMIT,
+        graph: networkx.Graph,
+        plan: Plan,
+        people: list[int],
+        first: list[int],
+        second: list[int],
+        districts: int,
+        slack: int,
+        key: bytes,
+        max_cut: int = NO_LIMIT,
     ) -> None:
         self.graph, self.plan, self.people, self.first, self.second = (
             graph, plan, people, first, second,
@@ -85,40 +115,40 @@ class Job:
         self.units = len(plan)
         self.total = sum(people)
         self.max_cut = max_cut
-        self.regions: typing.List[typing.Any]
-        self.regions, self.max_split, self.max_splits, self.max_split_regions = (
-            [], MOST_SPLIT, MOST_SPLITS, MOST_REGIONS,
+        self.regions: Sequence[Label] = []
+        self.max_split, self.max_splits, self.max_split_regions = (
+            MOST_SPLIT, MOST_SPLITS, MOST_REGIONS,
         )
-        self.group: typing.Tuple[typing.Any, ...] = ()
+        self.group: tuple[list[int], ...] = ()
         self.group_districts = 0
         self.shift = False
         self.serial = False
         self.stop = 0
-        self.origin: typing.List[typing.Any] = []
+        self.origin: list[str] = []
 
-    def cut_edges(self, plan: typing.Any) -> typing.Any:
+    def cut_edges(self, plan: Plan) -> int:
         return sum(plan[u] != plan[v] for u, v in self.graph.edges)
 
-    def parts(self, plan: typing.Any) -> typing.List[typing.Any]:
+    def parts(self, plan: Plan) -> list[int]:
         """For each region, among how many districts it is split."""
         return [
             len({plan[u] for u in range(self.units) if self.regions[u] == region})
             for region in set(self.regions)
         ]
 
-    def widest(self, plan: typing.Any) -> typing.Any:
+    def widest(self, plan: Plan) -> int:
         """The most districts among which a region is split."""
         return max(self.parts(plan), default=0)
 
-    def splits(self, plan: typing.Any) -> typing.Any:
+    def splits(self, plan: Plan) -> int:
         """Returns the number of splits of regions."""
         return sum(self.parts(plan)) - len(set(self.regions))
 
-    def split_regions(self, plan: typing.Any) -> int:
+    def split_regions(self, plan: Plan) -> int:
         """Returns the number of split regions."""
         return len([count for count in self.parts(plan) if count != 1])
 
-    def majorities(self, plan: typing.Any) -> int:
+    def majorities(self, plan: Plan) -> int:
         """In how many districts more than half of the whole are of the group: each unit adds twice
         its part less its whole.
         """
@@ -127,7 +157,7 @@ class Job:
             margins[plan[unit]] += 2 * part - whole
         return len([margin for margin in margins if margin > 0])
 
-    def obeys_rules(self, plan: typing.Any) -> bool:
+    def obeys_rules(self, plan: Plan) -> bool:
         return (
             self.cut_edges(plan) <= self.max_cut
             and self.widest(plan) <= self.max_split
@@ -136,7 +166,7 @@ class Job:
             and self.majorities(plan) >= self.group_districts
         )
 
-    def is_legal(self, plan: typing.Any) -> typing.Any:
+    def is_legal(self, plan: Plan) -> bool:
         for d in range(self.districts):
             members = [u for u in range(self.units) if plan[u] == d]
             if not members or not networkx.is_connected(self.graph.subgraph(members)):
@@ -146,7 +176,7 @@ class Job:
                 return False
         return self.obeys_rules(plan)
 
-    def after(self, plan: typing.Any, draw: typing.Any) -> typing.Any:
+    def after(self, plan: Plan, draw: int) -> Plan:
         pairs = self.units * self.districts
         if draw >= 2**64 // pairs * pairs:
             return plan
@@ -154,7 +184,7 @@ class Job:
         changed = plan[:unit] + [district] + plan[unit + 1:]
         return changed if self.is_legal(changed) else plan
 
-    def walk(self, plan: typing.Any, stream: typing.Any, steps: typing.Any) -> typing.Any:
+    def walk(self, plan: Plan, stream: int, steps: int) -> tuple[list[Plan], int]:
         visited, moved = [plan], 0
         for _, draw in zip(range(steps), draws(self.key, stream)):
             following = self.after(plan, draw)
@@ -163,15 +193,15 @@ class Job:
             visited.append(plan)
         return visited, moved
 
-    def value(self, plan: typing.Any, score: typing.Any) -> typing.Any:
-        votes = [
+    def value(self, plan: Plan, score: str) -> int:
+        first, second = (
             [
                 sum(column[u] for u in range(self.units) if plan[u] == d)
                 for d in range(self.districts)
             ]
             for column in (self.first, self.second)
-        ]
-        pairs = list(zip(*votes))
+        )
+        pairs = list(zip(first, second))
         if score == "seats":
             return sum(a > b for a, b in pairs)
         if score == "gap":
@@ -182,64 +212,59 @@ class Job:
         count = self.districts
         return count * (shares[(count - 1) // 2] + shares[count // 2]) - 2 * sum(shares)
 
-    def denominator(self, score: typing.Any) -> typing.Any:
-        return {
+    def denominator(self, score: str) -> int:
+        denominators = {
             "seats": 1,
             "cut-edges": 1,
             "mean-median": 2 * self.districts * BILLION,
             "gap": 2 * (sum(self.first) + sum(self.second)),
-        }[score]
+        }
+        return denominators[score]
 
 
-def billionths(n: typing.Any) -> str:
+def billionths(n: int) -> str:
     return f"{n // BILLION}.{n % BILLION:09d}"
 
 
-def bound(count: typing.Any, of: typing.Any) -> typing.Any:
+def bound(count: int, of: int) -> int:
     """The least r with r * r * of >= 2 * count * 10^18."""
     least = -(-2 * count * BILLION * BILLION // of)
     root = math.isqrt(least)
     return root if root * root >= least else root + 1
 
 
-def is_inside(value: typing.Any, start: typing.Any, tail: typing.Any) -> bool:
+def is_inside(value: int, start: int, tail: str) -> bool:
     return bool(value <= start if tail == "low" else value >= start)
 
 
-def outcomes(
-    job: typing.Any,
-    walks: typing.Any,
-    steps: typing.Any,
-    ends: typing.Any,
-    hub_steps: typing.Any,
-    asks: typing.Any,
-) -> typing.Any:
+def outcomes(job: Job, asked: Trajectories) -> list[Outcome]:
     """The moves of each trajectory by rising id, and a number for each ask: of a walk how many of
     the visited plans are in the tail, of a trajectory from the hub its last plan's value. Of a walk
     whose job asks for them nine bins as well, else nine zeros.
     """
-    start = [job.value(job.plan, score) for score, _ in asks]
+    start = [job.value(job.plan, score) for score, _ in asked.asks]
     found = []
-    for walk in range(walks):
-        visited, moved = job.walk(job.plan, 2 * walk, steps)
+    for walk in range(asked.walks):
+        visited, moved = job.walk(job.plan, 2 * walk, asked.steps)
         found.append(
-            (
+            Outcome(
                 moved,
                 [
                     sum(is_inside(job.value(plan, score), first, tail) for plan in visited)
-                    for first, (score, tail) in zip(start, asks)
+                    for first, (score, tail) in zip(start, asked.asks)
                 ],
                 bins(job, visited) if job.shift else NO_BINS,
             )
         )
-    hub = job.walk(job.plan, 1, hub_steps)[0][-1] if ends else None
-    for end in range(ends):
-        visited, moved = job.walk(hub, 2 * end + 3, hub_steps)
-        found.append((moved, [job.value(visited[-1], score) for score, _ in asks], NO_BINS))
+    hub = job.walk(job.plan, 1, asked.hub_steps)[0][-1] if asked.ends else job.plan
+    for end in range(asked.ends):
+        visited, moved = job.walk(hub, 2 * end + 3, asked.hub_steps)
+        values = [job.value(visited[-1], score) for score, _ in asked.asks]
+        found.append(Outcome(moved, values, NO_BINS))
     return found
 
 
-def bins(job: typing.Any, visited: typing.Any) -> typing.List[typing.Any]:
+def bins(job: Job, visited: Sequence[Plan]) -> list[int]:
     """Returns the histogram of seats against the start's: 4 fewer or less, 3 fewer, up to 4 more or
     above.
     """
@@ -250,16 +275,9 @@ def bins(job: typing.Any, visited: typing.Any) -> typing.List[typing.Any]:
     ]
 
 
-def report_of(
-    job: typing.Any,
-    walks: typing.Any,
-    steps: typing.Any,
-    ends: typing.Any,
-    hub_steps: typing.Any,
-    asks: typing.Any,
-    found: typing.Any,
-) -> str:
+def report_of(job: Job, asked: Trajectories, found: Sequence[Outcome]) -> str:
     """The report that these outcomes make."""
+    walks, steps, ends, hub_steps, asks = asked
     low = -(-(10000 - job.slack) * job.total // (10000 * job.districts))
     high = (10000 + job.slack) * job.total // (10000 * job.districts)
     lines = [
@@ -314,12 +332,12 @@ def report_of(
 
 
 def origin_of(
-    text: typing.Any,
-    columns: typing.Any,
-    region: typing.Any = None,
-    group: typing.Any = None,
-    whole: typing.Any = None,
-) -> typing.List[typing.Any]:
+    text: str,
+    columns: Sequence[str],
+    region: str | None = None,
+    group: str | None = None,
+    whole: str = "",
+) -> list[str]:
     """The two lines that tell from what a report comes."""
     data = text.encode()
     names = [
@@ -336,14 +354,14 @@ def origin_of(
     ]
 
 
-def limits_splits(job: typing.Any) -> typing.Any:
+def limits_splits(job: Job) -> bool:
     return bool(job.regions) and (job.max_splits, job.max_split_regions) != (
         MOST_SPLITS,
         MOST_REGIONS,
     )
 
 
-def stopped(inside: typing.Any, enough: typing.Any) -> str:
+def stopped(inside: Sequence[bool], enough: int) -> str:
     """Returns the place at which a test stops: the last end in the tail that it needs, or the last
     end.
     """
@@ -355,7 +373,7 @@ def stopped(inside: typing.Any, enough: typing.Any) -> str:
     return f"place {place} value {top}/{of} p {billionths(-(-top * BILLION // of))}"
 
 
-def serial_plans(job: typing.Any, steps: typing.Any) -> typing.Any:
+def serial_plans(job: Job, steps: int) -> tuple[int, list[Plan]]:
     """The place of the start plan, and the plans of one run through it: backward from the start,
     and forward from it.
     """
@@ -365,9 +383,7 @@ def serial_plans(job: typing.Any, steps: typing.Any) -> typing.Any:
     return place, backward[:0:-1] + forward
 
 
-def serial_lines(
-    job: typing.Any, steps: typing.Any, asks: typing.Any, words: typing.Any
-) -> typing.Any:
+def serial_lines(job: Job, steps: int, asks: Sequence[Ask], words: Sequence[str]) -> list[str]:
     place, plans = serial_plans(job, steps)
     assert len(plans) == steps + 1
     lines = []
@@ -381,14 +397,11 @@ def serial_lines(
     return lines
 
 
-def report(
-    job: typing.Any, walks: int, steps: int, ends: int, hub_steps: int, asks: typing.Any
-) -> str:
-    found = outcomes(job, walks, steps, ends, hub_steps, asks)
-    return report_of(job, walks, steps, ends, hub_steps, asks, found)
+def report(job: Job, asked: Trajectories) -> str:
+    return report_of(job, asked, outcomes(job, asked))
 
 
-def drawn_graph(chance: typing.Any) -> typing.Any:
+def drawn_graph(chance: random.Random) -> networkx.Graph:
     wide, high = chance.randint(3, 7), chance.randint(3, 7)
     graph = networkx.grid_2d_graph(wide, high)
     for x in range(wide - 1):
@@ -405,9 +418,7 @@ def drawn_graph(chance: typing.Any) -> typing.Any:
     return networkx.convert_node_labels_to_integers(graph)
 
 
-def drawn_plan(
-    chance: typing.Any, graph: typing.Any, districts: typing.Any
-) -> typing.List[typing.Any]:
+def drawn_plan(chance: random.Random, graph: networkx.Graph, districts: int) -> list[int]:
     """Districts that grow from drawn units, one neighbour at a time."""
     seeds = chance.sample(sorted(graph.nodes), districts)
     plan = {unit: d for d, unit in enumerate(seeds)}
@@ -419,9 +430,7 @@ def drawn_plan(
     return [plan[unit] for unit in range(len(graph))]
 
 
-def drawn_regions(
-    chance: typing.Any, graph: typing.Any, plan: typing.Any
-) -> typing.List[typing.Any]:
+def drawn_regions(chance: random.Random, graph: networkx.Graph, plan: Plan) -> list[Label]:
     """Regions with drawn names that grow as districts do, a few units of which lie elsewhere; half
     of them are within a district each.
     """
@@ -435,7 +444,7 @@ def drawn_regions(
     ]
 
 
-def draw_rules(chance: typing.Any, job: typing.Any) -> None:
+def draw_rules(chance: random.Random, job: Job) -> None:
     """Gives a job drawn rules that its start plan obeys, most of them closely."""
     if chance.random() < 0.5:
         job.max_cut = job.cut_edges(job.plan) + chance.randint(0, 3)
@@ -457,7 +466,7 @@ def draw_rules(chance: typing.Any, job: typing.Any) -> None:
         job.group_districts = max(0, job.majorities(job.plan) - chance.choice((0, 0, 0, 1)))
 
 
-def drawn_job(chance: typing.Any) -> typing.Any:
+def drawn_job(chance: random.Random) -> Job:
     graph = drawn_graph(chance)
     districts = chance.randint(2, 4)
     people, first, second = ([chance.randint(low, 9) for _ in graph.nodes] for low in (1, 0, 0))
@@ -472,7 +481,7 @@ def drawn_job(chance: typing.Any) -> typing.Any:
     return drawn_job(chance)
 
 
-def document(job: typing.Any) -> typing.Any:
+def document(job: Job) -> str:
     graph = job.graph.copy()
     for unit in graph.nodes:
         graph.nodes[unit].update(
@@ -485,7 +494,7 @@ def document(job: typing.Any) -> typing.Any:
     return json.dumps(networkx.adjacency_data(graph))
 
 
-def rule_words(job: typing.Any) -> typing.Any:
+def rule_words(job: Job) -> list[str]:
     """The words that ask for the job's limits."""
     words = ["--max-cut", str(job.max_cut)] if job.max_cut < NO_LIMIT else []
     words += ["--region", "COUNTY", "--max-split", str(job.max_split)] if job.regions else []
@@ -501,16 +510,19 @@ def rule_words(job: typing.Any) -> typing.Any:
     return words + (["--group-of", "WHOLE"] if job.group and job.group[1] is not job.people else [])
 
 
-def found(
-    program: typing.Any, job: typing.Any, numbers: typing.Any, asks: typing.Any, workers: typing.Any
-) -> typing.Any:
+def trajectory_words(asked: Trajectories) -> list[str]:
+    """Returns the words that ask for these trajectories, except their asks."""
+    names = ("--walks", "--steps", "--ends", "--hub-steps")
+    return [word for name, number in zip(names, asked[:4]) for word in (name, str(number))]
+
+
+def found(program: str, job: Job, asked: Trajectories, workers: int) -> str:
     words = [
         "run", "--pop", "POP", "--first", "A", "--second", "B", "--district", "CD", "--slack",
         str(job.slack), "--key", job.key.hex(), "--workers", str(workers), "--ask",
-        ",".join(":".join(ask) for ask in asks),
+        ",".join(":".join(ask) for ask in asked.asks),
     ]
-    for name, number in zip(("--walks", "--steps", "--ends", "--hub-steps"), numbers):
-        words += [name, str(number)]
+    words += trajectory_words(asked)
     words += rule_words(job)
     if job.origin:
         words += ["--source", "yes"]
@@ -524,10 +536,10 @@ def found(
     return run.stdout + run.stderr
 
 
-def main(program: typing.Any, graphs: str = "20", seed: str = "1") -> int:
-    chance = random.Random(int(seed))
+def main(program: str, graphs: int = 20, seed: int = 1) -> int:
+    chance = random.Random(seed)
     same = moved = 0
-    for number in range(int(graphs)):
+    for number in range(graphs):
         job = drawn_job(chance)
         job.shift, job.serial = chance.random() < 0.5, chance.random() < 0.5
         if chance.random() < 0.5:
@@ -547,8 +559,9 @@ def main(program: typing.Any, graphs: str = "20", seed: str = "1") -> int:
             for score in ("seats", "mean-median", "gap", "cut-edges")
         ]
         chance.shuffle(asks)
-        wanted = report(job, *numbers, asks)
-        answer = found(program, job, numbers, asks, chance.randint(1, 4))
+        asked = Trajectories(*numbers, asks)
+        wanted = report(job, asked)
+        answer = found(program, job, asked, chance.randint(1, 4))
         moved += sum(
             int(line.split()[3]) for line in wanted.splitlines() if line.startswith("walk ")
         )
@@ -557,7 +570,7 @@ def main(program: typing.Any, graphs: str = "20", seed: str = "1") -> int:
         else:
             print(f"graph {number} of seed {seed}: wanted\n{wanted}but found\n{answer}")
     print(f"same in {same} of {graphs} reports, with {moved // 4} moves")
-    return 0 if same == int(graphs) else 1
+    return 0 if same == graphs else 1
 
 
 def arguments() -> argparse.Namespace:

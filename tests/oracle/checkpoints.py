@@ -7,22 +7,27 @@ digest and, in hexadecimal digits, the checkpoint of generation 0 with the outco
 trajectories, with their bins where `--shift yes` is said. The trajectories are those of
 compare_walks.py, the graph is what networkx reads, and the digests are hashlib's.
 """
+from __future__ import annotations
+
 import argparse
 import hashlib
 import json
 import struct
 import sys
-import typing
+from collections.abc import Mapping, Sequence
 
 import networkx
 
-from tests.differential.compare_graphs import rank, read
+from tests.differential.compare_graphs import Json, rank, read
 from tests.differential.compare_walks import (
     MOST_REGIONS,
     MOST_SPLIT,
     MOST_SPLITS,
     NO_LIMIT,
+    Ask,
     Job,
+    Outcome,
+    Trajectories,
     draws,
     limits_splits,
     origin_of,
@@ -48,16 +53,28 @@ MOST_OUTCOMES = 100000
 MOST_BYTES = 84 + 80 * MOST_OUTCOMES
 
 
+def ask_of(word: str) -> Ask:
+    """Returns the score and the tail of a word `SCORE:TAIL`."""
+    score, tail = word.split(":")
+    return score, tail
+
+
 class Setting:
     """The trajectories of a run with good words."""
 
+    size: int
     walks: int
     steps: int
     ends: int
     hub_steps: int
     slack: int
+    max_cut: int
+    max_split: int
+    max_splits: int
+    max_split_regions: int
+    group_districts: int
 
-    def __init__(self, words: typing.Any) -> None:
+    def __init__(self, words: Sequence[str]) -> None:
         self.command, self.given = words[0], dict(zip(words[1::2], words[2::2]))
         numbers = {
             name.lstrip("-").replace("-", "_"): int(self.given.get(name, default))
@@ -65,14 +82,15 @@ class Setting:
         }
         self.__dict__.update(numbers)
         self.key = bytes.fromhex(self.given.get("--key", ""))
-        self.asks = [tuple(ask.split(":")) for ask in self.given.get("--ask", "").split(",") if ask]
+        words_of_asks = [ask for ask in self.given.get("--ask", "").split(",") if ask]
+        self.asks = [ask_of(word) for word in words_of_asks]
         self.total = self.walks + self.ends
 
-    def trajectories(self) -> typing.Tuple[int, int, int, int, typing.Any]:
-        return self.walks, self.steps, self.ends, self.hub_steps, self.asks
+    def trajectories(self) -> Trajectories:
+        return Trajectories(self.walks, self.steps, self.ends, self.hub_steps, self.asks)
 
 
-def job_of_graph(setting: typing.Any, document: typing.Any) -> typing.Any:
+def job_of_graph(setting: Setting, document: Json) -> Job:
     """The job of a graph as networkx reads it."""
     graph = read(document)
     units = [graph.nodes[unit] for unit in graph.nodes]
@@ -96,7 +114,7 @@ def job_of_graph(setting: typing.Any, document: typing.Any) -> typing.Any:
     return job
 
 
-def job_of_grid(setting: typing.Any) -> typing.Any:
+def job_of_grid(setting: Setting) -> Job:
     """The job of the grid that `make` makes: ten districts of as many rows as its size."""
     side = 10 * setting.size
     places = [(row, column) for row in range(side) for column in range(side)]
@@ -118,7 +136,7 @@ def job_of_grid(setting: typing.Any) -> typing.Any:
     return Job(graph, plan, people, first, second, 10, setting.slack, setting.key)
 
 
-def job_of(setting: typing.Any, text: typing.Any) -> typing.Any:
+def job_of(setting: Setting, text: str) -> Job:
     job = (
         job_of_grid(setting)
         if setting.command == "make"
@@ -140,7 +158,7 @@ def job_of(setting: typing.Any, text: typing.Any) -> typing.Any:
     return job
 
 
-def digest(job: typing.Any, setting: typing.Any) -> typing.Any:
+def digest(job: Job, setting: Setting) -> bytes:
     """The SHA-256 of all that the outcomes depend on."""
     edges = sorted(tuple(sorted(edge)) for edge in job.graph.edges)
     has_rules = job.max_cut < NO_LIMIT or job.regions or job.group
@@ -169,15 +187,15 @@ def digest(job: typing.Any, setting: typing.Any) -> typing.Any:
     return hashlib.sha256(b"".join(parts)).digest()
 
 
-def record(number: typing.Any, moved: typing.Any, values: typing.Any) -> typing.Any:
+def record(number: int, moved: int, values: Sequence[int]) -> bytes:
     return struct.pack(">IQ4q", number, moved, *values, *[0] * (4 - len(values)))
 
 
-def sealed(front: typing.Any) -> typing.Any:
+def sealed(front: bytes) -> bytes:
     return front + hashlib.sha256(front).digest()
 
 
-def checkpoint(job_digest: typing.Any, generation: typing.Any, found: typing.Any) -> typing.Any:
+def checkpoint(job_digest: bytes, generation: int, found: Mapping[int, Outcome]) -> bytes:
     """The bytes of a checkpoint of the second version of outcomes, given as a map from the id to
     the moves, the values and the bins.
     """
@@ -193,7 +211,7 @@ def checkpoint(job_digest: typing.Any, generation: typing.Any, found: typing.Any
     )
 
 
-def old_checkpoint(job_digest: typing.Any, generation: typing.Any, found: typing.Any) -> typing.Any:
+def old_checkpoint(job_digest: bytes, generation: int, found: Mapping[int, Outcome]) -> bytes:
     """Returns a checkpoint of the first version, which has no histogram."""
     head = (
         b"DISTCKPT" + struct.pack(">I", 1) + job_digest + struct.pack(">2I", generation, len(found))
@@ -201,7 +219,7 @@ def old_checkpoint(job_digest: typing.Any, generation: typing.Any, found: typing
     return sealed(head + b"".join(record(number, *found[number][:2]) for number in sorted(found)))
 
 
-def records(data: typing.Any) -> typing.Any:
+def records(data: bytes) -> list[tuple[int, ...]] | None:
     """The records of a checkpoint of either version, each the id, the moves, four values and nine
     bins, which the first version does not have; None where its length is not that of its count.
     """
@@ -213,11 +231,17 @@ def records(data: typing.Any) -> typing.Any:
     return [one + (0,) * 9 for one in struct.iter_unpack(">IQ4q", data[52:-32])]
 
 
-def generation_and_count(data: typing.Any) -> typing.Any:
-    return struct.unpack_from(">2I", data, 44)
+def generation_and_count(data: bytes) -> tuple[int, int]:
+    generation, count = struct.unpack_from(">2I", data, 44)
+    return generation, count
 
 
-def fault(data: typing.Any) -> typing.Any:
+def outcomes_in(data: bytes) -> dict[int, Outcome]:
+    """Returns the outcomes of a checkpoint by id, each with four values and nine bins."""
+    return {one[0]: Outcome(one[1], one[2:6], one[6:]) for one in records(data) or ()}
+
+
+def fault(data: bytes) -> str | None:
     """Why bytes are no checkpoint, in the words of the notes; None where they are one."""
     if len(data) > MOST_BYTES:
         return "too long"
@@ -238,9 +262,7 @@ def fault(data: typing.Any) -> typing.Any:
     return next((name for name, applies in faults.items() if applies), None)
 
 
-def fits(
-    setting: typing.Any, number: typing.Any, moved: typing.Any, *numbers: typing.Any
-) -> typing.Any:
+def fits(setting: Setting, number: int, moved: int, *numbers: int) -> bool:
     """Returns whether an outcome with its four values and nine bins could be one of the job's."""
     values, bins = numbers[:4], numbers[4:]
     is_walk, asks = number < setting.walks, len(setting.asks)
@@ -255,10 +277,10 @@ def fits(
     )
 
 
-def main(*words: typing.Any) -> None:
+def main(*words: str) -> None:
     setting = Setting(words)
-    job = job_of(setting, None if setting.command == "make" else sys.stdin.read())
-    found = dict(enumerate(outcomes(job, *setting.trajectories())))
+    job = job_of(setting, "" if setting.command == "make" else sys.stdin.read())
+    found = dict(enumerate(outcomes(job, setting.trajectories())))
     print("digest", digest(job, setting).hex())
     print("checkpoint", checkpoint(digest(job, setting), 0, found).hex())
 
