@@ -10,13 +10,15 @@ only by the values of the names that this is about, and a graph is refused only 
 Checkpoints and trajectories are those of checkpoints.py. A line that asks for a text about the
 program is left out, and leaves the slots as they are.
 """
+from __future__ import annotations
+
 import argparse
+import dataclasses
 import hashlib
 import json
 import pathlib
 import struct
-import typing
-from collections import namedtuple
+from collections.abc import Mapping, Sequence
 
 from tests.oracle.checkpoints import (
     MOST_BYTES,
@@ -28,16 +30,42 @@ from tests.oracle.checkpoints import (
     generation_and_count,
     job_of,
     old_checkpoint,
+    outcomes_in,
     record,
     records,
     sealed,
 )
 from tests.differential.compare_graphs import expected
 from tests.golden.named_cases import is_question, lines_of
-from tests.differential.compare_walks import NO_BINS, is_inside, outcomes, report_of
+from tests.differential.compare_walks import (
+    NO_BINS,
+    Job,
+    Outcome,
+    is_inside,
+    outcomes,
+    report_of,
+)
 
-Slot = namedtuple("Slot", "fault job generation found")
-End = namedtuple("End", "status told out note")
+
+@dataclasses.dataclass(frozen=True)
+class Slot:
+    """The state of a slot: its fault; or None, the digest of its job, its generation and outcomes.
+    """
+
+    fault: str | None
+    job: bytes = b""
+    generation: int = 0
+    found: Mapping[int, Outcome] = dataclasses.field(default_factory=dict)
+
+
+@dataclasses.dataclass(frozen=True)
+class End:
+    """The end of a call, and the ids that it began."""
+
+    status: int
+    ids: Sequence[int]
+    out: str
+    note: str
 
 
 class Keeper:
@@ -47,17 +75,17 @@ class Keeper:
     changes anything.
     """
 
-    def __init__(self, slots: typing.Any, failing_load: typing.Any, save: typing.Any) -> None:
+    def __init__(self, slots: Sequence[bytes | None], failing_load: int, save: str) -> None:
         self.slots, self.failing_load = list(slots), failing_load
-        self.failing_save, _, kept = save.partition("/")
-        self.failing_save, self.kept = int(self.failing_save), int(kept) if kept else None
+        failing_save, _, kept = save.partition("/")
+        self.failing_save, self.kept = int(failing_save), int(kept) if kept else None
         self.saves = 0
 
-    def load_all(self) -> typing.Any:
+    def load_all(self) -> list[bytes | None] | None:
         """Both slots, or None where a load fails."""
         return self.slots if self.failing_load not in (1, 2) else None
 
-    def save(self, slot: typing.Any, data: typing.Any) -> typing.Any:
+    def save(self, slot: int, data: bytes) -> bool:
         """Saves a slot, and returns whether that went well; a save that fails leaves the first
         half.
         """
@@ -71,24 +99,20 @@ class Keeper:
         return is_good
 
 
-def looked(setting: typing.Any, wanted: typing.Any, data: typing.Any) -> typing.Any:
+def looked(setting: Setting, wanted: bytes, data: bytes | None) -> Slot:
     """Returns the state of a slot for the job with this digest."""
-    why = "absent" if data is None else fault(data)
-    if (
-        why is None
-        and data[12:44] == wanted
-        and not all(fits(setting, *one) for one in records(data))
-    ):
-        why = "unfit"
+    if data is None:
+        return Slot("absent")
+    why = fault(data)
+    if why is None and data[12:44] == wanted:
+        is_fit = all(fits(setting, *one) for one in records(data) or ())
+        why = None if is_fit else "unfit"
     if why:
-        return Slot(why, None, None, None)
-    return Slot(
-        None, data[12:44], generation_and_count(data)[0],
-        {one[0]: (one[1], one[2:6], one[6:]) for one in records(data)},
-    )
+        return Slot(why)
+    return Slot(None, data[12:44], generation_and_count(data)[0], outcomes_in(data))
 
 
-def newest(slots: typing.Any) -> typing.Any:
+def newest(slots: Sequence[Slot]) -> int | None:
     """The number of the newest intact slot, or None."""
     intact = [number for number in (0, 1) if slots[number].fault is None]
     if len(intact) == 2:
@@ -96,40 +120,40 @@ def newest(slots: typing.Any) -> typing.Any:
     return intact[0] if intact else None
 
 
-def taken_up(
-    setting: typing.Any, job: typing.Any, found: typing.Any
-) -> typing.Dict[typing.Any, typing.Any]:
+def taken_up(setting: Setting, job: Job, found: Mapping[int, Outcome]) -> dict[int, Outcome]:
     """Returns the outcomes from which a run goes on; only those with a histogram, if it asks for
     one.
     """
     if not job.shift:
-        return {number: (moved, values, NO_BINS) for number, (moved, values, _) in found.items()}
-    return {number: one for number, one in found.items() if number >= setting.walks or any(one[2])}
+        return {number: one._replace(bins=NO_BINS) for number, one in found.items()}
+    return {
+        number: one for number, one in found.items() if number >= setting.walks or any(one.bins)
+    }
 
 
-def resumed(slots: typing.Any, wanted: typing.Any) -> typing.Any:
-    """The outcomes of the newest slot, or the note that refuses them."""
+def resumed(slots: Sequence[Slot], wanted: bytes) -> tuple[Mapping[int, Outcome], str]:
+    """The outcomes of the newest slot, and the note that refuses them or an empty one."""
     if all(slot.fault == "absent" for slot in slots):
-        return {}, None
+        return {}, ""
     number = newest(slots)
     if number is None:
-        return None, f"checkpoint: slot 0 {slots[0].fault}, slot 1 {slots[1].fault}"
+        return {}, f"checkpoint: slot 0 {slots[0].fault}, slot 1 {slots[1].fault}"
     if slots[number].job != wanted:
-        return None, f"checkpoint: other job {slots[number].job.hex()}, this job {wanted.hex()}"
-    return slots[number].found, None
+        return {}, f"checkpoint: other job {slots[number].job.hex()}, this job {wanted.hex()}"
+    return slots[number].found, ""
 
 
-def place(slots: typing.Any) -> typing.Any:
+def place(slots: Sequence[Slot]) -> tuple[int, int]:
     """The slot and the generation of the next checkpoint."""
     number = newest(slots)
     return (0, 0) if number is None else (1 - number, (slots[number].generation + 1) % 3)
 
 
-def is_number(text: typing.Any) -> typing.Any:
+def is_number(text: str) -> bool:
     return text.isdecimal() and str(int(text)) == text and int(text) <= 100000
 
 
-def bad_name(setting: typing.Any) -> typing.Any:
+def bad_name(setting: Setting) -> str | None:
     """The first of the last names whose value is bad, in the order of their table."""
     budget, save = setting.given.get("--budget", "100000"), setting.given.get("--save", "0")
     if not is_number(budget) or save == "0" and int(budget) < setting.total:
@@ -149,7 +173,11 @@ def bad_name(setting: typing.Any) -> typing.Any:
 
 
 def saved_in_turn(
-    every: typing.Any, slots: typing.Any, keeper: typing.Any, wanted: typing.Any, founds: typing.Any
+    every: int,
+    slots: Sequence[Slot],
+    keeper: Keeper,
+    wanted: bytes,
+    founds: Sequence[Mapping[int, Outcome]],
 ) -> bool:
     """Returns whether no save failed: one after each batch of posts, and a last one for the rest.
 
@@ -157,8 +185,8 @@ def saved_in_turn(
     """
     if not every:
         return True
-    answers: typing.Dict[typing.Any, typing.Any]
-    posts, answers, at = len(founds) - 1, {}, place(slots)
+    answers: dict[int, bool] = {}
+    posts, at = len(founds) - 1, place(slots)
     due = range(every, posts + 1, every)
     for count in [*due, posts]:
         if not answers.get(count):
@@ -168,13 +196,13 @@ def saved_in_turn(
     return all(answers.values())
 
 
-def begun(setting: typing.Any, job: typing.Any, every: typing.Any) -> typing.List[typing.Any]:
+def begun(setting: Setting, job: Job, every: Mapping[int, Outcome]) -> list[int]:
     """The ids that are walked where tests stop early: all walks, and ends in rounds of 64, 128 and
     so on until each test has stopped.
     """
     start, count = [job.value(job.plan, score) for score, _ in setting.asks], 0
     while True:
-        ends = [every[setting.walks + end][1] for end in range(count)]
+        ends = [every[setting.walks + end].values for end in range(count)]
         tops = [
             sum(is_inside(one[place], start[place], tail) for one in ends)
             for place, (_, tail) in enumerate(setting.asks)
@@ -184,20 +212,16 @@ def begun(setting: typing.Any, job: typing.Any, every: typing.Any) -> typing.Lis
         count = min(setting.ends, 2 * count + 64)
 
 
-def walked(
-    setting: typing.Any, job: typing.Any, slots: typing.Any, keeper: typing.Any, room: typing.Any
-) -> typing.Any:
+def walked(setting: Setting, job: Job, slots: Sequence[Slot], keeper: Keeper, room: int) -> End:
     """How a run ends over the slots that it looked at, if it did."""
     wanted, is_resumed = digest(job, setting), setting.given.get("--resume") == "yes"
-    found, refusal = resumed(slots, wanted) if is_resumed else ({}, None)
+    before, refusal = resumed(slots, wanted) if is_resumed else ({}, "")
     if refusal:
         return End(8, [], "", refusal)
-    found = taken_up(setting, job, found)
-    every = dict(enumerate(outcomes(job, *setting.trajectories())))
+    found = taken_up(setting, job, before)
+    every = dict(enumerate(outcomes(job, setting.trajectories())))
     if job.stop:
-        walks, steps, ends, hub, asks = setting.trajectories()
-        shown = [every[number] for number in sorted(every)]
-        text = report_of(job, walks, steps, ends, hub, asks, shown)
+        text = report_of(job, setting.trajectories(), [every[number] for number in sorted(every)])
         return End(0, begun(setting, job, every), text, "")
     parts, part = int(setting.given.get("--parts", "1")), int(setting.given.get("--part", "0"))
     todo = [number for number in every if number not in found and number % parts == part][
@@ -209,9 +233,7 @@ def walked(
     found = {**found, **posts[-1]}
     text = ""
     if len(found) == setting.total:
-        walks, steps, ends, hub, asks = setting.trajectories()
-        shown = [found[number] for number in sorted(found)]
-        text = report_of(job, walks, steps, ends, hub, asks, shown)
+        text = report_of(job, setting.trajectories(), [found[number] for number in sorted(found)])
     if len(text) > room:
         return End(5, todo, text[:room], "write fault")
     if not is_saved:
@@ -221,7 +243,7 @@ def walked(
     return End(0, todo, text, "")
 
 
-def audit(words: typing.Any, text: typing.Any, keeper: typing.Any, room: typing.Any) -> typing.Any:
+def audit(words: Sequence[str], text: str, keeper: Keeper, room: int) -> End:
     """How a whole call ends."""
     setting = Setting(words)
     if setting.command != "check" and bad_name(setting):
@@ -239,7 +261,7 @@ def audit(words: typing.Any, text: typing.Any, keeper: typing.Any, room: typing.
             ),
             "",
         )
-    slots = None
+    slots: list[Slot] = []
     if setting.given.get("--save", "0") != "0" or setting.given.get("--resume") == "yes":
         loaded = keeper.load_all()
         if loaded is None:
@@ -248,7 +270,7 @@ def audit(words: typing.Any, text: typing.Any, keeper: typing.Any, room: typing.
     return walked(setting, job, slots, keeper, room)
 
 
-def shown(number: typing.Any, data: typing.Any) -> str:
+def shown(number: int, data: bytes | None) -> str:
     if data is None:
         return f"slot {number} absent"
     found = records(data)
@@ -266,42 +288,45 @@ def shown(number: typing.Any, data: typing.Any) -> str:
     return f"slot {number} {len(data)} bytes{ids} sha256 {hashlib.sha256(data).hexdigest()}"
 
 
-def told(ids: typing.Any) -> str:
-    """Returns what is printed of the ids that a call began: their number, and those below 64, each
-    once.
+def line_of_ids(ids: Sequence[int]) -> str:
+    """Returns the line on the ids that a call began: their number, and those below 64, each once.
     """
     return " ".join([f"told {len(ids)}:", *(str(one) for one in sorted(set(ids)) if one < 64)])
 
 
-def slot_of(folder: typing.Any, said: typing.Any, before: typing.Any) -> typing.Any:
+def slot_of(folder: pathlib.Path, said: str, before: bytes | None) -> bytes | None:
     if said in ("absent", "same"):
         return before if said == "same" else None
     if said == "spoilt":
+        if before is None:
+            raise ValueError("a slot that is absent cannot be spoilt")
         return before[:-1] + bytes([255 - before[-1]])
     return bytes(MOST_BYTES + 1) if said == "long" else bytes.fromhex((folder / said).read_text())
 
 
-def text_of(folder: typing.Any, line: typing.Any, before: typing.Any) -> typing.Any:
+def text_of(
+    folder: pathlib.Path, line: str, before: Sequence[bytes | None]
+) -> tuple[str, list[bytes | None]]:
     """Returns the output of the rest of a line, and the slots that its run leaves."""
     zero, one, load, save, room, file, *words = line.split()
     slots = [slot_of(folder, said, slot) for said, slot in zip((zero, one), before)]
     keeper = Keeper(slots, int(load), save)
     end = audit(words, (folder / file).read_text(), keeper, int(room))
-    lines = [line, f"status {end.status}", told(end.told), end.out + end.note]
+    lines = [line, f"status {end.status}", line_of_ids(end.ids), end.out + end.note]
     lines += [shown(number, data) for number, data in enumerate(keeper.slots)]
     return "\n".join(part.removesuffix("\n") for part in lines) + "\n", keeper.slots
 
 
-def parts_of(words: typing.Any, text: typing.Any) -> typing.Any:
+def parts_of(words: str, text: str) -> tuple[bytes, dict[int, Outcome], dict[int, Outcome]]:
     """The digest of a job, and what its trajectories find, with bins and without."""
     setting = Setting(words.split())
     job = job_of(setting, text)
-    plain = dict(enumerate(outcomes(job, *setting.trajectories())))
+    plain = dict(enumerate(outcomes(job, setting.trajectories())))
     job.shift = True
-    return digest(job, setting), plain, dict(enumerate(outcomes(job, *setting.trajectories())))
+    return digest(job, setting), plain, dict(enumerate(outcomes(job, setting.trajectories())))
 
 
-def damaged(words: typing.Any, text: typing.Any) -> typing.Dict[typing.Any, typing.Any]:
+def damaged(words: str, text: str) -> dict[str, bytes]:
     """Checkpoints of twelve walks on the cycle of four units: with one fault alone, and some good
     ones.
     """
@@ -311,9 +336,9 @@ def damaged(words: typing.Any, text: typing.Any) -> typing.Dict[typing.Any, typi
     moved, values, _ = every[0]
 
     def of_one(
-        number: typing.Any, moves: typing.Any, counts: typing.Any, bins: typing.Any = NO_BINS
-    ) -> typing.Any:
-        return checkpoint(own, 0, {number: (moves, counts, bins)})
+        number: int, moves: int, counts: Sequence[int], bins: Sequence[int] = NO_BINS
+    ) -> bytes:
+        return checkpoint(own, 0, {number: Outcome(moves, counts, bins)})
 
     some = {number: every[number] for number in (1, 3, 11)}
     return {
@@ -342,19 +367,19 @@ def damaged(words: typing.Any, text: typing.Any) -> typing.Dict[typing.Any, typi
     }
 
 
-def damaged_ends(words: typing.Any, text: typing.Any) -> typing.Dict[typing.Any, typing.Any]:
+def damaged_ends(words: str, text: str) -> dict[str, bytes]:
     """Checkpoints of three walks and five other trajectories, of which one has bins, or none."""
     own, every, binned = parts_of(words, text)
     number = 3
     return {
         "unfit_end": checkpoint(
-            own, 0, {**binned, number: (*every[number][:2], [0, 0, 0, 0, 9, 0, 0, 0, 0])}
+            own, 0, {**binned, number: every[number]._replace(bins=[0, 0, 0, 0, 9, 0, 0, 0, 0])}
         ),
         "ends": checkpoint(own, 0, {one: every[one] for one in (0, 3, 4)}),
     }
 
 
-def write_files(folder: typing.Any) -> None:
+def write_files(folder: pathlib.Path) -> None:
     words = (
         "run --pop pop --first a --second b --district d --slack 5000 --walks 12 --steps 8 --ask"
         " gap:low --key "
@@ -366,16 +391,16 @@ def write_files(folder: typing.Any) -> None:
         (folder / f"{name}.hex").write_text(data.hex() + "\n")
 
 
-def main(folder: typing.Any, files: typing.Any) -> None:
-    folder = pathlib.Path(folder)
+def main(folder: str, files: bool) -> None:
+    data = pathlib.Path(folder)
     if files:
-        write_files(folder)
+        write_files(data)
         return
-    slots = [None, None]
-    for name, line in lines_of(folder / "slots"):
+    slots: list[bytes | None] = [None, None]
+    for name, line in lines_of(data / "slots"):
         if is_question(line.split()[6:]):
             continue
-        text, slots = text_of(folder, line, slots)
+        text, slots = text_of(data, line, slots)
         print(f"case {name}\n{text}", end="")
 
 

@@ -10,49 +10,61 @@ model.py: a plan is walked, and then its title is written in three pieces and it
 a trace all lines before the first trajectory are written in one piece, and each further line in
 one.
 """
+from __future__ import annotations
+
 import argparse
+import dataclasses
 import pathlib
-import typing
+from collections.abc import Iterable, Sequence
 
 from tests.oracle import model
-from tests.golden.checkpoint_cases import End, Keeper, audit, shown, slot_of, told
+from tests.golden.checkpoint_cases import End, Keeper, audit, line_of_ids, shown, slot_of
 from tests.golden.named_cases import lines_of
 
 ROOM = 4000
 
 
-def calls_for(count: typing.Any, most: typing.Any) -> typing.Any:
+@dataclasses.dataclass(frozen=True)
+class FaultCase:
+    """A line of `faults`: which calls fail, the most bytes of a call, both slots, the text and the
+    words.
+    """
+
+    calls: str
+    most: int
+    slots: tuple[str, str]
+    text: str
+    words: list[str]
+
+
+def calls_for(count: int, most: int) -> int:
     """Returns the number of calls that move a number of bytes."""
     return -(-count // most)
 
 
-def lined(parts: typing.Any) -> str:
+def lined(parts: Iterable[str]) -> str:
     """The parts that are not empty, each ended by a line feed."""
     return "".join(part.removesuffix("\n") + "\n" for part in parts if part)
 
 
-def audit_plans(
-    words: typing.Any, text: typing.Any, failing_write: typing.Any, most: typing.Any
-) -> typing.Any:
+def audit_plans(words: Sequence[str], text: str, failing_write: int, most: int) -> End:
     """How a call on several plans ends, where the write with this number fails, if one does."""
     setting = model.Setting(words)
-    told_ids: typing.List[typing.Any]
-    told_ids, out, writes = [], "", 0
+    ids: list[int] = []
+    out, writes = "", 0
     for name, job in model.jobs_of(setting, text.encode()):
-        told_ids += range(setting.total)
+        ids += range(setting.total)
         for piece in ("plan ", name, "\n", model.report(job, model.asked(job, job.digest()))):
             if writes < failing_write <= writes + calls_for(len(piece), most):
                 return End(
-                    5, told_ids, out + piece[: most * (failing_write - 1 - writes)], "write fault"
+                    5, ids, out + piece[: most * (failing_write - 1 - writes)], "write fault"
                 )
             writes += calls_for(len(piece), most)
             out += piece
-    return End(0, told_ids, out, "")
+    return End(0, ids, out, "")
 
 
-def audit_trace(
-    words: typing.Any, text: typing.Any, failing_write: typing.Any, most: typing.Any
-) -> typing.Any:
+def audit_trace(words: Sequence[str], text: str, failing_write: int, most: int) -> End:
     """How a trace ends, where the write with this number fails, if one does."""
     whole = model.audit(words, text.encode(), [None, None])
     lines = whole.out.splitlines(keepends=True)
@@ -70,21 +82,14 @@ def audit_trace(
 IN_PIECES = {"plans": audit_plans, "trace": audit_trace}
 
 
-def run_once(
-    folder: typing.Any,
-    calls: typing.Any,
-    number: typing.Any,
-    most: typing.Any,
-    said: typing.Any,
-    text: typing.Any,
-    words: typing.Any,
-) -> typing.Any:
+def run_once(folder: pathlib.Path, case: FaultCase, number: int) -> tuple[str, int]:
     """Returns the output of one run, and its status."""
-    slots = [slot_of(folder, one, None) for one in said]
+    calls, most, words = case.calls, case.most, case.words
+    slots = [slot_of(folder, one, None) for one in case.slots]
     if (
         calls == "reads"
         and words[0] != "make"
-        and number <= calls_for(len(text.encode()), most) + 1
+        and number <= calls_for(len(case.text.encode()), most) + 1
     ):
         end = End(4, [], "", "read fault")
         keeper = Keeper(slots, 0, "0")
@@ -94,22 +99,20 @@ def run_once(
         )
         in_pieces = IN_PIECES.get(words[0])
         end = (
-            in_pieces(words, text, number if calls == "writes" else 0, most)
+            in_pieces(words, case.text, number if calls == "writes" else 0, most)
             if in_pieces
-            else audit(words, text, keeper, ROOM)
+            else audit(words, case.text, keeper, ROOM)
         )
         if calls == "writes" and not in_pieces and number <= calls_for(len(end.out), most):
-            end = End(5, end.told, end.out[: most * (number - 1)], "write fault")
-    lines = [f"run {number}", f"status {end.status}", told(end.told), end.out + end.note]
+            end = End(5, end.ids, end.out[: most * (number - 1)], "write fault")
+    lines = [f"run {number}", f"status {end.status}", line_of_ids(end.ids), end.out + end.note]
     return (
         lined([*lines, *(shown(place, data) for place, data in enumerate(keeper.slots))]),
         end.status,
     )
 
 
-def run_surely(
-    folder: typing.Any, zero: typing.Any, one: typing.Any, file: typing.Any, *words: typing.Any
-) -> typing.Any:
+def run_surely(folder: pathlib.Path, zero: str, one: str, file: str, *words: str) -> str:
     """Returns the output of a run in which nothing fails."""
     keeper, text = (
         Keeper([slot_of(folder, said, None) for said in (zero, one)], 0, "0"),
@@ -117,24 +120,23 @@ def run_surely(
     )
     in_pieces = IN_PIECES.get(words[0])
     end = in_pieces(words, text, 0, ROOM) if in_pieces else audit(words, text, keeper, ROOM)
-    return lined([f"status {end.status}", told(end.told), end.note])
+    return lined([f"status {end.status}", line_of_ids(end.ids), end.note])
 
 
-def main(folder: typing.Any) -> None:
-    folder = pathlib.Path(folder)
-    for name, line in lines_of(folder / "faults"):
+def main(folder: str) -> None:
+    data = pathlib.Path(folder)
+    for name, line in lines_of(data / "faults"):
         print(f"case {name}\n{line}")
         calls, most, zero, one, file, *words = line.split()
-        number, status = 0, None
+        case = FaultCase(calls, int(most), (zero, one), (data / file).read_text(), words)
+        number, status = 0, -1
         while status not in (0, 7):
             number += 1
-            text, status = run_once(
-                folder, calls, number, int(most), (zero, one), (folder / file).read_text(), words
-            )
+            text, status = run_once(data, case, number)
             print(text, end="")
-    for name, line in lines_of(folder / "sure"):
+    for name, line in lines_of(data / "sure"):
         print(f"case {name}\n{line}")
-        print(run_surely(folder, *line.split()), end="")
+        print(run_surely(data, *line.split()), end="")
 
 
 def arguments() -> argparse.Namespace:

@@ -9,10 +9,12 @@ graph is the grid, whose votes are drawn from the key. A line of a grid of more 
 left out: this would take an hour. So is one that asks for a text about the program, which needs no
 model.
 """
+from __future__ import annotations
+
 import argparse
 import json
 import pathlib
-import typing
+from collections.abc import Sequence
 
 from tests.golden.named_cases import is_question, lines_of
 from tests.oracle import model
@@ -20,7 +22,7 @@ from tests.oracle import model
 CHECK = "check --pop pop --first a --second b --district d --slack 1000".split()
 
 
-def grid(size: typing.Any, key: typing.Any) -> bytes:
+def grid(size: int, key: bytes) -> bytes:
     """Returns a grid of ten times its size in rows and columns, with votes drawn from the key.
     """
     side = 10 * size
@@ -42,7 +44,7 @@ def grid(size: typing.Any, key: typing.Any) -> bytes:
     ).encode()
 
 
-def setting_of(words: typing.Any) -> typing.Any:
+def setting_of(words: Sequence[str]) -> model.Setting | None:
     """The setting of words that are accepted, or None."""
     try:
         return model.Setting(words)
@@ -50,18 +52,18 @@ def setting_of(words: typing.Any) -> typing.Any:
         return None
 
 
-def graph_of(words: typing.Any, data: typing.Any) -> typing.Any:
+def graph_of(words: Sequence[str], data: bytes) -> bytes:
     """The bytes of the graph of a call."""
     setting = setting_of(words)
     return grid(setting.size, setting.key) if setting and setting.command == "make" else data
 
 
-def is_great(words: typing.Any) -> typing.Any:
+def is_great(words: Sequence[str]) -> bool:
     setting = setting_of(words)
-    return bool(setting) and setting.command == "make" and setting.size > 2
+    return setting is not None and setting.command == "make" and setting.size > 2
 
 
-def ended(words: typing.Any, data: typing.Any, fails: typing.Any, room: typing.Any) -> typing.Any:
+def ended(words: Sequence[str], data: bytes, fails: int, room: int) -> tuple[int, str, str]:
     """The status, the output and the note of a call whose read with this number fails."""
     end = model.audit(words, graph_of(words, data), [None, None])
     if fails and end.status != 1 and words[0] != "make" and fails <= -(-len(data) // 100) + 1:
@@ -71,33 +73,33 @@ def ended(words: typing.Any, data: typing.Any, fails: typing.Any, room: typing.A
     return end.status, end.out, end.note
 
 
-def plain(folder: typing.Any, line: typing.Any) -> str:
+def plain(folder: pathlib.Path, line: str) -> str:
     """Returns the output of the rest of a line of `cases`."""
     fails, room, wanted, file, *words = line.split()
     status, out, note = ended(words, (folder / file).read_bytes(), int(fails), int(room))
     setting = model.Setting(words) if int(wanted) else None
-    told = (
+    begun = (
         f"held, told {setting.total}: {' '.join(map(str, range(setting.total)))}\n"
         if setting
         else ""
     )
-    return f"{line}\nstatus {status}\n{told}{out}{note}"
+    return f"{line}\nstatus {status}\n{begun}{out}{note}"
 
 
-def checked(line: typing.Any) -> str:
+def checked(line: str) -> str:
     """Returns the output of the rest of a line of `graphs`."""
     data = bytes.fromhex(line[4:]) if line.startswith("hex ") else line.encode()
     status, out, note = ended(CHECK, data, 0, 1000)
     return f"{line}\nstatus {status}\n{out}{note}"
 
 
-def main(folder: typing.Any) -> None:
-    folder = pathlib.Path(folder)
-    for name, line in lines_of(folder / "cases"):
+def main(folder: str) -> None:
+    data = pathlib.Path(folder)
+    for name, line in lines_of(data / "cases"):
         words = line.split()[4:]
         if not is_great(words) and not is_question(words):
-            print(f"case {name}\n{plain(folder, line)}", end="")
-    for name, line in lines_of(folder / "graphs"):
+            print(f"case {name}\n{plain(data, line)}", end="")
+    for name, line in lines_of(data / "graphs"):
         print(f"case {name}\n{checked(line)}", end="")
 
 
