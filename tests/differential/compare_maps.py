@@ -10,9 +10,11 @@ steps are such that the model takes about a second. Status, text and note must b
 Prints each run that differs, and at the end how many ended how on which map. Ends with 1 where a
 run differed.
 """
+from __future__ import annotations
+
 import argparse
-import collections
 import csv
+import dataclasses
 import io
 import json
 import multiprocessing
@@ -23,22 +25,55 @@ import subprocess
 import sys
 import tempfile
 import typing
+from collections import Counter
+from collections.abc import Sequence
 
 from tests.parsers import add_draws, comparing
 from tests.oracle import model
 from tests.places import package_command, package_environment
 
 ASKS = ("seats", "mean-median", "gap", "cut-edges")
+# A node of a graph, or the entry of a neighbor: its values by their columns.
+Entry = dict[str, typing.Union[int, str]]
 
 
-def prepared(maps: typing.Any, folder: typing.Any) -> typing.Any:
-    """For each line of the list of plans: the map, the words that name its columns, the region
-    column and its greatest split, and the file.
+class Graph(typing.TypedDict):
+    """A graph as JSON has it: its nodes, and the entries of each node's neighbors."""
+
+    nodes: list[Entry]
+    adjacency: list[list[Entry]]
+
+
+@dataclasses.dataclass(frozen=True)
+class Prepared:
+    """A prepared plan: the map, the tolerance, the words that name the columns, the region column
+    and its greatest split, the file, and the column of districts.
     """
+
+    name: str
+    tolerance: int
+    columns: list[str]
+    region: tuple[str, int] | None
+    path: pathlib.Path
+    column: str
+
+
+@dataclasses.dataclass(frozen=True)
+class Run:
+    """The map, the command and the status of a run, and what differs from the model."""
+
+    name: str
+    command: str
+    status: int
+    difference: str
+
+
+def prepared(maps: pathlib.Path, folder: pathlib.Path) -> list[Prepared]:
+    """Prepares the plan of each line of the list of plans."""
     every = []
     for line in (maps / "plans").read_text(encoding="utf-8").splitlines():
-        name, districts, tolerance, column, region, split, words = line.split("\t")
-        words = shlex.split(words)
+        name, districts, tolerance, column, region, split, said = line.split("\t")
+        words = shlex.split(said)
         out = folder / f"{name}-{districts}.json"
         subprocess.run(
             [
@@ -50,7 +85,7 @@ def prepared(maps: typing.Any, folder: typing.Any) -> typing.Any:
             env=package_environment(),
         )
         every.append(
-            (
+            Prepared(
                 name,
                 int(tolerance),
                 [*words[:6], "--district", column],
@@ -62,7 +97,7 @@ def prepared(maps: typing.Any, folder: typing.Any) -> typing.Any:
     return every
 
 
-def cut_by(graph: typing.Any, column: typing.Any) -> typing.Any:
+def cut_by(graph: Graph, column: str) -> int:
     """Returns the number of cut edges."""
     district = {node["id"]: node[column] for node in graph["nodes"]}
     pairs = {
@@ -73,37 +108,30 @@ def cut_by(graph: typing.Any, column: typing.Any) -> typing.Any:
     return sum(len({district[one] for one in pair}) == 2 for pair in pairs if len(pair) == 2)
 
 
-def split_by(graph: typing.Any, column: typing.Any, region: typing.Any) -> typing.Any:
+def split_by(graph: Graph, column: str, region: str) -> tuple[int, int]:
     """How often the plan splits regions in all, and how many of them."""
-    parts = collections.Counter(
+    parts = Counter(
         one for one, _ in {(node[region], node[column]) for node in graph["nodes"]}
     )
     return sum(parts.values()) - len(parts), sum(count > 1 for count in parts.values())
 
 
-def majorities_of(
-    graph: typing.Any, column: typing.Any, group: typing.Any, whole: typing.Any
-) -> typing.Any:
+def majorities_of(graph: Graph, column: str, group: str, whole: str) -> int:
     """In how many districts the plan gives the group more than half of the whole."""
-    margin: typing.Any = collections.Counter()
+    margin: Counter[int | str] = Counter()
     for node in graph["nodes"]:
-        margin[node[column]] += 2 * node[group] - node[whole]
+        margin[node[column]] += 2 * int(node[group]) - int(node[whole])
     return sum(one > 0 for one in margin.values())
 
 
-def near(chance: typing.Any, number: typing.Any) -> str:
+def near(chance: random.Random, number: int) -> str:
     """A limit near the number that is there."""
     return str(max(0, number + chance.choice((-1, 0, 0, 0, 1, 3))))
 
 
-def rule_words(
-    chance: typing.Any,
-    graph: typing.Any,
-    columns: typing.Any,
-    region: typing.Any,
-    column: typing.Any,
-) -> typing.Any:
+def rule_words(chance: random.Random, graph: Graph, plan: Prepared) -> list[str]:
     """Words of drawn rules."""
+    column, region, columns = plan.column, plan.region, plan.columns
     words = (
         ["--max-cut", str(max(0, cut_by(graph, column) + chance.choice((-1, 0, 5, 40))))]
         if chance.random() < 0.2
@@ -143,7 +171,7 @@ def rule_words(
     return words + (["--source", "yes"] if chance.random() < 0.2 else [])
 
 
-def table_of(chance: typing.Any, graph: typing.Any, column: typing.Any) -> bytes:
+def table_of(chance: random.Random, graph: Graph, column: str) -> bytes:
     """A table with one plan or two: the map's own under other labels, with its records in another
     order.
     """
@@ -159,15 +187,12 @@ def table_of(chance: typing.Any, graph: typing.Any, column: typing.Any) -> bytes
 
 
 def words_of(
-    chance: typing.Any,
-    tolerance: typing.Any,
-    columns: typing.Any,
-    rules: typing.Any,
-    units: typing.Any,
-) -> typing.Any:
+    chance: random.Random, plan: Prepared, rules: Sequence[str], units: int
+) -> tuple[list[str], bool]:
     """Words of a check, a run or `plans`, and whether they are of `plans`."""
+    tolerance = plan.tolerance
     words = [
-        *columns,
+        *plan.columns,
         "--slack",
         str(
             chance.choice((tolerance, tolerance, 2 * tolerance))
@@ -203,46 +228,43 @@ def words_of(
     return ["plans" if several else "run", *words], several
 
 
-def one_run(task: typing.Any) -> typing.Any:
-    place, seed, program, (name, tolerance, columns, region, path, column) = task
+def one_run(task: tuple[int, int, str, Prepared]) -> Run:
+    place, seed, program, plan = task
     chance = random.Random(f"{seed} {place}")
-    data = path.read_bytes()
-    graph = json.loads(data)
-    rules = rule_words(chance, graph, columns, region, column)
-    words, several = words_of(chance, tolerance, columns, rules, len(graph["nodes"]))
+    data = plan.path.read_bytes()
+    graph: Graph = json.loads(data)
+    rules = rule_words(chance, graph, plan)
+    words, several = words_of(chance, plan, rules, len(graph["nodes"]))
     if several:
-        data = json.dumps(graph).encode() + b"\n" + table_of(chance, graph, column)
+        data = json.dumps(graph).encode() + b"\n" + table_of(chance, graph, plan.column)
     wanted = model.audit(words, data, [None, None])
     found = subprocess.run([program, *words], input=data, capture_output=True, check=False)
     same = (found.returncode, found.stdout, found.stderr) == (
         wanted.status, wanted.out.encode(), wanted.note.encode(),
     )
-    told = (
+    difference = (
         ""
         if same
         else (
-            f"run {place} of seed {seed} on {path.name}: {shlex.join(words)}\nwanted"
+            f"run {place} of seed {seed} on {plan.path.name}: {shlex.join(words)}\nwanted"
             f" {wanted}\nfound {found}"
         )
     )
-    return name, words[0], wanted.status, told
+    return Run(plan.name, words[0], wanted.status, difference)
 
 
-def main(
-    program: typing.Any, maps: typing.Any, runs: typing.Any, seed: typing.Any, processes: typing.Any
-) -> int:
-    maps = pathlib.Path(maps)
-    ends: typing.Any
-    moved: typing.Any
-    ends, moved, wrong = collections.Counter(), collections.Counter(), 0
+def main(program: str, maps: str, runs: int, seed: int, processes: int) -> int:
+    ends: Counter[tuple[str, int]] = Counter()
+    moved: Counter[str] = Counter()
+    wrong = 0
     with tempfile.TemporaryDirectory() as folder, multiprocessing.Pool(processes) as pool:
-        plans = prepared(maps, pathlib.Path(folder))
+        plans = prepared(pathlib.Path(maps), pathlib.Path(folder))
         tasks = [(place, seed, program, plans[place % len(plans)]) for place in range(runs)]
-        for name, command, status, told in pool.imap_unordered(one_run, tasks):
-            ends[command, status] += 1
-            moved[name] += 1
-            wrong += told != ""
-            print(told, end="\n" if told else "", flush=True)
+        for one in pool.imap_unordered(one_run, tasks):
+            ends[one.command, one.status] += 1
+            moved[one.name] += 1
+            wrong += one.difference != ""
+            print(one.difference, end="\n" if one.difference else "", flush=True)
     for (command, status), times in sorted(ends.items()):
         print(f"{times} of {command} with status {status}")
     print(" ".join(f"{name} {times}" for name, times in sorted(moved.items())))

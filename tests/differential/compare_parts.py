@@ -10,7 +10,10 @@ goes on. Ends with 1 and the job's words where a report is another, or a program
 it has to.
 """
 # RUN: {auditor} {gatherer} 6 3
+from __future__ import annotations
+
 import argparse
+import dataclasses
 import pathlib
 import random
 import shutil
@@ -18,8 +21,7 @@ import subprocess
 import sys
 import tempfile
 import time
-import typing
-
+from collections.abc import Sequence
 
 PARTS = (1, 3, 7, 20)
 ASKS = (
@@ -28,11 +30,23 @@ ASKS = (
 )
 
 
+NO_WORDS: list[str] = []
+MAX_CUT = ["--max-cut", "95"]
+
+
 class Wrong(Exception):
-    """Returns what is wrong."""
+    """What is wrong with a run."""
 
 
-def drawn_words(draw: typing.Any) -> typing.Any:
+@dataclasses.dataclass(frozen=True)
+class Programs:
+    """The paths of the auditor and of audit_gather."""
+
+    auditor: str
+    gatherer: str
+
+
+def drawn_words(draw: random.Random) -> list[str]:
     asks = draw.sample(ASKS, draw.randint(1, 3))
     words = [
         "make", "--size", "1", "--slack", str(draw.choice((1000, 3000, 5000))), "--walks",
@@ -40,17 +54,18 @@ def drawn_words(draw: typing.Any) -> typing.Any:
         str(draw.choice((0, 0, 1, 5, 14))), "--hub-steps", str(draw.choice((10, 2000))), "--ask",
         ",".join(asks), "--key", draw.randbytes(32).hex(),
     ]
-    return words + draw.choice(([], ["--shift", "yes"])) + draw.choice(([], ["--max-cut", "95"]))
+    shift, max_cut = (draw.choice((NO_WORDS, more)) for more in (["--shift", "yes"], MAX_CUT))
+    return [*words, *shift, *max_cut]
 
 
-def called(folder: typing.Any, *words: typing.Any) -> typing.Any:
+def called(folder: pathlib.Path, *words: str) -> subprocess.CompletedProcess[bytes]:
     folder.mkdir(exist_ok=True)
     return subprocess.run(
         words, cwd=folder, stdin=subprocess.DEVNULL, capture_output=True, check=False
     )
 
 
-def killed(folder: typing.Any, seconds: typing.Any, *words: typing.Any) -> bool:
+def killed(folder: pathlib.Path, seconds: float, *words: str) -> bool:
     """Starts a program and kills it after some time; whether it had not ended by then."""
     folder.mkdir(exist_ok=True)
     process = subprocess.Popen(
@@ -62,14 +77,15 @@ def killed(folder: typing.Any, seconds: typing.Any, *words: typing.Any) -> bool:
     return process.wait() == -9
 
 
-def expect(answer: typing.Any, status: typing.Any, what: typing.Any) -> None:
+def expect(answer: subprocess.CompletedProcess[bytes], status: int, what: str) -> None:
     if answer.returncode != status:
         raise Wrong(
-            f"{what} ended with status {answer.returncode} and not {status}: {answer.stderr[:200]}"
+            f"{what} ended with status {answer.returncode} and not {status}:"
+            f" {answer.stderr[:200]!r}"
         )
 
 
-def clear(folder: typing.Any, *words: typing.Any) -> None:
+def clear(folder: pathlib.Path, *words: str) -> None:
     """A kill within the first save of a folder leaves a part of one file: nothing was saved, and it
     has to be told of, and is taken away.
     """
@@ -82,10 +98,8 @@ def clear(folder: typing.Any, *words: typing.Any) -> None:
         (folder / "audit-0.ckpt").unlink()
 
 
-def walk_part(
-    draw: typing.Any, kills: typing.Any, folder: typing.Any, words: typing.Any
-) -> typing.Any:
-    """Walks a part to its end, or halfway: whether it was to its end.
+def walk_part(draw: random.Random, kills: int, folder: pathlib.Path, words: Sequence[str]) -> int:
+    """Walks a part to its end, or halfway, and returns the number of runs that were killed.
 
     It leaves a checkpoint in any case.
     """
@@ -97,25 +111,22 @@ def walk_part(
         answer = called(folder, *words, "--budget", str(draw.randint(1, 3)))
         if answer.returncode not in (0, 7):
             raise Wrong(
-                f"a run with a budget ended with status {answer.returncode}: {answer.stderr[:200]}"
+                f"a run with a budget ended with status {answer.returncode}:"
+                f" {answer.stderr[:200]!r}"
             )
-        return count, False
+        return count
     answer = called(folder, *words)
     if answer.returncode not in (0, 7):
-        raise Wrong(f"a part ended with status {answer.returncode}: {answer.stderr[:200]}")
-    return count, True
+        raise Wrong(f"a part ended with status {answer.returncode}: {answer.stderr[:200]!r}")
+    return count
 
 
 def compare(
-    program: typing.Any,
-    gatherer: typing.Any,
-    draw: typing.Any,
-    kills: typing.Any,
-    words: typing.Any,
-    room: typing.Any,
-) -> typing.Any:
-    """Compares the reports of one job; how many of its runs were killed."""
-    whole = called(room / "whole", program, *words)
+    programs: Programs, draw: random.Random, kills: int, words: Sequence[str], room: pathlib.Path
+) -> int:
+    """Compares the reports of one job, and returns the number of runs that were killed."""
+    auditor = programs.auditor
+    whole = called(room / "whole", auditor, *words)
     expect(whole, 0, "the run in one piece")
     count = 0
     for parts in PARTS:
@@ -125,32 +136,30 @@ def compare(
         ]
         for part in range(parts):
             folders.append(f"../{parts}-{part}")
-            some, _ = walk_part(
+            count += walk_part(
                 draw,
                 kills,
                 room / f"{parts}-{part}",
-                [program, *words, *saving, "--parts", str(parts), "--part", str(part)],
+                [auditor, *words, *saving, "--parts", str(parts), "--part", str(part)],
             )
-            count += some
         draw.shuffle(folders)
         gathered = room / f"all-{parts}"
-        expect(called(gathered, gatherer, *folders, *words), 0, f"the gathering of {parts} parts")
-        report = called(gathered, program, *words, *saving)
+        end = called(gathered, programs.gatherer, *folders, *words)
+        expect(end, 0, f"the gathering of {parts} parts")
+        report = called(gathered, auditor, *words, *saving)
         expect(report, 0, f"the run over {parts} gathered parts")
         if report.stdout != whole.stdout:
             raise Wrong(f"the report over {parts} parts is another")
     return count
 
 
-def main(
-    program: typing.Any, gatherer: typing.Any, jobs: str = "20", seed: str = "1", kills: str = "2"
-) -> int:
-    draw, count = random.Random(int(seed)), 0
-    program, gatherer = (str(pathlib.Path(path).absolute()) for path in (program, gatherer))
-    for job in range(int(jobs)):
+def main(program: str, gatherer: str, jobs: int = 20, seed: int = 1, kills: int = 2) -> int:
+    draw, count = random.Random(seed), 0
+    programs = Programs(*(str(pathlib.Path(path).absolute()) for path in (program, gatherer)))
+    for job in range(jobs):
         words, room = drawn_words(draw), pathlib.Path(tempfile.mkdtemp())
         try:
-            count += compare(program, gatherer, draw, int(kills), words, room)
+            count += compare(programs, draw, kills, words, room)
         except Wrong as why:
             print(f"job {job} of {' '.join(words)}: {why}")
             return 1

@@ -9,30 +9,38 @@ first that did not end as it has to. Nothing is needed but Python.
 """
 # RUN: {auditor} 20 3
 # QUICK
+from __future__ import annotations
+
 import argparse
-import collections
 import json
 import random
 import subprocess
 import sys
-import typing
+from collections import Counter
+from collections.abc import Sequence
 
 from tests.oracle import model
 
 ASKS = ("seats:low", "cut-edges:low,gap:high", "mean-median:high", "seats:high,cut-edges:high")
 
 
-def graph_of(chance: typing.Any) -> typing.Any:
+def id_of(kind: int, unit: int) -> int | str:
+    """Returns the id of a unit, of one of five kinds."""
+    ids = (str(unit), unit, unit - 3, f"unit {unit}", f'é,"{unit}"')
+    return ids[kind]
+
+
+def graph_of(chance: random.Random) -> tuple[list[int | str], dict[str, object]]:
     """A graph of a path with some more edges, with ids of one of several kinds, and a plan of its
     own.
     """
     units = chance.randint(4, 9)
     kind = chance.randrange(5)
-    ids = [[str(at), at, at - 3, f"unit {at}", f'é,"{at}"'][kind] for at in range(units)]
+    ids = [id_of(kind, at) for at in range(units)]
     if chance.random() < 0.03:
         ids[1] = str(ids[0]) if type(ids[0]) is int else 0
         ids[0] = ids[0] if type(ids[0]) is int else "0"
-    near: typing.Any = [set() for _ in ids]
+    near: list[set[int]] = [set() for _ in ids]
     for at in range(units):
         for other in {at + 1} | {chance.randrange(units) for _ in range(chance.randrange(2))}:
             if other < units and other != at:
@@ -59,7 +67,7 @@ def graph_of(chance: typing.Any) -> typing.Any:
     }
 
 
-def plan_of(chance: typing.Any, units: typing.Any) -> typing.List[typing.Any]:
+def plan_of(chance: random.Random, units: int) -> list[int]:
     """A plan of two or three runs of units, seldom one that is no plan."""
     if chance.random() < 0.05:
         return [chance.randrange(3) for _ in range(units)]
@@ -68,13 +76,13 @@ def plan_of(chance: typing.Any, units: typing.Any) -> typing.List[typing.Any]:
     return [0 if at < first else 1 if at < second else 2 for at in range(units)]
 
 
-def quoted(chance: typing.Any, field: typing.Any) -> typing.Any:
+def quoted(chance: random.Random, field: str) -> str:
     if chance.random() < 0.2 or any(sign in field for sign in ',"\n\r'):
         return '"' + field.replace('"', '""') + '"'
     return field
 
 
-def table_of(chance: typing.Any, ids: typing.Any) -> typing.Any:
+def table_of(chance: random.Random, ids: Sequence[int | str]) -> bytes:
     """A table of some plans, at random broken."""
     count = chance.randint(1, 4) if chance.random() < 0.97 else chance.choice((0, 16, 17))
     labels = [
@@ -105,7 +113,7 @@ def table_of(chance: typing.Any, ids: typing.Any) -> typing.Any:
 
 
 def break_records(
-    chance: random.Random, broken: int, records: typing.List[typing.List[str]], count: int
+    chance: random.Random, broken: int, records: list[list[str]], count: int
 ) -> None:
     """Breaks the records of a table in the way that this number chooses, if it chooses one."""
     at = chance.randrange(len(records))
@@ -125,7 +133,7 @@ def break_records(
             record[column] = "same"
 
 
-def words_of(chance: typing.Any) -> typing.Any:
+def words_of(chance: random.Random) -> list[str]:
     words = [
         "plans", "--pop", "pop", "--first", "a", "--second", "b", "--district", "d", "--slack",
         chance.choice(("10000", "5000")), "--walks", str(chance.randint(0, 2)), "--steps",
@@ -144,9 +152,9 @@ def words_of(chance: typing.Any) -> typing.Any:
     return words
 
 
-def main(program: typing.Any, count: typing.Any, seed: typing.Any) -> None:
-    ends: typing.Any
-    chance, ends = random.Random(seed), collections.Counter()
+def main(program: str, count: int, seed: int) -> None:
+    chance = random.Random(seed)
+    ends: Counter[str] = Counter()
     for place in range(count):
         ids, graph = graph_of(chance)
         data = json.dumps(graph).encode() + (
@@ -158,7 +166,9 @@ def main(program: typing.Any, count: typing.Any, seed: typing.Any) -> None:
         if (found.returncode, found.stdout, found.stderr) != (
             wanted.status, wanted.out.encode(), wanted.note.encode(),
         ):
-            print(f"table {place} of seed {seed}: {words}\n{data}\nwanted {wanted}\nfound {found}")
+            print(
+                f"table {place} of seed {seed}: {words}\n{data!r}\nwanted {wanted}\nfound {found}"
+            )
             sys.exit(1)
         ends[
             (

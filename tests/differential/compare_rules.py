@@ -17,8 +17,10 @@ those a walk without it finds something else. Ends with 1 where a run differed. 
 but Python.
 """
 # RUN: {auditor} 60 1
+from __future__ import annotations
+
 import argparse
-import collections
+import dataclasses
 import json
 import multiprocessing
 import pathlib
@@ -27,6 +29,8 @@ import subprocess
 import sys
 import tempfile
 import typing
+from collections import Counter
+from collections.abc import Sequence
 
 from tests.parsers import add_draws, comparing
 from tests.oracle import model
@@ -39,15 +43,38 @@ RULES = (
 )
 # Those that the start plan cannot break.
 OTHERS = ("--group-share", "--freeze")
+# The words for the whole of which the group is a part.
+WHOLES: list[list[str]] = [[], [], ["--group-of", "w"], ["--group-of", "pop"]]
 FILES = ("audit-0.ckpt", "audit-1.ckpt")
+# A node of a graph, or the entry of a neighbor: its values by their columns.
+Entry = dict[str, object]
+
+
+class Graph(typing.TypedDict):
+    """A graph as JSON has it: its nodes, and the entries of each node's neighbors."""
+
+    nodes: list[Entry]
+    adjacency: list[list[Entry]]
+
+
+@dataclasses.dataclass(frozen=True)
+class Run:
+    """The command, the status and the kind of note of each call; the rules of an audit and those
+    that change it; and what differs from the model.
+    """
+
+    ends: list[tuple[str, int, str]]
+    rules: list[str]
+    felt: list[str]
+    difference: str
 
 
 # ---- graphs
 
 
-def neighbours_of(chance: typing.Any, wide: typing.Any, high: typing.Any) -> typing.Any:
+def neighbours_of(chance: random.Random, wide: int, high: int) -> list[set[int]]:
     """The neighbours of each unit of a grid with some diagonals."""
-    near: typing.Any = [set() for _ in range(wide * high)]
+    near: list[set[int]] = [set() for _ in range(wide * high)]
     for at in range(wide * high):
         across, down = at % wide + 1 < wide, at // wide + 1 < high
         for other in (
@@ -60,7 +87,7 @@ def neighbours_of(chance: typing.Any, wide: typing.Any, high: typing.Any) -> typ
     return near
 
 
-def grown(chance: typing.Any, near: typing.Any, count: typing.Any) -> typing.List[typing.Any]:
+def grown(chance: random.Random, near: Sequence[set[int]], count: int) -> list[int]:
     """Returns the part of each unit, of this number of parts that grow from drawn units."""
     part = dict(zip(chance.sample(range(len(near)), count), range(count)))
     while len(part) < len(near):
@@ -71,15 +98,15 @@ def grown(chance: typing.Any, near: typing.Any, count: typing.Any) -> typing.Lis
     return [part[unit] for unit in range(len(near))]
 
 
-def even(chance: typing.Any, near: typing.Any, count: typing.Any) -> typing.Any:
+def even(chance: random.Random, near: Sequence[set[int]], count: int) -> list[int]:
     """Returns parts that are drawn anew until none has more than 3/2 of its share."""
     while True:
         parts = grown(chance, near, count)
-        if max(collections.Counter(parts).values()) * 2 * count <= 3 * len(near):
+        if max(Counter(parts).values()) * 2 * count <= 3 * len(near):
             return parts
 
 
-def drawn_graph(chance: typing.Any) -> typing.Any:
+def drawn_graph(chance: random.Random) -> tuple[Graph, list[int]]:
     """A graph, and another plan for its units."""
     near = neighbours_of(chance, chance.randint(4, 7), chance.randint(4, 7))
     plan, other = (even(chance, near, chance.randint(2, 4)) for _ in range(2))
@@ -89,7 +116,7 @@ def drawn_graph(chance: typing.Any) -> typing.Any:
         else [2 * district + chance.randrange(2) for district in plan]
     )
     scale = chance.choice((1, 1, 1, 10**8))
-    nodes = []
+    nodes: list[Entry] = []
     for at, district in enumerate(plan):
         pop, whole = chance.randint(1, 9), chance.randint(0, 9)
         nodes.append(
@@ -114,12 +141,13 @@ def drawn_graph(chance: typing.Any) -> typing.Any:
     return {"nodes": nodes, "adjacency": drawn_edges(chance, near)}, other
 
 
-def drawn_edges(chance: typing.Any, near: typing.Any) -> typing.List[typing.Any]:
+def drawn_edges(chance: random.Random, near: Sequence[set[int]]) -> list[list[Entry]]:
     """The entries of each unit's neighbors with their lengths; in an eighth of the graphs one has a
     value that may be refused, or none.
     """
-    most, lengths = chance.choice((1, 9, 9, 1000, 2**32 - 1)), {}
-    entries: typing.List[typing.Any] = []
+    most = chance.choice((1, 9, 9, 1000, 2**32 - 1))
+    lengths: dict[tuple[int, int], int] = {}
+    entries: list[list[Entry]] = []
     for unit, those in enumerate(near):
         entries.append([])
         for other in sorted(those):
@@ -142,7 +170,7 @@ def drawn_edges(chance: typing.Any, near: typing.Any) -> typing.List[typing.Any]
 # ---- words
 
 
-def there(graph: typing.Any, words: typing.Any) -> typing.Any:
+def there(graph: Graph, words: Sequence[str]) -> dict[str, int]:
     """Returns the start plan's number for each rule, without limits; 1 for a refused graph."""
     try:
         job = model.job_of(
@@ -158,11 +186,11 @@ def there(graph: typing.Any, words: typing.Any) -> typing.Any:
     return dict(zip(RULES, numbers))
 
 
-def drawn_rules(chance: typing.Any, graph: typing.Any) -> typing.Any:
+def drawn_rules(chance: random.Random, graph: Graph) -> list[str]:
     """Words of rules."""
     columns = ["--region", "r"] if chance.random() < 0.75 else []
     columns += (
-        ["--group", "g", *chance.choice(([], [], ["--group-of", "w"], ["--group-of", "pop"]))]
+        ["--group", "g", *chance.choice(WHOLES)]
         if chance.random() < 0.75
         else []
     )
@@ -203,7 +231,7 @@ def drawn_rules(chance: typing.Any, graph: typing.Any) -> typing.Any:
     )
 
 
-def audit_words(chance: typing.Any, has_lengths: bool) -> typing.Any:
+def audit_words(chance: random.Random, has_lengths: bool) -> list[str]:
     serial = chance.random() < 0.2
     walks, ends = chance.randint(0, 2), chance.choice((0, 0, 2, 4))
     words = [
@@ -235,7 +263,7 @@ def audit_words(chance: typing.Any, has_lengths: bool) -> typing.Any:
     )
 
 
-def reached(words: typing.Any, data: typing.Any, other: typing.Any) -> typing.Any:
+def reached(words: Sequence[str], data: bytes, other: model.Plan) -> model.Plan:
     """A plan that a walk under these words reaches, so that it keeps the rules; the other one where
     the graph is refused.
     """
@@ -246,7 +274,7 @@ def reached(words: typing.Any, data: typing.Any, other: typing.Any) -> typing.An
     return job.walk(tuple(job.plan), 0, 60)[0][-1]
 
 
-def table_of(graph: typing.Any, other: typing.Any) -> bytes:
+def table_of(graph: Graph, other: model.Plan) -> bytes:
     """A table with two plans: another, and the graph's own under other labels."""
     rows = [
         f"{node['id']},{district},D{node['d']}" for node, district in zip(graph["nodes"], other)
@@ -254,17 +282,19 @@ def table_of(graph: typing.Any, other: typing.Any) -> bytes:
     return "\n".join(["id,other,own", *rows, ""]).encode()
 
 
-def changed(chance: typing.Any, words: typing.Any) -> typing.Any:
+def changed(chance: random.Random, words: Sequence[str]) -> list[str]:
     """The words with one number of a rule changed, where they have one."""
     limits = (*RULES, "--group-share")
-    words, places = words[:], [at for at, name in enumerate(words) if name in limits]
+    more, places = list(words), [at for at, name in enumerate(words) if name in limits]
     if places:
         at = chance.choice(places)
-        words[at + 1] = str(int(words[at + 1]) + 1)
-    return words
+        more[at + 1] = str(int(words[at + 1]) + 1)
+    return more
 
 
-def calls_of(chance: typing.Any, graph: typing.Any, other: typing.Any) -> typing.List[typing.Any]:
+def calls_of(
+    chance: random.Random, graph: Graph, other: model.Plan
+) -> list[tuple[list[str], bytes]]:
     """The calls of one run: words, and what is read; two where the second goes on from the files of
     the first.
     """
@@ -299,7 +329,7 @@ def calls_of(chance: typing.Any, graph: typing.Any, other: typing.Any) -> typing
 # ---- runs
 
 
-def without(words: typing.Any, name: typing.Any) -> typing.List[typing.Any]:
+def without(words: Sequence[str], name: str | None) -> list[str]:
     """The words of a walk without the rule, without files."""
     pairs = [
         (one, value)
@@ -309,7 +339,7 @@ def without(words: typing.Any, name: typing.Any) -> typing.List[typing.Any]:
     return [words[0], *(word for pair in pairs for word in pair)]
 
 
-def turned(words: typing.Any, data: typing.Any) -> typing.Any:
+def turned(words: Sequence[str], data: bytes) -> tuple[list[str], list[str]]:
     """Which rules the words set, and which of them change what the walks find."""
     is_set = [name for name in (*RULES, *OTHERS) if name in words]
     every = [
@@ -329,34 +359,33 @@ def turned(words: typing.Any, data: typing.Any) -> typing.Any:
     ]
 
 
-def files(folder: typing.Any) -> typing.List[typing.Any]:
+def files(folder: str) -> list[bytes | None]:
     return [
         pathlib.Path(folder, name).read_bytes() if pathlib.Path(folder, name).exists() else None
         for name in FILES
     ]
 
 
-def one_run(task: typing.Any) -> typing.Any:
+def one_run(task: tuple[int, int, str]) -> Run:
     place, seed, program = task
-    rules: typing.Any
-    chance, told, ends, rules = random.Random(f"{seed} {place}"), "", [], ([], [])
+    chance, difference = random.Random(f"{seed} {place}"), ""
+    ends: list[tuple[str, int, str]] = []
+    rules: tuple[list[str], list[str]] = ([], [])
     graph, other = drawn_graph(chance)
-    calls, slots = calls_of(chance, graph, other), [None, None]
+    calls = calls_of(chance, graph, other)
+    slots: list[bytes | None] = [None, None]
     with tempfile.TemporaryDirectory() as folder:
         for words, data in calls:
             wanted = model.audit(words, data, slots)
             done = subprocess.run(
                 [program, *words], input=data, capture_output=True, check=False, cwd=folder
             )
-            found, slots = (
-                model.End(
-                    done.returncode, done.stdout.decode(), done.stderr.decode(), files(folder)
-                ),
-                wanted.slots,
+            found = model.End(
+                done.returncode, done.stdout.decode(), done.stderr.decode(), files(folder)
             )
-            is_told = words[words.index("--workers") + 1] == "1" if "--workers" in words else True
-            if found != wanted and (is_told or found[:3] != wanted[:3]):
-                told += (
+            is_known = words[words.index("--workers") + 1] == "1" if "--workers" in words else True
+            if found != wanted and (is_known or found[:3] != wanted[:3]):
+                difference += (
                     f"run {place} of seed {seed}: {' '.join(words)}\n{data.decode()}\nwanted"
                     f" {wanted}\nfound {found}\n"
                 )
@@ -370,28 +399,25 @@ def one_run(task: typing.Any) -> typing.Any:
             slots = found.slots
     if ends[-1][0] == "run" and ends[-1][1] == 0:
         rules = turned(*calls[-1])
-    return ends, rules, told
+    return Run(ends, *rules, difference)
 
 
-def main(program: typing.Any, runs: str = "300", seed: str = "1", processes: str = "4") -> int:
+def main(program: str, runs: int = 300, seed: int = 1, processes: int = 4) -> int:
     program, wrong = str(pathlib.Path(program).resolve()), 0
-    ends: typing.Any
-    is_set: typing.Any
-    notes: typing.Set[typing.Any]
-    turns: typing.Any
-    ends, notes, is_set, turns = (
-        collections.Counter(), set(), collections.Counter(), collections.Counter(),
-    )
-    with multiprocessing.Pool(int(processes)) as pool:
-        for some, rules, told in pool.imap_unordered(
-            one_run, [(place, seed, program) for place in range(int(runs))]
+    ends: Counter[tuple[str, int]] = Counter()
+    is_set: Counter[str] = Counter()
+    turns: Counter[str] = Counter()
+    notes: set[str] = set()
+    with multiprocessing.Pool(processes) as pool:
+        for one in pool.imap_unordered(
+            one_run, [(place, seed, program) for place in range(runs)]
         ):
-            ends.update((command, status) for command, status, _ in some)
-            notes.update(note for _, _, note in some)
-            is_set.update(rules[0])
-            turns.update(rules[1])
-            wrong += told != ""
-            print(told, end="", flush=True)
+            ends.update((command, status) for command, status, _ in one.ends)
+            notes.update(note for _, _, note in one.ends)
+            is_set.update(one.rules)
+            turns.update(one.felt)
+            wrong += one.difference != ""
+            print(one.difference, end="", flush=True)
     print(
         ", ".join(
             f"{times} of {command} with status {status}"

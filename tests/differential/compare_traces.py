@@ -10,18 +10,31 @@ that the report tells, and of a walk a trace of each step has its counts.
 # RUN traces_with_rules: {auditor} examples/data/groups.json pop a b d 1000 --jobs 8 --seed 3 \
 #     --also "--region county --max-split 3 --max-splits 4 --group bvap --group-of vap \
 #     --group-districts 1"
+from __future__ import annotations
+
 import argparse
+import dataclasses
 import random
 import subprocess
 import sys
-import typing
+from collections.abc import Sequence
 
 from tests.oracle import model
 
 SCORES = ["seats", "mean-median", "gap", "cut-edges"]
 
 
-def drawn_words(columns: typing.Any, dice: typing.Any) -> typing.List[typing.Any]:
+@dataclasses.dataclass(frozen=True)
+class Range:
+    """The words of a range, its first and last id, and the number of steps of a line."""
+
+    words: list[str]
+    first: int
+    last: int
+    thin: int
+
+
+def drawn_words(columns: Sequence[str], dice: random.Random) -> list[str]:
     asks = [
         f"{score}:{dice.choice(['low', 'high'])}"
         for score in dice.sample(SCORES, dice.randint(1, 4))
@@ -35,27 +48,25 @@ def drawn_words(columns: typing.Any, dice: typing.Any) -> typing.List[typing.Any
     ]
 
 
-def drawn_range(setting: typing.Any, dice: typing.Any) -> typing.Any:
-    """Returns the words of a range, its first and last id, and the number of steps of a line."""
+def drawn_range(setting: model.Setting, dice: random.Random) -> Range:
+    """Returns a range of the ids of a run."""
     count = setting.walks + setting.ends
     first = dice.randrange(count)
     last = dice.choice([first, dice.randrange(first, count), count - 1])
     ids = str(first) if first == last and dice.random() < 0.5 else f"{first}-{last}"
     thin = dice.choice([1, 7, 50, 1000, 10**9, setting.steps, setting.hub_steps])
-    return ["--ids", ids, "--thin", str(thin)], first, last, thin
+    return Range(["--ids", ids, "--thin", str(thin)], first, last, thin)
 
 
-def answer(
-    program: typing.Any, command: typing.Any, words: typing.Any, graph: typing.Any
-) -> typing.Any:
+def answer(program: str, command: str, words: Sequence[str], graph: bytes) -> tuple[int, str, str]:
     ended = subprocess.run([program, command, *words], input=graph, capture_output=True)
     return ended.returncode, ended.stdout.decode(), ended.stderr.decode()
 
 
-def sections(text: typing.Any) -> typing.Any:
+def sections(text: str) -> dict[int, list[list[str]]]:
     """The lines of each trajectory of a trace, by its id."""
-    found: typing.Dict[typing.Any, typing.Any]
-    found, lines = {}, None
+    found: dict[int, list[list[str]]] = {}
+    lines: list[list[str]] | None = None
     for line in text.splitlines()[:-1]:
         if line.startswith("trace id "):
             lines = found.setdefault(int(line.split()[2]), [])
@@ -64,21 +75,19 @@ def sections(text: typing.Any) -> typing.Any:
     return found
 
 
-def against_report(
-    job: typing.Any, text: typing.Any, report: typing.Any, thin: typing.Any
-) -> typing.Any:
+def against_report(job: model.Job, text: str, report: str, thin: int) -> str | None:
     """Returns the first disagreement of a trace with the report of its words, or None."""
     setting, start = job.setting, tuple(job.plan)
-    counts: typing.Dict[typing.Any, typing.Any]
-    moves, counts = {}, {}
+    moves: dict[int, str] = {}
+    counts: dict[int, list[int]] = {}
     for words in map(str.split, report.splitlines()):
         if words[0] == "walk":
             moves[int(words[1])] = words[3]
             counts.setdefault(int(words[1]), []).append(int(words[words.index("count") + 1]))
-    for id, lines in sections(text).items():
-        if id < setting.walks and moves[id] != lines[-1][1]:
-            return f"walk {id}: {lines[-1][1]} moves, and the report has {moves[id]}"
-        if id < setting.walks and thin == 1:
+    for number, lines in sections(text).items():
+        if number < setting.walks and moves[number] != lines[-1][1]:
+            return f"walk {number}: {lines[-1][1]} moves, and the report has {moves[number]}"
+        if number < setting.walks and thin == 1:
             starts = [job.value(start, score) for score, _ in setting.asks]
             found = [
                 sum(
@@ -91,8 +100,8 @@ def against_report(
                 )
                 for k, (_, tail) in enumerate(setting.asks)
             ]
-            if found != counts[id]:
-                return f"walk {id}: counts {found}, and the report has {counts[id]}"
+            if found != counts[number]:
+                return f"walk {number}: counts {found}, and the report has {counts[number]}"
     return None
 
 
@@ -105,14 +114,14 @@ def main() -> None:
     parser.add_argument(
         "--also", default="", help="words of rules for each job, as '--region county --max-split 3'"
     )
-    told = parser.parse_args()
-    dice, same, unlike = random.Random(told.seed), 0, 0
-    with open(told.graph, "rb") as file:
+    given = parser.parse_args()
+    dice, same, unlike = random.Random(given.seed), 0, 0
+    with open(given.graph, "rb") as file:
         graph = file.read()
-    for _ in range(told.jobs):
+    for _ in range(given.jobs):
         words = (
-            drawn_words([told.pop, told.first, told.second, told.district, told.slack], dice)
-            + told.also.split()
+            drawn_words([given.pop, given.first, given.second, given.district, given.slack], dice)
+            + given.also.split()
         )
         setting = model.Setting(["run", *words])
         try:
@@ -120,16 +129,18 @@ def main() -> None:
         except model.Refused:
             unlike += 1
             continue
-        more, first, last, thin = drawn_range(setting, dice)
-        found = answer(told.program, "trace", [*words, *more], graph)
-        wanted = model.trace_text(job, first, last, thin)
+        ids = drawn_range(setting, dice)
+        all_words = [*words, *ids.words]
+        found = answer(given.program, "trace", all_words, graph)
+        wanted = model.trace_text(job, ids.first, ids.last, ids.thin)
         if found != (0, wanted, ""):
-            sys.exit(f"differs: {' '.join([*words, *more])}\n{found[1]}{found[2]}\nnot\n{wanted}")
-        fault = against_report(job, found[1], answer(told.program, "run", words, graph)[1], thin)
+            sys.exit(f"differs: {' '.join(all_words)}\n{found[1]}{found[2]}\nnot\n{wanted}")
+        report = answer(given.program, "run", words, graph)[1]
+        fault = against_report(job, found[1], report, ids.thin)
         if fault:
-            sys.exit(f"{fault}: {' '.join([*words, *more])}")
+            sys.exit(f"{fault}: {' '.join(all_words)}")
         same += 1
-    print(f"{same} traces of {told.graph} are as the model says; {unlike} drawn jobs are refused")
+    print(f"{same} traces of {given.graph} are as the model says; {unlike} drawn jobs are refused")
 
 
 if __name__ == "__main__":

@@ -10,8 +10,10 @@ run that differs, with what is needed to make it again, and at the end how many 
 which status, and how many different notes there were. Ends with 1 where a run differed.
 """
 # RUN: {auditor} 300 1
+from __future__ import annotations
+
 import argparse
-import collections
+import dataclasses
 import json
 import multiprocessing
 import os
@@ -24,6 +26,8 @@ import subprocess
 import sys
 import tempfile
 import typing
+from collections import Counter
+from collections.abc import Iterable, Sequence
 
 from tests.oracle import model
 
@@ -48,16 +52,29 @@ NAMES = (
     "graph", "l",
 )
 MOST_WORK = 3000
+NO_WORDS: list[str] = []
+Node = dict[str, typing.Union[int, str]]
 
 
-def node(
-    at: typing.Any,
-    pop: typing.Any,
-    a: typing.Any,
-    b: typing.Any,
-    d: typing.Any,
-    name: typing.Any = None,
-) -> typing.Dict[typing.Any, typing.Any]:
+class Call(typing.NamedTuple):
+    """The words of a call, what it reads, and its slots."""
+
+    words: list[str]
+    data: bytes
+    slots: list[bytes | None]
+
+
+@dataclasses.dataclass
+class Found:
+    """How many runs ended with which status, the notes, and the calls that differ, with what does.
+    """
+
+    counts: Counter[int] = dataclasses.field(default_factory=Counter)
+    notes: set[str] = dataclasses.field(default_factory=set)
+    differing: list[tuple[str, Call]] = dataclasses.field(default_factory=list)
+
+
+def node(at: int, pop: int, a: int, b: int, d: int | str, name: str | None = None) -> Node:
     return {
         "pop": pop,
         "a": a,
@@ -71,8 +88,8 @@ def node(
     }
 
 
-def graph(nodes: typing.Any, edges: typing.Any, spaced: typing.Any) -> bytes:
-    places: typing.Any = {one["id"]: [] for one in nodes}
+def graph(nodes: Sequence[Node], edges: Iterable[tuple[int, int]], spaced: bool) -> bytes:
+    places: dict[int | str, list[Node]] = {one["id"]: [] for one in nodes}
     for u, v in edges:
         places[nodes[u]["id"]].append({"l": 3 * (u + v) % 7, "id": nodes[v]["id"]})
         places[nodes[v]["id"]].append({"l": 3 * (u + v) % 7, "id": nodes[u]["id"]})
@@ -86,7 +103,7 @@ def graph(nodes: typing.Any, edges: typing.Any, spaced: typing.Any) -> bytes:
     return json.dumps(whole, separators=(", ", ": ") if spaced else (",", ":")).encode()
 
 
-def grid(wide: typing.Any, high: typing.Any, chance: typing.Any) -> typing.Any:
+def grid(wide: int, high: int, chance: random.Random) -> bytes:
     units = [(row, column) for row in range(high) for column in range(wide)]
     nodes = [
         node(
@@ -104,7 +121,7 @@ def grid(wide: typing.Any, high: typing.Any, chance: typing.Any) -> typing.Any:
     return graph(nodes, edges, True)
 
 
-def good_graphs() -> typing.List[typing.Any]:
+def good_graphs() -> list[bytes]:
     chance = random.Random(7)
     path = [node(0, 1, 3, 1, 1), node(1, 1, 1, 2, 1), node(2, 1, 1, 2, 2), node(3, 1, 2, 1, 2)]
     cycle = [
@@ -120,11 +137,11 @@ def good_graphs() -> typing.List[typing.Any]:
     ]
 
 
-def good_words(chance: typing.Any) -> typing.Any:
+def good_words(chance: random.Random) -> list[str]:
     if chance.random() < 0.25:
         return [
             "check", *BASE, "--slack", chance.choice(["5000", "1000", "10000", "0"]),
-            *chance.choice([[], ["--max-cut", "2"]]), *regions(chance), *group(chance),
+            *chance.choice([NO_WORDS, ["--max-cut", "2"]]), *regions(chance), *group(chance),
             *source(chance), *lengths(chance, []),
         ]
     asks = chance.sample(sorted(model.ALL_ASKS), chance.randint(1, 4))
@@ -147,7 +164,7 @@ def good_words(chance: typing.Any) -> typing.Any:
     return words
 
 
-def regions(chance: typing.Any) -> typing.List[typing.Any]:
+def regions(chance: random.Random) -> list[str]:
     if chance.random() < 0.7:
         return []
     column = chance.choice(("r", "r", "s", "s", "d", ""))
@@ -167,7 +184,7 @@ def regions(chance: typing.Any) -> typing.List[typing.Any]:
     ]
 
 
-def group(chance: typing.Any) -> typing.Any:
+def group(chance: random.Random) -> list[str]:
     if chance.random() < 0.7:
         return []
     words = ["--group", chance.choice(("g", "g", "g", "a", "pop", ""))] + (
@@ -180,7 +197,7 @@ def group(chance: typing.Any) -> typing.Any:
     )
 
 
-def lengths(chance: typing.Any, asks: typing.Any) -> typing.List[typing.Any]:
+def lengths(chance: random.Random, asks: Sequence[str]) -> list[str]:
     """Words of lengths: most often where an ask needs them."""
     is_asked = any(ask.startswith("cut-length") for ask in asks)
     if chance.random() < (0.1 if is_asked else 0.8):
@@ -192,15 +209,15 @@ def lengths(chance: typing.Any, asks: typing.Any) -> typing.List[typing.Any]:
     )
 
 
-def source(chance: typing.Any) -> typing.List[typing.Any]:
+def source(chance: random.Random) -> list[str]:
     return ["--source", chance.choice(("yes", "yes", "no"))] if chance.random() < 0.3 else []
 
 
-def tally(chance: typing.Any) -> typing.List[typing.Any]:
+def tally(chance: random.Random) -> list[str]:
     return ["--shift", chance.choice(["yes", "yes", "yes", "no"])] if chance.random() < 0.5 else []
 
 
-def saving(chance: typing.Any) -> typing.Any:
+def saving(chance: random.Random) -> list[str]:
     words = tally(chance)
     if chance.random() < 0.9:
         words += ["--save", chance.choice(["1", "2", "3", "100"])]
@@ -217,39 +234,39 @@ def saving(chance: typing.Any) -> typing.Any:
 # ---- what is broken
 
 
-def broken_bytes(data: typing.Any, chance: typing.Any, tokens: typing.Any) -> bytes:
+def broken_bytes(data: bytes, chance: random.Random, tokens: Sequence[str]) -> bytes:
     """The bytes with a few changes."""
-    data = bytearray(data)
+    text = bytearray(data)
     for _ in range(chance.choice((1, 1, 1, 2, 3, 8))):
-        at = chance.randrange(len(data) + 1)
-        end = min(len(data), at + chance.choice((1, 1, 2, 4, 8, 40)))
+        at = chance.randrange(len(text) + 1)
+        end = min(len(text), at + chance.choice((1, 1, 2, 4, 8, 40)))
         kind = chance.randrange(8)
-        if kind == 0 and at < len(data):
-            data[at] ^= 1 << chance.randrange(8)
-        elif kind == 1 and at < len(data):
-            data[at] = chance.randrange(256)
+        if kind == 0 and at < len(text):
+            text[at] ^= 1 << chance.randrange(8)
+        elif kind == 1 and at < len(text):
+            text[at] = chance.randrange(256)
         elif kind == 2:
-            del data[at:end]
+            del text[at:end]
         elif kind == 3:
-            data[at:at] = data[at:end]
+            text[at:at] = text[at:end]
         elif kind == 4:
-            other = chance.randrange(len(data) + 1)
-            data[at:end] = data[other:other + end - at]
+            other = chance.randrange(len(text) + 1)
+            text[at:end] = text[other:other + end - at]
         elif kind == 5 and chance.random() < 0.3:
-            del data[at:]
+            del text[at:]
         elif tokens:
-            data[at:end if kind == 6 else at] = chance.choice(tokens).encode()
+            text[at:end if kind == 6 else at] = chance.choice(tokens).encode()
         else:
-            data[at:end] = bytes(chance.choice((0, 1, 255)) for _ in range(end - at))
-    return bytes(data)
+            text[at:end] = bytes(chance.choice((0, 1, 255)) for _ in range(end - at))
+    return bytes(text)
 
 
-def tokens_of(text: typing.Any) -> typing.List[typing.Any]:
+def tokens_of(text: str) -> list[tuple[int, int]]:
     """The places of the numbers, texts and words of a JSON text."""
     return [match.span() for match in re.finditer(r'"[^"]*"|-?[0-9.eE+]+|true|false|null', text)]
 
 
-def broken_json(data: typing.Any, chance: typing.Any) -> typing.Any:
+def broken_json(data: bytes, chance: random.Random) -> bytes:
     """A graph with some values, keys or entries changed, which mostly is JSON still."""
     if chance.random() < 0.35:
         return broken_bytes(data, chance, TOKENS)
@@ -286,7 +303,7 @@ def broken_json(data: typing.Any, chance: typing.Any) -> typing.Any:
     return text.encode()
 
 
-def sealed_anew(data: typing.Any, chance: typing.Any) -> typing.Any:
+def sealed_anew(data: bytes, chance: random.Random) -> bytes:
     """A checkpoint of which numbers are changed, and the digest at its end is right."""
     front = bytearray(data[:-32])
     for _ in range(chance.choice((1, 1, 2))):
@@ -300,20 +317,16 @@ def sealed_anew(data: typing.Any, chance: typing.Any) -> typing.Any:
     return model.sealed(bytes(front))
 
 
-def outcomes_in(data: typing.Any) -> typing.Dict[typing.Any, typing.Any]:
-    return {one[0]: (one[1], one[2:6], one[6:]) for one in model.decoded(data).records}
-
-
-def aged(data: typing.Any) -> typing.Any:
+def aged(data: bytes) -> bytes:
     """A good checkpoint in the first version of the format."""
-    return model.checkpoint(data[12:44], data[47], outcomes_in(data), 1)
+    return model.checkpoint(data[12:44], data[47], model.outcomes_in(model.decoded(data)), 1)
 
 
-def with_histogram(data: typing.Any, chance: typing.Any) -> typing.Any:
+def with_histogram(data: bytes, chance: random.Random) -> bytes:
     """A good checkpoint of which one outcome has other bins: none, some that add up as they have
     to, or that do so but for a multiple of 2^32.
     """
-    found = outcomes_in(data)
+    found = model.outcomes_in(model.decoded(data))
     if not found:
         return data
     one = chance.choice(sorted(found))
@@ -328,11 +341,11 @@ def with_histogram(data: typing.Any, chance: typing.Any) -> typing.Any:
                 [2**32 - 1] * 9, [0] * 8 + [visits],
             )
         )
-    found[one] = (*found[one][:2], bins)
+    found[one] = found[one]._replace(bins=bins)
     return model.checkpoint(data[12:44], data[47], found)
 
 
-def broken_slot(data: typing.Any, chance: typing.Any) -> typing.Any:
+def broken_slot(data: bytes | None, chance: random.Random) -> bytes | None:
     if data is None or chance.random() < 0.05:
         return chance.choice(
             (
@@ -348,11 +361,11 @@ def broken_slot(data: typing.Any, chance: typing.Any) -> typing.Any:
         return with_histogram(data, chance)
     if kind < 0.3:
         data = aged(data)
-    return sealed_anew(data, chance) if chance.random() < 0.5 else broken_bytes(data, chance, None)
+    return sealed_anew(data, chance) if chance.random() < 0.5 else broken_bytes(data, chance, ())
 
 
-def broken_words(words: typing.Any, chance: typing.Any) -> typing.List[typing.Any]:
-    words = words[:]
+def broken_words(good: Sequence[str], chance: random.Random) -> list[str]:
+    words = list(good)
     for _ in range(chance.choice((1, 1, 2))):
         at = chance.randrange(len(words) + 1)
         kind = chance.randrange(7)
@@ -395,9 +408,10 @@ def broken_words(words: typing.Any, chance: typing.Any) -> typing.List[typing.An
 # ---- one run
 
 
-def drawn(chance: typing.Any, graphs: typing.Any) -> typing.Any:
+def drawn(chance: random.Random, graphs: Sequence[bytes]) -> Call:
     """Words, a graph and slots, some of them broken."""
-    data, words, slots = chance.choice(graphs), good_words(chance), [None, None]
+    data, words = chance.choice(graphs), good_words(chance)
+    slots: list[bytes | None] = [None, None]
     kind = chance.choice(("graph", "graph", "slots", "slots", "words", "chain", "all"))
     if words[0] == "run" and kind != "graph":
         if kind in ("slots", "chain", "all") or chance.random() < 0.3:
@@ -410,7 +424,7 @@ def drawn(chance: typing.Any, graphs: typing.Any) -> typing.Any:
                 )
                 start = [*start[:4], "--resume", "yes"]
         if chance.random() < 0.15:
-            slots = [data and aged(data) for data in slots]
+            slots = [slot and aged(slot) for slot in slots]
         words += saving(chance)
         if kind in ("slots", "all"):
             for at in chance.choice(((0,), (1,), (0, 1))):
@@ -421,10 +435,10 @@ def drawn(chance: typing.Any, graphs: typing.Any) -> typing.Any:
         data = broken_json(data, chance)
     if kind in ("words", "all"):
         words = broken_words(words, chance)
-    return words, data, slots
+    return Call(words, data, slots)
 
 
-def is_small(words: typing.Any) -> typing.Any:
+def is_small(words: Sequence[str]) -> bool:
     try:
         setting = model.Setting(words)
     except model.Refused:
@@ -442,8 +456,8 @@ def limit_memory() -> None:
 
 
 def run_program(
-    program: typing.Any, words: typing.Any, data: typing.Any, folder: typing.Any
-) -> typing.Any:
+    program: str, words: Sequence[str], data: bytes, folder: str
+) -> tuple[int, bytes, bytes]:
     """The status, both texts, and both files after the run."""
     done = subprocess.run(
         [program, *words], input=data, stdout=subprocess.PIPE, stderr=subprocess.PIPE, cwd=folder,
@@ -452,15 +466,15 @@ def run_program(
     return done.returncode, done.stdout, done.stderr
 
 
-def files(folder: typing.Any) -> typing.Any:
-    slots = []
+def files(folder: str) -> list[bytes | None]:
+    slots: list[bytes | None] = []
     for at in (0, 1):
         path = f"{folder}/audit-{at}.ckpt"
         slots.append(open(path, "rb").read() if os.path.exists(path) else None)
     return slots
 
 
-def hold(folder: typing.Any, slots: typing.Any) -> None:
+def place_files(folder: str, slots: model.Slots) -> None:
     for at, data in enumerate(slots):
         path = f"{folder}/audit-{at}.ckpt"
         if data is not None:
@@ -470,84 +484,79 @@ def hold(folder: typing.Any, slots: typing.Any) -> None:
             os.remove(path)
 
 
-def differs(
-    program: typing.Any, folder: typing.Any, words: typing.Any, data: typing.Any, slots: typing.Any
-) -> typing.Any:
+def differs(program: str, folder: str, call: Call) -> tuple[str | None, model.End]:
     """None where the program does as the model says, else what differs; and the end that the model
     says.
     """
-    wanted = model.audit(words, data, slots)
-    hold(folder, slots)
+    wanted = model.audit(*call)
+    place_files(folder, call.slots)
     try:
-        status, out, note = run_program(program, words, data, folder)
+        status, out, note = run_program(program, call.words, call.data, folder)
     except subprocess.TimeoutExpired:
         return "no end within 20 seconds", wanted
     after = files(folder)
     if status != wanted.status:
-        return f"status {status} and not {wanted.status}: {note[:200]}", wanted
+        return f"status {status} and not {wanted.status}: {note[:200]!r}", wanted
     if out != wanted.out.encode():
-        return f"output {out[:300]} and not {wanted.out.encode()[:300]}", wanted
+        return f"output {out[:300]!r} and not {wanted.out.encode()[:300]!r}", wanted
     if note != wanted.note.encode("utf-8", "surrogateescape"):
-        return f"note {note[:200]} and not {wanted.note.encode()[:200]}", wanted
-    is_told = "--workers" not in words or status in (1, 2, 8)
-    if is_told and after != wanted.slots:
+        return f"note {note[:200]!r} and not {wanted.note.encode()[:200]!r}", wanted
+    is_known = "--workers" not in call.words or status in (1, 2, 8)
+    if is_known and after != wanted.slots:
         return "the files differ", wanted
     return None, wanted
 
 
-def work(program: typing.Any, runs: typing.Any, seed: typing.Any) -> typing.Any:
-    """Makes runs, and answers how many ended with which status, the notes, and what differed."""
+def work(program: str, runs: int, seed: int) -> Found:
+    """Makes runs, and returns what was found in them."""
     os.nice(19)
     limit_memory()
-    chance, graphs = random.Random(seed), good_graphs()
-    counts: typing.Any
-    counts, notes, found = collections.Counter(), set(), []
+    chance, graphs, found = random.Random(seed), good_graphs(), Found()
     folder = tempfile.mkdtemp()
     for _ in range(runs):
-        words, data, slots = drawn(chance, graphs)
-        if not is_small(words):
-            data = b""
-            if words and words[0] == "make":
+        call = drawn(chance, graphs)
+        if not is_small(call.words):
+            call = call._replace(data=b"")
+            if call.words and call.words[0] == "make":
                 continue
-        why, wanted = differs(program, folder, words, data, slots)
-        counts[wanted.status] += 1
-        notes.add(wanted.note)
+        why, wanted = differs(program, folder, call)
+        found.counts[wanted.status] += 1
+        found.notes.add(wanted.note)
         if why:
-            found.append((why, words, data, slots))
+            found.differing.append((why, call))
     shutil.rmtree(folder)
-    return counts, notes, found
+    return found
 
 
-def main(program: typing.Any, runs: int = 1000, seed: int = 1, processes: int = 2) -> int:
-    program, runs, seed, processes = os.path.abspath(program), int(runs), int(seed), int(processes)
-    share = 500
-    counts: typing.Any
-    counts, notes, found = collections.Counter(), set(), []
+def main(program: str, runs: int = 1000, seed: int = 1, processes: int = 2) -> int:
+    program, share, all_found = os.path.abspath(program), 500, Found()
     with multiprocessing.Pool(processes) as pool:
         jobs = [
             pool.apply_async(work, (program, min(share, runs - at), seed * 1000003 + at))
             for at in range(0, runs, share)
         ]
         for done, job in enumerate(jobs):
-            more, said, differing = job.get()
-            counts.update(more)
-            notes |= said
-            found += differing
-            for why, words, data, slots in differing:
+            found = job.get()
+            all_found.counts.update(found.counts)
+            all_found.notes |= found.notes
+            all_found.differing += found.differing
+            for why, call in found.differing:
                 print(
-                    "DIFFERS:", why, "\n words", words, "\n graph", data, "\n slots",
-                    [slot and slot.hex() for slot in slots], flush=True,
+                    "DIFFERS:", why, "\n words", call.words, "\n graph", call.data, "\n slots",
+                    [slot and slot.hex() for slot in call.slots], flush=True,
                 )
             if done % 20 == 19:
                 print(
-                    f"{sum(counts.values())} runs, {len(found)} differ", file=sys.stderr, flush=True
+                    f"{sum(all_found.counts.values())} runs, {len(all_found.differing)} differ",
+                    file=sys.stderr, flush=True,
                 )
+    counts, differing = all_found.counts, len(all_found.differing)
     ended = ", ".join(f"{count} with status {status}" for status, count in sorted(counts.items()))
     print(
-        f"{sum(counts.values())} runs, {ended}; {len(notes)} different notes; {len(found)} differ"
-        " from the model"
+        f"{sum(counts.values())} runs, {ended}; {len(all_found.notes)} different notes; {differing}"
+        " differ from the model"
     )
-    return 1 if found else 0
+    return 1 if differing else 0
 
 
 def arguments() -> argparse.Namespace:
