@@ -13,14 +13,17 @@ second prints, by a plain loop over the draws. Prints one line, and one for each
 so; ends with 1 where there is one.
 """
 # RUN: {auditor}
+from __future__ import annotations
+
 import argparse
 import json
 import os
 import resource
 import subprocess
 import sys
-import typing
+from collections.abc import Callable, Iterator, Sequence
 
+from tests.checks import End
 from tests.oracle import model
 from tests.places import DATA
 
@@ -34,32 +37,37 @@ SECONDS = 60
 # Runs that are alike but for the number of regions: how many steps, units and moves, how often each
 # is made, and how many times the time of the one in few regions the other may take.
 FEW_STEPS, FEW_UNITS, FEW_MOVES, TRIES, MOST_TIMES = 1000000, 10000, 499203, 3, 6
+# A node of a graph, or the entry of a neighbor: its values by their columns.
+Node = dict[str, int]
 
 
 # ---- the inputs
 
 
-def graph(nodes: typing.Any, adjacency: typing.Any) -> bytes:
+def graph(nodes: Sequence[Node], adjacency: Sequence[Sequence[Node]]) -> bytes:
     return json.dumps({"nodes": nodes, "adjacency": adjacency}, separators=(",", ":")).encode()
 
 
-def node(
-    at: typing.Any, district: typing.Any, region: int = 0
-) -> typing.Dict[typing.Any, typing.Any]:
+def node(at: int, district: int, region: int = 0) -> Node:
     return {"id": at, "pop": 1, "a": 1, "b": 1, "d": district, "r": region}
 
 
-def path(count: typing.Any, district: typing.Any) -> typing.Any:
+def path(count: int, district: Callable[[int], int]) -> bytes:
     return graph(
         [node(at, district(at)) for at in range(count)],
         [[{"id": at + 1}] if at + 1 < count else [] for at in range(count)],
     )
 
 
-def dense(edges: typing.Any, units: int = 895) -> typing.Any:
+def halves_of(count: int) -> Callable[[int], int]:
+    """Returns the district of each unit, of two: a unit too many is in the second."""
+    return lambda at: min(at // (count // 2), 1)
+
+
+def dense(edges: int, units: int = 895) -> bytes:
     """Returns as many edges: pairs of units one apart, then pairs two apart, and so on."""
-    adjacency: typing.Any
-    adjacency, left = [[] for _ in range(units)], edges
+    adjacency: list[list[Node]] = [[] for _ in range(units)]
+    left = edges
     for step in range(1, units):
         for unit in range(min(left, units - step)):
             adjacency[unit].append({"id": unit + step})
@@ -67,20 +75,20 @@ def dense(edges: typing.Any, units: int = 895) -> typing.Any:
     return graph([node(at, at * 2 // units) for at in range(units)], adjacency)
 
 
-def two_hubs(units: typing.Any = UNITS) -> typing.Any:
+def two_hubs(units: int = UNITS) -> bytes:
     """Two units that are neighbours, each in a district of its own, and others, each of which has
     these two as its neighbours, by turns in one district and in the other. Each of the others may
     change its district at any time, and the first two never may. One column has 5000 regions,
     another five.
     """
-    adjacency = [[{"id": 1}], [], *[[{"id": 0}, {"id": 1}]] * (units - 2)]
+    adjacency: list[list[Node]] = [[{"id": 1}], [], *[[{"id": 0}, {"id": 1}]] * (units - 2)]
     return graph(
         [{**node(at, at % 2, at * 5000 // units), "few": at * 5 // units} for at in range(units)],
         adjacency,
     )
 
 
-def moves(units: typing.Any, steps: typing.Any) -> typing.Any:
+def moves(units: int, steps: int) -> int:
     """Returns the number of steps of a run on this graph that move a unit."""
     plan, moved = [at % 2 for at in range(units)], 0
     for draw in model.draws(bytes.fromhex(KEY), 0, steps):
@@ -93,15 +101,8 @@ def moves(units: typing.Any, steps: typing.Any) -> typing.Any:
 # ---- what they print
 
 
-def checked(
-    units: typing.Any,
-    edges: typing.Any,
-    districts: typing.Any,
-    low: typing.Any,
-    high: typing.Any,
-    more: str = "",
-) -> typing.Any:
-    return (
+def checked(units: int, edges: int, districts: int, low: int, high: int, more: str = "") -> End:
+    return End(
         0,
         (
             f"plan-check 1\nunits {units} edges {edges} districts {districts}\npopulation"
@@ -111,16 +112,11 @@ def checked(
     )
 
 
-def refused(note: typing.Any) -> typing.Any:
-    return 2, "", f"graph: {note}\n"
+def refused(note: str) -> End:
+    return End(2, "", f"graph: {note}\n")
 
 
-def walked(
-    units: typing.Any = UNITS,
-    regions: int = 5000,
-    steps: typing.Any = STEPS,
-    moved: typing.Any = MOVES,
-) -> typing.Any:
+def walked(units: int = UNITS, regions: int = 5000, steps: int = STEPS, moved: int = MOVES) -> End:
     head = (
         f"district-audit 1\nkey {KEY}\nunits {units} edges {2 * units - 3} districts 2\npopulation"
         f" {units} slack 10000 low 0 high {units}\nmax-split 2 regions {regions}\nmax-splits 5000"
@@ -131,10 +127,10 @@ def walked(
         f"walk 0 moved {moved} cut-edges low start {units - 1}/1 count {steps + 1} of"
         f" {steps + 1} bound 1.414213563\n"
     )
-    return 0, head + line + "end\n", ""
+    return End(0, head + line + "end\n", "")
 
 
-def stopped() -> typing.Any:
+def stopped() -> End:
     """Returns the place at which each test stops, if all ends have the start's value."""
     lines = [
         "seats low start 1/1", "mean-median high start 0/4000000000", "gap low start 0/4",
@@ -144,7 +140,7 @@ def stopped() -> typing.Any:
         f"district-audit 1\nkey {KEY}\nunits 2 edges 1 districts 2\npopulation 2 slack 5000 low 1"
         f" high 1\nwalks 0 steps 1 ends {ENDS} hub-steps 1\nstop {ENDS}\n"
     )
-    return (
+    return End(
         0,
         head
         + "".join(f"stop {line} place {ENDS} value {ENDS}/{ENDS} p 1.000000000\n" for line in lines)
@@ -153,7 +149,7 @@ def stopped() -> typing.Any:
     )
 
 
-def cases() -> typing.Iterator[typing.Any]:
+def cases() -> Iterator[tuple[str, list[str], bytes, End]]:
     """The name of each input, the words, the input, and its end."""
     most = 67108864
     for more in (0, 1):
@@ -180,12 +176,10 @@ def cases() -> typing.Iterator[typing.Any]:
             if count == 5000
             else refused("5001 regions, more than 5000")
         )
-        yield f"{count} regions", [*CHECK, "--region", "id"], path(
-            count, lambda at, half=count // 2: min(at // half, 1)
-        ), own
+        yield f"{count} regions", [*CHECK, "--region", "id"], path(count, halves_of(count)), own
     for most, note in ((199, ""), (198, "plan: 199 splits of regions, more than 198\n")):
         own = (
-            (2, "", note)
+            End(2, "", note)
             if note
             else checked(
                 200,
@@ -204,7 +198,7 @@ def cases() -> typing.Iterator[typing.Any]:
         (199, "plan: 200 regions lie in more than one district, more than 199\n"),
     ):
         own = (
-            (2, "", note)
+            End(2, "", note)
             if note
             else checked(
                 400,
@@ -235,7 +229,7 @@ def cases() -> typing.Iterator[typing.Any]:
     yield "three million steps", walk("r", STEPS), two_hubs(), walked()
 
 
-def walk(region: typing.Any, steps: typing.Any) -> typing.List[typing.Any]:
+def walk(region: str, steps: int) -> list[str]:
     """The words of a run by all rules whose regions are those of this column."""
     return [
         "run", *COLUMNS, "10000", "--key", KEY, "--steps", str(steps), "--ask", "cut-edges:low",
@@ -244,23 +238,23 @@ def walk(region: typing.Any, steps: typing.Any) -> typing.List[typing.Any]:
     ]
 
 
-def ended(program: typing.Any, words: typing.Any, given: typing.Any) -> typing.Any:
+def ended(program: str, words: Sequence[str], given: bytes) -> End:
     try:
         end = subprocess.run(
             [program, *words], input=given, capture_output=True, timeout=SECONDS, check=False
         )
     except subprocess.TimeoutExpired:
-        return f"nothing after {SECONDS} seconds", "", ""
-    return end.returncode, end.stdout.decode(), end.stderr.decode()
+        return End(124, "", f"nothing after {SECONDS} seconds")
+    return End(end.returncode, end.stdout.decode(), end.stderr.decode())
 
 
-def times(program: typing.Any) -> typing.Any:
+def times(program: str) -> tuple[float, str]:
     """Returns the processor time of a run in 5000 regions as a multiple of one in few, and what is
-    wrong. Each is made several times, by turns, and the least time of each counts, since others may
-    use the processor beside it.
+    wrong, if something is. Each is made several times, by turns, and the least time of each counts,
+    since others may use the processor beside it.
     """
-    least: typing.Dict[typing.Any, typing.Any]
-    given, least = two_hubs(FEW_UNITS), {}
+    given = two_hubs(FEW_UNITS)
+    least: dict[str, float] = {}
     for region, regions in [("few", 5), ("r", 5000)] * TRIES:
         before = resource.getrusage(resource.RUSAGE_CHILDREN).ru_utime
         found = ended(program, walk(region, FEW_STEPS), given)
@@ -270,10 +264,10 @@ def times(program: typing.Any) -> typing.Any:
         )
         if found != walked(FEW_UNITS, regions, FEW_STEPS, FEW_MOVES):
             return 0, f"a million steps in {regions} regions: {str(found)[:300]}"
-    return least["r"] / least["few"], None
+    return least["r"] / least["few"], ""
 
 
-def main(program: typing.Any) -> int:
+def main(program: str) -> int:
     if program == "walk":
         print(moves(UNITS, STEPS), moves(FEW_UNITS, FEW_STEPS))
         return 0
@@ -283,10 +277,10 @@ def main(program: typing.Any) -> int:
         if found != wanted:
             print(f"WRONG: {name}: {str(found)[:300]} and not {str(wanted)[:300]}")
             wrong += 1
-    more, told = times(program)
-    if told or more > MOST_TIMES:
+    more, fault = times(program)
+    if fault or more > MOST_TIMES:
         slow = f"a run in 5000 regions takes {more:.1f} times the time of one in five"
-        print(f"WRONG: {told or f'{slow}, and not at most {MOST_TIMES}'}")
+        print(f"WRONG: {fault or f'{slow}, and not at most {MOST_TIMES}'}")
         wrong += 1
     print(f"{count + 1} inputs at the limits, {wrong} not as they have to be")
     return 1 if wrong else 0

@@ -18,7 +18,10 @@ where strace cannot trace.
 """
 # RUN: {auditor} 150 1
 # NEEDS: strace
+from __future__ import annotations
+
 import argparse
+import dataclasses
 import itertools
 import os
 import pathlib
@@ -28,6 +31,7 @@ import subprocess
 import sys
 import tempfile
 import typing
+from collections.abc import Iterable, Iterator, Sequence
 from concurrent.futures import ThreadPoolExecutor
 
 from tests.oracle import model
@@ -52,7 +56,7 @@ HARMLESS = {
 # ---- the calls of a run
 
 
-def bytes_in(said: typing.Any) -> typing.Any:
+def bytes_in(said: str) -> bytes:
     """The bytes of the first text of a call, which strace shows as hexadecimal digits."""
     found = TEXT.search(said)
     if found is None or found[2]:
@@ -60,9 +64,9 @@ def bytes_in(said: typing.Any) -> typing.Any:
     return bytes.fromhex(found[1].replace("\\x", ""))
 
 
-def whole_lines(text: typing.Any) -> typing.Iterator[typing.Any]:
+def whole_lines(text: str) -> Iterator[str]:
     """The lines of a trace; a call that another thread's cut in two is one line again."""
-    begun = {}
+    begun: dict[str, str] = {}
     for line in text.splitlines():
         process = line.split(None, 1)[0]
         if line.endswith("<unfinished ...>"):
@@ -73,21 +77,34 @@ def whole_lines(text: typing.Any) -> typing.Iterator[typing.Any]:
             yield line
 
 
-Step = typing.Tuple[typing.Any, ...]
+# The bytes of both files, or None where a file is absent.
+State = tuple[typing.Optional[bytes], typing.Optional[bytes]]
+FOLDER = -1
+
+
+class Step(typing.NamedTuple):
+    """What a call does: to which file, by its place in NAMES, or to the folder; of a write and of a
+    cut to a length also where; and of a write with which bytes.
+    """
+
+    what: str
+    file: int
+    place: int = 0
+    data: bytes = b""
 
 
 class Replay:
     """The open files of a traced run, by the numbers that the system gave them."""
 
     def __init__(self) -> None:
-        self.files: typing.Dict[int, int] = {}
+        self.files: dict[int, int] = {}
         """The two files that are written, by their places in NAMES."""
-        self.read: typing.Dict[int, int] = {}
-        self.at: typing.Dict[int, int] = {}
+        self.read: dict[int, int] = {}
+        self.at: dict[int, int] = {}
         """The place in each written file at which the next byte is written."""
-        self.folders: typing.Set[int] = set()
+        self.folders: set[int] = set()
 
-    def steps(self, line: str) -> typing.Iterator[Step]:
+    def steps(self, line: str) -> Iterator[Step]:
         """Yields what a line of the trace does to the files and to their folder."""
         found = CALL.match(line)
         if not found:
@@ -103,14 +120,14 @@ class Replay:
         elif call in ("fsync", "fdatasync") and answer == 0:
             yield from self.synced(call, number)
         elif call == "write" and number in self.files and answer >= 0:
-            yield "write", self.files[number], self.at[number], bytes_in(said)[:answer]
+            yield Step("write", self.files[number], self.at[number], bytes_in(said)[:answer])
             self.at[number] += answer
         elif call == "ftruncate" and number in self.files and answer == 0:
-            yield "cut", self.files[number], int(said.split(",")[1])
+            yield Step("cut", self.files[number], int(said.split(",")[1]))
         elif answer >= 0 and call not in ("fsync", "fdatasync", *HARMLESS):
             self.refuse_unknown(line, said, number)
 
-    def opened(self, said: str, answer: int) -> typing.Iterator[Step]:
+    def opened(self, said: str, answer: int) -> Iterator[Step]:
         name = bytes_in(said).decode() if answer >= 0 else ""
         if name == ".":
             self.folders.add(answer)
@@ -121,23 +138,23 @@ class Replay:
             self.read[answer] = file
             return
         self.files[answer], self.at[answer] = file, 0
-        yield "make" if "O_EXCL" in said else "open", file
+        yield Step("make" if "O_EXCL" in said else "open", file)
         if "O_TRUNC" in said:
-            yield "cut", file, 0
+            yield Step("cut", file)
 
-    def closed(self, number: int) -> typing.Iterator[Step]:
+    def closed(self, number: int) -> Iterator[Step]:
         if number in self.files:
-            yield "close", self.files.pop(number)
+            yield Step("close", self.files.pop(number))
         else:
             self.folders.discard(number)
             self.read.pop(number, None)
 
-    def synced(self, call: str, number: int) -> typing.Iterator[Step]:
+    def synced(self, call: str, number: int) -> Iterator[Step]:
         file = self.files.get(number, self.read.get(number))
         if file is not None:
-            yield "sync", file
+            yield Step("sync", file)
         elif call == "fsync" and number in self.folders:
-            yield "sync folder", None
+            yield Step("sync folder", FOLDER)
 
     def refuse_unknown(self, line: str, said: str, number: int) -> None:
         """Raises ValueError for a call on one of the files that cannot be replayed."""
@@ -146,17 +163,14 @@ class Replay:
             raise ValueError(f"a call that this script cannot replay: {line[:100]}")
 
 
-def calls_of(text: str) -> typing.Iterator[Step]:
-    """Yields what a run did to the two files and to their folder, in turn.
-
-    A step says what was done, to which file, and where and with which bytes.
-    """
+def calls_of(text: str) -> Iterator[Step]:
+    """Yields what a run did to the two files and to their folder, in turn."""
     replay = Replay()
     for line in whole_lines(text):
         yield from replay.steps(line)
 
 
-def placed(folder: typing.Any, slots: typing.Any) -> None:
+def placed(folder: pathlib.Path, slots: model.Slots) -> None:
     folder.mkdir()
     for name, data in zip(NAMES, slots):
         if data is not None:
@@ -164,8 +178,8 @@ def placed(folder: typing.Any, slots: typing.Any) -> None:
 
 
 def traced(
-    program: typing.Any, folder: typing.Any, words: typing.Any, slots: typing.Any
-) -> typing.List[typing.Any]:
+    program: str, folder: pathlib.Path, words: Sequence[str], slots: model.Slots
+) -> list[Step]:
     """The calls of a run over files with these bytes."""
     placed(folder, slots)
     trace = folder.with_suffix(".trace")
@@ -204,22 +218,24 @@ class File:
     """
 
     def __init__(self) -> None:
-        self.now: typing.Optional[bytes] = None
-        self.stored: typing.Optional[bytes] = b""
-        self.pending: typing.List[typing.Any] = []
+        self.now: bytes | None = None
+        self.stored = b""
+        self.pending: list[Step] = []
         self.is_named = False
 
     def make(self) -> None:
         self.now = b""
 
-    def change(self, step: typing.Any) -> None:
+    def change(self, step: Step) -> None:
+        assert self.now is not None
         self.pending.append(step)
         self.now = after(self.now, [step])
 
     def sync(self) -> None:
+        assert self.now is not None
         self.stored, self.pending = self.now, []
 
-    def states(self, draw: typing.Any, drawn: typing.Any) -> typing.Any:
+    def states(self, draw: random.Random, drawn: int) -> set[bytes | None]:
         """Returns the texts that may be there if the power is cut now, None for no file."""
         if self.now is None:
             return {None}
@@ -232,15 +248,15 @@ class File:
             [step for step in steps if draw.random() < 0.5]
             for _ in range(drawn if len(steps) > 2 else 0)
         ]
-        found = {after(self.stored, some) for some in chosen}
+        found: set[bytes | None] = {after(self.stored, some) for some in chosen}
         return found if self.is_named else found | {None}
 
 
-def after(data: typing.Any, steps: typing.Any) -> typing.Any:
+def after(data: bytes, steps: Sequence[Step]) -> bytes:
     """The bytes after these steps: cuts to a length, writes at a place, and lengths without bytes
     of their own.
     """
-    for what, place, more in steps:
+    for what, _, place, more in steps:
         if what == "cut":
             data = data[:place].ljust(place, b"\0")
         else:
@@ -248,11 +264,11 @@ def after(data: typing.Any, steps: typing.Any) -> typing.Any:
     return data
 
 
-def pieces(step: typing.Any, draw: typing.Any) -> typing.Any:
+def pieces(step: Step, draw: random.Random) -> list[Step]:
     """The parts of a step that may be stored each without the others: of a write its length, as
     zeros and as other bytes, and pieces of its bytes.
     """
-    what, place, data = step
+    what, file, place, data = step
     if what == "cut" or not data:
         return [step]
     marks = sorted(
@@ -262,8 +278,10 @@ def pieces(step: typing.Any, draw: typing.Any) -> typing.Any:
         }
     )
     marks = [mark for mark in marks if 0 <= mark <= len(data)]
-    length = [("write", place + len(data) - 1, bytes([byte])) for byte in (0, 0xA5)]
-    return length + [("write", place + low, data[low:high]) for low, high in zip(marks, marks[1:])]
+    length = [Step("write", file, place + len(data) - 1, bytes([byte])) for byte in (0, 0xA5)]
+    return length + [
+        Step("write", file, place + low, data[low:high]) for low, high in zip(marks, marks[1:])
+    ]
 
 
 class Disk:
@@ -272,31 +290,30 @@ class Disk:
     def __init__(self) -> None:
         self.files, self.done = (File(), File()), 0
 
-    def take(self, call: typing.Any) -> None:
+    def take(self, call: Step) -> None:
         """Takes a call as done."""
-        what, number, *rest = call
-        if what == "sync folder":
+        if call.what == "sync folder":
             for file in self.files:
                 file.is_named = file.now is not None
             return
-        file = self.files[number]
-        if what == "make":
+        file = self.files[call.file]
+        if call.what == "make":
             file.make()
-        elif what in ("cut", "write"):
-            file.change((what, rest[0], rest[1] if what == "write" else None))
-        elif what == "sync":
+        elif call.what in ("cut", "write"):
+            file.change(call)
+        elif call.what == "sync":
             file.sync()
-        elif what == "close":
+        elif call.what == "close":
             self.done = outcomes(file.now)
 
-    def now(self) -> typing.Any:
-        return tuple(file.now for file in self.files)
+    def now(self) -> State:
+        return self.files[0].now, self.files[1].now
 
-    def stored(self) -> typing.Any:
+    def stored(self) -> tuple[tuple[bool, bool], ...]:
         """Returns whether each file and its name is stored for sure."""
         return tuple((not file.pending, file.is_named) for file in self.files)
 
-    def states(self, draw: typing.Any, drawn: typing.Any) -> typing.Any:
+    def states(self, draw: random.Random, drawn: int) -> list[State]:
         """Returns what both files may hold if the power is cut now."""
         zero, one = (
             sorted(file.states(draw, drawn), key=lambda data: (data is not None, data))
@@ -306,13 +323,13 @@ class Disk:
         return pairs if len(pairs) <= 400 else draw.sample(pairs, 400)
 
 
-def outcomes(data: typing.Any) -> int:
+def outcomes(data: bytes | None) -> int:
     """Returns the number of outcomes of a file, 0 if it is no checkpoint."""
     slot = model.decoded(data)
     return 0 if slot.fault else len(slot.records)
 
 
-def outcomes_in(slots: typing.Any) -> typing.Any:
+def outcomes_in(slots: State) -> int:
     """Returns the number of outcomes of the newest file."""
     newest = model.newest([model.decoded(data) for data in slots])
     return 0 if newest is None else outcomes(slots[newest])
@@ -321,28 +338,36 @@ def outcomes_in(slots: typing.Any) -> typing.Any:
 # ---- the states
 
 
+@dataclasses.dataclass(frozen=True)
+class States:
+    """The states of the first run and those of each run that goes on where it was killed, each with
+    the most outcomes that had been saved; the number of the first one's calls, and of the others.
+    """
+
+    first: dict[State, int]
+    later: dict[State, int]
+    calls: int
+    kills: int
+
+
 def listed(
-    disk: typing.Any, calls: typing.Any, draw: typing.Any, drawn: typing.Any, found: typing.Any
+    disk: Disk, calls: Sequence[Step], draw: random.Random, drawn: int, found: dict[State, int]
 ) -> None:
     """Lists what may be stored before, between and after these calls: for each state the most
     outcomes that had been saved.
     """
-    for call in [None, *calls]:
-        if call:
-            disk.take(call)
+    for count in range(len(calls) + 1):
+        if count:
+            disk.take(calls[count - 1])
         for state in disk.states(draw, drawn):
             found[state] = max(found.get(state, 0), disk.done)
 
 
-def all_states(
-    program: typing.Any, folder: typing.Any, draw: typing.Any, drawn: typing.Any
-) -> typing.Any:
-    """The states of the first run, those of each run that goes on where it was killed, the first
-    one's calls, and the number of the others.
-    """
-    found: typing.Dict[typing.Any, typing.Any]
-    later: typing.Dict[typing.Any, typing.Any]
-    found, later, tried = {}, {}, set()
+def all_states(program: str, folder: pathlib.Path, draw: random.Random, drawn: int) -> States:
+    """Traces the first run, and each that goes on where the first was killed."""
+    found: dict[State, int] = {}
+    later: dict[State, int] = {}
+    tried = set()
     first = traced(program, folder / "first", SAVED, (None, None))
     listed(Disk(), first, draw, drawn, found)
     for count in range(1, len(first) + 1):
@@ -357,18 +382,16 @@ def all_states(
             disk, traced(program, folder / f"killed {count}", RESUMED, disk.now()), draw, drawn,
             later,
         )
-    return found, later, len(first), len(tried)
+    return States(found, later, len(first), len(tried))
 
 
-def drawn_states(states: typing.Any, count: typing.Any, draw: typing.Any) -> typing.Any:
+def drawn_states(states: Iterable[State], count: int, draw: random.Random) -> list[State]:
     """Returns this number of the states, or all if there are no more."""
-    states = sorted(states, key=str)
-    return states if len(states) <= count else draw.sample(states, count)
+    ordered = sorted(states, key=str)
+    return ordered if len(ordered) <= count else draw.sample(ordered, count)
 
 
-def judged(
-    program: typing.Any, folder: typing.Any, slots: typing.Any, wanted: typing.Any
-) -> typing.Optional[str]:
+def judged(program: str, folder: pathlib.Path, slots: State, wanted: model.End) -> str | None:
     """Returns what is wrong if a run goes on from this state, or None."""
     placed(folder, slots)
     end = subprocess.run(
@@ -384,13 +407,13 @@ def judged(
     return None
 
 
-def named(slots: typing.Any) -> str:
+def named(slots: State) -> str:
     return (
         f"files of {' and '.join('no' if data is None else str(len(data)) for data in slots)} bytes"
     )
 
 
-def lost_in(states: typing.Any) -> typing.List[typing.Any]:
+def lost_in(states: dict[State, int]) -> list[str]:
     """The states in which a save is lost."""
     left = [(slots, outcomes_in(slots), kept) for slots, kept in states.items()]
     return [
@@ -401,12 +424,13 @@ def lost_in(states: typing.Any) -> typing.List[typing.Any]:
 
 
 def resumed(
-    program: typing.Any, folder: typing.Any, chosen: typing.Any, report: typing.Any
-) -> typing.Any:
+    program: str, folder: pathlib.Path, chosen: Sequence[State], report: str
+) -> tuple[dict[int, int], list[str]]:
     """Returns the numbers of states that ended with the report and that were refused, and what is
     wrong.
     """
-    ends, wrong, runs = {0: 0, 8: 0}, [], []
+    ends, wrong = {0: 0, 8: 0}, []
+    runs: list[tuple[pathlib.Path, State, model.End]] = []
     for number, slots in enumerate(chosen):
         wanted = model.audit(RESUMED, CYCLE, list(slots))
         if wanted.status not in ends or wanted.status == 0 and wanted.out != report:
@@ -421,16 +445,17 @@ def resumed(
     return ends, wrong
 
 
-def main(program: typing.Any, states: str = "0", seed: str = "1") -> int:
+def main(program: str, states: int = 0, seed: int = 1) -> int:
     if not can_trace():
         print("SKIPPED power_cuts: strace is not installed, or may not trace here")
         print("power_cuts: 0 passed, 0 failed, 1 skipped")
         return 0
-    program, draw = os.path.abspath(program), random.Random(int(seed))
+    program, draw = os.path.abspath(program), random.Random(seed)
     with tempfile.TemporaryDirectory() as name:
         folder = pathlib.Path(name)
-        found, later, calls, kills = all_states(program, folder, draw, 60)
-        most = (int(states) + 1) // 2 or len(found) + len(later)
+        every = all_states(program, folder, draw, 60)
+        found, later = every.first, every.later
+        most = (states + 1) // 2 or len(found) + len(later)
         wrong = lost_in(found) + lost_in(later)
         chosen = drawn_states(found, most, draw) + drawn_states(later, most, draw)
         ends, wrongs = resumed(program, folder, chosen, model.audit(WHOLE, CYCLE, [None, None]).out)
@@ -438,11 +463,12 @@ def main(program: typing.Any, states: str = "0", seed: str = "1") -> int:
     for one in wrong[:20]:
         print("WRONG:", one)
     print(
-        f"{len(found)} states of a run of {calls} calls and {len(later)} of the {kills} runs that"
-        f" go on where it was killed. Of {len(chosen)} that were resumed {ends[0]} ended with the"
-        f" one report, and {ends[8]} were refused by name. {len(wrong)} are not as they have to be"
+        f"{len(found)} states of a run of {every.calls} calls and {len(later)} of the {every.kills}"
+        f" runs that go on where it was killed. Of {len(chosen)} that were resumed {ends[0]} ended"
+        f" with the one report, and {ends[8]} were refused by name. {len(wrong)} are not as they"
+        " have to be"
     )
-    return 1 if wrong or not calls or not ends[0] or not ends[8] else 0
+    return 1 if wrong or not every.calls or not ends[0] or not ends[8] else 0
 
 
 def arguments() -> argparse.Namespace:

@@ -46,7 +46,10 @@ Sources and licences: nc, auckland, ny8 and boston are from spData (CC0 1.0), ol
 or GPL 2), texas and counties are from maps (GPL 2), all others from libpysal (BSD, three clauses).
 Two of them, nc and ny8, lie in this folder as this script writes them.
 """
+from __future__ import annotations
+
 import argparse
+import dataclasses
 import hashlib
 import json
 import math
@@ -56,8 +59,15 @@ import shlex
 import struct
 import sys
 import typing
+from collections.abc import Callable, Container, Sequence
 
 from tests.oracle import model
+
+# The values of a unit by their columns. The types of a shapefile's columns are not known.
+Row = dict[str, typing.Any]
+Derive = Callable[[Row], Row]
+# Two units, the smaller first.
+Edge = tuple[int, int]
 
 # The columns of houses by their worth, in the tracts of Boston: below 20,000 dollars, and above.
 CHEAP = ("cu5k", "c5_7_5", "C7_5_10", "C10_15", "C15_20")
@@ -74,21 +84,21 @@ class Source(typing.NamedTuple):
     """
     unit: str
     """The column with the units' ids; empty where there is none, and places stand in for them."""
-    label: "str | None"
+    label: str | None
     """One with their names."""
-    people: "str | None"
-    first: "str | None"
-    second: "str | None"
-    region: "str | None"
-    districts: "tuple[int, ...]"
+    people: str | None
+    first: str | None
+    second: str | None
+    region: str | None
+    districts: tuple[int, ...]
     """Of how many districts there is a plan."""
-    derive: "typing.Callable[[dict[str, typing.Any]], dict[str, typing.Any]]" = lambda row: {}
+    derive: Derive = lambda row: {}
     """The columns that the source has in another form."""
-    published: "str | None" = None
+    published: str | None = None
     """A list of neighbours that the package has; it names units by their places, from 1."""
 
 
-def in_two(people: typing.Any, share: typing.Any, part: typing.Any, rest: typing.Any) -> typing.Any:
+def in_two(people: str, share: Callable[[Row], float], part: str, rest: str) -> Derive:
     """Two columns: how many of a number of people a share of them is, as a float, and how many are
     left.
     """
@@ -96,6 +106,16 @@ def in_two(people: typing.Any, share: typing.Any, part: typing.Any, rest: typing
         part: row[people] * share(row),
         rest: row[people] - row[people] * share(row),
     }
+
+
+def share_of_black(row: Row) -> float:
+    share: float = row["PctBlack"]
+    return share / 100
+
+
+def share_of_owners(row: Row) -> float:
+    share: float = row["PCTOWNHOME"]
+    return share
 
 
 SOURCES = {
@@ -119,7 +139,7 @@ SOURCES = {
         "OTHERS",
         None,
         (2, 8),
-        in_two("TotPop90", lambda row: row["PctBlack"] / 100, "BLACK", "OTHERS"),
+        in_two("TotPop90", share_of_black, "BLACK", "OTHERS"),
     ),
     "stl": Source(
         "examples/stl/stl_hom", "FIPS", "NAME", "PO8893", "HC7984", "HC8893", "STATE_NAME", (2, 5),
@@ -147,7 +167,7 @@ SOURCES = {
         (2, 8),
         lambda row: {
             "COUNTY": row["AREAKEY"][:5],
-            **in_two("POP8", lambda row: row["PCTOWNHOME"], "OWNING", "OTHERS")(row),
+            **in_two("POP8", share_of_owners, "OWNING", "OTHERS")(row),
         },
     ),
     "boston": Source(
@@ -194,7 +214,33 @@ SOURCES = {
 # ---- polygons
 
 
-def file_of(packages: typing.Any, name: typing.Any) -> typing.Any:
+class Point(typing.Protocol):
+    """The part of a point of shapely that is used."""
+
+    x: float
+    y: float
+
+
+class Polygon(typing.Protocol):
+    """The part of a polygon of shapely that is used."""
+
+    bounds: tuple[float, float, float, float]
+    length: float
+    is_valid: bool
+    centroid: Point
+
+    def intersection(self, other: Polygon) -> Polygon: ...
+
+
+class MapData(typing.NamedTuple):
+    """The rows of a map's units, the pairs of neighbors, and the middle of each unit."""
+
+    rows: list[Row]
+    edges: list[Edge]
+    middles: list[tuple[float, ...]]
+
+
+def file_of(packages: pathlib.Path, name: str) -> pathlib.Path:
     """A file of a package, by the end of its path."""
     path = pathlib.PurePath(name)
     roots = (
@@ -213,7 +259,7 @@ def file_of(packages: typing.Any, name: typing.Any) -> typing.Any:
     return found[0]
 
 
-def shapes_of(packages: typing.Any, source: typing.Any) -> typing.Any:
+def shapes_of(packages: pathlib.Path, source: Source) -> tuple[list[Row], list[Polygon]]:
     """The rows of a shapefile, and their polygons."""
     import shapefile
     from shapely.geometry import shape
@@ -228,11 +274,11 @@ def shapes_of(packages: typing.Any, source: typing.Any) -> typing.Any:
     return rows, [polygon if polygon.is_valid else make_valid(polygon) for polygon in polygons]
 
 
-def rook(polygons: typing.Any) -> typing.List[typing.Any]:
+def rook(polygons: Sequence[Polygon]) -> list[Edge]:
     """The pairs of polygons whose borders share a line of some length."""
     boxes = [polygon.bounds for polygon in polygons]
 
-    def may_touch(one: typing.Any, other: typing.Any) -> bool:
+    def may_touch(one: Sequence[float], other: Sequence[float]) -> bool:
         return bool(
             one[0] <= other[2] and other[0] <= one[2] and one[1] <= other[3] and other[1] <= one[3]
         )
@@ -245,7 +291,7 @@ def rook(polygons: typing.Any) -> typing.List[typing.Any]:
     ]
 
 
-def lines_of(packages: typing.Any, source: typing.Any) -> typing.Any:
+def lines_of(packages: pathlib.Path, source: Source) -> MapData:
     """Returns a map of the package maps, whose lines have the polygon at their left and at their
     right: rows, edges and middles. The polygons of one county are one unit.
     """
@@ -256,34 +302,36 @@ def lines_of(packages: typing.Any, source: typing.Any) -> typing.Any:
     ]
     names = sorted({label for label in labels if label.startswith(front)})
     place = {name: i for i, name in enumerate(names)}
-    unit_of = [None] + [place.get(label) for label in labels]
-    points: typing.Any
-    data, edges, points = file_of(packages, file + ".L").read_bytes(), set(), [[] for _ in names]
+    unit_of = [None, *(place.get(label) for label in labels)]
+    data = file_of(packages, file + ".L").read_bytes()
+    edges: set[Edge] = set()
+    points: list[list[tuple[float, float]]] = [[] for _ in names]
     for line in range(struct.unpack_from("<ii", data)[1]):
         offset, count, left, right = struct.unpack_from("<iHhh", data, 8 + 28 * line)
-        first = struct.unpack_from("<2f", data, offset)
-        sides = [unit_of[max(side, 0)] for side in (left, right)]
-        for side in sides:
-            if side is not None:
-                points[side].append(first)
-        if count > 1 and None not in sides and sides[0] != sides[1]:
+        x, y = struct.unpack_from("<2f", data, offset)
+        sides = [unit for side in (left, right) if (unit := unit_of[max(side, 0)]) is not None]
+        for unit in sides:
+            points[unit].append((x, y))
+        if count > 1 and len(sides) == 2 and sides[0] != sides[1]:
             edges.add((min(sides), max(sides)))
     middles = [tuple(math.fsum(values) / len(those) for values in zip(*those)) for those in points]
-    return [{"NAME": name, "STATE": name.split(",")[0]} for name in names], sorted(edges), middles
+    rows: list[Row] = [{"NAME": name, "STATE": name.split(",")[0]} for name in names]
+    return MapData(rows, sorted(edges), middles)
 
 
-def read(packages: typing.Any, source: typing.Any) -> typing.Any:
-    """Rows, edges and middles of a map."""
+def read(packages: pathlib.Path, source: Source) -> MapData:
+    """Reads a map of the packages."""
     if ":" in source.file:
         return lines_of(packages, source)
     rows, polygons = shapes_of(packages, source)
-    return rows, rook(polygons), [(polygon.centroid.x, polygon.centroid.y) for polygon in polygons]
+    middles = [(polygon.centroid.x, polygon.centroid.y) for polygon in polygons]
+    return MapData(rows, rook(polygons), [*middles])
 
 
 # ---- graphs
 
 
-def parts_of(near: typing.Any) -> typing.List[typing.Any]:
+def parts_of(near: Sequence[set[int]]) -> list[list[int]]:
     """The parts of a graph, the smallest first."""
     left, parts = set(range(len(near))), []
     while left:
@@ -298,7 +346,7 @@ def parts_of(near: typing.Any) -> typing.List[typing.Any]:
     return sorted(parts, key=lambda part: (len(part), part))
 
 
-def joins_of(near: typing.Any, middles: typing.Any) -> typing.Any:
+def joins_of(near: Sequence[set[int]], middles: Sequence[Sequence[float]]) -> list[Edge]:
     """Pairs that make one part of a graph: each time the smallest part is joined by the units whose
     middles are nearest. They are made neighbours.
     """
@@ -313,7 +361,7 @@ def joins_of(near: typing.Any, middles: typing.Any) -> typing.Any:
     return found
 
 
-def made(unit: typing.Any, what: typing.Any, low: typing.Any, high: typing.Any) -> typing.Any:
+def made(unit: object, what: str, low: int, high: int) -> int:
     """A whole number from low to high - 1 that follows from a unit's id."""
     return low + int.from_bytes(hashlib.sha256((f"{what} {unit}").encode()).digest()[:8], "big") % (
         high - low
@@ -324,12 +372,14 @@ def made(unit: typing.Any, what: typing.Any, low: typing.Any, high: typing.Any) 
 
 
 def tree_of(
-    start: typing.Any, members: typing.Any, near: typing.Any, draw: typing.Any
-) -> typing.Any:
+    start: int, members: Container[int], near: Sequence[set[int]], draw: Callable[[], float]
+) -> tuple[list[int], dict[int, int]]:
     """A random tree of all members: an order in which each unit comes after the one that it hangs
     on, and that.
     """
-    order, above, edges = [], {}, [(start, start)]
+    order: list[int] = []
+    above: dict[int, int] = {}
+    edges = [(start, start)]
     while edges:
         at = int(draw() * len(edges))
         edges[at], edges[-1] = edges[-1], edges[at]
@@ -345,24 +395,35 @@ def tree_of(
     return order, above
 
 
-def cut_of(
-    members: typing.Any,
-    count: typing.Any,
-    near: typing.Any,
-    people: typing.Any,
-    low: typing.Any,
-    high: typing.Any,
-    draw: typing.Any,
-) -> typing.Any:
-    """Two connected parts of the members, and of how many districts each is to be; None where this
-    tree has none.
-    """
+class Area(typing.NamedTuple):
+    """Connected units, and of how many districts they are to be."""
+
+    members: set[int]
+    districts: int
+
+
+@dataclasses.dataclass(frozen=True)
+class Partition:
+    """The neighbors and the people of all units, the bounds of a district, and a drawn fraction."""
+
+    near: Sequence[set[int]]
+    people: Sequence[int]
+    low: float
+    high: float
+    draw: Callable[[], float]
+
+
+def cut_of(area: Area, whole: Partition) -> tuple[Area, Area] | None:
+    """Returns two parts of an area along a drawn tree, or None where this tree has none."""
+    (members, count), low, high = area, whole.low, whole.high
     ordered = sorted(members)
-    order, above = tree_of(ordered[int(draw() * len(ordered))], members, near, draw)
-    below = {unit: people[unit] for unit in order}
+    root = ordered[int(whole.draw() * len(ordered))]
+    order, above = tree_of(root, members, whole.near, whole.draw)
+    below = {unit: whole.people[unit] for unit in order}
     for unit in reversed(order[1:]):
         below[above[unit]] += below[unit]
-    total, best = below[order[0]], None
+    total = below[order[0]]
+    best: tuple[float, int, int] | None = None
     for unit in order[1:]:
         for j in range(1, count):
             if low * j <= below[unit] <= high * j and low * (count - j) <= total - below[
@@ -377,25 +438,25 @@ def cut_of(
     for unit in order:
         if unit != order[0] and above[unit] in part:
             part.add(unit)
-    return (part, best[2]), (set(members) - part, count - best[2])
+    return Area(part, best[2]), Area(set(members) - part, count - best[2])
 
 
 def partition(
-    near: typing.Any, people: typing.Any, count: typing.Any, tolerance: typing.Any, seed: typing.Any
-) -> typing.Any:
+    near: Sequence[set[int]], people: Sequence[int], count: int, tolerance: float, seed: str
+) -> list[int] | None:
     """Returns a plan of connected districts, each within the tolerance (a part of the ideal
     population); None if a bounded search has none.
     """
     draw, ideal = random.Random(seed).random, sum(people) / count
-    low, high = ideal * (1 - tolerance), ideal * (1 + tolerance)
-    for _ in range(60 if max(people) <= high else 0):
-        todo, done = [(set(range(len(near))), count)], []
+    whole = Partition(near, people, ideal * (1 - tolerance), ideal * (1 + tolerance), draw)
+    for _ in range(60 if max(people) <= whole.high else 0):
+        todo, done = [Area(set(range(len(near))), count)], []
         while todo:
-            members, parts = todo.pop()
-            if parts == 1:
-                done.append(members)
+            area = todo.pop()
+            if area.districts == 1:
+                done.append(area.members)
                 continue
-            cuts = (cut_of(members, parts, near, people, low, high, draw) for _ in range(20))
+            cuts = (cut_of(area, whole) for _ in range(20))
             cut = next((one for one in cuts if one is not None), None)
             if cut is None:
                 break
@@ -409,24 +470,33 @@ def partition(
 # ---- the whole
 
 
-def clean(value: typing.Any) -> typing.Any:
+def clean(value: object) -> object:
     """A value as JSON has it; an absent text is missing."""
-    return (
-        None
-        if value in ("", None)
-        else value.decode("latin1") if isinstance(value, bytes) else value
-    )
+    if value in ("", None):
+        return None
+    return value.decode("latin1") if isinstance(value, bytes) else value
 
 
-def whole(value: typing.Any) -> typing.Any:
+def rounded(value: float | None) -> int:
     """Returns a number as `prepare` writes it with `--numbers nearest --missing zero`."""
     return 0 if value is None else round(value)
+
+
+class Plan(typing.NamedTuple):
+    """A plan: its number of districts, its tolerance, its column, and among how many districts it
+    splits a region.
+    """
+
+    districts: int
+    tolerance: int
+    column: str
+    split: int
 
 
 class RealMap:
     """A map: its nodes, edges, the words for prepare.py, and its plans."""
 
-    def __init__(self, name: typing.Any, source: typing.Any, packages: typing.Any) -> None:
+    def __init__(self, name: str, source: Source, packages: pathlib.Path) -> None:
         rows, self.edges, middles = read(packages, source)
         self.name, self.source = name, source
         self.columns = dict(
@@ -434,7 +504,7 @@ class RealMap:
             second=source.second or "SECOND",
         )
         self.nodes = [self.node_of(place, row) for place, row in enumerate(rows)]
-        self.near: typing.Any = [set() for _ in rows]
+        self.near: list[set[int]] = [set() for _ in rows]
         for i, j in self.edges:
             self.near[i].add(j)
             self.near[j].add(i)
@@ -445,7 +515,7 @@ class RealMap:
         ]
         self.plans = [plan for plan in map(self.plan_of, source.districts) if plan]
 
-    def node_of(self, place: typing.Any, row: typing.Any) -> typing.Dict[typing.Any, typing.Any]:
+    def node_of(self, place: int, row: Row) -> Row:
         source = self.source
         row = {**row, **source.derive(row)}
         unit = row[source.unit] if source.unit else place
@@ -458,27 +528,26 @@ class RealMap:
             node[self.columns[what]] = clean(row[column]) if column else made(unit, what, low, high)
         return {**node, "id": unit}
 
-    def plan_of(self, districts: typing.Any) -> typing.Any:
-        """A plan, as a column of the nodes: its tolerance, its column, and among how many districts
-        it splits a region.
-        """
-        people = [whole(node[self.columns["pop"]]) for node in self.nodes]
+    def plan_of(self, districts: int) -> Plan | None:
+        """Draws a plan, and writes it into a column of the nodes; None if none is found."""
+        people = [rounded(node[self.columns["pop"]]) for node in self.nodes]
         for tolerance in TOLERANCES:
             plan = partition(
                 self.near, people, districts, 0.8 * tolerance / 10000, f"{self.name} {districts}"
             )
             if plan is not None:
-                split: typing.Dict[typing.Any, typing.Any]
-                column, region, split = f"PLAN{districts}", self.source.region, {}
+                split: dict[object, set[int]] = {}
+                column, region = f"PLAN{districts}", self.source.region
                 for node, district in zip(self.nodes, plan):
                     node[column] = f"{district + 1:02}"
                     split.setdefault(node.get(region) if region else None, set()).add(district)
                 split.pop(None, None)
-                return districts, tolerance, column, max(map(len, split.values()), default=0)
+                most = max(map(len, split.values()), default=0)
+                return Plan(districts, tolerance, column, most)
         print(f"real_maps: {self.name}: no plan of {districts} districts", file=sys.stderr)
         return None
 
-    def words(self) -> typing.Any:
+    def words(self) -> list[str]:
         """The words for prepare.py, but the column of the plan."""
         words = [
             word for what, column in self.columns.items() for word in ("--" + what, column)
@@ -492,7 +561,7 @@ class RealMap:
             )
         return words + [word for pair in self.joins for word in ("--join", *map(str, pair))]
 
-    def write(self, folder: typing.Any) -> typing.List[typing.Any]:
+    def write(self, folder: pathlib.Path) -> list[str]:
         root = {
             "directed": False,
             "multigraph": False,
@@ -514,7 +583,7 @@ class RealMap:
         ]
 
 
-def make(packages: typing.Any, folder: typing.Any, names: typing.Any) -> None:
+def make(packages: pathlib.Path, folder: pathlib.Path, names: Sequence[str]) -> None:
     unknown = sorted(set(names) - set(SOURCES))
     if unknown:
         raise SystemExit(f"real_maps: there is no map {unknown[0]}; there are {', '.join(SOURCES)}")
@@ -527,7 +596,7 @@ def make(packages: typing.Any, folder: typing.Any, names: typing.Any) -> None:
     (folder / "plans").write_text("".join(line + "\n" for line in lines), encoding="utf-8")
 
 
-def published(packages: typing.Any) -> int:
+def published(packages: pathlib.Path) -> int:
     """Returns the number of maps with exactly the edges of the packages' lists of neighbors, and
     the others.
     """
@@ -554,7 +623,7 @@ def published(packages: typing.Any) -> int:
     return 1 if wrong else 0
 
 
-def answer(words: typing.Any) -> typing.Any:
+def answer(words: Sequence[str]) -> int:
     """Ends as the auditor has to: its text, its note and its status."""
     end = model.audit(words, sys.stdin.buffer.read(), [None, None])
     sys.stdout.write(end.out)
@@ -564,7 +633,7 @@ def answer(words: typing.Any) -> typing.Any:
 
 def main(words: argparse.Namespace) -> int:
     if words.command == "model":
-        return int(answer(words.words))
+        return answer(words.words)
     if words.command == "modules":
         import shapefile  # noqa: F401
         import shapely.geometry  # noqa: F401
