@@ -35,7 +35,7 @@ MAX_CUT = ["--max-cut", "95"]
 
 
 class Wrong(Exception):
-    """What is wrong with a run."""
+    """A run that ends otherwise than it has to."""
 
 
 @dataclasses.dataclass(frozen=True)

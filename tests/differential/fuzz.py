@@ -66,7 +66,8 @@ class Call(typing.NamedTuple):
 
 @dataclasses.dataclass
 class Found:
-    """How many runs ended with which status, the notes, and the calls that differ, with what does.
+    """The number of runs by their status, the notes, and the calls that differ, each with its
+    difference.
     """
 
     counts: Counter[int] = dataclasses.field(default_factory=Counter)

@@ -14,7 +14,7 @@ from __future__ import annotations
 import os
 import re
 import sys
-from typing import Dict, List
+from typing import Dict, List, Optional, Tuple
 
 from tests.oracle import model
 from tests.system import folder_model, power_cuts
@@ -36,7 +36,7 @@ from tests.system.folder_room import (
     as_nobody_can_write,
     case,
     damaged,
-    holding,
+    folder_of,
     run_cases,
     saved,
     some,
@@ -51,7 +51,8 @@ from tests.system.folder_room import (
 @case
 def slots_of_another_folder(room: Room) -> None:
     """The folder in the words is looked at, not the working folder."""
-    here, other = holding(some(range(2))), Folder((saved(some(range(5))), saved(some(range(7)), 1)))
+    here = folder_of(some(range(2)))
+    other = Folder((saved(some(range(5))), saved(some(range(7)), 1)))
     room.slots(["../p"], {".": here, "../p": other})
     room.slots(["../p", *RUN], {".": here, "../p": other})
     room.slots([str(room.here), *RUN], {".": here, str(room.here): here})
@@ -64,7 +65,7 @@ def slots_of_another_folder(room: Room) -> None:
 def slots_of_no_folder(room: Room) -> None:
     """In a folder that does not exist both slots are absent."""
     room.slots(
-        ["../nowhere", *RUN], {".": holding(some(range(2)))},
+        ["../nowhere", *RUN], {".": folder_of(some(range(2)))},
         said="slot 0: absent\nslot 1: absent\nnewest: none\ndone: 0 of 12\n",
     )
 
@@ -131,14 +132,14 @@ def slots_each_fault_is_named(room: Room) -> None:
 
 
 @case
-def slots_of_a_held_folder(room: Room) -> None:
+def slots_of_a_locked_folder(room: Room) -> None:
     """It takes no lock: a run in the folder is not in the way."""
-    room.slots(["../p", *RUN], {"../p": holding(some(range(3)), held=True)})
+    room.slots(["../p", *RUN], {"../p": folder_of(some(range(3)), is_locked=True)})
 
 
 @case
 def slots_text_cannot_be_written(room: Room) -> None:
-    folders = {".": holding(some(range(2)))}
+    folders = {".": folder_of(some(range(2)))}
     end = room.ended([room.tools["audit_slots"], *RUN], folders, out="/dev/full")
     room.compare(
         "audit_slots to a full device", end,
@@ -162,7 +163,7 @@ def neither_slots_nor_gather(room: Room) -> None:
 @case
 def gather_asks_for_a_folder(room: Room) -> None:
     """No folder is refused before the words of the run; with `--look yes` none is needed."""
-    own = {".": holding(some(range(3)))}
+    own = {".": folder_of(some(range(3)))}
     calls: List[List[str]] = [
         RUN, ["--look", "no", *RUN], ["run", "--nothing"], ["check"], [], ["--look", "no"],
     ]
@@ -213,7 +214,7 @@ def gather_refuses_commands_that_save_nothing(room: Room) -> None:
 @case
 def gather_of_a_file(room: Room) -> None:
     """A file in place of a folder is a slot that cannot be read; others are still looked at."""
-    folders = {".": Folder(), "../p": holding(some(range(2)))}
+    folders = {".": Folder(), "../p": folder_of(some(range(2)))}
     tool = room.tools["audit_gather"]
     end = room.ended([tool, "../audit_slots", "../p", *RUN], folders)
     said = "gather: folder ../audit_slots: a slot cannot be read\n"
@@ -240,7 +241,7 @@ def gather_unreadable_is_not_absent(room: Room) -> None:
         for at in (0, 1):
             for other in (None, good):
                 folder = Folder((None, other) if at == 0 else (other, None), unreadable=(at,))
-                folders = {"../p": folder, "../q": holding(some(range(2)))}
+                folders = {"../p": folder, "../q": folder_of(some(range(2)))}
                 room.gather(["../q", "../p", *RUN], folders, kind=kind, said=said)
                 room.gather([*LOOK, "../p", "../q", *RUN], folders, kind=kind)
                 own = {".": folder, "../q": folders["../q"]}
@@ -254,7 +255,7 @@ def gather_one_slot_is_damaged(room: Room) -> None:
     good = saved(some(range(4)))
     for data in damaged().values():
         for slots in ((data, good), (good, data)):
-            folders = {"../p": Folder(slots), "../q": holding(some(range(6)))}
+            folders = {"../p": Folder(slots), "../q": folder_of(some(range(6)))}
             for words in (["../p", "../q", *RUN], [*LOOK, "../p", *RUN]):
                 room.gather(words, folders)
             room.gather(["../q", *RUN], {".": Folder(slots), "../q": folders["../q"]})
@@ -290,13 +291,13 @@ def gather_each_reason_in_turn(room: Room) -> None:
     bad = damaged()["bad digest"]
     folders = {
         ".": Folder((saved(some(range(2)), 0, OTHER), None)),
-        "../p": holding(some(range(3))),
+        "../p": folder_of(some(range(3))),
         "../empty": Folder(),
         "../other": Folder((saved(some(range(2)), 0, OTHER), None)),
         "../bad": Folder((bad, bad)),
-        "../held": holding(some(range(3)), held=True),
+        "../locked": folder_of(some(range(3)), is_locked=True),
         "../unread": Folder((None, saved(some(range(3)))), unreadable=(0,)),
-        "../differs": holding(some(range(3), 1)),
+        "../differs": folder_of(some(range(3), 1)),
     }
     names = [name for name in folders if name != "."]
     room.gather(
@@ -307,7 +308,7 @@ def gather_each_reason_in_turn(room: Room) -> None:
             "gather: folder ../empty: no checkpoint\n"
             "gather: folder ../other: another job's checkpoint\n"
             "gather: folder ../bad: no slot is intact\n"
-            "gather: folder ../held: a run holds it\n"
+            "gather: folder ../locked: a run holds it\n"
             "gather: folder ../unread: a slot cannot be read\n"
             "gather: outcome 1 differs in ../p and ../differs\n"
         ),
@@ -320,8 +321,8 @@ def gather_each_reason_in_turn(room: Room) -> None:
 @case
 def gather_three_folders_differ_at_different_ids(room: Room) -> None:
     """The least id of which the folder differs, and the first folder that differs at that id."""
-    later, least = holding(some((5, 6))), holding(some((2, 3)))
-    folders = {"../p": later, "../q": least, "../r": holding(some((2, 5), 2, 5))}
+    later, least = folder_of(some((5, 6))), folder_of(some((2, 3)))
+    folders = {"../p": later, "../q": least, "../r": folder_of(some((2, 5), 2, 5))}
     room.gather(
         ["../p", "../q", "../r", *RUN], folders, said="gather: outcome 2 differs in ../q and ../r\n"
     )
@@ -337,7 +338,7 @@ def gather_three_folders_differ_at_different_ids(room: Room) -> None:
 @case
 def gather_names_the_first_that_differs(room: Room) -> None:
     """Of those gathered before it, the working folder is the first."""
-    one, other = holding(some((0,))), holding(some((0,), 0))
+    one, other = folder_of(some((0,))), folder_of(some((0,), 0))
     room.gather(
         ["../p", "../q", *RUN], {".": one, "../p": other, "../q": one},
         said="gather: outcome 0 differs in . and ../p\n",
@@ -355,49 +356,49 @@ def gather_names_the_first_that_differs(room: Room) -> None:
         ),
     )
     plain, binned = some((0,)), some((0,), found=BINNED)
-    bins = list(binned[0][2])
+    bins = list(binned[0].bins)
     at = next(place for place, count in enumerate(bins) if count)
     bins[at], bins[at - 1] = bins[at] - 1, bins[at - 1] + 1
-    moved = {0: (*binned[0][:2], tuple(bins))}
+    moved = {0: binned[0]._replace(bins=tuple(bins))}
     room.gather(
         ["../p", "../q", "../r", *RUN],
-        {"../p": holding(plain), "../q": holding(binned), "../r": holding(moved)},
+        {"../p": folder_of(plain), "../q": folder_of(binned), "../r": folder_of(moved)},
         said="gather: outcome 0 differs in ../q and ../r\n",
     )
 
 
 @case
-def gather_does_not_read_a_held_folder(room: Room) -> None:
-    """A folder whose lock is held has no part in what is said of others."""
+def gather_does_not_read_a_locked_folder(room: Room) -> None:
+    """A locked folder has no part in what is said of others."""
     one, other = some((0,)), some((0,), 0)
-    held = holding(one, held=True)
+    locked = folder_of(one, is_locked=True)
     said = "gather: folder ../p: a run holds it\n"
     room.gather(
         ["../p", "../q", "../r", *RUN],
-        {"../p": held, "../q": holding(one), "../r": holding(other)},
+        {"../p": locked, "../q": folder_of(one), "../r": folder_of(other)},
         said=said + "gather: outcome 0 differs in ../q and ../r\n",
     )
     room.gather(
         ["../q", "../p", "../r", *RUN],
-        {"../p": held, "../q": holding(one), "../r": holding(other)},
+        {"../p": locked, "../q": folder_of(one), "../r": folder_of(other)},
         said=said + "gather: outcome 0 differs in ../q and ../r\n",
     )
-    room.gather(["../p", "../q", *RUN], {"../p": held, "../q": holding(other)}, said=said)
-    room.gather(["../p", *RUN], {"../p": Folder(unreadable=(0, 1), held=True)}, said=said)
-    room.gather([*LOOK, "../p", *RUN], {"../p": held})
-    own = {".": Folder(unreadable=(0, 1), held=True), "../p": holding(one)}
+    room.gather(["../p", "../q", *RUN], {"../p": locked, "../q": folder_of(other)}, said=said)
+    room.gather(["../p", *RUN], {"../p": Folder(unreadable=(0, 1), is_locked=True)}, said=said)
+    room.gather([*LOOK, "../p", *RUN], {"../p": locked})
+    own = {".": Folder(unreadable=(0, 1), is_locked=True), "../p": folder_of(one)}
     room.gather(["../p", *RUN], own, said="checkpoint: another run holds the folder\n")
-    room.gather([*LOOK, "../p", *RUN], {".": held, "../p": holding(one)})
+    room.gather([*LOOK, "../p", *RUN], {".": locked, "../p": folder_of(one)})
 
 
 @case
 def gather_the_working_folder_among_the_folders(room: Room) -> None:
     """It is read though this process holds its lock, by whatever name, and has nothing new."""
-    own = holding(some(range(3)))
+    own = folder_of(some(range(3)))
     for name in (".", "../here", str(room.here), "./", "../p/../here"):
         room.gather(
             [name, "../p", *RUN],
-            {".": own, "../p": holding(some(range(2, 6))), name: own},
+            {".": own, "../p": folder_of(some(range(2, 6))), name: own},
             said=(
                 "working folder: 3 outcomes\n"
                 f"folder {name}: 3 outcomes, 0 new\n"
@@ -413,8 +414,8 @@ def gather_the_working_folder_among_the_folders(room: Room) -> None:
 @case
 def gather_text_cannot_be_written(room: Room) -> None:
     """The save stands where only the text cannot be written."""
-    own, words = holding(some(range(3))), ["../p", *RUN]
-    folders = {".": own, "../p": holding(some(range(2, 6)))}
+    own, words = folder_of(some(range(3))), ["../p", *RUN]
+    folders = {".": own, "../p": folder_of(some(range(2, 6)))}
     wanted = folder_model.gather(words, CYCLE, folders)
     command = [room.tools["audit_gather"], *words]
     end = room.ended(command, folders, out="/dev/full")
@@ -439,11 +440,12 @@ def gather_save_fails(room: Room) -> None:
     """If the save fails, nothing is printed, and the newest slot of the working folder stays."""
     command = [room.tools["audit_gather"], "../p", *RUN]
     newest = saved(some(range(3)), 1)
-    for own, after in (
+    cases: List[Tuple[Folder, List[Optional[bytes]]]] = [
         (Folder(), [b"", None]), (Folder((None, newest)), [b"", newest]),
         (Folder((saved(some(range(2))), newest)), [b"", newest]),
-    ):
-        folders = {".": own, "../p": holding(some(range(2, 6)))}
+    ]
+    for own, after in cases:
+        folders = {".": own, "../p": folder_of(some(range(2, 6)))}
         end = room.ended(command, folders, prepared=as_nobody_can_write)
         room.compare("a save that has no room", end, model.End(9, "", SAVE_FAULT, after), folders)
 
@@ -451,7 +453,7 @@ def gather_save_fails(room: Room) -> None:
 @case
 def gather_saves_where_the_next_is_due(room: Room) -> None:
     """In the slot that is not the newest, with the next generation."""
-    other = holding(some(range(2, 6)))
+    other = folder_of(some(range(2, 6)))
     for generation in (0, 1, 2):
         last, next_one = saved(some(range(3)), generation), (generation + 1) % 3
         for slots in (
@@ -461,7 +463,7 @@ def gather_saves_where_the_next_is_due(room: Room) -> None:
             room.gather(["../p", *RUN], {".": Folder(slots), "../p": other})
     room.gather(
         ["../p", "../q", *RUN],
-        {"../p": holding(some((0, 1), found=BINNED)), "../q": holding(some((1, 2)))},
+        {"../p": folder_of(some((0, 1), found=BINNED)), "../q": folder_of(some((1, 2)))},
     )
 
 
@@ -493,7 +495,7 @@ def unlocked_reads(trace: str) -> List[str]:
 
 @traced
 def gather_reads_each_slot_under_the_lock(room: Room) -> None:
-    """Both slots of each folder are opened while its lock is held; a look takes no lock."""
+    """Both slots of each folder are opened while it is locked; a look takes no lock."""
     folders = {
         ".": Folder((saved(some(range(2))), saved(some(range(3)), 1))),
         "../p": Folder((saved(some(range(4))), saved(some(range(5)), 1))),

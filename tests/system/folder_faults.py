@@ -13,7 +13,7 @@ skipped.
 from __future__ import annotations
 
 import sys
-from typing import Any, List, Mapping, Optional, Sequence
+from typing import List, Mapping, Optional, Sequence
 
 from tests.oracle import model
 from tests.system import folder_model
@@ -29,8 +29,8 @@ from tests.system.folder_room import (
     named,
     run_cases,
     saved,
+    folder_of,
     some,
-    holding,
     traced,
 )
 
@@ -49,11 +49,11 @@ UNTOUCHED = list(OWN.slots)
 Slots = Sequence[Optional[bytes]]
 
 
-def refused(status: int, note: str, slots: Slots = UNTOUCHED) -> Any:
+def refused(status: int, note: str, slots: Slots = UNTOUCHED) -> model.End:
     return model.End(status, "", note, list(slots))
 
 
-def unread(name: str) -> Any:
+def unread(name: str) -> model.End:
     return refused(10, f"gather: folder {name}: a slot cannot be read\n")
 
 
@@ -64,7 +64,7 @@ def fails(
     path: str,
     call: str,
     what: str,
-    wanted: Any,
+    wanted: model.End,
     folders: Mapping[str, Folder] = FOLDERS,
 ) -> None:
     """Makes a call of which system calls on a path fail; `path` is as the program says it."""
@@ -82,11 +82,11 @@ def fails(
     )
 
 
-def gather_fails(room: Room, path: str, call: str, what: str, wanted: Any) -> None:
+def gather_fails(room: Room, path: str, call: str, what: str, wanted: model.End) -> None:
     fails(room, "audit_gather", GATHER, path, call, what, wanted)
 
 
-def slots_fail(room: Room, path: str, call: str, what: str, wanted: Any) -> None:
+def slots_fail(room: Room, path: str, call: str, what: str, wanted: model.End) -> None:
     """Makes a call of audit_slots on another folder, and one on the working folder."""
     fails(room, "audit_slots", ["../p", *RUN], f"../p/{path}", call, what, wanted)
     fails(room, "audit_slots", RUN, f"./{path}", call, what, wanted)
@@ -116,12 +116,12 @@ def slots_reading_fails(room: Room) -> None:
 @traced
 def slots_interrupted(room: Room) -> None:
     """An interrupted opening or read is made again."""
-    told = folder_model.slots(["../p", *RUN], CYCLE, FOLDERS)
+    wanted = folder_model.slots(["../p", *RUN], CYCLE, FOLDERS)
     for name in NAMES:
         for call in ("openat", "read"):
             fails(
                 room, "audit_slots", ["../p", *RUN], f"../p/{name}", call, "error=EINTR:when=1",
-                told,
+                wanted,
             )
 
 
@@ -186,9 +186,9 @@ def gather_out_of_memory(room: Room) -> None:
 @traced
 def gather_lock_is_taken(room: Room) -> None:
     """A folder whose lock is taken is not read, at whichever of its slots that is seen."""
-    held = refused(10, "gather: folder ../p: a run holds it\n")
+    locked = refused(10, "gather: folder ../p: a run holds it\n")
     for error in ("EAGAIN", "EAGAIN:when=1"):
-        gather_fails(room, "../p/.", "flock", f"error={error}", held)
+        gather_fails(room, "../p/.", "flock", f"error={error}", locked)
     gather_fails(
         room, ".", "flock", "error=EAGAIN", refused(6, "checkpoint: another run holds the folder\n")
     )
@@ -242,7 +242,7 @@ def gather_folder_is_never_synced(room: Room) -> None:
 @traced
 def gather_new_slot_is_refused(room: Room) -> None:
     """Nothing is saved if no file can be made."""
-    own = {**FOLDERS, ".": holding(some(range(3)))}
+    own = {**FOLDERS, ".": folder_of(some(range(3)))}
     for error in ("EACCES", "EROFS", "ENOSPC"):
         fails(
             room, "audit_gather", GATHER, NAMES[1], "openat", f"error={error}",

@@ -7,15 +7,13 @@ are those of the working folder.
 """
 from __future__ import annotations
 
-from typing import Any, Dict, List, Mapping, NamedTuple, Optional, Sequence, Tuple
+from typing import Dict, List, Mapping, NamedTuple, Optional, Sequence, Tuple
 
 from tests.oracle import model
-
-# The model has no types.
+from tests.oracle.model import Outcome
 
 SAVING = ("run", "make")
 REFUSED = 10
-Outcome = Tuple[Any, ...]
 Outcomes = Dict[int, Outcome]
 
 
@@ -24,7 +22,7 @@ class Folder(NamedTuple):
 
     slots: Sequence[Optional[bytes]] = (None, None)
     unreadable: Sequence[int] = ()
-    held: bool = False
+    is_locked: bool = False
 
 
 class Finding(NamedTuple):
@@ -36,31 +34,31 @@ class Finding(NamedTuple):
 
 
 def outcomes_of(data: bytes) -> Outcomes:
-    """Returns the outcomes of a checkpoint by id, each as its moves, its values and its bins."""
-    return {one[0]: (one[1], one[2:6], one[6:]) for one in model.decoded(data).records}
+    """Returns the outcomes of a checkpoint by id."""
+    return model.outcomes_in(model.decoded(data))
 
 
 def differ(one: Outcome, other: Outcome) -> bool:
     """Returns whether two outcomes of an id differ, apart from a histogram that one does not have.
     """
-    both_have_histograms = any(one[2]) and any(other[2])
-    return one[:2] != other[:2] or (both_have_histograms and one[2] != other[2])
+    both_have_histograms = any(one.bins) and any(other.bins)
+    return one[:2] != other[:2] or (both_have_histograms and one.bins != other.bins)
 
 
 def merged(one: Outcome, other: Outcome) -> Outcome:
     """Returns the outcome with bins, where one of two has them."""
-    return one if any(one[2]) else other
+    return one if any(one.bins) else other
 
 
 # ---- the words
 
-def split_words(words: List[str]) -> Tuple[List[str], List[str]]:
+def split_words(words: Sequence[str]) -> Tuple[Sequence[str], Sequence[str]]:
     """Returns the words before the first command, and the others."""
     count = next((at for at, word in enumerate(words) if word in model.COMMANDS), len(words))
     return words[:count], words[count:]
 
 
-def job_of(words: List[str], graph: bytes) -> Any:
+def job_of(words: Sequence[str], graph: bytes) -> model.Job:
     """Returns the job of the words of a run.
 
     Raises model.Refused where the words or the graph are refused.
@@ -82,7 +80,7 @@ def slot_line(place: int, data: Optional[bytes]) -> str:
     return f"slot {place}: {counts} digest {slot.job.hex()}"
 
 
-def done_line(job: Any, slots: Sequence[Optional[bytes]]) -> str:
+def done_line(job: model.Job, slots: Sequence[Optional[bytes]]) -> str:
     digest = job.digest()
     seen = [model.looked(job.setting, digest, data) for data in slots]
     at = model.newest(seen)
@@ -95,7 +93,7 @@ def done_line(job: Any, slots: Sequence[Optional[bytes]]) -> str:
     return f"done: {len(seen[at].records)} of {job.setting.total}"
 
 
-def slots(words: List[str], graph: bytes, folders: Mapping[str, Folder]) -> Any:
+def slots(words: Sequence[str], graph: bytes, folders: Mapping[str, Folder]) -> model.End:
     """Returns the end of a call of audit_slots."""
     is_named = bool(words) and words[0] not in model.COMMANDS
     name, rest = (words[0], words[1:]) if is_named else (".", words)
@@ -115,9 +113,9 @@ def slots(words: List[str], graph: bytes, folders: Mapping[str, Folder]) -> Any:
 
 # ---- audit_gather
 
-def found_in(job: Any, folder: Folder, asks_lock: bool) -> Finding:
+def found_in(job: model.Job, folder: Folder, asks_lock: bool) -> Finding:
     """Returns what is found in a folder by itself."""
-    if asks_lock and folder.held:
+    if asks_lock and folder.is_locked:
         return Finding(None, "a run holds it")
     if folder.unreadable:
         return Finding(None, "a slot cannot be read")
@@ -145,24 +143,26 @@ class Gathering:
     """The outcomes gathered so far, together and by folder."""
 
     def __init__(self) -> None:
-        self.all: Outcomes = {}
+        self.together: Outcomes = {}
         self.parts: List[Tuple[str, Outcomes]] = []
 
     def add(self, name: str, outcomes: Outcomes) -> Optional[str]:
         """Adds the outcomes of a folder, unless one differs; then returns the text that says so."""
         for one in sorted(outcomes):
-            if one in self.all and differ(self.all[one], outcomes[one]):
+            if one in self.together and differ(self.together[one], outcomes[one]):
                 other = next(part for part, some in self.parts
                              if one in some and differ(some[one], outcomes[one]))
                 return f"outcome {one} differs in {other} and {name}"
         self.parts.append((name, outcomes))
         for one, outcome in outcomes.items():
-            self.all[one] = merged(self.all[one], outcome) if one in self.all else outcome
+            known = self.together.get(one)
+            self.together[one] = outcome if known is None else merged(known, outcome)
         return None
 
 
-def gathered(job: Any, names: List[str], folders: Mapping[str, Folder],
-             looks: bool) -> Tuple[Gathering, List[str], List[str]]:
+def gathered(
+    job: model.Job, names: Sequence[str], folders: Mapping[str, Folder], looks: bool
+) -> Tuple[Gathering, List[str], List[str]]:
     """Returns what is gathered, a line for each folder, the working one first, and the refusals."""
     gathering, own = Gathering(), found_in(job, folders.get(".", Folder()), False)
     lines = [f"working folder: {own.text}{beside(own)}"]
@@ -176,16 +176,17 @@ def gathered(job: Any, names: List[str], folders: Mapping[str, Folder],
             lines.append(f"folder {name}: {finding.text}")
             refusals.append(lines[-1])
             continue
-        new = len(set(finding.outcomes) - set(gathering.all))
+        new = len(set(finding.outcomes) - set(gathering.together))
         refusal = gathering.add(name, finding.outcomes)
-        told = f"folder {name}: {finding.text}, {new} new{beside(finding)}"
-        lines.append(refusal or told)
+        line = f"folder {name}: {finding.text}, {new} new{beside(finding)}"
+        lines.append(refusal or line)
         refusals += [refusal] if refusal else []
     return gathering, lines, refusals
 
 
-def saved(job: Any, slots_before: Sequence[Optional[bytes]],
-          outcomes: Outcomes) -> List[Optional[bytes]]:
+def saved(
+    job: model.Job, slots_before: Sequence[Optional[bytes]], outcomes: Outcomes
+) -> List[Optional[bytes]]:
     """Returns the slots of the working folder after the save of these outcomes."""
     digest = job.digest()
     seen = [model.looked(job.setting, digest, data) for data in slots_before]
@@ -196,19 +197,19 @@ def saved(job: Any, slots_before: Sequence[Optional[bytes]],
     return after
 
 
-def gather(words: List[str], graph: bytes, folders: Mapping[str, Folder]) -> Any:
+def gather(words: Sequence[str], graph: bytes, folders: Mapping[str, Folder]) -> model.End:
     """Returns the end of a call of audit_gather."""
     own, looks = folders.get(".", Folder()), False
     try:
-        if words[:1] == ["--look"]:
-            if words[1:2] not in (["yes"], ["no"]):
+        if list(words[:1]) == ["--look"]:
+            if list(words[1:2]) not in (["yes"], ["no"]):
                 raise model.Refused(1, "words: bad value for --look")
             looks, words = words[1] == "yes", words[2:]
         names, rest = split_words(words)
         if not names and not looks:
             raise model.Refused(1, "words: no folder")
         job = job_of(rest, graph)
-        if own.held and not looks:
+        if own.is_locked and not looks:
             raise model.Refused(6, "checkpoint: another run holds the folder")
         if own.unreadable:
             raise model.Refused(6, "checkpoint load fault")
@@ -218,6 +219,6 @@ def gather(words: List[str], graph: bytes, folders: Mapping[str, Folder]) -> Any
     if refusals and not looks:
         note = "".join(f"gather: {line}\n" for line in refusals)
         return model.End(REFUSED, "", note, list(own.slots))
-    after = list(own.slots) if looks else saved(job, own.slots, gathering.all)
-    lines.append(f"done: {len(gathering.all)} of {job.setting.total}")
+    after = list(own.slots) if looks else saved(job, own.slots, gathering.together)
+    lines.append(f"done: {len(gathering.together)} of {job.setting.total}")
     return model.End(0, "\n".join([*lines, ""]), "", after)

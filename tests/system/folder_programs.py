@@ -86,7 +86,7 @@ def try_slots(room: Room) -> None:
 def try_long_slot(room: Room) -> None:
     """A slot may have 100,000 outcomes, and not a byte more."""
     room.slot(0).unlink()
-    outcomes = {id: (0, [0] * 0, model.NO_BINS) for id in range(100000)}
+    outcomes = {number: model.Outcome(0, [], model.NO_BINS) for number in range(100000)}
     data = model.checkpoint(bytes(32), 1, outcomes)
     room.slot(1).write_bytes(data)
     end = room.run(room.slots)

@@ -15,14 +15,13 @@ import signal
 import subprocess
 import sys
 import tempfile
-from typing import Any, Callable, Dict, Iterator, List, Mapping, NamedTuple, Optional, Sequence, Set
+from typing import BinaryIO, Callable, Dict, Iterator, List, Mapping, NamedTuple, Optional
+from typing import Sequence, Set
 
 from tests.oracle import model
 from tests.places import DATA
 from tests.system import folder_model, power_cuts
 from tests.system.folder_model import Folder, Outcomes
-
-# These modules have no types.
 
 CYCLE = (DATA / "cycle.json").read_bytes()
 NAMES = ("audit-0.ckpt", "audit-1.ckpt")
@@ -51,9 +50,9 @@ PLAIN: Outcomes = dict(enumerate(model.asked(JOB, DIGEST)))
 BINNED: Outcomes = dict(enumerate(model.outcomes(JOB, DIGEST)))
 
 
-def changed(outcome: Any) -> Any:
+def changed(outcome: model.Outcome) -> model.Outcome:
     """Returns another outcome that the job can have: the number of moves differs."""
-    return (outcome[0] ^ 1, *outcome[1:])
+    return outcome._replace(moved=outcome.moved ^ 1)
 
 
 def some(ids: Sequence[int], *others: int, found: Optional[Outcomes] = None) -> Outcomes:
@@ -63,12 +62,12 @@ def some(ids: Sequence[int], *others: int, found: Optional[Outcomes] = None) -> 
 
 
 def saved(outcomes: Outcomes, generation: int = 0, digest: bytes = DIGEST) -> bytes:
-    return bytes(model.checkpoint(digest, generation, outcomes))
+    return model.checkpoint(digest, generation, outcomes)
 
 
-def holding(outcomes: Outcomes, held: bool = False) -> Folder:
+def folder_of(outcomes: Outcomes, is_locked: bool = False) -> Folder:
     """Returns a folder whose slot 0 has these outcomes, and whose slot 1 is absent."""
-    return Folder((saved(outcomes), None), held=held)
+    return Folder((saved(outcomes), None), is_locked=is_locked)
 
 
 def damaged() -> Dict[str, bytes]:
@@ -84,7 +83,7 @@ def damaged() -> Dict[str, bytes]:
         "bad generation": saved(some(range(4)), 3),
         "bad count": good + b"x",
         "bad digest": good[:-1] + bytes([good[-1] ^ 1]),
-        "unfit": saved({0: (9, *PLAIN[0][1:])}, 1),
+        "unfit": saved({0: PLAIN[0]._replace(moved=9)}, 1),
     }
 
 
@@ -148,11 +147,11 @@ class Room:
                 for path in paths]
 
     @contextlib.contextmanager
-    def held(self, folders: Mapping[str, Folder]) -> Iterator[None]:
-        """Holds the locks of the folders that are held, as runs do."""
+    def locks_of(self, folders: Mapping[str, Folder]) -> Iterator[None]:
+        """Locks the folders that are to be locked, as runs do."""
         locks = []
         for name, folder in folders.items():
-            if folder.held:
+            if folder.is_locked:
                 locks.append(os.open(self.path(name), os.O_RDONLY))
                 fcntl.flock(locks[-1], fcntl.LOCK_EX | fcntl.LOCK_NB)
         try:
@@ -161,28 +160,52 @@ class Room:
             for lock in locks:
                 os.close(lock)
 
-    def call(self, command: Sequence[str], graph: bytes, out: Optional[str] = None,
-             prepared: Optional[Callable[[], None]] = None) -> subprocess.CompletedProcess[bytes]:
+    def call(
+        self,
+        command: Sequence[str],
+        graph: bytes,
+        out: Optional[str] = None,
+        prepared: Optional[Callable[[], None]] = None,
+    ) -> subprocess.CompletedProcess[bytes]:
         """Makes a call in the working folder; `out` is a file for its standard output."""
-        how: Any = {"cwd": self.here, "preexec_fn": prepared, "timeout": 60, "check": False}
         if out is None:
-            return subprocess.run(command, input=graph, capture_output=True, **how)
+            return self.call_into(subprocess.PIPE, command, graph, prepared)
         with open(out, "wb") as stdout:
-            return subprocess.run(command, input=graph, stdout=stdout, stderr=subprocess.PIPE,
-                                  **how)
+            return self.call_into(stdout, command, graph, prepared)
 
-    def ended(self, command: Sequence[str], folders: Mapping[str, Folder], graph: bytes = CYCLE,
-              kind: str = "folder", **how: Any) -> End:
+    def call_into(
+        self,
+        stdout: int | BinaryIO,
+        command: Sequence[str],
+        graph: bytes,
+        prepared: Optional[Callable[[], None]],
+    ) -> subprocess.CompletedProcess[bytes]:
+        return subprocess.run(
+            command, input=graph, stdout=stdout, stderr=subprocess.PIPE, cwd=self.here,
+            preexec_fn=prepared, timeout=60, check=False,
+        )
+
+    def ended(
+        self,
+        command: Sequence[str],
+        folders: Mapping[str, Folder],
+        graph: bytes = CYCLE,
+        kind: str = "folder",
+        out: Optional[str] = None,
+        prepared: Optional[Callable[[], None]] = None,
+    ) -> End:
         self.place(folders, kind)
-        with self.held(folders):
+        with self.locks_of(folders):
             try:
-                done = self.call(command, graph, **how)
+                done = self.call(command, graph, out, prepared)
             except subprocess.TimeoutExpired:
                 return End(-1, "", "no end within a minute", {})
         out, note = (done.stdout or b"").decode(), done.stderr.decode()
         return End(done.returncode, out, note, {name: self.files(name) for name in folders})
 
-    def compare(self, what: str, end: End, wanted: Any, folders: Mapping[str, Folder]) -> None:
+    def compare(
+        self, what: str, end: End, wanted: model.End, folders: Mapping[str, Folder]
+    ) -> None:
         """Notes the first part of an end that is not as wanted."""
         files = {name: [None if at in folder.unreadable else data
                         for at, data in enumerate(folder.slots)]
@@ -199,8 +222,15 @@ class Room:
                                   + (f" ({end.note.strip()})" if part == "status" else ""))
                 return
 
-    def check(self, tool: str, words: List[str], folders: Mapping[str, Folder],
-              said: Optional[str] = None, graph: bytes = CYCLE, **how: Any) -> None:
+    def check(
+        self,
+        tool: str,
+        words: List[str],
+        folders: Mapping[str, Folder],
+        said: Optional[str] = None,
+        graph: bytes = CYCLE,
+        kind: str = "folder",
+    ) -> None:
         """Makes a call that has to end as the model says; `said` is its text or its note."""
         folders = {".": Folder(), **folders}
         models = {"audit_slots": folder_model.slots, "audit_gather": folder_model.gather}
@@ -208,16 +238,30 @@ class Room:
         what = named(tool, words)
         if said is not None and said not in (wanted.out, wanted.note):
             self.wrong.append(f"{what}: the model says {wanted.out + wanted.note!r}, not {said!r}")
-        end = self.ended([self.tools[tool], *words], folders, graph, **how)
+        end = self.ended([self.tools[tool], *words], folders, graph, kind)
         self.compare(what, end, wanted, folders)
 
-    def slots(self, words: List[str], folders: Mapping[str, Folder], **how: Any) -> None:
-        self.check("audit_slots", words, folders, **how)
+    def slots(
+        self,
+        words: List[str],
+        folders: Mapping[str, Folder],
+        said: Optional[str] = None,
+        graph: bytes = CYCLE,
+        kind: str = "folder",
+    ) -> None:
+        self.check("audit_slots", words, folders, said, graph, kind)
 
-    def gather(self, words: List[str], folders: Mapping[str, Folder], **how: Any) -> None:
-        self.check("audit_gather", words, folders, **how)
+    def gather(
+        self,
+        words: List[str],
+        folders: Mapping[str, Folder],
+        said: Optional[str] = None,
+        graph: bytes = CYCLE,
+        kind: str = "folder",
+    ) -> None:
+        self.check("audit_gather", words, folders, said, graph, kind)
 
-    def expect(self, what: str, came: Any, expected: Any) -> None:
+    def expect(self, what: str, came: object, expected: object) -> None:
         if came != expected:
             self.wrong.append(f"{what}: expected {shown(expected)}, came {shown(came)}")
 
@@ -228,7 +272,7 @@ def named(tool: str, words: Sequence[str]) -> str:
     return " ".join([tool, *short])
 
 
-def shown(value: Any) -> str:
+def shown(value: object) -> str:
     """Returns a value as a text that is short enough to read; files by their lengths."""
     if isinstance(value, dict):
         return str({name: [None if data is None else f"{len(data)} bytes, sum {sum(data)}"

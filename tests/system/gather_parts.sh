@@ -175,7 +175,7 @@ empty_file text_refused refused.out
 
 # A folder that a run holds, and the working folder that a run holds.
 hold small-0
-gather held refused 10 'gather: folder ../small-0: a run holds it' ../small-0 ../small-1
+gather locked refused 10 'gather: folder ../small-0: a run holds it' ../small-0 ../small-1
 let_go
 holds refused ""
 mkdir busy

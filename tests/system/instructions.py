@@ -28,7 +28,7 @@ import subprocess
 import sys
 import tempfile
 import time
-from typing import Any, Dict, Iterator, List, NamedTuple, Optional, Sequence, Tuple
+from typing import Dict, Iterator, List, NamedTuple, Optional, Sequence, Tuple
 
 from tests.oracle import model
 from tests.places import DATA, TEST_DATA, package_command, package_environment
@@ -107,8 +107,10 @@ def square(side: int, queen: bool) -> bytes:
 def checkpoint(words: List[str], graph: bytes, ids: Sequence[int], steps: int) -> bytes:
     """Returns a checkpoint with made-up outcomes that the job can have."""
     digest = model.job_of(model.Setting(words), graph).digest()
-    outcomes = {one: (one % steps, [1 + one % steps], model.NO_BINS) for one in ids}
-    return bytes(model.checkpoint(digest, 0, outcomes))
+    outcomes = {
+        one: model.Outcome(one % steps, [1 + one % steps], model.NO_BINS) for one in ids
+    }
+    return model.checkpoint(digest, 0, outcomes)
 
 
 def several_plans(graph: bytes) -> bytes:
@@ -281,7 +283,7 @@ def busy_threads(room: Room) -> Tuple[int, int]:
 Result = Tuple[str, Optional[bool], str]
 
 
-def judged(name: str, came: Counted, recorded: Dict[str, Any]) -> Result:
+def judged(name: str, came: Counted, recorded: Dict[str, Dict[str, float]]) -> Result:
     """Compares what a run took with its numbers; None says that there are none."""
     wanted = recorded.get(name)
     said = f"{came.instructions} instructions"
@@ -329,7 +331,7 @@ def record(room: Room, chosen: Dict[str, Run]) -> int:
 
 def compared(room: Room, chosen: Dict[str, Run], names: Sequence[str]) -> Iterator[Result]:
     """Makes the runs and compares each; without a number only those that are named are made."""
-    recorded: Dict[str, Any] = {}
+    recorded: Dict[str, Dict[str, float]] = {}
     if RECORD.exists():
         recorded = json.loads(RECORD.read_text(encoding="utf-8"))["runs"]
     if not names or THREADS in names:

@@ -83,8 +83,8 @@ FOLDER = -1
 
 
 class Step(typing.NamedTuple):
-    """What a call does: to which file, by its place in NAMES, or to the folder; of a write and of a
-    cut to a length also where; and of a write with which bytes.
+    """A change by a call: its kind, and the file, by its place in NAMES, or the folder. A write and
+    a cut to a length also have a place, and a write has bytes.
     """
 
     what: str

@@ -11,8 +11,11 @@ The last line counts the checks.
 """
 # RUN: {auditor}
 # NEEDS: networkx
+from __future__ import annotations
+
 import contextlib
 import csv
+import dataclasses
 import importlib.util
 import io
 import json
@@ -25,33 +28,44 @@ import sys
 import tempfile
 import types
 import typing
+from collections.abc import Callable, Iterator, Sequence
 from pathlib import Path
+from unittest import mock
 
 from tests import places
+from tests.oracle import model
 
 TOP = Path(__file__).resolve().parents[2]
 EXAMPLES = TOP / "examples" / "data"
 ZEROS = "0" * 64
+NO_WORDS: list[str] = []
 CYCLE = ["--pop", "pop", "--first", "a", "--second", "b", "--district", "d"]
 REAL_KEY = "25625133bdfe4640fd1099604c66ef5bdc9757e9aac463095ef41e04bb2def94"
 
 
-def module(path: typing.Any, name: typing.Any) -> typing.Any:
+def module(path: Path, name: str) -> types.ModuleType:
     spec = importlib.util.spec_from_file_location(name, path)
     assert spec is not None and spec.loader is not None
     loaded = importlib.util.module_from_spec(spec)
+    sys.modules[name] = loaded  # where dataclasses look for the module of a class
     spec.loader.exec_module(loaded)
     return loaded
 
 
 recheck = module(TOP / "scripts" / "recheck.py", "recheck")
-model = module(TOP / "tests" / "oracle" / "model.py", "model")
+
+# The functions of the model that a fault replaces; those of one fault are of one type.
+Function = Callable[..., typing.Any]
+Wrong = Callable[[Function], Function]
+Walk = Callable[[model.Job, model.Plan, int, int], tuple[list[model.Plan], int]]
+Block = Callable[[bytes, int, int], list[int]]
+IsLegal = Callable[[model.Job, model.Plan], bool]
 
 
 class Counts:
     passed = failed = skipped = 0
 
-    def judge(self, name: typing.Any, is_right: typing.Any, what: str = "") -> None:
+    def judge(self, name: str, is_right: bool, what: str = "") -> None:
         if is_right:
             self.passed += 1
         else:
@@ -62,7 +76,7 @@ class Counts:
 COUNTS = Counts()
 
 
-def checked(*words: typing.Any) -> typing.Any:
+def checked(*words: object) -> tuple[int, str]:
     """The status and the text of a call of recheck."""
     recheck.WRONG.clear()
     with contextlib.redirect_stdout(io.StringIO()) as text:
@@ -70,12 +84,12 @@ def checked(*words: typing.Any) -> typing.Any:
     return status, text.getvalue()
 
 
-def agrees(name: typing.Any, *words: typing.Any) -> None:
+def agrees(name: str, *words: object) -> None:
     status, text = checked(*words)
     COUNTS.judge(name, status == 0, f"expected status 0, got {status}: {text}")
 
 
-def differs(name: typing.Any, place: typing.Any, *words: typing.Any) -> None:
+def differs(name: str, place: str, *words: object) -> None:
     """Passes where the status is 1 and some line begins with the place of the fault."""
     status, text = checked(*words)
     is_named = any(line.startswith(place) for line in text.splitlines())
@@ -84,7 +98,9 @@ def differs(name: typing.Any, place: typing.Any, *words: typing.Any) -> None:
     )
 
 
-def run(auditor: typing.Any, words: typing.Any, graph: typing.Any, folder: str = ".") -> typing.Any:
+def run(
+    auditor: str, words: Sequence[str], graph: bytes, folder: str = "."
+) -> subprocess.CompletedProcess[bytes]:
     return subprocess.run(
         [auditor, *words], input=graph, capture_output=True, cwd=folder, check=False
     )
@@ -116,7 +132,7 @@ def unknown_score() -> None:
     COUNTS.judge("unknown score", came == "unknown score ratio", came)
 
 
-def prepared(name: typing.Any, *words: typing.Any) -> typing.Any:
+def prepared(name: str, *words: str) -> bytes:
     command = places.package_command("prepare")
     return subprocess.run(
         [*command, EXAMPLES / name, *words], env=places.package_environment(), capture_output=True,
@@ -124,7 +140,7 @@ def prepared(name: typing.Any, *words: typing.Any) -> typing.Any:
     ).stdout
 
 
-def cases() -> typing.Iterator[typing.Any]:
+def cases() -> Iterator[tuple[str, list[str], str | bytes]]:
     """A name, the words and the graph of each example."""
     real = ["--slack", "1000", "--key", REAL_KEY, "--steps", "2047", "--hub-steps", "500"]
     births = ["--pop", "BIR74", "--first", "NWBIR74", "--second", "WBIR74", "--district", "PLAN11"]
@@ -162,7 +178,7 @@ def cases() -> typing.Iterator[typing.Any]:
     ], prepared("ny8.json", *homes, "--slack", "1000", "--numbers", "nearest", "--region", "COUNTY")
 
 
-def examples(auditor: typing.Any, room: typing.Any) -> None:
+def examples(auditor: str, room: Path) -> None:
     for name, words, graph in cases():
         data = (EXAMPLES / graph).read_bytes() if isinstance(graph, str) else graph
         (room / "graph").write_bytes(data)
@@ -185,7 +201,7 @@ FAULTY = [
 ]
 
 
-def trace_of(job: typing.Any, thin: typing.Any, found: typing.Any = None) -> str:
+def trace_of(job: model.Job, thin: int) -> str:
     """The trace of all trajectories by the plain model."""
     setting = job.setting
     texts = [
@@ -220,8 +236,21 @@ def trace_of(job: typing.Any, thin: typing.Any, found: typing.Any = None) -> str
     return "\n".join([*lines, "end", ""])
 
 
+@dataclasses.dataclass(frozen=True)
+class Fault:
+    """A fault of the model: its name, the function of a class or a module that is replaced, what
+    makes the wrong function of the right one, and how the line begins that names the fault.
+    """
+
+    name: str
+    owner: object
+    function: str
+    wrong: Wrong
+    place: str
+
+
 @contextlib.contextmanager
-def replaced(owner: typing.Any, name: typing.Any, wrong: typing.Any) -> typing.Iterator[typing.Any]:
+def replaced(owner: object, name: str, wrong: Wrong) -> Iterator[None]:
     right = getattr(owner, name)
     setattr(owner, name, wrong(right))
     model.OUTCOMES.clear()
@@ -232,7 +261,7 @@ def replaced(owner: typing.Any, name: typing.Any, wrong: typing.Any) -> typing.I
     model.draws.cache_clear()
 
 
-def skipping(right: typing.Any) -> typing.Any:
+def skipping(right: Walk) -> Walk:
     return lambda job, plan, stream, steps: walked(
         job,
         plan,
@@ -241,42 +270,38 @@ def skipping(right: typing.Any) -> typing.Any:
     )
 
 
-def walked(job: typing.Any, plan: typing.Any, draws: typing.Any) -> typing.Any:
+def walked(job: model.Job, plan: model.Plan, draws: list[int]) -> tuple[list[model.Plan], int]:
     """The plain model's walk with these draws."""
-    with_draws = model.draws
-    model.draws = lambda key, stream, count: draws
-    try:
+    with mock.patch.object(model, "draws", lambda key, stream, count: draws):
         return WALK(job, plan, 0, len(draws))
-    finally:
-        model.draws = with_draws
 
 
 WALK = model.Job.walk
 
 
-def swap_halves(right: typing.Any) -> typing.Any:
-    def halves(key: typing.Any, stream: typing.Any, place: typing.Any) -> typing.List[typing.Any]:
+def swap_halves(right: Block) -> Block:
+    def halves(key: bytes, stream: int, place: int) -> list[int]:
         return [(draw >> 32) | (draw & 0xFFFFFFFF) << 32 for draw in right(key, stream, place)]
 
     return halves
 
 
-def wrong_hub(right: typing.Any) -> typing.Any:
+def wrong_hub(right: Walk) -> Walk:
     """The start plan is taken for the hub."""
     return lambda job, plan, stream, steps: right(job, plan, stream, steps * (stream != 1))
 
 
-def swapped_streams(right: typing.Any) -> typing.Any:
+def swapped_streams(right: Walk) -> Walk:
     """Walks 0 and 1 have each other's stream."""
     return lambda job, plan, stream, steps: right(
         job, plan, {0: 2, 2: 0}.get(stream, stream), steps
     )
 
 
-def loose_bounds(right: typing.Any) -> typing.Any:
+def loose_bounds(right: IsLegal) -> IsLegal:
     """A district may have one person too many, or too few."""
 
-    def is_legal(job: typing.Any, plan: typing.Any) -> typing.Any:
+    def is_legal(job: model.Job, plan: model.Plan) -> bool:
         low, high = job.low, job.high
         job.low, job.high = low - 1, high + 1
         try:
@@ -287,35 +312,34 @@ def loose_bounds(right: typing.Any) -> typing.Any:
     return is_legal
 
 
-# The name of a fault, what is replaced by what, and how the line begins that names it.
 MODEL_FAULTS = (
-    ("a skipped step", model.Job, "walk", skipping, "report line"),
-    ("a wrong draw order", model, "block", swap_halves, "report line"),
-    (
+    Fault("a skipped step", model.Job, "walk", skipping, "report line"),
+    Fault("a wrong draw order", model, "block", swap_halves, "report line"),
+    Fault(
         "a miscounted tie",
         model,
         "is_inside",
         lambda right: lambda value, start, tail: value != start and right(value, start, tail),
         "report line 6, word 10 after count",
     ),
-    ("a wrong hub", model.Job, "walk", wrong_hub, "report line 11, word 7 after rank"),
-    ("swapped streams", model.Job, "walk", swapped_streams, "report line"),
-    (
+    Fault("a wrong hub", model.Job, "walk", wrong_hub, "report line 11, word 7 after rank"),
+    Fault("swapped streams", model.Job, "walk", swapped_streams, "report line"),
+    Fault(
         "a bound that is rounded down",
         model,
         "bound",
         lambda right: lambda count, of: right(count, of) - 1,
         "report line 6, word 14 after bound",
     ),
-    ("loose population bounds", model.Job, "is_legal", loose_bounds, "report line"),
-    (
+    Fault("loose population bounds", model.Job, "is_legal", loose_bounds, "report line"),
+    Fault(
         "districts that are not connected",
         model.Job,
         "reached",
         lambda right: lambda job, members: members,
         "report line",
     ),
-    (
+    Fault(
         "a wrong rank",
         model,
         "part",
@@ -325,7 +349,7 @@ MODEL_FAULTS = (
 )
 
 
-def wheel() -> typing.Any:
+def wheel() -> str:
     """A hub and a ring of six units: one district may have a hole or break in two."""
     votes = [(3, 1), (1, 2), (1, 2), (2, 1), (0, 4), (5, 1), (2, 2)]
     nodes = [
@@ -336,7 +360,7 @@ def wheel() -> typing.Any:
     return json.dumps({"nodes": nodes, "adjacency": [[{"id": u} for u in range(1, 7)], *ring]})
 
 
-def right_texts(auditor: typing.Any, graph: typing.Any, room: typing.Any) -> typing.Any:
+def right_texts(auditor: str, graph: bytes, room: Path) -> tuple[model.Job, str, str]:
     """The report and the trace by the plain model, which are those of the program."""
     setting = model.Setting(["run", *FAULTY])
     job = model.job_of(setting, graph)
@@ -349,7 +373,7 @@ def right_texts(auditor: typing.Any, graph: typing.Any, room: typing.Any) -> typ
         "the model's report", run(auditor, ["run", *FAULTY], graph).stdout.decode() == report,
         "it is not the program's",
     )
-    told = run(
+    end = run(
         auditor,
         [
             "trace",
@@ -365,11 +389,11 @@ def right_texts(auditor: typing.Any, graph: typing.Any, room: typing.Any) -> typ
         ],
         graph,
     )
-    if b"unknown command trace" in told.stderr:
+    if b"unknown command trace" in end.stderr:
         print("recheck: not tried, for the program has no traces: its own trace")
         COUNTS.skipped += 1
     else:
-        COUNTS.judge("the model's trace", told.stdout.decode() == trace, told.stderr.decode())
+        COUNTS.judge("the model's trace", end.stdout.decode() == trace, end.stderr.decode())
     agrees("a right report", room / "graph", room / "right", *FAULTY)
     agrees("a right trace", room / "graph", room / "right", *FAULTY, "--trace", room / "trace")
     agrees(
@@ -379,23 +403,23 @@ def right_texts(auditor: typing.Any, graph: typing.Any, room: typing.Any) -> typ
     return job, report, trace
 
 
-def model_faults(graph: typing.Any, room: typing.Any, job: typing.Any, report: typing.Any) -> None:
-    for name, owner, function, wrong, place in MODEL_FAULTS:
-        with replaced(owner, function, wrong):
+def model_faults(graph: bytes, room: Path, job: model.Job, report: str) -> None:
+    for fault in MODEL_FAULTS:
+        with replaced(fault.owner, fault.function, fault.wrong):
             bad = model.audit(["run", *FAULTY], graph, [None, None]).out
             bad_trace = trace_of(job, 7)
         (room / "bad").write_text(bad)
-        COUNTS.judge(f"{name}: another report", bad != report, "the report is the same")
-        differs(name, place, room / "graph", room / "bad", *FAULTY)
+        COUNTS.judge(f"{fault.name}: another report", bad != report, "the report is the same")
+        differs(fault.name, fault.place, room / "graph", room / "bad", *FAULTY)
         (room / "bad trace").write_text(bad_trace)
         if bad_trace != (room / "trace").read_text():
             differs(
-                f"{name}, in a trace", "trace line", room / "graph", room / "right", *CYCLE,
+                f"{fault.name}, in a trace", "trace line", room / "graph", room / "right", *CYCLE,
                 "--trace", room / "bad trace",
             )
 
 
-def changed_digits(room: typing.Any, report: typing.Any) -> None:
+def changed_digits(room: Path, report: str) -> None:
     """Each digit of the report in turn."""
     missed = []
     for at, digit in enumerate(report):
@@ -407,7 +431,7 @@ def changed_digits(room: typing.Any, report: typing.Any) -> None:
     COUNTS.judge("each changed digit", not missed, f"not found in the lines {missed}")
 
 
-def trace_faults(room: typing.Any, job: typing.Any, trace: typing.Any) -> None:
+def trace_faults(room: Path, job: model.Job, trace: str) -> None:
     """A wrong plan, a missing line, and a plan that is not legal."""
     lines = trace.split("\n")
     title = next(n for n, line in enumerate(lines) if line.startswith("trace id 0"))
@@ -429,7 +453,7 @@ def trace_faults(room: typing.Any, job: typing.Any, trace: typing.Any) -> None:
         differs(name, place, room / "graph", room / "right", *CYCLE, "--trace", room / "bad trace")
 
 
-def checkpoint_faults(room: typing.Any, job: typing.Any) -> None:
+def checkpoint_faults(room: Path, job: model.Job) -> None:
     """A changed number of an outcome below a right SHA-256, in both versions."""
     found = dict(enumerate(model.outcomes(job, "checkpoints")))
     for version in (1, 2):
@@ -441,10 +465,9 @@ def checkpoint_faults(room: typing.Any, job: typing.Any) -> None:
         words = [room / "graph", room / "right", *CYCLE, "--checkpoints", folder]
         agrees(f"a right checkpoint of version {version}", *words)
         agrees(f"an outcome of version {version}", *words, "--sample", "1", "--seed", "x")
-        moved, values, bins = found[4]
-        bad = model.checkpoint(
-            job.digest(), 0, {**found, 4: (moved, [values[0] + 1, values[1]], bins)}, version
-        )
+        values = found[4].values
+        changed = found[4]._replace(values=[values[0] + 1, values[1]])
+        bad = model.checkpoint(job.digest(), 0, {**found, 4: changed}, version)
         path.write_bytes(bad)
         differs(f"a changed outcome of version {version}", f"{path}: outcome 4, word 2", *words)
         path.write_bytes(model.sealed(right[:12] + bytes(32) + right[44:-32]))
@@ -466,14 +489,14 @@ TABLE = """id,hub and ring,"halves"
 """
 
 
-def plans_input(room: typing.Any, name: typing.Any, table: typing.Any) -> bytes:
+def plans_input(room: Path, name: str, table: str) -> bytes:
     """Writes the wheel, as one line, with a table behind it, and returns the bytes."""
     data: bytes = wheel().encode() + b"\n" + table.encode()
     (room / name).write_bytes(data)
     return data
 
 
-def plan_reports(auditor: typing.Any, room: typing.Any) -> typing.Any:
+def plan_reports(auditor: str, room: Path) -> str:
     """The reports of three plans by the plain model, which are those of the program."""
     data = plans_input(room, "plans", TABLE.replace("hub and ring", "hub-and-ring"))
     text = model.audit(["plans", *FAULTY], data, [None, None]).out
@@ -486,7 +509,7 @@ def plan_reports(auditor: typing.Any, room: typing.Any) -> typing.Any:
     return text
 
 
-def plans_faults(auditor: typing.Any, room: typing.Any) -> None:
+def plans_faults(auditor: str, room: Path) -> None:
     """Faults in the reports of several plans, each named with its plan."""
     text = plan_reports(auditor, room)
     own, ring, halves = re.split(r"(?m)^(?=plan )", text)[1:]
@@ -503,14 +526,13 @@ def plans_faults(auditor: typing.Any, room: typing.Any) -> None:
             ("a text behind the plans", "plan halves: report line 14", text + "more\n")):
         (room / "bad plans").write_text(bad)
         differs(name, place, room / "plans", room / "bad plans", *FAULTY)
-    for owner, function, wrong, place in (
-            (model.Job, "walk", skipping, "plan d: report line"),
-            (model, "is_inside", lambda right: lambda value, start, tail: value != start
-             and right(value, start, tail), "plan halves: report line 6, word 10 after count")):
-        with replaced(owner, function, wrong):
+    for fault, place in (
+            (MODEL_FAULTS[0], "plan d: report line"),
+            (MODEL_FAULTS[2], "plan halves: report line 6, word 10 after count")):
+        with replaced(fault.owner, fault.function, fault.wrong):
             bad = model.audit(["plans", *FAULTY], (room / "plans").read_bytes(), [None, None]).out
         (room / "bad plans").write_text(bad)
-        differs(f"{function}: a wrong model of several plans", place, room / "plans",
+        differs(f"{fault.function}: a wrong model of several plans", place, room / "plans",
                 room / "bad plans", *FAULTY)
     right = TABLE.replace("hub and ring", "hub-and-ring")
     plans_input(room, "moved", right.replace("2,y,7", "2,y,10"))
@@ -524,7 +546,7 @@ def plans_faults(auditor: typing.Any, room: typing.Any) -> None:
     COUNTS.judge("a unit that is missing", status == 2, text)
 
 
-def faults(auditor: typing.Any, room: typing.Any) -> None:
+def faults(auditor: str, room: Path) -> None:
     graph = wheel().encode()
     job, report, trace = right_texts(auditor, graph, room)
     model_faults(graph, room, job, report)
@@ -542,7 +564,7 @@ def faults(auditor: typing.Any, room: typing.Any) -> None:
     )
 
 
-def columns_left_out(auditor: typing.Any, room: typing.Any) -> None:
+def columns_left_out(auditor: str, room: Path) -> None:
     """A report without the line `columns` needs each column in words, and each is asked for."""
     root = json.loads(wheel())
     for u, node in enumerate(root["nodes"]):
@@ -574,12 +596,12 @@ def columns_left_out(auditor: typing.Any, room: typing.Any) -> None:
 # ---- drawn jobs
 
 
-def drawn_graph(rng: typing.Any) -> bytes:
+def drawn_graph(rng: random.Random) -> bytes:
     """A drawn grid with diagonals and holes in connected districts, and its number of districts."""
     rows, columns = rng.randrange(2, 8), rng.randrange(3, 9)
     units = [(i, j) for i in range(rows) for j in range(columns) if rng.random() < 0.95]
     places = {at: u for u, at in enumerate(units)}
-    near: typing.Any = [set() for _ in units]
+    near: list[set[int]] = [set() for _ in units]
     for (i, j), u in places.items():
         for other in ((i + 1, j), (i, j + 1), *(((i + 1, j + 1),) * (rng.random() < 0.5))):
             if other in places:
@@ -593,7 +615,10 @@ def drawn_graph(rng: typing.Any) -> bytes:
             break
         u, v = rng.choice(edge)
         plan[v] = plan[u]
-    labels = rng.choice([list(range(districts)), ["b", "a", 7, 3], ["10", "9", "é", "z"]])
+    some_labels: list[list[int | str]] = [
+        [*range(districts)], ["b", "a", 7, 3], ["10", "9", "é", "z"],
+    ]
+    labels = rng.choice(some_labels)
     nodes = []
     for u in sorted(plan):
         vap = rng.randrange(20)
@@ -611,7 +636,7 @@ def drawn_graph(rng: typing.Any) -> bytes:
             }
         )
     keep = {u: nodes[k]["id"] for k, u in enumerate(sorted(plan))}
-    rows = [
+    adjacency = [
         [
             {"length": 7 * (u + v) % 23, "id": keep[v]}
             for v in rng.sample(sorted(near[u]), len(near[u]))
@@ -619,10 +644,10 @@ def drawn_graph(rng: typing.Any) -> bytes:
         ]
         for u in sorted(plan)
     ]
-    return json.dumps({"nodes": nodes, "adjacency": rows, "directed": False}).encode()
+    return json.dumps({"nodes": nodes, "adjacency": adjacency, "directed": False}).encode()
 
 
-def drawn_words(rng: typing.Any) -> typing.Any:
+def drawn_words(rng: random.Random) -> list[str]:
     """The words of a drawn run."""
     asks = rng.sample(sorted(model.ALL_ASKS), rng.randrange(1, 5))
     ends, stops = rng.choice([0, 1, 9]), rng.random() < 0.3
@@ -644,15 +669,15 @@ def drawn_words(rng: typing.Any) -> typing.Any:
             "county",
             *rng.choice(
                 [
-                    [], ["--max-split", "3"], ["--max-splits", str(rng.randrange(1, 9))],
+                    NO_WORDS, ["--max-split", "3"], ["--max-splits", str(rng.randrange(1, 9))],
                     ["--max-split-regions", str(rng.randrange(1, 4))],
                 ]
             ),
         ]
     if rng.random() < 0.4:
         words += [
-            "--group", "bvap", *rng.choice([[], ["--group-of", "vap"]]), "--group-districts",
-            str(rng.randrange(3)), *rng.choice([[], ["--group-share", "4000"]]),
+            "--group", "bvap", *rng.choice([NO_WORDS, ["--group-of", "vap"]]), "--group-districts",
+            str(rng.randrange(3)), *rng.choice([NO_WORDS, ["--group-share", "4000"]]),
         ]
     if rng.random() < 0.3 or any(ask.startswith("cut-length") for ask in asks):
         words += ["--length", "length"]
@@ -660,7 +685,7 @@ def drawn_words(rng: typing.Any) -> typing.Any:
     return words + (["--freeze", "keep"] if rng.random() < 0.3 else [])
 
 
-def drawn_table(rng: typing.Any, job: typing.Any) -> bytes:
+def drawn_table(rng: random.Random, job: model.Job, ids: Sequence[object]) -> bytes:
     """A table of plans to which drawn walks of a job lead, with drawn labels and line ends."""
     plans = [job.walk(tuple(job.plan), stream, rng.randrange(1, 60))[0][-1]
              for stream in range(1, rng.randrange(2, 5))]
@@ -668,28 +693,27 @@ def drawn_table(rng: typing.Any, job: typing.Any) -> bytes:
     out = io.StringIO(newline="")
     table = csv.writer(out, lineterminator=rng.choice(["\n", "\r\n"]))
     table.writerow(["id", *rng.sample(["one", "two", 'th"ree', "two"], len(plans))])
-    names = [node["id"] for node in job.nodes]
-    for u in rng.sample(range(len(names)), len(names)):
-        table.writerow([names[u], *(labels[plan[u]] for plan in plans)])
+    for u in rng.sample(range(len(ids)), len(ids)):
+        table.writerow([ids[u], *(labels[plan[u]] for plan in plans)])
     return out.getvalue().encode()
 
 
 def drawn_plans(
-    auditor: typing.Any, room: typing.Any, rng: typing.Any, graph: typing.Any, words: typing.Any
+    auditor: str, room: Path, rng: random.Random, graph: bytes, words: Sequence[str]
 ) -> None:
     """Several plans of a drawn job, audited by the program and re-checked."""
     job = model.job_of(model.Setting(["run", *words]), graph)
-    job.nodes = json.loads(graph)["nodes"]
-    data = graph + b"\n" + drawn_table(rng, job)
+    ids = [node["id"] for node in json.loads(graph)["nodes"]]
+    data = graph + b"\n" + drawn_table(rng, job, ids)
     end = run(auditor, ["plans", *words], data)
     (room / "plans").write_bytes(data)
     (room / "plan reports").write_bytes(end.stdout)
     COUNTS.judge(f"plans: {words}", end.returncode == 0, end.stderr.decode())
     agrees(f"reports of plans: {words}", room / "plans", room / "plan reports", *words,
-           *rng.choice([[], ["--sample", "2", "--seed", "drawn"]]))
+           *rng.choice([NO_WORDS, ["--sample", "2", "--seed", "drawn"]]))
 
 
-def campaign(auditor: typing.Any, room: typing.Any, jobs: typing.Any, seed: typing.Any) -> None:
+def campaign(auditor: str, room: Path, jobs: int, seed: int) -> None:
     rng, done, moved, traced, many = random.Random(seed), 0, 0, 0, 0
     has_trace = b"unknown command" not in run(auditor, ["trace"], b"").stderr
     while done < jobs:
@@ -723,7 +747,7 @@ def campaign(auditor: typing.Any, room: typing.Any, jobs: typing.Any, seed: typi
                 if pair[0] not in ("--shift", "--serial", "--stop")
             ]
             last = sum(int(words[words.index(name) + 1]) for name in ("--walks", "--ends")) - 1
-            told = run(
+            trace = run(
                 auditor,
                 [
                     "trace", "--ids", f"0-{last}", "--thin", str(rng.choice([1, 7, 50, 1000])),
@@ -731,7 +755,7 @@ def campaign(auditor: typing.Any, room: typing.Any, jobs: typing.Any, seed: typi
                 ],
                 graph,
             )
-            (room / "trace").write_bytes(told.stdout)
+            (room / "trace").write_bytes(trace.stdout)
             agrees(
                 f"trace of job {done}: {words}", room / "graph", room / "report", *given, "--trace",
                 room / "trace", *(["--segments", "2"] if rng.choice([0, 1]) else []),
@@ -745,7 +769,7 @@ def campaign(auditor: typing.Any, room: typing.Any, jobs: typing.Any, seed: typi
           f"{many} calls on several plans")
 
 
-def main(args: typing.Any) -> int:
+def main(args: Sequence[str]) -> int:
     auditor = os.path.abspath(args[0]) if args else str(places.program("auditor"))
     jobs, seed = (int(word) for word in (*args[1:], *("12", "1")[len(args[1:]):]))
     with tempfile.TemporaryDirectory() as folder:
@@ -753,7 +777,7 @@ def main(args: typing.Any) -> int:
         if len(args) < 2:
             vectors()
             unknown_score()
-        recheck.BATCH = 64  # for short walks
+        setattr(recheck, "BATCH", 64)  # for short walks
         recheck.batch.cache_clear()
         if len(args) < 2:
             examples(auditor, room)

@@ -30,6 +30,8 @@ one is not so. Where gcc is missing, that counts as skipped.
 # RUN: {auditor} each
 # RUN refused_memory_of_folders: {folders} folders
 # NEEDS: gcc
+from __future__ import annotations
+
 import argparse
 import json
 import os
@@ -41,6 +43,7 @@ import subprocess
 import sys
 import tempfile
 import typing
+from collections.abc import Iterable, Mapping, Sequence
 
 from tests.differential import fuzz
 from tests.oracle import model
@@ -145,9 +148,21 @@ TWO = (
 )
 SAVED = ["--save", "2", "--budget", "5"]
 OLD = "first version"
+# The bytes of the files that are there, by their names.
+Files = Mapping[str, bytes]
 
 
-def runs() -> typing.Dict[typing.Any, typing.Any]:
+class End(typing.NamedTuple):
+    """The end of a run, the files, and whether an allocation was refused."""
+
+    status: int | str
+    out: bytes
+    note: bytes
+    files: Files
+    is_refused: bool
+
+
+def runs() -> dict[str, list[tuple[list[str], bytes]]]:
     """Chains of runs, each the words and the graph; the first of a chain starts with no file, and
     that of OLD with one of the first version.
     """
@@ -282,7 +297,7 @@ def runs() -> typing.Dict[typing.Any, typing.Any]:
     }
 
 
-def several(graph: typing.Any) -> typing.Any:
+def several(graph: bytes) -> bytes:
     """The graph as one line, and a table with two more plans of its units."""
     ids = [unit["id"] for unit in json.loads(graph)["nodes"]]
     half = len(ids) // 2
@@ -290,7 +305,7 @@ def several(graph: typing.Any) -> typing.Any:
     return graph.replace(b"\n", b"") + "\n".join(["", "id,halves,turned", *rows, ""]).encode()
 
 
-def built(folder: typing.Any) -> typing.Any:
+def built(folder: pathlib.Path) -> pathlib.Path:
     source, library = folder / "refuse.c", folder / "refuse.so"
     source.write_text(LIBRARY)
     subprocess.run(["gcc", "-shared", "-fPIC", "-O1", "-o", library, source, "-ldl"], check=True)
@@ -300,32 +315,32 @@ def built(folder: typing.Any) -> typing.Any:
 class Room:
     """A folder for the runs, with the library and the two files."""
 
-    def __init__(self, program: typing.Any, folder: typing.Any) -> None:
+    def __init__(self, program: str, folder: pathlib.Path) -> None:
         self.program, self.library, self.mark, self.slots = (
             program, built(folder), folder / "mark", folder / "slots",
         )
-        self.counted, self.seconds = folder / "counted", 0
+        self.counted, self.seconds = folder / "counted", 0.0
         self.slots.mkdir()
 
-    def hold(self, files: typing.Any) -> None:
+    def place(self, files: Files) -> None:
         shutil.rmtree(self.slots)
         self.slots.mkdir()
         for name, data in files.items():
             (self.slots / name).write_bytes(data)
 
-    def files(self) -> typing.Dict[typing.Any, typing.Any]:
+    def files(self) -> dict[str, bytes]:
         return {path.name: path.read_bytes() for path in self.slots.iterdir()}
 
     def run(
         self,
-        words: typing.Any,
-        graph: typing.Any,
-        files: typing.Any,
+        words: Sequence[str],
+        graph: bytes,
+        files: Files,
         number: int = 0,
         is_all: bool = False,
-    ) -> typing.Any:
-        """Status, output, note, files, and whether an allocation was refused."""
-        self.hold(files)
+    ) -> End:
+        """Runs the program over these files."""
+        self.place(files)
         self.mark.unlink(missing_ok=True)
         given = {
             **os.environ,
@@ -343,10 +358,11 @@ class Room:
                 timeout=20, check=False,
             )
         except subprocess.TimeoutExpired:
-            return "none after 20 seconds", b"", b"", files, self.mark.exists()
+            return End("none after 20 seconds", b"", b"", files, self.mark.exists())
         finally:
             self.seconds = taken() - begun
-        return done.returncode, done.stdout, done.stderr, self.files(), self.mark.exists()
+        refused = self.mark.exists()
+        return End(done.returncode, done.stdout, done.stderr, self.files(), refused)
 
 
 class Folders(Room):
@@ -354,14 +370,14 @@ class Folders(Room):
 
     NAMES = ("slots", "p", "q")
 
-    def hold(self, files: typing.Any) -> None:
+    def place(self, files: Files) -> None:
         for name in self.NAMES:
             shutil.rmtree(self.slots.parent / name, ignore_errors=True)
             (self.slots.parent / name).mkdir()
         for name, data in files.items():
             (self.slots / name).write_bytes(data)
 
-    def files(self) -> typing.Dict[typing.Any, typing.Any]:
+    def files(self) -> dict[str, bytes]:
         return {
             os.path.relpath(path, self.slots): path.read_bytes()
             for name in self.NAMES
@@ -369,12 +385,12 @@ class Folders(Room):
         }
 
 
-def folder_calls() -> typing.Dict[typing.Any, typing.Any]:
+def folder_calls() -> dict[str, tuple[list[str], dict[str, bytes]]]:
     """Calls of both programs: the words, and what the folders hold."""
     job = model.job_of(model.Setting(CHAIN), (DATA / "cycle.json").read_bytes())
     digest, every = job.digest(), dict(enumerate(model.outcomes(job, job.digest())))
 
-    def files(name: typing.Any, *parts: typing.Any) -> typing.Dict[typing.Any, typing.Any]:
+    def files(name: str, *parts: Iterable[int]) -> dict[str, bytes]:
         return {
             f"{name}audit-{at}.ckpt": model.checkpoint(digest, at, {one: every[one] for one in ids})
             for at, ids in enumerate(parts)
@@ -384,7 +400,7 @@ def folder_calls() -> typing.Dict[typing.Any, typing.Any]:
         **files("../p/", range(2, 5), range(2, 6)),
         **files("../q/", range(5, 9)),
     }
-    changed = {one: (every[one][0] ^ 1, *every[one][1:]) for one in range(5, 9)}
+    changed = {one: every[one]._replace(moved=every[one].moved ^ 1) for one in range(5, 9)}
     differing = {**others, "../q/audit-0.ckpt": model.checkpoint(digest, 0, changed)}
     both = ["../p", "../q", *CHAIN]
     return {
@@ -400,7 +416,7 @@ def folder_calls() -> typing.Dict[typing.Any, typing.Any]:
     }
 
 
-def refuse_folders(room: typing.Any, tally: typing.Any) -> None:
+def refuse_folders(room: Room, tally: Tally) -> None:
     """Refuses each allocation of the calls on folders; each call has to end with the model's status
     where none is refused.
     """
@@ -408,16 +424,16 @@ def refuse_folders(room: typing.Any, tally: typing.Any) -> None:
     for name, (words, files) in folder_calls().items():
         tries = Tries(room, name, words, graph, files)
         wanted = wanted_of(words, graph, files)
-        if (tries.own[0], tries.own[1].decode(), tries.own[2].decode()) != wanted:
+        if (tries.own.status, tries.own.out.decode(), tries.own.note.decode()) != wanted:
             tries.found.append(f"{name}: {tries.own[:3]} and not {wanted}")
         tries.refuse_each()
         tally.add(tries)
 
 
-def wanted_of(words: typing.Any, graph: typing.Any, files: typing.Any) -> typing.Any:
+def wanted_of(words: Sequence[str], graph: bytes, files: Files) -> tuple[int, str, str]:
     """Returns the model's status and both texts."""
 
-    def slots(name: typing.Any) -> typing.Any:
+    def slots(name: str) -> folder_model.Folder:
         return folder_model.Folder([files.get(f"{name}audit-{at}.ckpt") for at in (0, 1)])
 
     folders = {".": slots(""), "../p": slots("../p/"), "../q": slots("../q/")}
@@ -427,30 +443,30 @@ def wanted_of(words: typing.Any, graph: typing.Any, files: typing.Any) -> typing
     return end.status, end.out, end.note
 
 
-def taken() -> typing.Any:
+def taken() -> float:
     """The seconds of a processor that all runs up to now took."""
     return resource.getrusage(resource.RUSAGE_CHILDREN).ru_utime
 
 
-def wrong(end: typing.Any, own: typing.Any, files: typing.Any, is_told: typing.Any) -> typing.Any:
+def wrong(end: End, own: End, files: Files, is_known: bool) -> str | None:
     """Returns what is wrong with an end, or None.
 
-    With `is_told` it is told which outcomes each save has, as it is of one worker.
+    With `is_known` it is known which outcomes each save has, as it is of one worker.
     """
-    status, out, note, after, _ = end
-    if status == 3 and own[0] != 3:
-        if out or after != files:
+    if end.status == 3 and own.status != 3:
+        if end.out or end.files != files:
             return "status 3, and the output or the files changed"
-        return None if note in (b"memory\n", b"") else f"status 3 with the note {note}"
-    parts = 4 if is_told else 3
+        is_good = end.note in (b"memory\n", b"")
+        return None if is_good else f"status 3 with the note {end.note!r}"
+    parts = 4 if is_known else 3
     return (
         None
         if end[:parts] == own[:parts]
-        else f"status {status}, and not all as with all memory: {note}"
+        else f"status {end.status}, and not all as with all memory: {end.note!r}"
     )
 
 
-def drawn_of(made: typing.Any, most: typing.Any, draw: typing.Any) -> typing.List[typing.Any]:
+def drawn_of(made: int, most: int, draw: random.Random) -> list[tuple[int, bool]]:
     """Returns a few allocations, each from an equal part of all, and whether all after it are
     refused too.
     """
@@ -462,31 +478,27 @@ def drawn_of(made: typing.Any, most: typing.Any, draw: typing.Any) -> typing.Lis
 
 
 class Tries:
-    """Returns the number of runs of one job with refused memory, the number that ended with 3, and
-    the wrong ones.
+    """The number of runs of one job with refused memory, the number that ended with 3, and the
+    wrong ones.
     """
 
     def __init__(
-        self,
-        room: typing.Any,
-        name: typing.Any,
-        words: typing.Any,
-        graph: typing.Any,
-        files: typing.Any,
+        self, room: Room, name: str, words: Sequence[str], graph: bytes, files: Files
     ) -> None:
         self.room, self.name, self.job, self.files = room, name, (words, graph, files), files
         self.own, self.seconds = room.run(*self.job), room.seconds
         self.made = int.from_bytes(room.counted.read_bytes(), sys.byteorder)
-        self.is_told = "--workers" not in words or "--save" not in words
-        self.found: typing.List[typing.Any]
-        self.count, self.threes, self.found = 0, 0, []
+        self.is_known = "--workers" not in words or "--save" not in words
+        self.count, self.threes = 0, 0
+        self.found: list[str] = []
 
-    def refuse(self, number: typing.Any, is_all: typing.Any) -> typing.Any:
+    def refuse(self, number: int, is_all: bool) -> bool:
         """Makes the run without an allocation, and answers whether there was one to refuse."""
         end = self.room.run(*self.job, number, is_all)
-        self.count, self.threes = self.count + end[4], self.threes + (end[0] == 3)
-        why = wrong(end, self.own, self.files, self.is_told)
-        if end[0] == 3 and 1 < self.seconds < 10 * self.room.seconds:
+        self.count += end.is_refused
+        self.threes += end.status == 3
+        why = wrong(end, self.own, self.files, self.is_known)
+        if end.status == 3 and 1 < self.seconds < 10 * self.room.seconds:
             why = (
                 f"status 3 after {self.room.seconds:.1f} seconds of a processor, where the run"
                 f" itself takes {self.seconds:.1f}"
@@ -495,7 +507,7 @@ class Tries:
             self.found.append(
                 f"{self.name}, allocation {number}{' and all after it' if is_all else ''}: {why}"
             )
-        return end[4]
+        return end.is_refused
 
     def refuse_each(self) -> None:
         for is_all in (False, True):
@@ -505,16 +517,16 @@ class Tries:
 
 
 class Tally:
-    """Returns the sums over all jobs."""
+    """The sums over all jobs."""
 
     def __init__(self) -> None:
-        self.found: typing.List[typing.Any]
-        self.count, self.threes, self.found = 0, 0, []
+        self.count, self.threes = 0, 0
+        self.found: list[str] = []
 
-    def add(self, tries: typing.Any) -> None:
+    def add(self, tries: Tries) -> None:
         print(
             (
-                f"{tries.name}: status {tries.own[0]}, {tries.count} runs with refused memory,"
+                f"{tries.name}: status {tries.own.status}, {tries.count} runs with refused memory,"
                 f" {tries.threes} of them with status 3"
             ),
             flush=True,
@@ -524,9 +536,11 @@ class Tally:
         )
 
 
-def refuse_runs(room: typing.Any, most: typing.Any, draw: typing.Any, tally: typing.Any) -> None:
+def refuse_runs(room: Room, most: int, draw: random.Random, tally: Tally) -> None:
     for name, chain in runs().items():
-        files = {"audit-0.ckpt": (TEST_DATA / "version_1.ckpt").read_bytes()} if name == OLD else {}
+        files: Files = (
+            {"audit-0.ckpt": (TEST_DATA / "version_1.ckpt").read_bytes()} if name == OLD else {}
+        )
         for place, (words, graph) in enumerate(chain):
             tries = Tries(room, f"{name} {place + 1}", words, graph, files)
             if most:
@@ -535,12 +549,15 @@ def refuse_runs(room: typing.Any, most: typing.Any, draw: typing.Any, tally: typ
             else:
                 tries.refuse_each()
             tally.add(tries)
-            files = tries.own[3]
+            files = tries.own.files
 
 
-def drawn_job(draw: typing.Any, graphs: typing.Any) -> typing.Any:
+def drawn_job(
+    draw: random.Random, graphs: Sequence[bytes]
+) -> tuple[list[str], bytes, dict[str, bytes]]:
     """Words, a graph, and slots as up to two earlier runs left them."""
-    graph, words, slots = draw.choice(graphs), fuzz.good_words(draw), [None, None]
+    graph, words = draw.choice(graphs), fuzz.good_words(draw)
+    slots: list[bytes | None] = [None, None]
     if words[0] == "run":
         for number in range(draw.randint(0, 2)):
             before = [
@@ -556,7 +573,7 @@ def drawn_job(draw: typing.Any, graphs: typing.Any) -> typing.Any:
     )
 
 
-def main(program: typing.Any, drawn: str = "0", *more: typing.Any) -> int:
+def main(program: str, drawn: str = "0", *more: str) -> int:
     if shutil.which("gcc") is None:
         print("no memory refused: gcc is not installed")
         print("refused_memory.py: 0 passed, 0 failed, 1 skipped")

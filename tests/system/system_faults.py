@@ -12,9 +12,9 @@ gives. The parts:
 - saves cut off by a limit on files
 - a folder that cannot be written and threads that are refused, as another user
 - slots that become pipes while a run walks; its report must be that of a run that saves nothing
-- the outcomes that workers hold at each save, for which the model gives nothing: they must be few
+- the outcomes that workers buffer at each save, for which the model gives nothing: they must be few
 
-Needed are strace with the right to trace, for the faults and the outcomes held; gcc, for short
+Needed are strace with the right to trace, for the faults and the buffered outcomes; gcc, for short
 reads and writes; and root, for the other user. A part whose need is missing says so in one line and
 counts as skipped. If strace is not installed, `tests/run` skips all parts, or fails if the variable
 CI is set.
@@ -28,6 +28,8 @@ counts the runs, and the skipped parts. The status is 1 if a run differs.
 """
 # RUN: {auditor}
 # NEEDS: strace
+from __future__ import annotations
+
 import argparse
 import json
 import os
@@ -42,6 +44,7 @@ import sys
 import tempfile
 import time
 import typing
+from collections.abc import Callable, Mapping, Sequence
 
 from tests.oracle import model
 from tests.system import power_cuts
@@ -88,21 +91,35 @@ ssize_t write(int fd, const void *from, size_t size) {
 """
 
 
+# A node of a graph, or the entry of a neighbor: its values by their columns.
+Node = dict[str, object]
+# Maps the bytes of a save that fails to those that it leaves in its slot.
+Left = Callable[[bytes], typing.Optional[bytes]]
+
+
+class End(typing.NamedTuple):
+    """The end of a run."""
+
+    status: int
+    out: bytes
+    note: bytes
+    slots: list[bytes | None]
+
+
 class Skipped(str):
-    """What a part says that was not tried, since what it needs is missing."""
+    """The line of a part that was not tried, since what it needs is missing."""
 
 
 class Room:
     """A folder in which runs are made, and what was wrong."""
 
-    def __init__(self, program: typing.Any, folder: typing.Any) -> None:
-        self.wrong: typing.List[typing.Any]
-        self.program, self.folder, self.slots, self.wrong, self.count = (
-            program, folder, folder / "slots", [], 0,
-        )
+    def __init__(self, program: str, folder: pathlib.Path) -> None:
+        self.program, self.folder, self.slots = program, folder, folder / "slots"
+        self.wrong: list[str] = []
+        self.count = 0
         self.chain = CHAIN
 
-    def hold(self, slots: typing.Any) -> None:
+    def place(self, slots: model.Slots) -> None:
         if self.slots.exists():
             self.slots.chmod(0o755)
             shutil.rmtree(self.slots)
@@ -111,7 +128,7 @@ class Room:
             if data is not None:
                 (self.slots / name).write_bytes(data)
 
-    def stored(self) -> typing.List[typing.Any]:
+    def stored(self) -> list[bytes | None]:
         return [
             (self.slots / name).read_bytes() if (self.slots / name).exists() else None
             for name in NAMES
@@ -119,12 +136,12 @@ class Room:
 
     def run(
         self,
-        words: typing.Any,
-        graph: typing.Any,
-        before: typing.Any = (),
-        given: typing.Any = None,
-        prepared: typing.Any = None,
-    ) -> typing.Any:
+        words: Sequence[str],
+        graph: bytes,
+        before: Sequence[str] = (),
+        given: Mapping[str, str] | None = None,
+        prepared: Callable[[], None] | None = None,
+    ) -> End:
         """The status, both texts and both files."""
         graph_file, out_file = self.folder / "graph", self.folder / "out"
         graph_file.write_bytes(graph)
@@ -134,21 +151,15 @@ class Room:
                 cwd=self.slots, env={**os.environ, **(given or {})}, preexec_fn=prepared,
                 timeout=120, check=False,
             )
-        return done.returncode, out_file.read_bytes(), done.stderr, self.stored()
+        return End(done.returncode, out_file.read_bytes(), done.stderr, self.stored())
 
     def judge(
-        self,
-        name: typing.Any,
-        end: typing.Any,
-        status: typing.Any,
-        out: typing.Any,
-        note: typing.Any,
-        slots: typing.Any,
+        self, name: str, end: End, status: int, out: str, note: str, slots: Sequence[bytes | None]
     ) -> None:
         self.count += 1
         for part, found, wanted in (
-            ("status", end[0], status), ("output", end[1], out.encode()),
-            ("note", end[2], note.encode()), ("files", end[3], slots),
+            ("status", end.status, status), ("output", end.out, out.encode()),
+            ("note", end.note, note.encode()), ("files", end.slots, list(slots)),
         ):
             if found != wanted:
                 self.wrong.append(f"{name}: {part} {str(found)[:200]} and not {str(wanted)[:200]}")
@@ -156,17 +167,17 @@ class Room:
 
     def as_model(
         self,
-        name: typing.Any,
-        words: typing.Any,
-        graph: typing.Any,
-        slots: typing.Any = (None, None),
-        **run: typing.Any,
+        name: str,
+        words: Sequence[str],
+        graph: bytes,
+        slots: model.Slots = (None, None),
+        given: Mapping[str, str] | None = None,
     ) -> None:
         """A run that must end as one on a system that does not fail."""
-        self.hold(slots)
+        self.place(slots)
         wanted = model.audit(words, graph, list(slots))
         self.judge(
-            name, self.run(words, graph, **run), wanted.status, wanted.out, wanted.note,
+            name, self.run(words, graph, given=given), wanted.status, wanted.out, wanted.note,
             wanted.slots,
         )
 
@@ -174,7 +185,9 @@ class Room:
 # ---- faults injected by strace
 
 
-def saved(words: typing.Any, slots: typing.Any, fails: typing.Any) -> typing.Any:
+def saved(
+    words: Sequence[str], slots: model.Slots, fails: Mapping[int, Left]
+) -> list[bytes | None]:
     """The files after a run of which the saves with these numbers fail, which leave what the map
     says, and whether the run needed them all.
     """
@@ -184,10 +197,10 @@ def saved(words: typing.Any, slots: typing.Any, fails: typing.Any) -> typing.Any
     seen = [model.looked(setting, digest, data) for data in slots]
     found = model.initial_outcomes(seen, digest, setting) if setting.resume else {}
     todo = [one for one in range(setting.total) if one not in found][: setting.budget]
-    every, slots = model.asked(job, digest), list(slots)
+    every, after = model.asked(job, digest), list(slots)
     newest = model.newest(seen)
     slot, generation = (0, 0) if newest is None else (1 - newest, (seen[newest].generation + 1) % 3)
-    number, last = 0, None
+    number, last = 0, -1
     for count in [*range(setting.save, len(todo) + 1, setting.save), len(todo)]:
         if count == last:
             continue
@@ -196,34 +209,34 @@ def saved(words: typing.Any, slots: typing.Any, fails: typing.Any) -> typing.Any
             digest, generation, {**found, **{one: every[one] for one in todo[:count]}}
         )
         if number in fails:
-            slots[slot] = fails[number](data)
+            after[slot] = fails[number](data)
             continue
-        slots[slot], last = data, count
+        after[slot], last = data, count
         slot, generation = 1 - slot, (generation + 1) % 3
-    return slots
+    return after
 
 
-def whole(data: typing.Any) -> typing.Any:
+def whole(data: bytes) -> bytes:
     return data
 
 
-def nothing(_data: typing.Any) -> bytes:
+def nothing(_data: bytes) -> bytes:
     return b""
 
 
-def front(count: typing.Any) -> typing.Any:
+def front(count: int) -> Left:
     return lambda data: data[:count]
 
 
-ABSENT = [None, None]
-NO_WORDS: typing.List[str] = []
+ABSENT: list[bytes | None] = [None, None]
+NO_WORDS: list[str] = []
 FAULT, DONE = (9, "checkpoint save fault\n"), (0, "")
 
 
 class Injections:
     """Runs of a chain in which strace has single calls fail."""
 
-    def __init__(self, room: typing.Any) -> None:
+    def __init__(self, room: Room) -> None:
         self.room = room
         self.first = model.audit(
             [*room.chain, "--save", "2", "--budget", "5"], CYCLE, [None, None]
@@ -234,30 +247,30 @@ class Injections:
 
     def run(
         self,
-        name: typing.Any,
-        words: typing.Any,
-        slots: typing.Any,
-        call: typing.Any,
-        path: typing.Any,
-        what: typing.Any,
-        end: typing.Any,
-        files: typing.Any,
+        name: str,
+        words: Sequence[str],
+        slots: model.Slots,
+        call: str,
+        path: str | pathlib.Path,
+        what: str,
+        end: tuple[int, str],
+        files: Sequence[bytes | None],
     ) -> None:
-        self.room.hold(slots)
+        self.room.place(slots)
         trace = [
             "strace", "-f", "-qq", "-o", "/dev/null", "-P", str(path), "-P",
             str(self.room.slots / path), "-e", f"trace={call}", "-e", f"inject={call}:{what}",
         ]
-        status, out, said, stored = self.room.run(words, CYCLE, before=trace)
+        came = self.room.run(words, CYCLE, before=trace)
         said = b"".join(
             line
-            for line in said.splitlines(True)
+            for line in came.note.splitlines(True)
             if not line.startswith(b"strace: Requested path ")
         )
         wanted, note = end
         self.room.judge(
             name,
-            (status, out, said, stored),
+            came._replace(note=said),
             wanted,
             self.report if wanted in (0, 9) else "",
             note,
@@ -294,7 +307,8 @@ class Injections:
 
     def fail_folder(self) -> None:
         """Has the closing of files, and calls on the folder, fail."""
-        for path in (*NAMES, self.room.slots):
+        paths: list[str | pathlib.Path] = [*NAMES, self.room.slots]
+        for path in paths:
             self.run(
                 f"the closing of {path} fails", self.fresh, ABSENT, "close", path, "error=EIO",
                 DONE, saved(self.fresh, ABSENT, {}),
@@ -328,7 +342,10 @@ class Injections:
                 f"another run holds the folder: {name}", words, slots, "flock", self.room.slots,
                 "error=EAGAIN", (6, "checkpoint: another run holds the folder\n"), list(slots),
             )
-        for path, what in ((NAMES[0], "newest file"), (self.room.slots, "folder")):
+        places: list[tuple[str | pathlib.Path, str]] = [
+            (NAMES[0], "newest file"), (self.room.slots, "folder"),
+        ]
+        for path, what in places:
             self.run(
                 f"the {what} is not synced before the first save", self.resumed, self.first,
                 "fsync", path, "error=EIO:when=1", FAULT,
@@ -423,7 +440,7 @@ class Injections:
         )
 
 
-def injected(room: typing.Any) -> typing.Any:
+def injected(room: Room) -> str:
     if not power_cuts.can_trace():
         return Skipped("no faults injected: strace is not installed, or may not trace here")
     faults = Injections(room)
@@ -437,13 +454,13 @@ def injected(room: typing.Any) -> typing.Any:
 # ---- a few bytes a call
 
 
-def short(room: typing.Any) -> typing.Any:
+def short(room: Room) -> str:
     if shutil.which("gcc") is None:
         return Skipped("no short reads and writes: gcc is not installed")
     source, library = room.folder / "short.c", room.folder / "short.so"
     source.write_text(SHORT)
     subprocess.run(["gcc", "-shared", "-fPIC", "-O1", "-o", library, source, "-ldl"], check=True)
-    given, slots = {"LD_PRELOAD": str(library)}, [None, None]
+    given, slots = {"LD_PRELOAD": str(library)}, ABSENT
     for more in (NO_WORDS, ["--resume", "yes"], ["--resume", "yes"]):
         words = [*room.chain, "--save", "2", "--budget", "5", *more]
         room.as_model("seven bytes a call", words, CYCLE, slots, given=given)
@@ -454,7 +471,7 @@ def short(room: typing.Any) -> typing.Any:
     return "seven bytes a call, every other call interrupted"
 
 
-def file_size(room: typing.Any) -> str:
+def file_size(room: Room) -> str:
     """A limit on files: a save is cut off in its middle, and the other slot holds what was saved
     before.
     """
@@ -464,7 +481,7 @@ def file_size(room: typing.Any) -> str:
         resource.setrlimit(resource.RLIMIT_FSIZE, (600, 600))
 
     words = [*room.chain, "--save", "2", "--budget", "11"]
-    room.hold([None, None])
+    room.place([None, None])
     end = room.run(words, CYCLE, prepared=limited)
     # saves of 2, 4 and 6 outcomes fit; those of 8, 10 and 11 do not
     files = saved(words, [None, None], {number: front(600) for number in (4, 5, 6)})
@@ -475,36 +492,32 @@ def file_size(room: typing.Any) -> str:
 # ---- limits
 
 
-def node(
-    at: typing.Any, district: typing.Any, pop: int = 1, a: int = 1, b: int = 1
-) -> typing.Dict[typing.Any, typing.Any]:
+def node(at: object, district: object, pop: int = 1, a: int = 1, b: int = 1) -> Node:
     return {"pop": pop, "a": a, "b": b, "d": district, "id": at}
 
 
-def text(nodes: typing.Any, adjacency: typing.Any) -> bytes:
+def text(nodes: Sequence[Node], adjacency: Sequence[Sequence[Node]]) -> bytes:
     return json.dumps({"nodes": nodes, "adjacency": adjacency}, separators=(",", ":")).encode()
 
 
-def path_of(count: typing.Any, district: typing.Any) -> typing.Any:
+def path_of(count: int, district: Callable[[int], int]) -> bytes:
     return text(
         [node(at, district(at)) for at in range(count)],
         [[{"id": at + 1}] if at + 1 < count else [] for at in range(count)],
     )
 
 
-def many_edges(count: typing.Any) -> typing.Any:
+def many_edges(count: int) -> bytes:
     units = 895
-    adjacency: typing.Any
-    nodes, adjacency = [node(at, at * 2 // units) for at in range(units)], [
-        [] for _ in range(units)
-    ]
+    nodes = [node(at, at * 2 // units) for at in range(units)]
+    adjacency: list[list[Node]] = [[] for _ in range(units)]
     pairs = ((u, v) for step in range(1, units) for u in range(units - step) for v in (u + step,))
     for (u, v), _ in zip(pairs, range(count)):
         adjacency[u].append({"id": v})
     return text(nodes, adjacency)
 
 
-def limits(room: typing.Any) -> str:
+def limits(room: Room) -> str:
     room.as_model("the most bytes", CHECK, CYCLE + b" " * (model.MOST_INPUT - len(CYCLE)))
     room.as_model("a byte too many", CHECK, CYCLE + b" " * (model.MOST_INPUT + 1 - len(CYCLE)))
     for deep in (126, 127):
@@ -518,7 +531,7 @@ def limits(room: typing.Any) -> str:
     return "files at the limits"
 
 
-def limits_of_counts(room: typing.Any) -> None:
+def limits_of_counts(room: Room) -> None:
     """Checks as many units, edges, districts, regions and majorities as may be, and one more."""
     for count in (100000, 100001):
         room.as_model(
@@ -551,7 +564,7 @@ def limits_of_counts(room: typing.Any) -> None:
         )
 
 
-def limits_of_values(room: typing.Any) -> None:
+def limits_of_values(room: Room) -> None:
     """Checks the greatest and least numbers and labels, and those past them."""
     for low, high in ((0, 1), (10**9, 10**9 + 1), (10**9 - 1, 10**9), (-1, 0)):
         for number in (low, high):
@@ -575,13 +588,14 @@ def limits_of_values(room: typing.Any) -> None:
         )
 
 
-def checkpoints(room: typing.Any) -> str:
+def checkpoints(room: Room) -> str:
     """Checkpoints of as many outcomes as there may be, and of one more; of both versions, for runs
     with the tally of seats and without.
     """
     words = with_values(CHAIN, {"--walks": "100000", "--steps": "1", "--resume": "yes"})
     own = model.job_of(model.Setting(words), CYCLE).digest()
-    most = {one: (one % 2, [1 + one % 2], (0, 0, 0, 1, 1, 0, 0, 0, 0)) for one in range(100000)}
+    bins = (0, 0, 0, 1, 1, 0, 0, 0, 0)
+    most = {one: model.Outcome(one % 2, [1 + one % 2], bins) for one in range(100000)}
     for version in (1, 2):
         for more in (
             NO_WORDS, ["--workers", "4"], ["--shift", "yes", "--save", "1", "--budget", "0"]
@@ -604,12 +618,9 @@ def checkpoints(room: typing.Any) -> str:
         model.audit([*chain, "--save", "100", "--shift", shift], CYCLE, [None, None]).slots[0]
         for shift in ("no", "yes")
     )
-    old = model.checkpoint(
-        plain[12:44],
-        0,
-        {one[0]: (one[1], one[2:6], one[6:]) for one in model.decoded(plain).records[:5]},
-        1,
-    )
+    slot = model.decoded(plain)
+    first = dict(list(model.outcomes_in(slot).items())[:5])
+    old = model.checkpoint(slot.job, 0, first, 1)
     for slots in ((old, None), (old, binned), (binned, old), (plain, None), (binned, plain)):
         for shift in ("no", "yes"):
             for serial in ("no", "yes"):
@@ -622,13 +633,13 @@ def checkpoints(room: typing.Any) -> str:
     return "checkpoints at the limits, and of both versions"
 
 
-def with_values(words: typing.Any, values: typing.Any) -> typing.List[typing.Any]:
+def with_values(words: Sequence[str], values: Mapping[str, str]) -> list[str]:
     """The words, some names of which have other values or come anew."""
-    given = dict(zip(words[1::2], words[2::2])) | values
+    given = {**dict(zip(words[1::2], words[2::2])), **values}
     return [words[0], *(word for pair in given.items() for word in pair)]
 
 
-def ranges(room: typing.Any) -> str:
+def ranges(room: Room) -> str:
     """Each number word at both ends of its range and past them, and the words of yes and no; the
     graph of a run is no JSON, so that good words end with status 2.
     """
@@ -649,7 +660,7 @@ def ranges(room: typing.Any) -> str:
     return "values of words at the ends of their ranges"
 
 
-def ranges_of_rules(room: typing.Any) -> None:
+def ranges_of_rules(room: Room) -> None:
     """Checks the limits of rules with and without the column that they need."""
     for number in (0, 1, 2, 199, 200, 201, 2**32 + 1):
         for region in ("d", "b", ""):
@@ -676,7 +687,7 @@ def ranges_of_rules(room: typing.Any) -> None:
             )
 
 
-def ranges_of_words(room: typing.Any) -> None:
+def ranges_of_words(room: Room) -> None:
     """Checks words of yes and no, and the numbers of steps that a serial test takes."""
     for name in ("--resume", "--shift", "--serial", "--source"):
         for value in ("yes", "no", "Yes", "maybe", "", "yes ", "1"):
@@ -700,12 +711,12 @@ def ranges_of_words(room: typing.Any) -> None:
 # ---- a slot that changes while a run walks
 
 
-def is_walking(process: typing.Any) -> bool:
+def is_walking(process: subprocess.Popen[bytes]) -> bool:
     """Returns whether a run has its threads: slots were looked at, and nothing is saved yet."""
     return len(os.listdir(f"/proc/{process.pid}/task")) > 1
 
 
-def stopped(process: typing.Any) -> bool:
+def stopped(process: subprocess.Popen[bytes]) -> bool:
     """Stops a run as soon as it walks; whether it did not end before."""
     while process.poll() is None:
         try:
@@ -722,11 +733,13 @@ def stopped(process: typing.Any) -> bool:
     return process.poll() is None
 
 
-def walk_over(room: typing.Any, words: typing.Any, change: typing.Any) -> typing.Any:
+def walk_over(
+    room: Room, words: Sequence[str], change: Callable[[], None]
+) -> tuple[int | str, bytes, bytes] | None:
     """How a run ends under whose slots something changes while it walks; None where it had saved
     before.
     """
-    room.hold([None, None])
+    room.place([None, None])
     process = subprocess.Popen(
         [room.program, *words], stdin=subprocess.PIPE, stdout=subprocess.PIPE,
         stderr=subprocess.PIPE, cwd=room.slots,
@@ -749,12 +762,13 @@ def walk_over(room: typing.Any, words: typing.Any, change: typing.Any) -> typing
         process.wait()
 
 
-def pipes(room: typing.Any) -> str:
+def pipes(room: Room) -> str:
     """No save opens a pipe, which would wait for ever for a reader; each fails, and the run goes on
     to its report.
     """
     for place in (0, 1):
-        steps, end = 1000000, None
+        steps = 1000000
+        end: tuple[int | str, bytes, bytes] | None = None
         while end is None and steps <= 256000000:
             words = with_values(
                 room.chain, {"--walks": "4", "--steps": str(steps), "--workers": "2"}
@@ -781,33 +795,34 @@ def pipes(room: typing.Any) -> str:
     return "slots that become pipes while a run walks"
 
 
-# ---- outcomes that workers hold
+# ---- outcomes that workers buffer
 
 # This number of workers has room for 25 outcomes each between two saves. A walk takes so long that
 # they hardly ever wait for one another, and another worker has one walk under way at most. Over
-# loaded processors a few outcomes more may be held while a save is made. Workers that hold an
-# outcome at each save, and never hand it in, hold many at the last ten saves.
-HOLDING = {"--workers": "4", "--walks": "4040", "--steps": "60000", "--save": "101"}
+# loaded processors a few outcomes more may be buffered while a save is made. Workers that buffer an
+# outcome at each save, and never hand it in, have many at the last ten saves.
+BUFFERING = {"--workers": "4", "--walks": "4040", "--steps": "60000", "--save": "101"}
 SAVES, LAST, MOST_MISSING = 40, 10, 9
 
 
-def missing(room: typing.Any, words: typing.Any) -> typing.Any:
-    """For each save of a run: of how many ids below its greatest it has no outcome."""
-    counts, written = [], {}
+def missing(room: Room, words: Sequence[str]) -> list[int]:
+    """Returns for each save of a run the number of ids below its greatest without an outcome."""
+    counts: list[int] = []
+    written: dict[int, bytes] = {}
     folder = room.folder / "traced"
     shutil.rmtree(folder, ignore_errors=True)
-    for what, file, *rest in power_cuts.traced(room.program, folder, words, [None, None]):
-        if what in ("make", "open"):
-            written[file] = b""
-        elif what == "write":
-            written[file] += rest[1]
-        elif what == "sync" and written.get(file):
-            ids = [one[0] for one in model.decoded(written.pop(file)).records]
+    for step in power_cuts.traced(room.program, folder, words, [None, None]):
+        if step.what in ("make", "open"):
+            written[step.file] = b""
+        elif step.what == "write":
+            written[step.file] += step.data
+        elif step.what == "sync" and written.get(step.file):
+            ids = [one[0] for one in model.decoded(written.pop(step.file)).records]
             counts.append(ids[-1] + 1 - len(ids))
     return counts
 
 
-def buffered(room: typing.Any) -> typing.Any:
+def buffered(room: Room) -> str:
     """Checks what a kill after a save loses: workers buffer outcomes only while another one posts,
     and hand them in as soon as it is done.
     """
@@ -815,7 +830,7 @@ def buffered(room: typing.Any) -> typing.Any:
         return Skipped(
             "no outcomes counted that workers hold: strace is not installed, or may not trace here"
         )
-    words = with_values(room.chain, HOLDING)
+    words = with_values(room.chain, BUFFERING)
     counts = missing(room, words)
     room.count += 1
     middles = [
@@ -833,14 +848,14 @@ def buffered(room: typing.Any) -> typing.Any:
 # ---- another user
 
 
-def other_user(room: typing.Any) -> typing.Any:
+def other_user(room: Room) -> str:
     if os.getuid() != 0:
         return Skipped("no folder of another user, and threads not refused: not run as root")
     room.folder.chmod(0o755)
     program, room.program = room.program, str(room.folder / "program")
     shutil.copy(program, room.program)
 
-    def nobody(limit: typing.Any = None) -> typing.Any:
+    def nobody(limit: int | None = None) -> Callable[[], None]:
         def prepare() -> None:
             if limit is not None:
                 resource.setrlimit(resource.RLIMIT_NPROC, (limit, limit))
@@ -852,8 +867,8 @@ def other_user(room: typing.Any) -> typing.Any:
 
     report = model.audit(room.chain, CYCLE, [None, None]).out
     first = model.audit([*room.chain, "--save", "2", "--budget", "5"], CYCLE, [None, None]).slots
-    for slots, more in (((None, None), NO_WORDS), (first, ["--resume", "yes"])):
-        room.hold(slots)
+    for slots, more in ((ABSENT, NO_WORDS), (first, ["--resume", "yes"])):
+        room.place(slots)
         for name in NAMES:
             if (room.slots / name).exists():
                 (room.slots / name).chmod(0o444)
@@ -862,7 +877,7 @@ def other_user(room: typing.Any) -> typing.Any:
             "a folder that cannot be written", end, 9, report, "checkpoint save fault\n",
             list(slots),
         )
-    room.hold(first)
+    room.place(first)
     (room.slots / NAMES[1]).chmod(stat.S_IWUSR)
     room.judge(
         "a file that cannot be read",
@@ -875,7 +890,7 @@ def other_user(room: typing.Any) -> typing.Any:
     for more in (NO_WORDS, ["--save", "3"], ["--save", "1", "--budget", "7"]):
         for workers in ("2", "32"):
             words = [*room.chain, *more]
-            room.hold([None, None])
+            room.place([None, None])
             room.slots.chmod(0o777)
             wanted = model.audit(words, CYCLE, [None, None])
             end = room.run([*words, "--workers", workers], CYCLE, prepared=nobody(1))
@@ -887,19 +902,20 @@ def other_user(room: typing.Any) -> typing.Any:
     return "a folder and a file of another user, and threads that are refused"
 
 
-def chain_of(number: typing.Any) -> typing.Any:
+def chain_of(number: int) -> list[str]:
     """The words of a job: those of CHAIN with another key and other questions."""
     return with_values(
         CHAIN, {"--key": f"{number:x}".rjust(64, "0"), "--ask": ASKS[number % len(ASKS)]}
     )
 
 
-def main(program: typing.Any, jobs: str = "1") -> int:
-    parts, skipped = [
+def main(program: str, jobs: int = 1) -> int:
+    skipped = 0
+    parts = [
         (part, number)
-        for number in range(int(jobs))
+        for number in range(jobs)
         for part in (injected, short, file_size, other_user)
-    ], 0
+    ]
     with tempfile.TemporaryDirectory() as name:
         room = Room(os.path.abspath(program), pathlib.Path(name))
         for part, number in [
