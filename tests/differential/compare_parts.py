@@ -87,7 +87,7 @@ def expect(answer: subprocess.CompletedProcess[bytes], status: int, what: str) -
 
 def clear(folder: pathlib.Path, *words: str) -> None:
     """A kill within the first save of a folder leaves a part of one file: nothing was saved, and it
-    has to be told of, and is taken away.
+    has to be reported, and is taken away.
     """
     if (
         list(folder.glob("*")) == [folder / "audit-0.ckpt"]

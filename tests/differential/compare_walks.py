@@ -283,7 +283,7 @@ def report_of(job: Job, asked: Trajectories, found: Sequence[Outcome]) -> str:
     lines = [
         f"district-audit {2 if job.shift else 1}",
         *job.origin,
-        "key " + job.key.hex(),
+        f"key {job.key.hex()}",
         f"units {job.units} edges {job.graph.number_of_edges()} districts {job.districts}",
         f"population {job.total} slack {job.slack} low {low} high {high}",
         *([f"max-cut {job.max_cut}"] if job.max_cut < NO_LIMIT else []),

@@ -4,8 +4,8 @@ each line of its files `cases` and `graphs`.
 Usage: python3 -m tests.golden.plain_cases FOLDER
 FOLDER has both files and the graphs that `cases` names, as crates/case_runner/data. The source
 gives at most 100 bytes a call, its end being a call of its own; the output has the room that a line
-says. A gate that holds the first trajectory sees what it wants: all ids are told. Of `make` the
-graph is the grid, whose votes are drawn from the key. A line of a grid of more than 400 units is
+says. A gate that holds the first trajectory sees what it wants: all ids are announced. The graph of
+`make` is the grid, whose votes are drawn from the key. A line of a grid of more than 400 units is
 left out: this would take an hour. So is one that asks for a text about the program, which needs no
 model.
 """

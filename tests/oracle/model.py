@@ -398,14 +398,14 @@ def is_id(value: object) -> bool:
 
 
 def refuse(note: str) -> typing.NoReturn:
-    raise Refused(2, "graph: " + note)
+    raise Refused(2, f"graph: {note}")
 
 
 def shape(root: object) -> tuple[list[object], list[list[object]]]:
     """The lists of nodes and of neighbours, or the refusal of the shape."""
 
     def bad(part: str) -> typing.NoReturn:
-        refuse("bad shape of " + part)
+        refuse(f"bad shape of {part}")
 
     if type(root) is not dict:
         bad("root")
@@ -601,7 +601,7 @@ def reading(data: bytes, setting: Setting) -> Graph:
 
 
 def refuse_table(note: str) -> typing.NoReturn:
-    raise Refused(2, "table: " + note)
+    raise Refused(2, f"table: {note}")
 
 
 def records_of(data: bytes) -> list[list[bytes]]:
@@ -621,10 +621,16 @@ def is_text(field: bytes) -> bool:
     return True
 
 
-def plans_of(data: bytes, ids: Sequence[bytes]) -> list[tuple[str, int, list[int]]]:
-    """The name of each plan of a table, how many districts it has and the district of each unit, or
-    the first refusal.
-    """
+class TablePlan(typing.NamedTuple):
+    """A plan of a table: its name, its number of districts, and the district of each unit."""
+
+    name: str
+    districts: int
+    plan: list[int]
+
+
+def plans_of(data: bytes, ids: Sequence[bytes]) -> list[TablePlan]:
+    """Returns the plans of a table, or refuses it."""
     records = records_of(data)
     names = names_of(records)
     rows = rows_of(records, units_by_id(ids))
@@ -636,7 +642,7 @@ def plans_of(data: bytes, ids: Sequence[bytes]) -> list[tuple[str, int, list[int
         districts, start = numbered([rows[one][plan + 1] for one in ids])
         if not 2 <= districts <= 200:
             refuse_table(f"plan {plan} has {districts} districts, not 2 to 200")
-        made.append((name.decode("ascii"), districts, start))
+        made.append(TablePlan(name.decode("ascii"), districts, start))
     return made
 
 
@@ -936,7 +942,7 @@ class Job:
         has_share = self.group and setting.group_share != 5000
         version = 4 if has_share or self.frozen else 3 if further else 2 if limited else 1
         version = 5 if self.lengths else version
-        parts = [b"district-job %d" % version]
+        parts = [f"district-job {version}".encode()]
         parts += [struct.pack(">3I", self.units, len(self.edges), self.districts)]
         parts += [struct.pack(">2I", *edge) for edge in self.edges]
         parts += [
@@ -1142,7 +1148,7 @@ def report(job: Job, found: Sequence[Outcome]) -> str:
     lines = [
         f"district-audit {2 if setting.shift else 1}",
         *origin_lines(job),
-        "key " + setting.key.hex(),
+        f"key {setting.key.hex()}",
         *head(job),
         (
             f"walks {setting.walks} steps {setting.steps} ends {setting.ends} hub-steps"
@@ -1355,7 +1361,7 @@ def trace_text(job: Job, first: int, last: int, thin: int) -> str:
     lines = [
         "district-trace 1",
         *origin_lines(job),
-        "key " + setting.key.hex(),
+        f"key {setting.key.hex()}",
         *head(job),
         (
             f"walks {setting.walks} steps {setting.steps} ends {setting.ends} hub-steps"
@@ -1443,7 +1449,7 @@ def audit(words: Sequence[str], graph: bytes, slots: Slots) -> End:
             return End(
                 0,
                 "".join(
-                    f"plan {name}\n" + report(job, asked(job, job.digest()))
+                    f"plan {name}\n{report(job, asked(job, job.digest()))}"
                     for name, job in jobs_of(setting, graph)
                 ),
                 "",

@@ -59,8 +59,8 @@ def documented(command: str) -> typing.List[typing.Tuple[str, str, str]]:
     return rows
 
 
-def told(text: str) -> typing.List[typing.Tuple[str, str, str]]:
-    """Returns name, values and default of each argument that a usage tells."""
+def shown_arguments(text: str) -> typing.List[typing.Tuple[str, str, str]]:
+    """Returns name, values and default of each argument that a usage shows."""
     found = (LINE.match(line) for line in text.splitlines())
     return [(line[1], line[2], line[3]) for line in found if line]
 
@@ -98,7 +98,7 @@ def check_commands(checks: Checks, auditor: str) -> None:
     """Compares the arguments of each command with the table."""
     for command in COMMANDS:
         text = is_answered(checks, f"{command}_help", auditor, command, "--help")
-        checks.is_equal(f"{command}_arguments", told(text), documented(command))
+        checks.is_equal(f"{command}_arguments", shown_arguments(text), documented(command))
         lines = text.splitlines()
         checks.is_true(f"{command}_lines", len(lines) <= 40, "at most 40 lines", len(lines))
         longest = max(map(len, lines))

@@ -363,9 +363,8 @@ def joins_of(near: Sequence[set[int]], middles: Sequence[Sequence[float]]) -> li
 
 def made(unit: object, what: str, low: int, high: int) -> int:
     """A whole number from low to high - 1 that follows from a unit's id."""
-    return low + int.from_bytes(hashlib.sha256((f"{what} {unit}").encode()).digest()[:8], "big") % (
-        high - low
-    )
+    digest = hashlib.sha256(f"{what} {unit}".encode()).digest()
+    return low + int.from_bytes(digest[:8], "big") % (high - low)
 
 
 # ---- start plans

@@ -210,7 +210,7 @@ def trace_of(job: model.Job, thin: int) -> str:
     ]
     lines = [
         "district-trace 1",
-        "key " + setting.key.hex(),
+        f"key {setting.key.hex()}",
         *model.head(job),
         (
             f"walks {setting.walks} steps {setting.steps} ends {setting.ends} "

@@ -22,7 +22,7 @@ them before it breaks some: words of every kind, a graph, and slots as earlier r
 several workers save, which outcomes a save has depends on chance, and the files are not compared.
 With `folders` the program is audit_folders, and every allocation is refused, alone and with all
 after it, in calls of audit_slots and of audit_gather: a look, gatherings, and one that is refused
-in several lines. Out of memory while a folder is read has to be told as such, never as a slot that
+in several lines. Out of memory while a folder is read has to be reported, never as a slot that
 cannot be read or as a folder that differs. After status 3 no folder has changed. Prints how many
 runs there were, and each that is not so, by its name. The last line counts them; ends with 1 where
 one is not so. Where gcc is missing, that counts as skipped.

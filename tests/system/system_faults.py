@@ -403,7 +403,7 @@ class Injections:
                     self.first,
                 )
             self.run(
-                f"{path} cannot be opened for want of memory", self.resumed, self.first, "openat",
+                f"{path} cannot be opened: out of memory", self.resumed, self.first, "openat",
                 path, "error=ENOMEM:when=1", (3, "memory\n"), self.first,
             )
             self.run(
