@@ -54,7 +54,7 @@ def spoil(chance: random.Random, folder: str) -> None:
 
 
 def intact(folder: str) -> list[bytes | None]:
-    """The bytes of each file, or None where it is not intact."""
+    """Returns the bytes of each file, or None where it is not intact."""
     files = [pathlib.Path(folder, name) for name in SLOTS]
     return [
         file.read_bytes() if file.exists() and fault(file.read_bytes()) is None else None
@@ -89,7 +89,7 @@ def saved(folder: str, walks: int, shift: str) -> int:
 
 
 def run(program: str, words: Sequence[str], text: str, folder: str, limit: float) -> End | None:
-    """The status and the output of a run, or None where it was killed."""
+    """Returns the status and the output of a run, or None where it was killed."""
     try:
         done = subprocess.run(
             [program, *words], input=text, capture_output=True, text=True, cwd=folder, timeout=limit
@@ -127,8 +127,8 @@ class Audit:
 def chain(
     chance: random.Random, audit: Audit, folder: str, counts: Counts
 ) -> tuple[str, list[str]]:
-    """The output of the run of a chain that ends with status 0, and the words that asked this run
-    for the serial test, the tally and the origin.
+    """Returns the output of the run of a chain that ends with status 0, and the words that asked
+    this run for the serial test, the tally and the origin.
     """
     resume = "no"
     while True:

@@ -25,7 +25,7 @@ Json = typing.Any
 
 
 def read(document: Json) -> networkx.Graph:
-    """The graph as networkx reads it, without edges from a node to itself."""
+    """Returns the graph as networkx reads it, without edges from a node to itself."""
     simple = networkx.Graph(networkx.readwrite.json_graph.adjacency_graph(document))
     simple.remove_edges_from(list(networkx.selfloop_edges(simple)))
     return simple
@@ -38,7 +38,7 @@ def rank(label: int | str) -> tuple[int, int | bytes]:
 
 
 def expected(document: Json, pop: str, district: str, slack: int) -> str:
-    """The check text, or the line that says why the plan is refused."""
+    """Returns the check text, or the line that says why the plan is refused."""
     graph = read(document)
     units = list(graph.nodes)
     labels = sorted({graph.nodes[unit][district] for unit in units}, key=rank)

@@ -109,7 +109,7 @@ def cut_by(graph: Graph, column: str) -> int:
 
 
 def split_by(graph: Graph, column: str, region: str) -> tuple[int, int]:
-    """How often the plan splits regions in all, and how many of them."""
+    """Returns the number of splits of regions, and of split regions."""
     parts = Counter(
         one for one, _ in {(node[region], node[column]) for node in graph["nodes"]}
     )
@@ -117,7 +117,7 @@ def split_by(graph: Graph, column: str, region: str) -> tuple[int, int]:
 
 
 def majorities_of(graph: Graph, column: str, group: str, whole: str) -> int:
-    """In how many districts the plan gives the group more than half of the whole."""
+    """Returns the number of districts in which the group has more than half of the whole."""
     margin: Counter[int | str] = Counter()
     for node in graph["nodes"]:
         margin[node[column]] += 2 * int(node[group]) - int(node[whole])
@@ -125,12 +125,12 @@ def majorities_of(graph: Graph, column: str, group: str, whole: str) -> int:
 
 
 def near(chance: random.Random, number: int) -> str:
-    """A limit near the number that is there."""
+    """Returns a limit near the number that is there."""
     return str(max(0, number + chance.choice((-1, 0, 0, 0, 1, 3))))
 
 
 def rule_words(chance: random.Random, graph: Graph, plan: Prepared) -> list[str]:
-    """Words of drawn rules."""
+    """Returns words of drawn rules."""
     column, region, columns = plan.column, plan.region, plan.columns
     words = (
         ["--max-cut", str(max(0, cut_by(graph, column) + chance.choice((-1, 0, 5, 40))))]
@@ -172,8 +172,8 @@ def rule_words(chance: random.Random, graph: Graph, plan: Prepared) -> list[str]
 
 
 def table_of(chance: random.Random, graph: Graph, column: str) -> bytes:
-    """A table with one plan or two: the map's own under other labels, with its records in another
-    order.
+    """Returns a table with one plan or two: the map's own under other labels, with its records in
+    another order.
     """
     ids = [(str(node["id"]), str(node[column])) for node in graph["nodes"]]
     names = ["proposal"] + ["second"] * chance.randrange(2)
@@ -189,7 +189,7 @@ def table_of(chance: random.Random, graph: Graph, column: str) -> bytes:
 def words_of(
     chance: random.Random, plan: Prepared, rules: Sequence[str], units: int
 ) -> tuple[list[str], bool]:
-    """Words of a check, a run or `plans`, and whether they are of `plans`."""
+    """Returns words of a check, a run or `plans`, and whether they are of `plans`."""
     tolerance = plan.tolerance
     words = [
         *plan.columns,

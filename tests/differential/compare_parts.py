@@ -86,8 +86,9 @@ def expect(answer: subprocess.CompletedProcess[bytes], status: int, what: str) -
 
 
 def clear(folder: pathlib.Path, *words: str) -> None:
-    """A kill within the first save of a folder leaves a part of one file: nothing was saved, and it
-    has to be reported, and is taken away.
+    """Removes the part of one file that a kill within the first save of a folder leaves.
+
+    Nothing was saved, and a run has to report that file.
     """
     if (
         list(folder.glob("*")) == [folder / "audit-0.ckpt"]

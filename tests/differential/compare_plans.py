@@ -31,8 +31,8 @@ def id_of(kind: int, unit: int) -> int | str:
 
 
 def graph_of(chance: random.Random) -> tuple[list[int | str], dict[str, object]]:
-    """A graph of a path with some more edges, with ids of one of several kinds, and a plan of its
-    own.
+    """Returns a graph of a path with some more edges, with ids of one of several kinds, and a plan
+    of its own.
     """
     units = chance.randint(4, 9)
     kind = chance.randrange(5)
@@ -68,7 +68,7 @@ def graph_of(chance: random.Random) -> tuple[list[int | str], dict[str, object]]
 
 
 def plan_of(chance: random.Random, units: int) -> list[int]:
-    """A plan of two or three runs of units, seldom one that is no plan."""
+    """Returns a plan of two or three runs of units, seldom one that is no plan."""
     if chance.random() < 0.05:
         return [chance.randrange(3) for _ in range(units)]
     first = chance.randint(1, units - 1)
@@ -83,7 +83,7 @@ def quoted(chance: random.Random, field: str) -> str:
 
 
 def table_of(chance: random.Random, ids: Sequence[int | str]) -> bytes:
-    """A table of some plans, at random broken."""
+    """Returns a table of some plans, at random broken."""
     count = chance.randint(1, 4) if chance.random() < 0.97 else chance.choice((0, 16, 17))
     labels = [
         chance.choice((["A", "B", "C"], ["1", "10", "9"], ["x y", "é", ""])) for _ in range(count)

@@ -73,7 +73,7 @@ class Run:
 
 
 def neighbours_of(chance: random.Random, wide: int, high: int) -> list[set[int]]:
-    """The neighbours of each unit of a grid with some diagonals."""
+    """Returns the neighbours of each unit of a grid with some diagonals."""
     near: list[set[int]] = [set() for _ in range(wide * high)]
     for at in range(wide * high):
         across, down = at % wide + 1 < wide, at // wide + 1 < high
@@ -107,7 +107,7 @@ def even(chance: random.Random, near: Sequence[set[int]], count: int) -> list[in
 
 
 def drawn_graph(chance: random.Random) -> tuple[Graph, list[int]]:
-    """A graph, and another plan for its units."""
+    """Returns a graph, and another plan for its units."""
     near = neighbours_of(chance, chance.randint(4, 7), chance.randint(4, 7))
     plan, other = (even(chance, near, chance.randint(2, 4)) for _ in range(2))
     regions = (
@@ -142,8 +142,8 @@ def drawn_graph(chance: random.Random) -> tuple[Graph, list[int]]:
 
 
 def drawn_edges(chance: random.Random, near: Sequence[set[int]]) -> list[list[Entry]]:
-    """The entries of each unit's neighbors with their lengths; in an eighth of the graphs one has a
-    value that may be refused, or none.
+    """Returns the entries of each unit's neighbors with their lengths; in an eighth of the graphs
+    one has a value that may be refused, or none.
     """
     most = chance.choice((1, 9, 9, 1000, 2**32 - 1))
     lengths: dict[tuple[int, int], int] = {}
@@ -187,7 +187,7 @@ def there(graph: Graph, words: Sequence[str]) -> dict[str, int]:
 
 
 def drawn_rules(chance: random.Random, graph: Graph) -> list[str]:
-    """Words of rules."""
+    """Returns words of rules."""
     columns = ["--region", "r"] if chance.random() < 0.75 else []
     columns += (
         ["--group", "g", *chance.choice(WHOLES)]
@@ -264,8 +264,8 @@ def audit_words(chance: random.Random, has_lengths: bool) -> list[str]:
 
 
 def reached(words: Sequence[str], data: bytes, other: model.Plan) -> model.Plan:
-    """A plan that a walk under these words reaches, so that it keeps the rules; the other one where
-    the graph is refused.
+    """Returns a plan that a walk under these words reaches, so that it keeps the rules; the other
+    one where the graph is refused.
     """
     try:
         job = model.job_of(model.Setting(["run", *words]), data)
@@ -275,7 +275,7 @@ def reached(words: Sequence[str], data: bytes, other: model.Plan) -> model.Plan:
 
 
 def table_of(graph: Graph, other: model.Plan) -> bytes:
-    """A table with two plans: another, and the graph's own under other labels."""
+    """Returns a table with two plans: another, and the graph's own under other labels."""
     rows = [
         f"{node['id']},{district},D{node['d']}" for node, district in zip(graph["nodes"], other)
     ]
@@ -283,7 +283,7 @@ def table_of(graph: Graph, other: model.Plan) -> bytes:
 
 
 def changed(chance: random.Random, words: Sequence[str]) -> list[str]:
-    """The words with one number of a rule changed, where they have one."""
+    """Returns the words with one number of a rule changed, where they have one."""
     limits = (*RULES, "--group-share")
     more, places = list(words), [at for at, name in enumerate(words) if name in limits]
     if places:
@@ -295,8 +295,8 @@ def changed(chance: random.Random, words: Sequence[str]) -> list[str]:
 def calls_of(
     chance: random.Random, graph: Graph, other: model.Plan
 ) -> list[tuple[list[str], bytes]]:
-    """The calls of one run: words, and what is read; two where the second goes on from the files of
-    the first.
+    """Returns the calls of one run: words, and what is read; two where the second goes on from the
+    files of the first.
     """
     rules, data, kind = drawn_rules(chance, graph), json.dumps(graph).encode(), chance.random()
     base = [*BASE, "--slack", chance.choice(("10000", "10000", "10000", "6000")), *rules]
@@ -330,7 +330,7 @@ def calls_of(
 
 
 def without(words: Sequence[str], name: str | None) -> list[str]:
-    """The words of a walk without the rule, without files."""
+    """Returns the words of a walk without the rule, without files."""
     pairs = [
         (one, value)
         for one, value in zip(words[1::2], words[2::2])
@@ -340,7 +340,7 @@ def without(words: Sequence[str], name: str | None) -> list[str]:
 
 
 def turned(words: Sequence[str], data: bytes) -> tuple[list[str], list[str]]:
-    """Which rules the words set, and which of them change what the walks find."""
+    """Returns which rules the words set, and which of them change what the walks find."""
     is_set = [name for name in (*RULES, *OTHERS) if name in words]
     every = [
         line

@@ -47,8 +47,8 @@ def ring(chance: random.Random) -> networkx.Graph:
 
 
 def double_ring(chance: random.Random) -> networkx.Graph:
-    """Two rings, one inside the other, with some of the spokes between them, and now and then a
-    slanting one.
+    """Returns two rings, one inside the other, with some of the spokes between them, and now and
+    then a slanting one.
     """
     count = chance.randint(3, 16)
     graph = networkx.cycle_graph(count)
@@ -82,8 +82,8 @@ def torus(chance: random.Random) -> networkx.Graph:
 
 
 def ringed(chance: random.Random) -> networkx.Graph:
-    """A drawn graph of which some units have a ring round them that alone touches them, and now and
-    then a ring round that.
+    """Returns a drawn graph of which some units have a ring round them that alone touches them, and
+    now and then a ring round that.
     """
     graph = drawn_graph(chance)
     for unit in [each for each in list(graph) if chance.random() < 0.15]:

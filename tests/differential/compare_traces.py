@@ -64,7 +64,7 @@ def answer(program: str, command: str, words: Sequence[str], graph: bytes) -> tu
 
 
 def sections(text: str) -> dict[int, list[list[str]]]:
-    """The lines of each trajectory of a trace, by its id."""
+    """Returns the lines of each trajectory of a trace, by its id."""
     found: dict[int, list[list[str]]] = {}
     lines: list[list[str]] | None = None
     for line in text.splitlines()[:-1]:

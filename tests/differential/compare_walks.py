@@ -71,7 +71,7 @@ def quarter(x: list[int], a: int, b: int, c: int, d: int) -> None:
 
 
 def block(key: bytes, stream: int, number: int) -> list[int]:
-    """Sixteen words of ChaCha20 with a 64-bit block counter and a 64-bit stream number."""
+    """Returns sixteen words of ChaCha20 with a 64-bit block counter and a 64-bit stream number."""
     start = list(struct.unpack("<4I", b"expand 32-byte k")) + list(struct.unpack("<8I", key))
     start += [number & 0xFFFFFFFF, number >> 32, stream & 0xFFFFFFFF, stream >> 32]
     x = start[:]
@@ -130,14 +130,14 @@ class Job:
         return sum(plan[u] != plan[v] for u, v in self.graph.edges)
 
     def parts(self, plan: Plan) -> list[int]:
-        """For each region, among how many districts it is split."""
+        """Returns for each region the number of districts among which it is split."""
         return [
             len({plan[u] for u in range(self.units) if self.regions[u] == region})
             for region in set(self.regions)
         ]
 
     def widest(self, plan: Plan) -> int:
-        """The most districts among which a region is split."""
+        """Returns the most districts among which a region is split."""
         return max(self.parts(plan), default=0)
 
     def splits(self, plan: Plan) -> int:
@@ -149,8 +149,8 @@ class Job:
         return len([count for count in self.parts(plan) if count != 1])
 
     def majorities(self, plan: Plan) -> int:
-        """In how many districts more than half of the whole are of the group: each unit adds twice
-        its part less its whole.
+        """Returns the number of districts in which more than half of the whole are of the group:
+        each unit adds twice its part less its whole.
         """
         margins = [0] * self.districts
         for unit, (part, whole) in enumerate(zip(*self.group)):
@@ -227,7 +227,7 @@ def billionths(n: int) -> str:
 
 
 def bound(count: int, of: int) -> int:
-    """The least r with r * r * of >= 2 * count * 10^18."""
+    """Returns the least r with r * r * of >= 2 * count * 10^18."""
     least = -(-2 * count * BILLION * BILLION // of)
     root = math.isqrt(least)
     return root if root * root >= least else root + 1
@@ -238,9 +238,9 @@ def is_inside(value: int, start: int, tail: str) -> bool:
 
 
 def outcomes(job: Job, asked: Trajectories) -> list[Outcome]:
-    """The moves of each trajectory by rising id, and a number for each ask: of a walk how many of
-    the visited plans are in the tail, of a trajectory from the hub its last plan's value. Of a walk
-    whose job asks for them nine bins as well, else nine zeros.
+    """Returns the moves of each trajectory by rising id, and a number for each ask: of a walk how
+    many of the visited plans are in the tail, of a trajectory from the hub its last plan's value.
+    Of a walk whose job asks for them nine bins as well, else nine zeros.
     """
     start = [job.value(job.plan, score) for score, _ in asked.asks]
     found = []
@@ -276,7 +276,7 @@ def bins(job: Job, visited: Sequence[Plan]) -> list[int]:
 
 
 def report_of(job: Job, asked: Trajectories, found: Sequence[Outcome]) -> str:
-    """The report that these outcomes make."""
+    """Returns the report that these outcomes make."""
     walks, steps, ends, hub_steps, asks = asked
     low = -(-(10000 - job.slack) * job.total // (10000 * job.districts))
     high = (10000 + job.slack) * job.total // (10000 * job.districts)
@@ -338,7 +338,7 @@ def origin_of(
     group: str | None = None,
     whole: str = "",
 ) -> list[str]:
-    """The two lines that tell from what a report comes."""
+    """Returns the two lines on the origin of a report."""
     data = text.encode()
     names = [
         *columns, *(["region", region] if region else []),
@@ -374,8 +374,8 @@ def stopped(inside: Sequence[bool], enough: int) -> str:
 
 
 def serial_plans(job: Job, steps: int) -> tuple[int, list[Plan]]:
-    """The place of the start plan, and the plans of one run through it: backward from the start,
-    and forward from it.
+    """Returns the place of the start plan, and the plans of one run through it: backward from the
+    start, and forward from it.
     """
     place = next(draws(job.key, 2**33)) % (steps + 1)
     forward = job.walk(job.plan, 2**33 + 1, place)[0]
@@ -419,7 +419,7 @@ def drawn_graph(chance: random.Random) -> networkx.Graph:
 
 
 def drawn_plan(chance: random.Random, graph: networkx.Graph, districts: int) -> list[int]:
-    """Districts that grow from drawn units, one neighbour at a time."""
+    """Returns districts that grow from drawn units, one neighbor at a time."""
     seeds = chance.sample(sorted(graph.nodes), districts)
     plan = {unit: d for d, unit in enumerate(seeds)}
     while len(plan) < len(graph):
@@ -431,8 +431,8 @@ def drawn_plan(chance: random.Random, graph: networkx.Graph, districts: int) -> 
 
 
 def drawn_regions(chance: random.Random, graph: networkx.Graph, plan: Plan) -> list[Label]:
-    """Regions with drawn names that grow as districts do, a few units of which lie elsewhere; half
-    of them are within a district each.
+    """Returns regions with drawn names that grow as districts do, a few units of which lie
+    elsewhere; half of them are within a district each.
     """
     count = chance.randint(1, len(graph))
     regions = drawn_plan(chance, graph, count)
@@ -495,7 +495,7 @@ def document(job: Job) -> str:
 
 
 def rule_words(job: Job) -> list[str]:
-    """The words that ask for the job's limits."""
+    """Returns the words that ask for the job's limits."""
     words = ["--max-cut", str(job.max_cut)] if job.max_cut < NO_LIMIT else []
     words += ["--region", "COUNTY", "--max-split", str(job.max_split)] if job.regions else []
     words += ["--max-splits", str(job.max_splits)] if job.max_splits < MOST_SPLITS else []

@@ -199,7 +199,7 @@ def group(chance: random.Random) -> list[str]:
 
 
 def lengths(chance: random.Random, asks: Sequence[str]) -> list[str]:
-    """Words of lengths: most often where an ask needs them."""
+    """Returns words of lengths: most often where an ask needs them."""
     is_asked = any(ask.startswith("cut-length") for ask in asks)
     if chance.random() < (0.1 if is_asked else 0.8):
         return []
@@ -236,7 +236,7 @@ def saving(chance: random.Random) -> list[str]:
 
 
 def broken_bytes(data: bytes, chance: random.Random, tokens: Sequence[str]) -> bytes:
-    """The bytes with a few changes."""
+    """Returns the bytes with a few changes."""
     text = bytearray(data)
     for _ in range(chance.choice((1, 1, 1, 2, 3, 8))):
         at = chance.randrange(len(text) + 1)
@@ -263,12 +263,12 @@ def broken_bytes(data: bytes, chance: random.Random, tokens: Sequence[str]) -> b
 
 
 def tokens_of(text: str) -> list[tuple[int, int]]:
-    """The places of the numbers, texts and words of a JSON text."""
+    """Returns the places of the numbers, texts and words of a JSON text."""
     return [match.span() for match in re.finditer(r'"[^"]*"|-?[0-9.eE+]+|true|false|null', text)]
 
 
 def broken_json(data: bytes, chance: random.Random) -> bytes:
-    """A graph with some values, keys or entries changed, which mostly is JSON still."""
+    """Returns a graph with some values, keys or entries changed, which mostly is JSON still."""
     if chance.random() < 0.35:
         return broken_bytes(data, chance, TOKENS)
     text = data.decode()
@@ -305,7 +305,7 @@ def broken_json(data: bytes, chance: random.Random) -> bytes:
 
 
 def sealed_anew(data: bytes, chance: random.Random) -> bytes:
-    """A checkpoint of which numbers are changed, and the digest at its end is right."""
+    """Returns a checkpoint of which numbers are changed, and the digest at its end is right."""
     front = bytearray(data[:-32])
     for _ in range(chance.choice((1, 1, 2))):
         at = chance.choice((8, 44, 48, *range(52, max(53, len(front) - 4), 4)))
@@ -319,13 +319,13 @@ def sealed_anew(data: bytes, chance: random.Random) -> bytes:
 
 
 def aged(data: bytes) -> bytes:
-    """A good checkpoint in the first version of the format."""
+    """Returns a good checkpoint in the first version of the format."""
     return model.checkpoint(data[12:44], data[47], model.outcomes_in(model.decoded(data)), 1)
 
 
 def with_histogram(data: bytes, chance: random.Random) -> bytes:
-    """A good checkpoint of which one outcome has other bins: none, some that add up as they have
-    to, or that do so but for a multiple of 2^32.
+    """Returns a good checkpoint of which one outcome has other bins: none, some that add up as they
+    have to, or that do so but for a multiple of 2^32.
     """
     found = model.outcomes_in(model.decoded(data))
     if not found:
@@ -410,7 +410,7 @@ def broken_words(good: Sequence[str], chance: random.Random) -> list[str]:
 
 
 def drawn(chance: random.Random, graphs: Sequence[bytes]) -> Call:
-    """Words, a graph and slots, some of them broken."""
+    """Draws a call: words, a graph and slots, some of them broken."""
     data, words = chance.choice(graphs), good_words(chance)
     slots: list[bytes | None] = [None, None]
     kind = chance.choice(("graph", "graph", "slots", "slots", "words", "chain", "all"))
@@ -459,7 +459,7 @@ def limit_memory() -> None:
 def run_program(
     program: str, words: Sequence[str], data: bytes, folder: str
 ) -> tuple[int, bytes, bytes]:
-    """The status, both texts, and both files after the run."""
+    """Returns the status and both texts of a run."""
     done = subprocess.run(
         [program, *words], input=data, stdout=subprocess.PIPE, stderr=subprocess.PIPE, cwd=folder,
         timeout=20, check=False,
@@ -486,9 +486,7 @@ def place_files(folder: str, slots: model.Slots) -> None:
 
 
 def differs(program: str, folder: str, call: Call) -> tuple[str | None, model.End]:
-    """None where the program does as the model says, else what differs; and the end that the model
-    says.
-    """
+    """Returns what differs from the model, or None, and the end that the model says."""
     wanted = model.audit(*call)
     place_files(folder, call.slots)
     try:

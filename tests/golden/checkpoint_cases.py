@@ -82,7 +82,7 @@ class Keeper:
         self.saves = 0
 
     def load_all(self) -> list[bytes | None] | None:
-        """Both slots, or None where a load fails."""
+        """Returns both slots, or None where a load fails."""
         return self.slots if self.failing_load not in (1, 2) else None
 
     def save(self, slot: int, data: bytes) -> bool:
@@ -113,7 +113,7 @@ def looked(setting: Setting, wanted: bytes, data: bytes | None) -> Slot:
 
 
 def newest(slots: Sequence[Slot]) -> int | None:
-    """The number of the newest intact slot, or None."""
+    """Returns the number of the newest intact slot, or None."""
     intact = [number for number in (0, 1) if slots[number].fault is None]
     if len(intact) == 2:
         return 1 if slots[1].generation == (slots[0].generation + 1) % 3 else 0
@@ -132,7 +132,7 @@ def taken_up(setting: Setting, job: Job, found: Mapping[int, Outcome]) -> dict[i
 
 
 def resumed(slots: Sequence[Slot], wanted: bytes) -> tuple[Mapping[int, Outcome], str]:
-    """The outcomes of the newest slot, and the note that refuses them or an empty one."""
+    """Returns the outcomes of the newest slot, and the note that refuses them or an empty one."""
     if all(slot.fault == "absent" for slot in slots):
         return {}, ""
     number = newest(slots)
@@ -144,7 +144,7 @@ def resumed(slots: Sequence[Slot], wanted: bytes) -> tuple[Mapping[int, Outcome]
 
 
 def place(slots: Sequence[Slot]) -> tuple[int, int]:
-    """The slot and the generation of the next checkpoint."""
+    """Returns the slot and the generation of the next checkpoint."""
     number = newest(slots)
     return (0, 0) if number is None else (1 - number, (slots[number].generation + 1) % 3)
 
@@ -154,7 +154,7 @@ def is_number(text: str) -> bool:
 
 
 def bad_name(setting: Setting) -> str | None:
-    """The first of the last names whose value is bad, in the order of their table."""
+    """Returns the first of the last names whose value is bad, in the order of their table."""
     budget, save = setting.given.get("--budget", "100000"), setting.given.get("--save", "0")
     if not is_number(budget) or save == "0" and int(budget) < setting.total:
         return "--budget"
@@ -197,8 +197,8 @@ def saved_in_turn(
 
 
 def begun(setting: Setting, job: Job, every: Mapping[int, Outcome]) -> list[int]:
-    """The ids that are walked where tests stop early: all walks, and ends in rounds of 64, 128 and
-    so on until each test has stopped.
+    """Returns the ids that are walked where tests stop early: all walks, and ends in rounds of 64,
+    128 and so on until each test has stopped.
     """
     start, count = [job.value(job.plan, score) for score, _ in setting.asks], 0
     while True:
@@ -213,7 +213,7 @@ def begun(setting: Setting, job: Job, every: Mapping[int, Outcome]) -> list[int]
 
 
 def walked(setting: Setting, job: Job, slots: Sequence[Slot], keeper: Keeper, room: int) -> End:
-    """How a run ends over the slots that it looked at, if it did."""
+    """Returns how a run ends over the slots that it looked at, if it did."""
     wanted, is_resumed = digest(job, setting), setting.given.get("--resume") == "yes"
     before, refusal = resumed(slots, wanted) if is_resumed else ({}, "")
     if refusal:
@@ -244,7 +244,7 @@ def walked(setting: Setting, job: Job, slots: Sequence[Slot], keeper: Keeper, ro
 
 
 def audit(words: Sequence[str], text: str, keeper: Keeper, room: int) -> End:
-    """How a whole call ends."""
+    """Returns how a whole call ends."""
     setting = Setting(words)
     if setting.command != "check" and bad_name(setting):
         return End(1, [], "", f"words: bad value for {bad_name(setting)}")
@@ -318,7 +318,7 @@ def text_of(
 
 
 def parts_of(words: str, text: str) -> tuple[bytes, dict[int, Outcome], dict[int, Outcome]]:
-    """The digest of a job, and what its trajectories find, with bins and without."""
+    """Returns the digest of a job, and what its trajectories find, with bins and without."""
     setting = Setting(words.split())
     job = job_of(setting, text)
     plain = dict(enumerate(outcomes(job, setting.trajectories())))

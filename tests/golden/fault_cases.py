@@ -43,12 +43,14 @@ def calls_for(count: int, most: int) -> int:
 
 
 def lined(parts: Iterable[str]) -> str:
-    """The parts that are not empty, each ended by a line feed."""
+    """Returns the parts that are not empty, each ended by a line feed."""
     return "".join(part.removesuffix("\n") + "\n" for part in parts if part)
 
 
 def audit_plans(words: Sequence[str], text: str, failing_write: int, most: int) -> End:
-    """How a call on several plans ends, where the write with this number fails, if one does."""
+    """Returns how a call on several plans ends, where the write with this number fails, if one
+    does.
+    """
     setting = model.Setting(words)
     ids: list[int] = []
     out, writes = "", 0
@@ -65,7 +67,7 @@ def audit_plans(words: Sequence[str], text: str, failing_write: int, most: int) 
 
 
 def audit_trace(words: Sequence[str], text: str, failing_write: int, most: int) -> End:
-    """How a trace ends, where the write with this number fails, if one does."""
+    """Returns how a trace ends, where the write with this number fails, if one does."""
     whole = model.audit(words, text.encode(), [None, None])
     lines = whole.out.splitlines(keepends=True)
     head = next(k for k, line in enumerate(lines) if line.startswith("trace id "))

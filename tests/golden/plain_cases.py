@@ -45,7 +45,7 @@ def grid(size: int, key: bytes) -> bytes:
 
 
 def setting_of(words: Sequence[str]) -> model.Setting | None:
-    """The setting of words that are accepted, or None."""
+    """Returns the setting of words that are accepted, or None."""
     try:
         return model.Setting(words)
     except model.Refused:
@@ -53,7 +53,7 @@ def setting_of(words: Sequence[str]) -> model.Setting | None:
 
 
 def graph_of(words: Sequence[str], data: bytes) -> bytes:
-    """The bytes of the graph of a call."""
+    """Returns the bytes of the graph of a call."""
     setting = setting_of(words)
     return grid(setting.size, setting.key) if setting and setting.command == "make" else data
 
@@ -64,7 +64,7 @@ def is_great(words: Sequence[str]) -> bool:
 
 
 def ended(words: Sequence[str], data: bytes, fails: int, room: int) -> tuple[int, str, str]:
-    """The status, the output and the note of a call whose read with this number fails."""
+    """Returns the status, the output and the note of a call whose read with this number fails."""
     end = model.audit(words, graph_of(words, data), [None, None])
     if fails and end.status != 1 and words[0] != "make" and fails <= -(-len(data) // 100) + 1:
         return 4, "", "read fault\n"

@@ -91,7 +91,7 @@ class Setting:
 
 
 def job_of_graph(setting: Setting, document: Json) -> Job:
-    """The job of a graph as networkx reads it."""
+    """Returns the job of a graph as networkx reads it."""
     graph = read(document)
     units = [graph.nodes[unit] for unit in graph.nodes]
     people, first, second, labels = (
@@ -115,7 +115,7 @@ def job_of_graph(setting: Setting, document: Json) -> Job:
 
 
 def job_of_grid(setting: Setting) -> Job:
-    """The job of the grid that `make` makes: ten districts of as many rows as its size."""
+    """Returns the job of the grid that `make` makes: ten districts of as many rows as its size."""
     side = 10 * setting.size
     places = [(row, column) for row in range(side) for column in range(side)]
     graph = networkx.Graph()
@@ -159,7 +159,7 @@ def job_of(setting: Setting, text: str) -> Job:
 
 
 def digest(job: Job, setting: Setting) -> bytes:
-    """The SHA-256 of all that the outcomes depend on."""
+    """Returns the SHA-256 of all that the outcomes depend on."""
     edges = sorted(tuple(sorted(edge)) for edge in job.graph.edges)
     has_rules = job.max_cut < NO_LIMIT or job.regions or job.group
     version = 3 if job.group or limits_splits(job) else 2 if has_rules else 1
@@ -196,8 +196,8 @@ def sealed(front: bytes) -> bytes:
 
 
 def checkpoint(job_digest: bytes, generation: int, found: Mapping[int, Outcome]) -> bytes:
-    """The bytes of a checkpoint of the second version of outcomes, given as a map from the id to
-    the moves, the values and the bins.
+    """Returns the bytes of a checkpoint of the second version of outcomes, given as a map from the
+    id to the moves, the values and the bins.
     """
     head = (
         b"DISTCKPT" + struct.pack(">I", 2) + job_digest + struct.pack(">2I", generation, len(found))
@@ -220,8 +220,9 @@ def old_checkpoint(job_digest: bytes, generation: int, found: Mapping[int, Outco
 
 
 def records(data: bytes) -> list[tuple[int, ...]] | None:
-    """The records of a checkpoint of either version, each the id, the moves, four values and nine
-    bins, which the first version does not have; None where its length is not that of its count.
+    """Returns the records of a checkpoint of either version, each the id, the moves, four values
+    and nine bins, which the first version does not have; None where its length is not that of its
+    count.
     """
     second = data[8:12] == b"\0\0\0\2"
     if len(data) < 84 or len(data) != 84 + (80 if second else 44) * generation_and_count(data)[1]:
@@ -242,7 +243,7 @@ def outcomes_in(data: bytes) -> dict[int, Outcome]:
 
 
 def fault(data: bytes) -> str | None:
-    """Why bytes are no checkpoint, in the words of the notes; None where they are one."""
+    """Returns why bytes are no checkpoint, in the words of the notes; None where they are one."""
     if len(data) > MOST_BYTES:
         return "too long"
     if len(data) < 84:

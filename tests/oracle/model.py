@@ -202,13 +202,15 @@ class Refused(Exception):
 
 
 def number(text: str) -> int | None:
-    """The number that a text is, or None."""
+    """Returns the number that a text is, or None."""
     is_plain = text.isascii() and text.isdigit() and (text == "0" or text[0] != "0")
     return int(text) if is_plain and len(text) < 64 else None
 
 
 def ids_of(text: str) -> tuple[int | None, int | None]:
-    """The first and the last id of a range `A-B`, or of `A`; None for one that is no number."""
+    """Returns the first and the last id of a range `A-B`, or of `A`; None for one that is no
+    number.
+    """
     first, dash, last = text.partition("-")
     return number(first), number(last if dash else first)
 
@@ -344,7 +346,7 @@ class NotJson(Exception):
 
 
 def whole(text: str) -> int | float:
-    """A whole number of 64 bits, or a float, as serde_json keeps it."""
+    """Returns a whole number of 64 bits, or a float, as serde_json keeps it."""
     if len(text) < 25 and text != "-0":
         value = int(text)
         if -(2**63) <= value < 2**64:
@@ -368,7 +370,7 @@ NO_BRACKET = re.compile(rb"[^][{}]+")
 
 
 def depth(data: bytes) -> int:
-    """How deep brackets stand within brackets, outside texts."""
+    """Returns how deep brackets stand within brackets, outside texts."""
     level = most = 0
     for byte in NO_BRACKET.sub(b"", STRING.sub(b"", data)):
         level += 1 if byte in b"[{" else -1
@@ -381,7 +383,7 @@ def has_lone_surrogate(data: bytes) -> bool:
 
 
 def parsed(data: bytes) -> object:
-    """The value of a JSON text, or NotJson."""
+    """Returns the value of a JSON text, or raises NotJson."""
     try:
         value: object = json.loads(
             data.decode("utf-8"), parse_int=whole, parse_float=fraction, parse_constant=no_constant
@@ -402,7 +404,7 @@ def refuse(note: str) -> typing.NoReturn:
 
 
 def shape(root: object) -> tuple[list[object], list[list[object]]]:
-    """The lists of nodes and of neighbours, or the refusal of the shape."""
+    """Returns the lists of nodes and of neighbors, or refuses the shape."""
 
     def bad(part: str) -> typing.NoReturn:
         refuse(f"bad shape of {part}")
@@ -470,7 +472,7 @@ def edges_of(places: dict[object, int], adjacency: Sequence[list[Entry]]) -> lis
 def lengths_of(
     places: dict[object, int], adjacency: Sequence[list[Entry]], edges: Sequence[Edge], column: str
 ) -> list[int]:
-    """The length of each edge, or the first refusal; none where no column is named."""
+    """Returns the length of each edge, or refuses one; none where no column is named."""
     if not column:
         return []
     every = [
@@ -555,7 +557,7 @@ def numbered(labels: Sequence[Label]) -> tuple[int, list[int]]:
 
 
 def regions_of(nodes: Sequence[Entry], column: str) -> list[int]:
-    """The region of each unit, and none where no column is named, or the first refusal."""
+    """Returns the region of each unit, or refuses a label; none where no column is named."""
     if not column:
         return []
     for at, node in enumerate(nodes):
@@ -605,8 +607,8 @@ def refuse_table(note: str) -> typing.NoReturn:
 
 
 def records_of(data: bytes) -> list[list[bytes]]:
-    """The records of a table, each a list of fields of bytes: no empty lines, no byte order mark,
-    and any line end.
+    """Returns the records of a table, each a list of fields of bytes: no empty lines, no byte order
+    mark, and any line end.
     """
     text = data.removeprefix(b"\xef\xbb\xbf").decode("latin-1")
     rows = csv.reader(io.StringIO(text, newline=""))
@@ -823,7 +825,7 @@ class Job:
         return sums
 
     def reached(self, members: set[int]) -> set[int]:
-        """The members to which paths within them lead from the least one."""
+        """Returns the members to which paths within them lead from the least one."""
         found, todo = {min(members)}, [min(members)]
         while todo:
             for v in self.neighbours[todo.pop()]:
@@ -836,18 +838,20 @@ class Job:
         return sum(plan[u] != plan[v] for u, v in self.edges)
 
     def cut_length(self, plan: Plan) -> int:
-        """The total length of the cut edges; 0 where edges have no lengths."""
+        """Returns the total length of the cut edges; 0 where edges have no lengths."""
         return sum(
             length for (u, v), length in zip(self.edges, self.lengths) if plan[u] != plan[v]
         )
 
     def districts_of_regions(self, plan: Plan) -> list[int]:
-        """For each region, how many districts a plan gives to its units."""
+        """Returns for each region the number of districts that a plan gives to its units."""
         pairs = Counter(region for region, _ in set(zip(self.regions, plan)))
         return [pairs[region] for region in sorted(pairs)]
 
     def splits(self, plan: Plan) -> int:
-        """How often regions are split in all: each by one less than the number of its districts."""
+        """Returns the number of splits of regions: for each one less than the number of its
+        districts.
+        """
         return sum(districts - 1 for districts in self.districts_of_regions(plan))
 
     def split_regions(self, plan: Plan) -> int:
@@ -855,8 +859,8 @@ class Job:
         return sum(districts > 1 for districts in self.districts_of_regions(plan))
 
     def majorities(self, plan: Plan) -> int:
-        """In how many districts the group has more than its share of the whole; none where there is
-        no group.
+        """Returns the number of districts in which the group has more than its share of the whole;
+        0 without a group.
         """
         if not self.group:
             return 0
@@ -892,7 +896,7 @@ class Job:
         return self.meets_rules(plan)
 
     def walk(self, plan: Plan, stream: int, steps: int) -> tuple[list[Plan], int]:
-        """The plans visited, and the moves."""
+        """Returns the plans visited, and the moves."""
         visited, moved, pairs = [plan], 0, self.units * self.districts
         for draw in draws(self.setting.key, stream, steps):
             if draw < 2**64 // pairs * pairs:
@@ -1000,8 +1004,8 @@ def histogram_of(job: Job, visited: Sequence[Plan]) -> tuple[int, ...]:
 
 
 def outcomes(job: Job, key: typing.Hashable) -> list[Outcome]:
-    """The moves, the values and the bins of each trajectory, by id; those from the hub have bins of
-    0.
+    """Returns the moves, the values and the bins of each trajectory, by id; those from the hub have
+    bins of 0.
     """
     if key in OUTCOMES:
         return OUTCOMES[key]
@@ -1051,8 +1055,8 @@ def stop_of(values: Sequence[int], start: int, tail: str, enough: int) -> tuple[
 
 
 def serial(job: Job) -> tuple[int, list[int]]:
-    """The place of the start plan in one run through it, and for each ask how many plans of the run
-    are in its tail.
+    """Returns the place of the start plan in one run through it, and for each ask how many plans of
+    the run are in its tail.
     """
     setting, plan = job.setting, tuple(job.plan)
     place = draws(setting.key, 2**33, 1)[0] % (setting.steps + 1)
@@ -1110,7 +1114,8 @@ def head(job: Job) -> list[str]:
 
 
 def quoted(text: str) -> str:
-    """A text as JSON writes it, with the shortest escapes, and only where JSON wants one."""
+    """Returns a text as JSON writes it, with the shortest escapes, and only where JSON wants one.
+    """
     return json.dumps(text, ensure_ascii=False)
 
 
@@ -1143,7 +1148,7 @@ def part(rank: int, of: int) -> str:
 
 
 def report(job: Job, found: Sequence[Outcome]) -> str:
-    """The report on these outcomes, given by rising id as moves, values and bins."""
+    """Returns the report on these outcomes, given by rising id as moves, values and bins."""
     setting = job.setting
     lines = [
         f"district-audit {2 if setting.shift else 1}",
@@ -1201,8 +1206,8 @@ def sealed(front: bytes) -> bytes:
 def checkpoint(
     digest: bytes, generation: int, found: Mapping[int, Outcome], version: int = 2
 ) -> bytes:
-    """The bytes of a checkpoint of outcomes, a map from the id to the moves, the values and the
-    bins; in version 1 without the bins.
+    """Returns the bytes of a checkpoint of outcomes, a map from the id to the moves, the values and
+    the bins; in version 1 without the bins.
     """
     records = []
     for one, (moved, values, bins) in sorted(found.items()):
@@ -1301,8 +1306,8 @@ def newest(slots: Sequence[Slot]) -> int | None:
 
 
 def initial_outcomes(slots: Sequence[Slot], digest: bytes, setting: Setting) -> dict[int, Outcome]:
-    """The outcomes from which a run goes on: bare ones where it asks for no bins, and else the
-    walks that have theirs and all ends.
+    """Returns the outcomes from which a run goes on: without bins where it asks for none, and else
+    the walks that have theirs and all ends.
     """
     if all(slot.fault == "absent" for slot in slots):
         return {}
@@ -1351,7 +1356,7 @@ def trajectory_lines(job: Job, number: int, thin: int, hub: Plan) -> list[str]:
 
 
 def trace_text(job: Job, first: int, last: int, thin: int) -> str:
-    """The trace of the trajectories from the first id to the last."""
+    """Returns the trace of the trajectories from the first id to the last."""
     setting, start = job.setting, tuple(job.plan)
     hub = job.walk(start, 1, setting.hub_steps)[0][-1]
     asks = [
@@ -1413,7 +1418,7 @@ def run(job: Job, slots: Slots) -> End:
 
 
 def origin_of(setting: Setting, data: bytes) -> Origin | None:
-    """The origin of a job of these bytes, where the words ask for it."""
+    """Returns the origin of a job of these bytes, where the words ask for it."""
     return Origin(hashlib.sha256(data).digest(), len(data)) if setting.source else None
 
 
@@ -1422,8 +1427,8 @@ def job_of(setting: Setting, graph: bytes) -> Job:
 
 
 def jobs_of(setting: Setting, data: bytes) -> list[tuple[str, Job]]:
-    """The name and the job of each plan: of the graph's own, and of each plan of the table behind
-    the first line feed.
+    """Returns the name and the job of each plan: of the graph's own, and of each plan of the table
+    behind the first line feed.
     """
     graph, _, table = data.partition(b"\n")
     if len(data) > MOST_INPUT:
@@ -1442,7 +1447,7 @@ def jobs_of(setting: Setting, data: bytes) -> list[tuple[str, Job]]:
 
 
 def audit(words: Sequence[str], graph: bytes, slots: Slots) -> End:
-    """How a call with ample memory, over files that do not fail, must end."""
+    """Returns how a call with ample memory, over files that do not fail, must end."""
     try:
         setting = Setting(words)
         if setting.command == "plans":

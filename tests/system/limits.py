@@ -76,10 +76,10 @@ def dense(edges: int, units: int = 895) -> bytes:
 
 
 def two_hubs(units: int = UNITS) -> bytes:
-    """Two units that are neighbours, each in a district of its own, and others, each of which has
-    these two as its neighbours, by turns in one district and in the other. Each of the others may
-    change its district at any time, and the first two never may. One column has 5000 regions,
-    another five.
+    """Returns two units that are neighbours, each in a district of its own, and others, each of
+    which has these two as its neighbours, by turns in one district and in the other. Each of the
+    others may change its district at any time, and the first two never may. One column has 5000
+    regions, another five.
     """
     adjacency: list[list[Node]] = [[{"id": 1}], [], *[[{"id": 0}, {"id": 1}]] * (units - 2)]
     return graph(
@@ -150,7 +150,7 @@ def stopped() -> End:
 
 
 def cases() -> Iterator[tuple[str, list[str], bytes, End]]:
-    """The name of each input, the words, the input, and its end."""
+    """Yields the name of each input, the words, the input, and its end."""
     most = 67108864
     for more in (0, 1):
         own = checked(4, 4, 2, 1, 3) if not more else refused("more than 67108864 bytes")
@@ -230,7 +230,7 @@ def cases() -> Iterator[tuple[str, list[str], bytes, End]]:
 
 
 def walk(region: str, steps: int) -> list[str]:
-    """The words of a run by all rules whose regions are those of this column."""
+    """Returns the words of a run by all rules whose regions are those of this column."""
     return [
         "run", *COLUMNS, "10000", "--key", KEY, "--steps", str(steps), "--ask", "cut-edges:low",
         "--region", region, "--max-split", "2", "--max-splits", "5000", "--group", "a",

@@ -57,7 +57,7 @@ HARMLESS = {
 
 
 def bytes_in(said: str) -> bytes:
-    """The bytes of the first text of a call, which strace shows as hexadecimal digits."""
+    """Returns the bytes of the first text of a call, which strace shows as hexadecimal digits."""
     found = TEXT.search(said)
     if found is None or found[2]:
         raise ValueError(f"a text is not shown whole: {said[:100]}")
@@ -65,7 +65,7 @@ def bytes_in(said: str) -> bytes:
 
 
 def whole_lines(text: str) -> Iterator[str]:
-    """The lines of a trace; a call that another thread's cut in two is one line again."""
+    """Yields the lines of a trace; a call that another thread's cut in two is one line again."""
     begun: dict[str, str] = {}
     for line in text.splitlines():
         process = line.split(None, 1)[0]
@@ -180,7 +180,7 @@ def placed(folder: pathlib.Path, slots: model.Slots) -> None:
 def traced(
     program: str, folder: pathlib.Path, words: Sequence[str], slots: model.Slots
 ) -> list[Step]:
-    """The calls of a run over files with these bytes."""
+    """Returns the calls of a run over files with these bytes."""
     placed(folder, slots)
     trace = folder.with_suffix(".trace")
     subprocess.run(
@@ -253,8 +253,8 @@ class File:
 
 
 def after(data: bytes, steps: Sequence[Step]) -> bytes:
-    """The bytes after these steps: cuts to a length, writes at a place, and lengths without bytes
-    of their own.
+    """Returns the bytes after these steps: cuts to a length, writes at a place, and lengths without
+    bytes of their own.
     """
     for what, _, place, more in steps:
         if what == "cut":
@@ -265,8 +265,8 @@ def after(data: bytes, steps: Sequence[Step]) -> bytes:
 
 
 def pieces(step: Step, draw: random.Random) -> list[Step]:
-    """The parts of a step that may be stored each without the others: of a write its length, as
-    zeros and as other bytes, and pieces of its bytes.
+    """Returns the parts of a step that may be stored each without the others: of a write its
+    length, as zeros and as other bytes, and pieces of its bytes.
     """
     what, file, place, data = step
     if what == "cut" or not data:
@@ -414,7 +414,7 @@ def named(slots: State) -> str:
 
 
 def lost_in(states: dict[State, int]) -> list[str]:
-    """The states in which a save is lost."""
+    """Returns the states in which a save is lost."""
     left = [(slots, outcomes_in(slots), kept) for slots, kept in states.items()]
     return [
         f"{named(slots)}: {one} outcomes are left of {kept} that were saved"

@@ -99,8 +99,8 @@ class Source(typing.NamedTuple):
 
 
 def in_two(people: str, share: Callable[[Row], float], part: str, rest: str) -> Derive:
-    """Two columns: how many of a number of people a share of them is, as a float, and how many are
-    left.
+    """Returns what makes two columns: how many of a number of people a share of them is, as a
+    float, and how many are left.
     """
     return lambda row: {
         part: row[people] * share(row),
@@ -241,7 +241,7 @@ class MapData(typing.NamedTuple):
 
 
 def file_of(packages: pathlib.Path, name: str) -> pathlib.Path:
-    """A file of a package, by the end of its path."""
+    """Returns a file of a package, by the end of its path."""
     path = pathlib.PurePath(name)
     roots = (
         [packages]
@@ -260,7 +260,7 @@ def file_of(packages: pathlib.Path, name: str) -> pathlib.Path:
 
 
 def shapes_of(packages: pathlib.Path, source: Source) -> tuple[list[Row], list[Polygon]]:
-    """The rows of a shapefile, and their polygons."""
+    """Returns the rows of a shapefile, and their polygons."""
     import shapefile
     from shapely.geometry import shape
     from shapely.validation import make_valid
@@ -275,7 +275,7 @@ def shapes_of(packages: pathlib.Path, source: Source) -> tuple[list[Row], list[P
 
 
 def rook(polygons: Sequence[Polygon]) -> list[Edge]:
-    """The pairs of polygons whose borders share a line of some length."""
+    """Returns the pairs of polygons whose borders share a line of some length."""
     boxes = [polygon.bounds for polygon in polygons]
 
     def may_touch(one: Sequence[float], other: Sequence[float]) -> bool:
@@ -332,7 +332,7 @@ def read(packages: pathlib.Path, source: Source) -> MapData:
 
 
 def parts_of(near: Sequence[set[int]]) -> list[list[int]]:
-    """The parts of a graph, the smallest first."""
+    """Returns the parts of a graph, the smallest first."""
     left, parts = set(range(len(near))), []
     while left:
         todo = [min(left)]
@@ -362,7 +362,7 @@ def joins_of(near: Sequence[set[int]], middles: Sequence[Sequence[float]]) -> li
 
 
 def made(unit: object, what: str, low: int, high: int) -> int:
-    """A whole number from low to high - 1 that follows from a unit's id."""
+    """Returns a whole number from low to high - 1 that follows from a unit's id."""
     digest = hashlib.sha256(f"{what} {unit}".encode()).digest()
     return low + int.from_bytes(digest[:8], "big") % (high - low)
 
@@ -373,8 +373,8 @@ def made(unit: object, what: str, low: int, high: int) -> int:
 def tree_of(
     start: int, members: Container[int], near: Sequence[set[int]], draw: Callable[[], float]
 ) -> tuple[list[int], dict[int, int]]:
-    """A random tree of all members: an order in which each unit comes after the one that it hangs
-    on, and that.
+    """Returns a random tree of all members: an order in which each unit comes after the one that it
+    hangs on, and that.
     """
     order: list[int] = []
     above: dict[int, int] = {}
@@ -470,7 +470,7 @@ def partition(
 
 
 def clean(value: object) -> object:
-    """A value as JSON has it; an absent text is missing."""
+    """Returns a value as JSON has it; an absent text is missing."""
     if value in ("", None):
         return None
     return value.decode("latin1") if isinstance(value, bytes) else value
@@ -547,7 +547,7 @@ class RealMap:
         return None
 
     def words(self) -> list[str]:
-        """The words for prepare.py, but the column of the plan."""
+        """Returns the words for prepare.py, but the column of the plan."""
         words = [
             word for what, column in self.columns.items() for word in ("--" + what, column)
         ] + ["--numbers", "nearest", "--missing", "zero"]

@@ -77,7 +77,7 @@ COUNTS = Counts()
 
 
 def checked(*words: object) -> tuple[int, str]:
-    """The status and the text of a call of recheck."""
+    """Returns the status and the text of a call of recheck."""
     recheck.WRONG.clear()
     with contextlib.redirect_stdout(io.StringIO()) as text:
         status = recheck.main([str(word) for word in words])
@@ -121,7 +121,7 @@ def vectors() -> None:
 
 
 def unknown_score() -> None:
-    """A score without a definition is an error, and is not computed as another one."""
+    """Checks that a score without a definition is an error, and is not computed as another one."""
     job = types.SimpleNamespace(districts=1)
     walk = types.SimpleNamespace(job=job, sums={"--first": [1], "--second": [2]})
     came = "no error"
@@ -141,7 +141,7 @@ def prepared(name: str, *words: str) -> bytes:
 
 
 def cases() -> Iterator[tuple[str, list[str], str | bytes]]:
-    """A name, the words and the graph of each example."""
+    """Yields a name, the words and the graph of each example."""
     real = ["--slack", "1000", "--key", REAL_KEY, "--steps", "2047", "--hub-steps", "500"]
     births = ["--pop", "BIR74", "--first", "NWBIR74", "--second", "WBIR74", "--district", "PLAN11"]
     homes = ["--pop", "POP8", "--first", "OWNING", "--second", "OTHERS", "--district", "PLAN8"]
@@ -202,7 +202,7 @@ FAULTY = [
 
 
 def trace_of(job: model.Job, thin: int) -> str:
-    """The trace of all trajectories by the plain model."""
+    """Returns the trace of all trajectories by the plain model."""
     setting = job.setting
     texts = [
         f"{score} {tail} start {job.value(job.plan, score)}/{job.denominator(score)}"
@@ -271,7 +271,7 @@ def skipping(right: Walk) -> Walk:
 
 
 def walked(job: model.Job, plan: model.Plan, draws: list[int]) -> tuple[list[model.Plan], int]:
-    """The plain model's walk with these draws."""
+    """Returns the plain model's walk with these draws."""
     with mock.patch.object(model, "draws", lambda key, stream, count: draws):
         return WALK(job, plan, 0, len(draws))
 
@@ -287,19 +287,19 @@ def swap_halves(right: Block) -> Block:
 
 
 def wrong_hub(right: Walk) -> Walk:
-    """The start plan is taken for the hub."""
+    """Takes the start plan for the hub."""
     return lambda job, plan, stream, steps: right(job, plan, stream, steps * (stream != 1))
 
 
 def swapped_streams(right: Walk) -> Walk:
-    """Walks 0 and 1 have each other's stream."""
+    """Gives walks 0 and 1 each other's stream."""
     return lambda job, plan, stream, steps: right(
         job, plan, {0: 2, 2: 0}.get(stream, stream), steps
     )
 
 
 def loose_bounds(right: IsLegal) -> IsLegal:
-    """A district may have one person too many, or too few."""
+    """Allows a district one person too many, or too few."""
 
     def is_legal(job: model.Job, plan: model.Plan) -> bool:
         low, high = job.low, job.high
@@ -350,7 +350,7 @@ MODEL_FAULTS = (
 
 
 def wheel() -> str:
-    """A hub and a ring of six units: one district may have a hole or break in two."""
+    """Returns a hub and a ring of six units: one district may have a hole or break in two."""
     votes = [(3, 1), (1, 2), (1, 2), (2, 1), (0, 4), (5, 1), (2, 2)]
     nodes = [
         {"id": u, "pop": 1, "a": a, "b": b, "d": int(u in (0, 1, 2, 6))}
@@ -361,7 +361,9 @@ def wheel() -> str:
 
 
 def right_texts(auditor: str, graph: bytes, room: Path) -> tuple[model.Job, str, str]:
-    """The report and the trace by the plain model, which are those of the program."""
+    """Returns the job of a graph, and the report and the trace by the plain model, which are those
+    of the program.
+    """
     setting = model.Setting(["run", *FAULTY])
     job = model.job_of(setting, graph)
     report = model.audit(["run", *FAULTY], graph, [None, None]).out
@@ -420,7 +422,7 @@ def model_faults(graph: bytes, room: Path, job: model.Job, report: str) -> None:
 
 
 def changed_digits(room: Path, report: str) -> None:
-    """Each digit of the report in turn."""
+    """Changes each digit of the report in turn."""
     missed = []
     for at, digit in enumerate(report):
         if digit.isdigit():
@@ -432,7 +434,7 @@ def changed_digits(room: Path, report: str) -> None:
 
 
 def trace_faults(room: Path, job: model.Job, trace: str) -> None:
-    """A wrong plan, a missing line, and a plan that is not legal."""
+    """Checks a trace with a wrong plan, a missing line, and a plan that is not legal."""
     lines = trace.split("\n")
     title = next(n for n, line in enumerate(lines) if line.startswith("trace id 0"))
     row = next(n for n in range(title + 2, len(lines)) if ":" in lines[n])
@@ -454,7 +456,7 @@ def trace_faults(room: Path, job: model.Job, trace: str) -> None:
 
 
 def checkpoint_faults(room: Path, job: model.Job) -> None:
-    """A changed number of an outcome below a right SHA-256, in both versions."""
+    """Checks a changed number of an outcome below a right SHA-256, in both versions."""
     found = dict(enumerate(model.outcomes(job, "checkpoints")))
     for version in (1, 2):
         folder = room / f"version {version}"
@@ -497,7 +499,7 @@ def plans_input(room: Path, name: str, table: str) -> bytes:
 
 
 def plan_reports(auditor: str, room: Path) -> str:
-    """The reports of three plans by the plain model, which are those of the program."""
+    """Returns the reports of three plans by the plain model, which are those of the program."""
     data = plans_input(room, "plans", TABLE.replace("hub and ring", "hub-and-ring"))
     text = model.audit(["plans", *FAULTY], data, [None, None]).out
     (room / "plan reports").write_text(text)
@@ -565,7 +567,8 @@ def faults(auditor: str, room: Path) -> None:
 
 
 def columns_left_out(auditor: str, room: Path) -> None:
-    """A report without the line `columns` needs each column in words, and each is asked for."""
+    """Checks that a report without the line `columns` needs each column in words, and asks for it.
+    """
     root = json.loads(wheel())
     for u, node in enumerate(root["nodes"]):
         node.update(county=u % 2, group=0, frozen=u == 0)
@@ -597,7 +600,7 @@ def columns_left_out(auditor: str, room: Path) -> None:
 
 
 def drawn_graph(rng: random.Random) -> bytes:
-    """A drawn grid with diagonals and holes in connected districts, and its number of districts."""
+    """Draws a grid with diagonals and holes in connected districts."""
     rows, columns = rng.randrange(2, 8), rng.randrange(3, 9)
     units = [(i, j) for i in range(rows) for j in range(columns) if rng.random() < 0.95]
     places = {at: u for u, at in enumerate(units)}
@@ -648,7 +651,7 @@ def drawn_graph(rng: random.Random) -> bytes:
 
 
 def drawn_words(rng: random.Random) -> list[str]:
-    """The words of a drawn run."""
+    """Draws the words of a run."""
     asks = rng.sample(sorted(model.ALL_ASKS), rng.randrange(1, 5))
     ends, stops = rng.choice([0, 1, 9]), rng.random() < 0.3
     words = [
@@ -686,7 +689,7 @@ def drawn_words(rng: random.Random) -> list[str]:
 
 
 def drawn_table(rng: random.Random, job: model.Job, ids: Sequence[object]) -> bytes:
-    """A table of plans to which drawn walks of a job lead, with drawn labels and line ends."""
+    """Draws a table of plans to which walks of a job lead, with drawn labels and line ends."""
     plans = [job.walk(tuple(job.plan), stream, rng.randrange(1, 60))[0][-1]
              for stream in range(1, rng.randrange(2, 5))]
     labels = rng.choice([["2", "10", "1", "9"], ["b", "a", "é", "z"], ['a,"b"', "c d", "", "x"]])
@@ -701,7 +704,7 @@ def drawn_table(rng: random.Random, job: model.Job, ids: Sequence[object]) -> by
 def drawn_plans(
     auditor: str, room: Path, rng: random.Random, graph: bytes, words: Sequence[str]
 ) -> None:
-    """Several plans of a drawn job, audited by the program and re-checked."""
+    """Draws plans of a job, which the program audits, and re-checks their reports."""
     job = model.job_of(model.Setting(["run", *words]), graph)
     ids = [node["id"] for node in json.loads(graph)["nodes"]]
     data = graph + b"\n" + drawn_table(rng, job, ids)

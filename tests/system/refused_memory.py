@@ -298,7 +298,7 @@ def runs() -> dict[str, list[tuple[list[str], bytes]]]:
 
 
 def several(graph: bytes) -> bytes:
-    """The graph as one line, and a table with two more plans of its units."""
+    """Returns the graph as one line, and a table with two more plans of its units."""
     ids = [unit["id"] for unit in json.loads(graph)["nodes"]]
     half = len(ids) // 2
     rows = [f"{name},{int(at < half)},{'xy'[0 < at <= half]}" for at, name in enumerate(ids)]
@@ -444,7 +444,7 @@ def wanted_of(words: Sequence[str], graph: bytes, files: Files) -> tuple[int, st
 
 
 def taken() -> float:
-    """The seconds of a processor that all runs up to now took."""
+    """Returns the seconds of a processor that all runs up to now took."""
     return resource.getrusage(resource.RUSAGE_CHILDREN).ru_utime
 
 

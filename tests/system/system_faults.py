@@ -142,7 +142,7 @@ class Room:
         given: Mapping[str, str] | None = None,
         prepared: Callable[[], None] | None = None,
     ) -> End:
-        """The status, both texts and both files."""
+        """Returns how a run over the slots ends."""
         graph_file, out_file = self.folder / "graph", self.folder / "out"
         graph_file.write_bytes(graph)
         with open(graph_file, "rb") as source, open(out_file, "wb") as out:
@@ -173,7 +173,7 @@ class Room:
         slots: model.Slots = (None, None),
         given: Mapping[str, str] | None = None,
     ) -> None:
-        """A run that must end as one on a system that does not fail."""
+        """Makes a run that must end as one on a system that does not fail."""
         self.place(slots)
         wanted = model.audit(words, graph, list(slots))
         self.judge(
@@ -188,8 +188,8 @@ class Room:
 def saved(
     words: Sequence[str], slots: model.Slots, fails: Mapping[int, Left]
 ) -> list[bytes | None]:
-    """The files after a run of which the saves with these numbers fail, which leave what the map
-    says, and whether the run needed them all.
+    """Returns the files after a run of which the saves with these numbers fail; the functions say
+    what each of these leaves.
     """
     setting = model.Setting(words)
     job = model.job_of(setting, CYCLE)
@@ -472,8 +472,8 @@ def short(room: Room) -> str:
 
 
 def file_size(room: Room) -> str:
-    """A limit on files: a save is cut off in its middle, and the other slot holds what was saved
-    before.
+    """Limits the length of files: a save is cut off in its middle, and the other slot holds what
+    was saved before.
     """
 
     def limited() -> None:
@@ -589,8 +589,8 @@ def limits_of_values(room: Room) -> None:
 
 
 def checkpoints(room: Room) -> str:
-    """Checkpoints of as many outcomes as there may be, and of one more; of both versions, for runs
-    with the tally of seats and without.
+    """Checks checkpoints with the most outcomes and with one more, of both versions, for runs with
+    the tally of seats and without.
     """
     words = with_values(CHAIN, {"--walks": "100000", "--steps": "1", "--resume": "yes"})
     own = model.job_of(model.Setting(words), CYCLE).digest()
@@ -634,14 +634,15 @@ def checkpoints(room: Room) -> str:
 
 
 def with_values(words: Sequence[str], values: Mapping[str, str]) -> list[str]:
-    """The words, some names of which have other values or come anew."""
+    """Returns the words, some names of which have other values or come anew."""
     given = {**dict(zip(words[1::2], words[2::2])), **values}
     return [words[0], *(word for pair in given.items() for word in pair)]
 
 
 def ranges(room: Room) -> str:
-    """Each number word at both ends of its range and past them, and the words of yes and no; the
-    graph of a run is no JSON, so that good words end with status 2.
+    """Checks each number word at both ends of its range and past them, and the words of yes and no.
+
+    The graph of a run is no JSON, so that good words end with status 2.
     """
     for command in ("check", "run", "make"):
         words = {"check": CHECK, "run": CHAIN, "make": ["make", "--size", "1", *CHAIN[11:]]}[
@@ -736,8 +737,8 @@ def stopped(process: subprocess.Popen[bytes]) -> bool:
 def walk_over(
     room: Room, words: Sequence[str], change: Callable[[], None]
 ) -> tuple[int | str, bytes, bytes] | None:
-    """How a run ends under whose slots something changes while it walks; None where it had saved
-    before.
+    """Returns how a run ends under whose slots something changes while it walks; None where it had
+    saved before.
     """
     room.place([None, None])
     process = subprocess.Popen(
@@ -763,8 +764,9 @@ def walk_over(
 
 
 def pipes(room: Room) -> str:
-    """No save opens a pipe, which would wait for ever for a reader; each fails, and the run goes on
-    to its report.
+    """Checks that no save opens a pipe, which would wait for ever for a reader.
+
+    Each save fails, and the run goes on to its report.
     """
     for place in (0, 1):
         steps = 1000000
@@ -903,7 +905,7 @@ def other_user(room: Room) -> str:
 
 
 def chain_of(number: int) -> list[str]:
-    """The words of a job: those of CHAIN with another key and other questions."""
+    """Returns the words of a job: those of CHAIN with another key and other questions."""
     return with_values(
         CHAIN, {"--key": f"{number:x}".rjust(64, "0"), "--ask": ASKS[number % len(ASKS)]}
     )
