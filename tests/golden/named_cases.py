@@ -25,7 +25,7 @@ class Case(typing.NamedTuple):
     text: str
 
 
-def lines_of(path: pathlib.Path) -> typing.List[Case]:
+def lines_of(path: pathlib.Path) -> list[Case]:
     """Returns the lines of a file of cases; a line without a space has an empty rest."""
     lines = path.read_text().split("\n")[:-1]
     return [Case(*line.partition(" ")[::2]) for line in lines]
@@ -38,7 +38,7 @@ def is_question(words: typing.Sequence[str]) -> bool:
     return list(words) in (["--help"], ["--version"])
 
 
-def modeled(file: str) -> typing.List[Case]:
+def modeled(file: str) -> list[Case]:
     """Returns the lines of a file of cases that a plain program can answer."""
     lines = lines_of(CASES / "data" / file)
     if file not in WORDS_BEFORE:
@@ -46,7 +46,7 @@ def modeled(file: str) -> typing.List[Case]:
     return [line for line in lines if not is_question(line.text.split()[WORDS_BEFORE[file]:])]
 
 
-def parts_of(output: str) -> typing.List[Case]:
+def parts_of(output: str) -> list[Case]:
     """Returns the parts of an output, without the lines of the names.
 
     A text before the first name is a part with an empty name.
@@ -56,12 +56,12 @@ def parts_of(output: str) -> typing.List[Case]:
     return [Case("", front), *parts] if front else parts
 
 
-def stdout_parts() -> typing.List[Case]:
+def stdout_parts() -> list[Case]:
     """Returns the parts that the program must print."""
     return parts_of((CASES / "stdout").read_text())
 
 
-def repeated(names: typing.Sequence[str]) -> typing.List[str]:
+def repeated(names: typing.Sequence[str]) -> list[str]:
     """Returns the names that occur more than once."""
     return sorted({name for name in names if names.count(name) > 1})
 

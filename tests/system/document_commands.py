@@ -21,7 +21,7 @@ CALL = re.compile(r"(?:^|[|;] )(?:rt run --|district-audit) \w", re.MULTILINE)
 OUTPUT = re.compile(r"(?:district-audit|district-trace|plan-check) \d\n|plan \S+\n")
 
 
-def commands_in(text: str) -> typing.Iterator[typing.Tuple[str, str]]:
+def commands_in(text: str) -> typing.Iterator[tuple[str, str]]:
     """Yields each command of a document with the text that it prints."""
     blocks = BLOCK.findall(text)
     for block, behind in zip(blocks, blocks[1:]):

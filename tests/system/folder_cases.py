@@ -14,7 +14,7 @@ from __future__ import annotations
 import os
 import re
 import sys
-from typing import Dict, List, Optional, Tuple
+from typing import Optional
 
 from tests.oracle import model
 from tests.system import folder_model, power_cuts
@@ -154,7 +154,7 @@ def slots_text_cannot_be_written(room: Room) -> None:
 def neither_slots_nor_gather(room: Room) -> None:
     """Under another name the first word says which of both programs is meant."""
     said = model.End(1, "", "words: neither slots nor gather\n", [None, None])
-    calls: List[List[str]] = [[], ["slot"], ["Gather"], LOOK, RUN, ["../p", "slots"]]
+    calls: list[list[str]] = [[], ["slot"], ["Gather"], LOOK, RUN, ["../p", "slots"]]
     for words in calls:
         end = room.ended([room.folders_program, *words], {".": Folder()})
         room.compare(f"audit_folders {' '.join(words)}", end, said, {".": Folder()})
@@ -164,7 +164,7 @@ def neither_slots_nor_gather(room: Room) -> None:
 def gather_asks_for_a_folder(room: Room) -> None:
     """No folder is refused before the words of the run; with `--look yes` none is needed."""
     own = {".": folder_of(some(range(3)))}
-    calls: List[List[str]] = [
+    calls: list[list[str]] = [
         RUN, ["--look", "no", *RUN], ["run", "--nothing"], ["check"], [], ["--look", "no"],
     ]
     for words in calls:
@@ -440,7 +440,7 @@ def gather_save_fails(room: Room) -> None:
     """If the save fails, nothing is printed, and the newest slot of the working folder stays."""
     command = [room.tools["audit_gather"], "../p", *RUN]
     newest = saved(some(range(3)), 1)
-    cases: List[Tuple[Folder, List[Optional[bytes]]]] = [
+    cases: list[tuple[Folder, list[Optional[bytes]]]] = [
         (Folder(), [b"", None]), (Folder((None, newest)), [b"", newest]),
         (Folder((saved(some(range(2))), newest)), [b"", newest]),
     ]
@@ -474,10 +474,10 @@ LOCKED = re.compile(r"^\d+ +flock\((\d+), LOCK_EX\|LOCK_NB\) += 0")
 CLOSED = re.compile(r"^\d+ +close\((\d+)\) += 0")
 
 
-def unlocked_reads(trace: str) -> List[str]:
+def unlocked_reads(trace: str) -> list[str]:
     """Returns the slots that a program opened while it did not hold the lock of their folder."""
-    folders: Dict[str, str] = {}
-    locks: Dict[str, str] = {}
+    folders: dict[str, str] = {}
+    locks: dict[str, str] = {}
     plain = []
     for line in power_cuts.whole_lines(trace):
         if found := OPENED.match(line):

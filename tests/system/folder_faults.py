@@ -13,7 +13,7 @@ skipped.
 from __future__ import annotations
 
 import sys
-from typing import List, Mapping, Optional, Sequence
+from typing import Mapping, Optional, Sequence
 
 from tests.oracle import model
 from tests.system import folder_model
@@ -60,7 +60,7 @@ def unread(name: str) -> model.End:
 def fails(
     room: Room,
     tool: str,
-    words: List[str],
+    words: list[str],
     path: str,
     call: str,
     what: str,
@@ -205,7 +205,7 @@ def gather_without_locks(room: Room) -> None:
 # ---- the save of a gathering
 
 
-def torn(data: bytes) -> List[Optional[bytes]]:
+def torn(data: bytes) -> list[Optional[bytes]]:
     """Returns the working folder's slots after a save that left these bytes in slot 0."""
     return [data, OWN.slots[1]]
 

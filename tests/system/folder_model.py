@@ -7,14 +7,14 @@ are those of the working folder.
 """
 from __future__ import annotations
 
-from typing import Dict, List, Mapping, NamedTuple, Optional, Sequence, Tuple
+from typing import Mapping, NamedTuple, Optional, Sequence
 
 from tests.oracle import model
 from tests.oracle.model import Outcome
 
 SAVING = ("run", "make")
 REFUSED = 10
-Outcomes = Dict[int, Outcome]
+Outcomes = dict[int, Outcome]
 
 
 class Folder(NamedTuple):
@@ -52,7 +52,7 @@ def merged(one: Outcome, other: Outcome) -> Outcome:
 
 # ---- the words
 
-def split_words(words: Sequence[str]) -> Tuple[Sequence[str], Sequence[str]]:
+def split_words(words: Sequence[str]) -> tuple[Sequence[str], Sequence[str]]:
     """Returns the words before the first command, and the others."""
     count = next((at for at, word in enumerate(words) if word in model.COMMANDS), len(words))
     return words[:count], words[count:]
@@ -144,7 +144,7 @@ class Gathering:
 
     def __init__(self) -> None:
         self.together: Outcomes = {}
-        self.parts: List[Tuple[str, Outcomes]] = []
+        self.parts: list[tuple[str, Outcomes]] = []
 
     def add(self, name: str, outcomes: Outcomes) -> Optional[str]:
         """Adds the outcomes of a folder, unless one differs; then returns the text that says so."""
@@ -162,7 +162,7 @@ class Gathering:
 
 def gathered(
     job: model.Job, names: Sequence[str], folders: Mapping[str, Folder], looks: bool
-) -> Tuple[Gathering, List[str], List[str]]:
+) -> tuple[Gathering, list[str], list[str]]:
     """Returns what is gathered, a line for each folder, the working one first, and the refusals."""
     gathering, own = Gathering(), found_in(job, folders.get(".", Folder()), False)
     lines = [f"working folder: {own.text}{beside(own)}"]
@@ -186,7 +186,7 @@ def gathered(
 
 def saved(
     job: model.Job, slots_before: Sequence[Optional[bytes]], outcomes: Outcomes
-) -> List[Optional[bytes]]:
+) -> list[Optional[bytes]]:
     """Returns the slots of the working folder after the save of these outcomes."""
     digest = job.digest()
     seen = [model.looked(job.setting, digest, data) for data in slots_before]

@@ -156,7 +156,7 @@ def try_streams(room: Room) -> None:
     room.checks.is_equal("failed_read", (end.status, end.note), (4, "read fault\n"))
 
 
-PARTS: typing.List[typing.Callable[[Room], None]] = [
+PARTS: list[typing.Callable[[Room], None]] = [
     try_slots, try_long_slot, try_words, try_odd_files, try_streams,
 ]
 

@@ -15,8 +15,7 @@ import signal
 import subprocess
 import sys
 import tempfile
-from typing import BinaryIO, Callable, Dict, Iterator, List, Mapping, NamedTuple, Optional
-from typing import Sequence, Set
+from typing import BinaryIO, Callable, Iterator, Mapping, NamedTuple, Optional, Sequence
 
 from tests.oracle import model
 from tests.places import DATA
@@ -28,14 +27,14 @@ NAMES = ("audit-0.ckpt", "audit-1.ckpt")
 RUN = [*"run --pop pop --first a --second b --district d --slack 5000 --walks 12 --steps 8".split(),
        "--ask", "gap:low", "--key", "0" * 64]
 LOOK = ["--look", "yes"]
-WITH_LOOK: List[List[str]] = [[], LOOK]
-WITH_RUN: List[List[str]] = [[], RUN]
-WITH_FOLDER: List[List[str]] = [[], ["../p"]]
+WITH_LOOK: list[list[str]] = [[], LOOK]
+WITH_RUN: list[list[str]] = [[], RUN]
+WITH_FOLDER: list[list[str]] = [[], ["../p"]]
 KINDS = ("folder", "loop", "pipe", "link to nothing", "device")
 LOAD_FAULT, SAVE_FAULT = "checkpoint load fault\n", "checkpoint save fault\n"
 
 
-def with_value(name: str, value: str) -> List[str]:
+def with_value(name: str, value: str) -> list[str]:
     """Returns the words of the run with another value of a name that they have."""
     at = RUN.index(name)
     return [*RUN[:at + 1], value, *RUN[at + 2:]]
@@ -70,7 +69,7 @@ def folder_of(outcomes: Outcomes, is_locked: bool = False) -> Folder:
     return Folder((saved(outcomes), None), is_locked=is_locked)
 
 
-def damaged() -> Dict[str, bytes]:
+def damaged() -> dict[str, bytes]:
     """Returns slots that hold no checkpoint of this job, each with one fault."""
     good = saved(some(range(4)), 1)
     front = good[:-32]
@@ -112,7 +111,7 @@ class Room:
             self.tools[tool] = str(top / tool)
             os.symlink(folders, top / tool)
         self.folders_program = folders
-        self.wrong: List[str] = []
+        self.wrong: list[str] = []
 
     def path(self, name: str) -> pathlib.Path:
         return self.here / name
@@ -141,7 +140,7 @@ class Room:
             targets = {"loop": path.name, "link to nothing": "elsewhere", "device": "/dev/null"}
             path.symlink_to(targets[kind])
 
-    def files(self, name: str) -> List[Optional[bytes]]:
+    def files(self, name: str) -> list[Optional[bytes]]:
         paths = [self.path(name) / one for one in NAMES]
         return [path.read_bytes() if path.is_file() and not path.is_symlink() else None
                 for path in paths]
@@ -225,7 +224,7 @@ class Room:
     def check(
         self,
         tool: str,
-        words: List[str],
+        words: list[str],
         folders: Mapping[str, Folder],
         said: Optional[str] = None,
         graph: bytes = CYCLE,
@@ -243,7 +242,7 @@ class Room:
 
     def slots(
         self,
-        words: List[str],
+        words: list[str],
         folders: Mapping[str, Folder],
         said: Optional[str] = None,
         graph: bytes = CYCLE,
@@ -253,7 +252,7 @@ class Room:
 
     def gather(
         self,
-        words: List[str],
+        words: list[str],
         folders: Mapping[str, Folder],
         said: Optional[str] = None,
         graph: bytes = CYCLE,
@@ -281,8 +280,8 @@ def shown(value: object) -> str:
 
 
 Case = Callable[[Room], None]
-CASES: Dict[str, Case] = {}
-TRACED: Set[str] = set()
+CASES: dict[str, Case] = {}
+TRACED: set[str] = set()
 
 
 def case(function: Case) -> Case:

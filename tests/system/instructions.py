@@ -28,7 +28,7 @@ import subprocess
 import sys
 import tempfile
 import time
-from typing import Dict, Iterator, List, NamedTuple, Optional, Sequence, Tuple
+from typing import Iterator, NamedTuple, Optional, Sequence
 
 from tests.oracle import model
 from tests.places import DATA, TEST_DATA, package_command, package_environment
@@ -50,9 +50,9 @@ FUNCTION = re.compile(r"^cfn=\((\d+)\)(?: (.*))?$|^fn=\((\d+)\)(?: (.*))?$")
 class Run(NamedTuple):
     """A run: the program's words, its input, and what lies in its folder and beside it."""
 
-    words: List[str]
+    words: list[str]
     graph: bytes = b""
-    files: Dict[str, bytes] = {}
+    files: dict[str, bytes] = {}
     tool: str = "district-audit"
     steps: int = 0
     """The number of steps that are walked, where searches are counted."""
@@ -104,7 +104,7 @@ def square(side: int, queen: bool) -> bytes:
     return json.dumps({"nodes": nodes, "adjacency": adjacency}).encode()
 
 
-def checkpoint(words: List[str], graph: bytes, ids: Sequence[int], steps: int) -> bytes:
+def checkpoint(words: list[str], graph: bytes, ids: Sequence[int], steps: int) -> bytes:
     """Returns a checkpoint with made-up outcomes that the job can have."""
     digest = model.job_of(model.Setting(words), graph).digest()
     outcomes = {
@@ -122,7 +122,7 @@ def several_plans(graph: bytes) -> bytes:
     return graph.replace(b"\n", b"") + ("\n" + "\n".join(rows) + "\n").encode()
 
 
-def walks() -> Dict[str, Run]:
+def walks() -> dict[str, Run]:
     """Returns the starts and the walks."""
     rules = [*"--region county --max-splits 30 --group a --group-of b --group-districts 0".split()]
     cut, steps = ["--ask", "cut-edges:low"], ["--steps", "200000"]
@@ -149,7 +149,7 @@ def walks() -> Dict[str, Run]:
     }
 
 
-def savings() -> Dict[str, Run]:
+def savings() -> dict[str, Run]:
     """Returns the saves and the gatherings."""
     cycle, short = example("cycle.json"), ["--steps", "8", "--ask", "gap:low"]
     many = [*SMALL, "--walks", "30000", *short]
@@ -170,7 +170,7 @@ def savings() -> Dict[str, Run]:
     }
 
 
-def searches() -> Dict[str, Run]:
+def searches() -> dict[str, Run]:
     """Returns the walks whose searches are counted."""
     nc, ny8 = ("BIR74", "NWBIR74", "WBIR74", "PLAN11"), ("POP8", "OWNING", "OTHERS", "PLAN8")
     return {
@@ -191,14 +191,14 @@ def with_counties(graph: bytes) -> bytes:
     return json.dumps(root).encode()
 
 
-def named(population: str, first: str, second: str, district: str) -> List[str]:
+def named(population: str, first: str, second: str, district: str) -> list[str]:
     return [
         "run", "--pop", population, "--first", first, "--second", second, "--district", district,
         "--slack", "1000", *KEY,
     ]
 
 
-def searching(words: List[str], graph: bytes) -> Run:
+def searching(words: list[str], graph: bytes) -> Run:
     return Run([*words, "--steps", "100000", "--ask", "cut-edges:low"], graph, steps=100000)
 
 
@@ -207,7 +207,7 @@ def searching(words: List[str], graph: bytes) -> Run:
 
 def calls_of(text: str, name: str) -> int:
     """Returns how often functions with a name like this are called, by what callgrind writes."""
-    names: Dict[str, str] = {}
+    names: dict[str, str] = {}
     called, count = "", 0
     for line in text.splitlines():
         if found := FUNCTION.match(line):
@@ -259,10 +259,10 @@ class Room:
         return Counted(int(found[1]), calls * 1000 / run.steps)
 
 
-def busy_threads(room: Room) -> Tuple[int, int]:
+def busy_threads(room: Room) -> tuple[int, int]:
     """Returns how many threads of a run of four workers used a processor, and their number."""
     words = [*MADE, *"--walks 64 --steps 300000 --ask cut-edges:low --workers 4".split()]
-    seen: Dict[str, int] = {}
+    seen: dict[str, int] = {}
     with subprocess.Popen(
         [room.program, *words], stdin=subprocess.DEVNULL, stdout=subprocess.DEVNULL,
         stderr=subprocess.DEVNULL,
@@ -280,10 +280,10 @@ def busy_threads(room: Room) -> Tuple[int, int]:
 
 # ---- the comparison
 
-Result = Tuple[str, Optional[bool], str]
+Result = tuple[str, Optional[bool], str]
 
 
-def judged(name: str, came: Counted, recorded: Dict[str, Dict[str, float]]) -> Result:
+def judged(name: str, came: Counted, recorded: dict[str, dict[str, float]]) -> Result:
     """Compares what a run took with its numbers; None says that there are none."""
     wanted = recorded.get(name)
     said = f"{came.instructions} instructions"
@@ -316,9 +316,9 @@ def identity() -> str:
     return done.stdout.strip() or "unknown"
 
 
-def record(room: Room, chosen: Dict[str, Run]) -> int:
+def record(room: Room, chosen: dict[str, Run]) -> int:
     counted = {name: room.count(name, run) for name, run in chosen.items()}
-    numbers: Dict[str, Dict[str, float]] = {}
+    numbers: dict[str, dict[str, float]] = {}
     for name, came in counted.items():
         numbers[name] = {"instructions": came.instructions}
         if came.searches is not None:
@@ -329,9 +329,9 @@ def record(room: Room, chosen: Dict[str, Run]) -> int:
     return 0
 
 
-def compared(room: Room, chosen: Dict[str, Run], names: Sequence[str]) -> Iterator[Result]:
+def compared(room: Room, chosen: dict[str, Run], names: Sequence[str]) -> Iterator[Result]:
     """Makes the runs and compares each; without a number only those that are named are made."""
-    recorded: Dict[str, Dict[str, float]] = {}
+    recorded: dict[str, dict[str, float]] = {}
     if RECORD.exists():
         recorded = json.loads(RECORD.read_text(encoding="utf-8"))["runs"]
     if not names or THREADS in names:
@@ -345,7 +345,7 @@ def compared(room: Room, chosen: Dict[str, Run], names: Sequence[str]) -> Iterat
             yield judged(name, room.count(name, run), recorded)
 
 
-def compare(room: Room, chosen: Dict[str, Run], names: Sequence[str]) -> int:
+def compare(room: Room, chosen: dict[str, Run], names: Sequence[str]) -> int:
     """Prints a line for each run, and their count; the status of the script."""
     results = []
     for name, is_good, line in compared(room, chosen, names):

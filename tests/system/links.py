@@ -8,7 +8,6 @@ document shows that each kind of fault is found.
 import pathlib
 import re
 import tempfile
-import typing
 
 from tests.checks import Checks, run
 from tests.places import TOP
@@ -27,9 +26,9 @@ def anchor_of(heading: str) -> str:
     return kept.replace(" ", "-")
 
 
-def anchors_in(text: str) -> typing.Set[str]:
+def anchors_in(text: str) -> set[str]:
     """Returns the anchors of a document; a repeated heading gets a number."""
-    found: typing.Dict[str, int] = {}
+    found: dict[str, int] = {}
     anchors = set()
     for heading in re.findall(r"^#+ +(.*)$", CODE.sub("", text), re.MULTILINE):
         anchor = anchor_of(heading)
@@ -50,7 +49,7 @@ def link_fault(path: pathlib.Path, target: str) -> str:
     return ""
 
 
-def faults_in(path: pathlib.Path, top: pathlib.Path) -> typing.List[str]:
+def faults_in(path: pathlib.Path, top: pathlib.Path) -> list[str]:
     """Returns what is wrong with the links and the named paths of a document."""
     text = CODE.sub("", path.read_text(encoding="utf-8"))
     links = [link for link in LINK.findall(text) if not re.match(r"[a-z]+:", link)]

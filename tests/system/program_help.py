@@ -14,7 +14,6 @@ import shutil
 import subprocess
 import sys
 import tempfile
-import typing
 
 from tests.checks import Checks, End, run
 from tests.places import DATA, TOP
@@ -49,7 +48,7 @@ def default_of(text: str) -> str:
     return known.get(text, "default " + text.strip("`"))
 
 
-def documented(command: str) -> typing.List[typing.Tuple[str, str, str]]:
+def documented(command: str) -> list[tuple[str, str, str]]:
     """Returns name, values and default of each argument of a command, by the table."""
     rows = []
     for line in (TOP / "docs" / "user" / "FORMATS.md").read_text().splitlines():
@@ -59,13 +58,13 @@ def documented(command: str) -> typing.List[typing.Tuple[str, str, str]]:
     return rows
 
 
-def shown_arguments(text: str) -> typing.List[typing.Tuple[str, str, str]]:
+def shown_arguments(text: str) -> list[tuple[str, str, str]]:
     """Returns name, values and default of each argument that a usage shows."""
     found = (LINE.match(line) for line in text.splitlines())
     return [(line[1], line[2], line[3]) for line in found if line]
 
 
-def ask(program: str, *words: str) -> typing.Tuple[End, int, typing.List[str]]:
+def ask(program: str, *words: str) -> tuple[End, int, list[str]]:
     """Returns how a program ends over a graph, how much of it was read, and the files that the
     program left in its folder.
     """
@@ -109,7 +108,7 @@ def check_commands(checks: Checks, auditor: str) -> None:
         )
 
 
-def check_usages(checks: Checks, programs: typing.Dict[str, str]) -> None:
+def check_usages(checks: Checks, programs: dict[str, str]) -> None:
     """Checks that each usage names the program, its commands and its statuses."""
     statuses = {
         "district-audit": range(10),
@@ -127,7 +126,7 @@ def check_usages(checks: Checks, programs: typing.Dict[str, str]) -> None:
     checks.is_equal("commands", re.findall(r"^  ([a-z]+) +\S", text, re.M), list(COMMANDS))
 
 
-def check_versions(checks: Checks, programs: typing.Dict[str, str]) -> None:
+def check_versions(checks: Checks, programs: dict[str, str]) -> None:
     """Checks that each program tells the package's version, a commit and the kit's line."""
     package = (TOP / "python" / "pyproject.toml").read_text()
     version = re.findall(r'^version = "(.*)"$', package, re.M)[0]

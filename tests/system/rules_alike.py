@@ -7,7 +7,6 @@ import argparse
 import pathlib
 import sys
 import tempfile
-import typing
 
 from tests.checks import Checks, run
 from tests.places import DATA, linked, package_command, package_environment
@@ -36,7 +35,7 @@ class Room:
         self.checks.ended(f"prepare_{name}", end, wanted)
         return end.note
 
-    def check(self, name: str, *words: str) -> typing.Tuple[str, str]:
+    def check(self, name: str, *words: str) -> tuple[str, str]:
         """Returns what the auditor says of a graph that was prepared: its text and its note."""
         end = run([self.auditor, "check", *words], (self.folder / f"{name}.json").read_bytes())
         return end.out, end.note

@@ -27,16 +27,16 @@ class Kit(typing.NamedTuple):
     """The toolchain's folder, and the crates of crates.txt with what each uses."""
 
     folder: pathlib.Path
-    uses: typing.Dict[str, typing.List[str]]
+    uses: dict[str, list[str]]
 
-    def below(self, crate: str) -> typing.List[str]:
+    def below(self, crate: str) -> list[str]:
         """Returns the repository's libraries below a crate, each after those that it uses."""
-        found: typing.List[str] = []
+        found: list[str] = []
         for name in filter(self.uses.__contains__, self.uses[crate]):
             found += [one for one in [*self.below(name), name] if one not in found]
         return found
 
-    def words(self, crate: str, root: str) -> typing.List[str]:
+    def words(self, crate: str, root: str) -> list[str]:
         """Returns the words that `rt ci` gives the compiler, for a crate in its folder."""
         words = ["--crate-name", crate, root]
         for name in (one for one in self.uses[crate] if one not in self.uses):
@@ -49,7 +49,7 @@ class Kit(typing.NamedTuple):
             words += ["-L", f"dependency=../{name}/out/rlib"]
         return [*words, "--antt-project", f"{self.folder}/rattle/logic/antt-project.json"]
 
-    def rattle(self, clone: pathlib.Path, crate: str, words: typing.List[str]) -> End:
+    def rattle(self, clone: pathlib.Path, crate: str, words: list[str]) -> End:
         """Runs the compiler in a crate's folder of a clone."""
         return run([self.folder / "bin" / "rattle", *words], folder=clone / "crates" / crate)
 
@@ -82,7 +82,7 @@ def clean_clone(kit: Kit, path: pathlib.Path) -> End:
     return end
 
 
-def files_of(folder: pathlib.Path) -> typing.Dict[str, pathlib.Path]:
+def files_of(folder: pathlib.Path) -> dict[str, pathlib.Path]:
     """Returns the files below a folder by their names in it."""
     return {str(path.relative_to(folder)): path for path in folder.rglob("*") if path.is_file()}
 
@@ -94,7 +94,7 @@ def has_text(path: pathlib.Path, texts: typing.Iterable[str]) -> bool:
 
 
 def library_again(
-    checks: Checks, kit: Kit, clone: pathlib.Path, paths: typing.List[str]
+    checks: Checks, kit: Kit, clone: pathlib.Path, paths: list[str]
 ) -> None:
     """Proves and builds a library in a clone, and compares it with the checkout's."""
     name = f"{LIBRARY}.rlib"
@@ -142,7 +142,7 @@ def own_program() -> typing.Optional[pathlib.Path]:
     return own if own.exists() and not changed else None
 
 
-def compared(checks: Checks, made: typing.List[pathlib.Path], paths: typing.List[str]) -> None:
+def compared(checks: Checks, made: list[pathlib.Path], paths: list[str]) -> None:
     """Compares two builds of the auditor, and looks for paths in the first."""
     if not all(path.exists() for path in made):
         return
