@@ -144,7 +144,7 @@ class Job:
         root = json.loads(text, parse_int=lambda text: int(text)  # of 64 bits
                           if text != "-0" and -2 ** 63 <= int(text) < 2 ** 64 else float(text))
         unit = {node["id"]: u for u, node in enumerate(root["nodes"])}
-        columns: Dict[str, List[Any]] = {
+        columns: Dict[str, List[Any]] = {  # values of any type that JSON has
             k: [node[names[k]] for node in root["nodes"] if k in names] for k in COLUMNS[:8]}
         if self.labels:
             columns["--district"] = [self.labels[str(node["id"])] for node in root["nodes"]]

@@ -38,7 +38,7 @@ TOP = os.path.normpath(os.path.join(os.path.dirname(os.path.abspath(__file__)), 
 BESIDE = ("httparse", "indexmap")
 
 # The most of each count. A count may only fall: lower its limit with it. The aims are 36 crates,
-# 18 calls to the flip, the five uses of `Any` that are explained, and none of all others.
+# 18 calls to the flip, the uses of `Any` that a comment explains, and none of all others.
 LIMITS = {
     "crates": 36,
     "calls_to_the_flip": 18,
