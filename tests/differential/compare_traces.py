@@ -19,6 +19,7 @@ import subprocess
 import sys
 from collections.abc import Sequence
 
+from tests.checks import End
 from tests.oracle import model
 
 SCORES = ["seats", "mean-median", "gap", "cut-edges"]
@@ -58,9 +59,9 @@ def drawn_range(setting: model.Setting, dice: random.Random) -> Range:
     return Range(["--ids", ids, "--thin", str(thin)], first, last, thin)
 
 
-def answer(program: str, command: str, words: Sequence[str], graph: bytes) -> tuple[int, str, str]:
+def answer(program: str, command: str, words: Sequence[str], graph: bytes) -> End:
     ended = subprocess.run([program, command, *words], input=graph, capture_output=True)
-    return ended.returncode, ended.stdout.decode(), ended.stderr.decode()
+    return End(ended.returncode, ended.stdout.decode(), ended.stderr.decode())
 
 
 def sections(text: str) -> dict[int, list[list[str]]]:
@@ -133,10 +134,10 @@ def main() -> None:
         all_words = [*words, *ids.words]
         found = answer(given.program, "trace", all_words, graph)
         wanted = model.trace_text(job, ids.first, ids.last, ids.thin)
-        if found != (0, wanted, ""):
-            sys.exit(f"differs: {' '.join(all_words)}\n{found[1]}{found[2]}\nnot\n{wanted}")
-        report = answer(given.program, "run", words, graph)[1]
-        fault = against_report(job, found[1], report, ids.thin)
+        if found != End(0, wanted, ""):
+            sys.exit(f"differs: {' '.join(all_words)}\n{found.out}{found.note}\nnot\n{wanted}")
+        report = answer(given.program, "run", words, graph).out
+        fault = against_report(job, found.out, report, ids.thin)
         if fault:
             sys.exit(f"{fault}: {' '.join(all_words)}")
         same += 1

@@ -16,6 +16,7 @@ import json
 import pathlib
 from collections.abc import Sequence
 
+from tests.checks import End
 from tests.golden.named_cases import is_question, lines_of
 from tests.oracle import model
 
@@ -63,34 +64,34 @@ def is_great(words: Sequence[str]) -> bool:
     return setting is not None and setting.command == "make" and setting.size > 2
 
 
-def ended(words: Sequence[str], data: bytes, fails: int, room: int) -> tuple[int, str, str]:
-    """Returns the status, the output and the note of a call whose read with this number fails."""
+def ended(words: Sequence[str], data: bytes, fails: int, room: int) -> End:
+    """Returns the end of a call whose read with this number fails."""
     end = model.audit(words, graph_of(words, data), [None, None])
     if fails and end.status != 1 and words[0] != "make" and fails <= -(-len(data) // 100) + 1:
-        return 4, "", "read fault\n"
+        return End(4, "", "read fault\n")
     if len(end.out) > room:
-        return 5, end.out[:room], "write fault\n"
-    return end.status, end.out, end.note
+        return End(5, end.out[:room], "write fault\n")
+    return End(end.status, end.out, end.note)
 
 
 def plain(folder: pathlib.Path, line: str) -> str:
     """Returns the output of the rest of a line of `cases`."""
     fails, room, wanted, file, *words = line.split()
-    status, out, note = ended(words, (folder / file).read_bytes(), int(fails), int(room))
+    end = ended(words, (folder / file).read_bytes(), int(fails), int(room))
     setting = model.Setting(words) if int(wanted) else None
     begun = (
         f"held, told {setting.total}: {' '.join(map(str, range(setting.total)))}\n"
         if setting
         else ""
     )
-    return f"{line}\nstatus {status}\n{begun}{out}{note}"
+    return f"{line}\nstatus {end.status}\n{begun}{end.out}{end.note}"
 
 
 def checked(line: str) -> str:
     """Returns the output of the rest of a line of `graphs`."""
     data = bytes.fromhex(line[4:]) if line.startswith("hex ") else line.encode()
-    status, out, note = ended(CHECK, data, 0, 1000)
-    return f"{line}\nstatus {status}\n{out}{note}"
+    end = ended(CHECK, data, 0, 1000)
+    return f"{line}\nstatus {end.status}\n{end.out}{end.note}"
 
 
 def main(folder: str) -> None:
