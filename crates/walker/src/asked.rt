@@ -1,4 +1,5 @@
-//! Values and counts by ask, in arrays of four. Entries past the last ask are 0.
+//! The values and counts of a job's asks, in arrays of four. A job has at most four asks, and the
+//! entries after the last one are 0.
 
 ghost use Rattle.std.specs.Prelude.{◌≡◌, ◌+◌, ◌*◌, ◌<◌, ◌^◌, ◌∷◌, [], length, slice_index, ℕ, pos};
 ghost use Rattle.std.specs.List.{slice_get};
@@ -11,8 +12,11 @@ use flip_kernel::state::State;
 use outlier_tests::in_tail;
 use scores::Room;
 
-/// For each ask: the start plan's value (`start`), 1 if the current plan is in the tail and else 0
-/// (`inside`), and the number of visits in the tail so far (`counts`).
+/// The start plan's values and the counted visits of a walk. Each array has one entry for each ask:
+///
+/// - `start`: the start plan's value
+/// - `inside`: 1 if the plan that was scored last is in the ask's tail, else 0
+/// - `counts`: the number of counted visits in the ask's tail
 #[derive(Drop)]
 pub struct Tally {
     pub start: [i64; 4],
@@ -20,7 +24,7 @@ pub struct Tally {
     pub counts: [u32; 4],
 }
 
-/// Returns the value of each ask for the current plan.
+/// Returns the current plan's value of each ask.
 pub fn values<J: Judge>(state: &State<J>, asks: &[Ask], room: &mut Room) -> [i64; 4]
     ensures { result ≡ each (asked_value state.now.job state.now.plan) asks.now }
 {
@@ -45,7 +49,8 @@ pub fn signed(counts: [u32; 4]) -> [i64; 4]
 }
 
 impl Tally {
-    /// Scores the start plan, which must be the current plan. All counts are 0.
+    /// Makes a tally with no counted visits, and scores the start plan. The start plan must be the
+    /// current plan.
     pub fn new<J: Judge>(state: &State<J>, asks: &[Ask], room: &mut Room) -> Tally
         requires start { state.now.plan ≡ state.now.job.start }
         ensures start { result.start ≡ each (asked_value state.now.job state.now.job.start) asks.now }
@@ -93,15 +98,15 @@ impl Tally {
     }
 }
 
-/// Returns the numerator of a score of the current plan.
+/// Returns the current plan's value of a score.
 fn current_value<J: Judge>(state: &State<J>, score: Score, room: &mut Room) -> i64
     ensures { result ≡ plan_value state.now.job state.now.plan score }
 {
     room.value(score, state.view())
 }
 
-/// Returns the current plan's value of the ask with the index `place`, or 0 if there is no such
-/// ask.
+/// Returns the current plan's value of the ask with the index `place`, or 0 if the job has no ask
+/// with this index.
 #[tactic(auto, unfolding(crate::specs::Asked::asked_value))]
 fn value_at<J: Judge>(state: &State<J>, asks: &[Ask], place: usize, room: &mut Room) -> i64
     ensures { result ≡ asked_value state.now.job state.now.plan (slice_get asks.now place) }
@@ -112,7 +117,8 @@ fn value_at<J: Judge>(state: &State<J>, asks: &[Ask], place: usize, room: &mut R
     }
 }
 
-/// Returns 1 if the current plan is in the tail of the ask with the index `place`, else 0.
+/// Returns 1 if the job has an ask with the index `place` and the current plan is in the tail of
+/// this ask, else 0. `start` is the start plan's value of the ask.
 #[tactic(auto, unfolding(crate::specs::Asked::asked_value, crate::specs::Asked::inside, crate::specs::Asked::is_inside))]
 fn inside_at<J: Judge>(
     state: &State<J>,

@@ -1,4 +1,5 @@
-//! Histograms of visited plans by seats, relative to the start plan.
+//! Histograms of a walk's visits, by the number of seats of the visited plan, compared with the
+//! start plan.
 
 ghost use Rattle.std.specs.Prelude.{◌≡◌, ℕ, ◌+◌, ◌*◌, ◌<◌, ◌^◌, ◌==◌, cond, length, slice_index, IsTrue, IsFalse};
 ghost use Rattle.audit_model.specs.Trajectory.{empty_histogram, plan_seats};
@@ -10,10 +11,11 @@ use flip_guard::judge::Judge;
 use flip_kernel::state::State;
 use scores::Room;
 
-/// The start plan's seats, the bin of the current plan, and the number of visits in each bin so
-/// far.
+/// The histogram of a walk: the start plan's seats, the bin of the plan that was scored last, and
+/// the number of counted visits in each bin.
 ///
-/// Without a histogram (`asked` is false), the counts stay zero and no seats are computed.
+/// If the job asks for no histogram (`asked` is false), the counts stay 0 and no seats are
+/// computed.
 #[derive(Drop)]
 pub struct Histogram {
     pub asked: bool,
@@ -81,9 +83,9 @@ fn current_seats<J: Judge>(state: &State<J>, room: &mut Room) -> u64
     room.value(Score::Seats, state.view()) as u64
 }
 
-/// Returns the bin of a plan with this number of seats. Bin 4 is for the start plan's number of
-/// seats, bin 5 for one seat more, bin 3 for one seat less. Bins 0 and 8 are for four or more seats
-/// of difference.
+/// Returns the bin of a plan with `seats` seats, if the start plan has `start` seats. Bin 4 is for
+/// equal numbers. Bin 5 is for one seat more, and bin 3 for one seat less. Bin 8 is for four or
+/// more seats more, and bin 0 for four or more seats less.
 fn bin_of(seats: u64, start: u64) -> usize
     requires { seats < 2 ^ 63 }
     ensures bin { result ≡ definition.bin_of seats start }

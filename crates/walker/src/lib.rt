@@ -1,5 +1,15 @@
-//! Trajectories of the chain of plans: the walks of the outlier test and the endpoint trajectories
-//! of the parallel test.
+//! Walks the trajectories of a job. A trajectory is a series of legal plans. Each step takes the
+//! next draw, a number of 64 bits, from the trajectory's stream. A step that changes the plan is a
+//! *move*.
+//!
+//! There are two kinds of trajectories. A *walk* of the outlier test starts at the start plan, and
+//! its outcome counts visits. An *endpoint trajectory* of the parallel test starts at the *hub*,
+//! and its outcome has the values of its last plan. The hub is the plan after `--hub-steps` steps
+//! from the start plan, along stream 1.
+//!
+//! A *visit* is a plan at which a walk stands before a step or at its end, counted each time. An
+//! *ask* of the job is a score and a side, `low` or `high`. The *tail* of an ask has the plans that
+//! are at least as extreme as the start plan on this side.
 #![tactic(auto)]
 
 mod asked;

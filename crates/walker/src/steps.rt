@@ -19,8 +19,7 @@ use plan_core::job::Job;
 use scores::Room;
 use std::sync::ledger::Ledger;
 
-/// Takes `steps` steps with the first draws of a stream. Returns the number of steps that changed
-/// the plan.
+/// Takes `steps` steps with the first draws of a stream. Returns the number of moves.
 pub fn walk<J: Judge, L: Ledger>(
     job: &Job,
     state: &mut State<J>,
@@ -37,8 +36,8 @@ pub fn walk<J: Judge, L: Ledger>(
     walk_on(job, state, &mut draws, steps, counter)
 }
 
-/// Takes `steps` more steps with the next draws of a stream. Returns the number of steps that
-/// changed the plan.
+/// Takes `steps` more steps with the next draws of a stream. Returns the number of moves among
+/// these steps.
 ///
 /// Several calls have the effect of one call with the sum of their steps.
 pub fn walk_on<J: Judge, L: Ledger>(
@@ -81,9 +80,9 @@ struct Track {
 
 /// Walks from the start plan, which must be the current plan.
 ///
-/// Returns the number of moves, each ask's number of visited plans in its tail, and the histogram
-/// if `course` asks for it. The start plan is the first visited plan. To save time, scores and
-/// seats are computed only at the start and after each move.
+/// Returns the number of moves, the number of visits in the tail of each ask, and the histogram if
+/// `course` asks for one. The start plan is the first visit. Scores and seats are computed only at
+/// the start and after each move. This saves time.
 pub fn count_visits<J: Judge, L: Ledger>(
     job: &Job,
     state: &mut State<J>,
@@ -111,8 +110,10 @@ pub fn count_visits<J: Judge, L: Ledger>(
     trail
 }
 
-/// Takes one step, and returns true if it changed the plan. The function is inlined because nine of
-/// ten steps end after a test of one bit. A call would double their cost.
+/// Takes one step. Returns true if the step was a move.
+///
+/// The function is inlined, because nine of ten steps end after a test of one bit. A call would
+/// double the cost of these steps.
 #[inline(always)]
 fn step<J: Judge, L: Ledger>(
     job: &Job,
@@ -130,8 +131,8 @@ fn step<J: Judge, L: Ledger>(
     try_flip(job, state, draw, counter)
 }
 
-/// Takes one step. If the step changed the plan, counts all visits of the plan before it, and
-/// scores the plan after it.
+/// Takes one step. After a move, counts the visits of the plan before the move and scores the plan
+/// after it. `place` is the number of earlier steps.
 #[inline(always)]
 fn visit_next<J: Judge, L: Ledger>(
     job: &Job,

@@ -13,10 +13,11 @@ use flip_kernel::state::State;
 use plan_core::job::Job;
 use scores::Room;
 
-/// The results of a walk so far.
+/// The results of a walk so far. `visits` is the number of counted visits.
 ///
-/// A plan is scored once, when a move leads to it. All its visits are counted at once, when the
-/// next move leaves it.
+/// The current plan is scored at the start and after each move. When a move leaves a plan, the
+/// visits of this plan since the move before are counted together. The last visits are counted at
+/// the end of the walk.
 #[derive(Drop)]
 pub struct Trail {
     pub moved: u32,
@@ -26,7 +27,8 @@ pub struct Trail {
 }
 
 impl Trail {
-    /// Scores the start plan, which must be the current plan.
+    /// Makes the results of a walk before its first step, and scores the start plan. The start plan
+    /// must be the current plan.
     pub fn new<J: Judge>(job: &Job, state: &State<J>, shift: bool, room: &mut Room) -> Trail
         requires made { state.now.job ≡ job.now }
         requires start { state.now.plan ≡ job.now.start }
@@ -43,8 +45,8 @@ impl Trail {
         }
     }
 
-    /// Counts the visits of the plan that was scored last. `visits` is the number of all visits of
-    /// the walk so far.
+    /// Counts the visits of the plan that was scored last. `visits` is the number of the walk's
+    /// visits up to the last visit of this plan.
     pub fn flush(&mut self, visits: u32)
         requires order { self.old.visits ≤ visits }
         requires tails { (k : ℕ) → k < 4 → slice_index self.old.tally.counts k + (visits - self.old.visits) * slice_index self.old.tally.inside k < 2 ^ 32 }

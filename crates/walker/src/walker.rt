@@ -1,4 +1,4 @@
-//! Whole trajectories of a job, or several steps of one at a time.
+//! Walks of whole trajectories of a job, and of one trajectory in several calls.
 
 ghost use Rattle.std.specs.Prelude.{◌≡◌, ◌+◌, ◌-◌, ◌*◌, ◌<◌, ◌≤◌, ◌^◌, ℕ, length, IfOk};
 ghost use Rattle.audit_statement.specs.Along.{ask_values};
@@ -25,8 +25,8 @@ use std::alloc::Global;
 use std::marker::{Brand, Model};
 use std::sync::ledger::{Blank, Ledger};
 
-/// The memory in which one worker walks a job's trajectories: a current legal plan, the constraint
-/// with its counts of the plan, and buffers for scores.
+/// The memory in which one worker walks: the current plan (always legal), the constraint with its
+/// data about this plan, and buffers for scores.
 #[derive(Drop)]
 pub struct Walker<J: Judge> {
     state: State<J>,
@@ -42,8 +42,8 @@ impl<J: Judge> Model for Walker<J> {
 }
 
 impl<J: Judge> Walker<J> {
-    /// Allocates a walker at the job's start plan, with a constraint for the job. Fails only if out
-    /// of memory.
+    /// Allocates a walker whose current plan is the job's start plan. `judge` is the job's
+    /// constraint. Fails only if out of memory.
     pub fn new(alloc: Global, job: &Job, judge: J) -> Result<Walker<J>, Memory>
         requires judge { IsJudgeFor job.now (J.judging judge) }
         ensures job { IfOk result (λ w. w.job ≡ job.now) }
@@ -65,8 +65,8 @@ impl<J: Judge> Walker<J> {
 
     /// Walks the trajectory with this id and returns its outcome. Allocates nothing.
     ///
-    /// A walk of the outlier test begins at the start plan, an endpoint trajectory of the parallel
-    /// test at the hub. `hub` is read only for the latter.
+    /// A walk of the outlier test begins at the start plan, an endpoint trajectory at `hub`. Only
+    /// endpoint trajectories read `hub`.
     pub fn walk(&mut self, job: &Job, hub: &[u32], id: u32) -> Outcome
         requires made { self.old.job ≡ job.now }
         requires id { id < job.now.setting.walks + job.now.setting.ends }
@@ -77,11 +77,11 @@ impl<J: Judge> Walker<J> {
         self.walk_by::<Brand>(job, hub, id, Blank::new(1))
     }
 
-    /// Walks from the start plan along a stream, and returns the moves and each ask's number of
-    /// visited plans in its tail.
+    /// Walks from the start plan along a stream, for the serial test. Returns an outcome with the
+    /// number of moves and, for each ask, the number of visits in the ask's tail.
     ///
-    /// The outcome has the id 0 and no histogram. The start plan is the first visited plan.
-    /// Allocates nothing.
+    /// The outcome has the id 0 and no histogram. The start plan is the first visit. Allocates
+    /// nothing.
     pub fn run(&mut self, job: &Job, stream: u64, steps: u32) -> Outcome
         requires made { self.old.job ≡ job.now }
         requires few { steps ≤ 10 ^ 9 }
@@ -91,8 +91,8 @@ impl<J: Judge> Walker<J> {
         self.run_by::<Brand>(job, stream, steps, Blank::new(1))
     }
 
-    /// Walks from the start plan to the hub, and copies the hub's districts into `hub`, by unit.
-    /// Allocates nothing.
+    /// Walks from the start plan to the hub. Writes the hub into `hub`, as the district of each
+    /// unit. Allocates nothing.
     pub fn hub_into(&mut self, job: &Job, hub: &mut [u32])
         requires made { self.old.job ≡ job.now }
         requires units { length hub.old ≡ job.now.graph.units }
@@ -103,11 +103,11 @@ impl<J: Judge> Walker<J> {
         hub.copy_from_slice(self.state.plan().as_slice());
     }
 
-    /// Sets the current plan to the first plan of the trajectory with this id.
+    /// Sets the current plan to the first plan of the trajectory with this id. Returns the
+    /// trajectory's progress before its first step. Allocates nothing.
     ///
-    /// The first plan is the start plan for a walk and the hub for an endpoint trajectory. `hub` is
-    /// read only for the latter. Returns the trajectory's progress before its first step. Allocates
-    /// nothing.
+    /// The first plan of a walk is the start plan. The first plan of an endpoint trajectory is
+    /// `hub`. Only endpoint trajectories read `hub`.
     pub fn set_out(&mut self, job: &Job, hub: &[u32], id: u32) -> Way
         requires made { self.old.job ≡ job.now }
         requires hub { job.now.setting.walks ≤ id → hub.now ≡ hub_of job.now (draw job.now.setting.key) }
@@ -143,7 +143,7 @@ impl<J: Judge> Walker<J> {
         values(&self.state, job.setting().asks.as_slice(), &mut self.room)
     }
 
-    // Does the work of `go_on`, with a step counter that exists in proofs only.
+    // Does the work of `go_on`, with a counter of searches that exists in proofs only.
     fn go_on_by<L: Ledger>(&mut self, job: &Job, way: &mut Way, steps: u32, blank: Blank)
         requires name { blank.name ≡ L.name }
         requires parts { blank.parts ≡ L.parts }
@@ -157,7 +157,7 @@ impl<J: Judge> Walker<J> {
         way.go_on(job, &mut self.state, steps, &mut counter);
     }
 
-    // Does the work of `walk`, with a step counter that exists in proofs only.
+    // Does the work of `walk`, with a counter of searches that exists in proofs only.
     fn walk_by<L: Ledger>(&mut self, job: &Job, hub: &[u32], id: u32, blank: Blank) -> Outcome
         requires name { blank.name ≡ L.name }
         requires parts { blank.parts ≡ L.parts }
@@ -175,7 +175,7 @@ impl<J: Judge> Walker<J> {
         }
     }
 
-    // Does the work of `run`, with a step counter that exists in proofs only.
+    // Does the work of `run`, with a counter of searches that exists in proofs only.
     fn run_by<L: Ledger>(&mut self, job: &Job, stream: u64, steps: u32, blank: Blank) -> Outcome
         requires name { blank.name ≡ L.name }
         requires parts { blank.parts ≡ L.parts }
@@ -194,7 +194,7 @@ impl<J: Judge> Walker<J> {
         self.walk_along(job, course, &mut counter)
     }
 
-    // Walks from the start plan, with a histogram if `course` asks for it. The outcome has the id
+    // Walks from the start plan, with a histogram if `course` asks for one. The outcome has the id
     // 0.
     fn walk_along<L: Ledger>(
         &mut self,

@@ -31,8 +31,7 @@ impl Model for Way {
 }
 
 impl Way {
-    /// Returns the progress of a trajectory before its first step. The trajectory draws from this
-    /// stream.
+    /// Returns the progress before the first step of a trajectory that draws from `stream`.
     pub(crate) fn new(key: [u8; 32], stream: u64) -> Way
         ensures key { result.draws.key ≡ key }
         ensures stream { result.draws.stream ≡ stream }
@@ -45,7 +44,7 @@ impl Way {
         }
     }
 
-    /// Returns the number of steps that changed the plan.
+    /// Returns the number of moves so far.
     pub fn move_count(&self) -> u32
         ensures { result ≡ self.now.moved }
     {
