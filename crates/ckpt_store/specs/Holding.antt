@@ -39,7 +39,7 @@ pub record HasLoaded (observed : Option Pair) (number : ℕ) (what : Loaded) : T
   pub same : IfObserved observed (λ p. slot ≡ stored p number)
   pub is : IsLoadedFrom what slot
 
--- the generation of a valid slot
+-- the generation of the slot's checkpoint, if there is one
 abbrev pub generation_in : SlotContent → Option ℕ
 generation_in content.Absent = None
 generation_in (content.Broken fault) = None

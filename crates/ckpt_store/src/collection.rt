@@ -1,6 +1,6 @@
-//! The union of several folders' outcomes for a job, and the outcomes that each folder added.
+//! The union of several folders' outcomes for a job.
 //!
-//! Folders are numbered in the order in which they are added: 0 is the working folder.
+//! Folders are numbered in the order in which a gathering looks at them. The working folder has the number 0.
 
 ghost use Rattle.std.specs.Prelude.{◌≡◌, ◌++◌, ◌∷◌, [], ◌<◌, ◌≤◌, ℕ, IfErr, IfNone, IfOk, IfSome, OnOk, count_by, get_or, length, map, not};
 ghost use Rattle.audit_model.specs.Limits.{most_trajectories};
@@ -25,8 +25,8 @@ use plan_core::job::Job;
 use std::alloc::Global;
 use std::marker::Model;
 
-/// The union of several folders' outcomes for a job, and the list of outcomes that each folder added. The list of a
-/// folder that added nothing is empty.
+/// The union of several folders' outcomes for a job. `lists` has a list for each folder: the folder's outcomes
+/// if they were added, else an empty list.
 #[derive(Drop)]
 pub struct Collection {
     gathering: Gathering,
@@ -56,8 +56,8 @@ impl Collection {
         })
     }
 
-    /// Adds the next folder and returns the finding in it. `given` is the content of the folder, and `beside` is true
-    /// if one of its slots is broken. If an outcome contradicts the union, the folder adds nothing.
+    /// Adds the outcomes of the next folder, unless one of them contradicts the union. Returns the finding in the
+    /// folder. `given` is the content of the folder, and `beside` is true if a slot of the folder is broken.
     ///
     /// # Errors
     ///
@@ -102,7 +102,7 @@ impl Collection {
         self.lists.push(OutcomeList::new(alloc))
     }
 
-    /// Adds the outcomes of the next folder. If one of them contradicts the union, the folder adds nothing.
+    /// Adds the outcomes of the next folder, unless one of them contradicts the union.
     fn add_list(
         &mut self,
         alloc: Global,
@@ -131,8 +131,8 @@ impl Collection {
         }
     }
 
-    /// Returns the number of the first folder whose outcome for `id` contradicts the one in `found`. `id` is the least
-    /// id at which `found` contradicts the union.
+    /// Returns the number of the first folder whose list contradicts the outcome that `found` has for `id`. `id` is the
+    /// least id at which `found` contradicts the union.
     fn other_of(&self, job: &Job, found: &[Outcome], id: u32) -> usize
         requires fit { AreFit job.now found.now }
         requires covered { IsCovered self.now }
@@ -150,7 +150,7 @@ impl Collection {
         }
     }
 
-    /// Copies the union by rising id. Fails if there is no memory.
+    /// Returns a copy of the union, by rising id. Fails if there is no memory.
     pub fn to_list(&self, alloc: Global) -> Result<OutcomeList, Memory>
         ensures items { IfOk result (λ l. l.items ≡ self.now.outcomes) }
         ensures rising { IfOk result (λ l. AreById l.items) }
@@ -160,7 +160,7 @@ impl Collection {
     }
 }
 
-// Returns the number of the first list with an outcome that contradicts this one.
+// Returns the index of the first list that contradicts the outcome.
 fn first_other(lists: &[OutcomeList], outcome: &Outcome) -> Option<usize>
     ensures some { IfSome result (λ number. IsFirstOther (map (λ l. l.items) lists.now) outcome.now number) }
     ensures none { IfNone result ((k : ℕ) → k < length lists.now → AgreesWith (get_or (map (λ l. l.items) lists.now) k []) outcome.now) }

@@ -1,4 +1,4 @@
-//! The finding in a folder whose outcomes are gathered.
+//! The finding of a gathering in one folder.
 
 ghost use Rattle.std.specs.Prelude.{◌≡◌, IfOk};
 ghost use Rattle.audit_model.specs.Run.{total};
@@ -14,11 +14,11 @@ use audit_model::memory::Memory;
 use plan_core::job::Job;
 use std::alloc::Global;
 
-/// The finding in a folder: its outcomes were added, or the reason why not.
+/// The finding in a folder: the folder's outcomes were added, or the reason why they were not.
 #[derive(Clone, Copy, Debug, PartialEq, Eq)]
 pub enum Finding {
-    /// The folder's `count` outcomes were added. Of their ids, `new` were in no earlier folder. `beside` is true if the
-    /// folder's other slot is broken.
+    /// The folder's `count` outcomes were added. Of their ids, `new` were not in the union before. `beside` is true if
+    /// the slot beside the newest one is broken.
     Added { count: u32, new: u32, beside: bool },
     /// Both slots are empty.
     Nothing,
@@ -26,8 +26,9 @@ pub enum Finding {
     OtherJob,
     /// No slot is valid, and at least one is not empty.
     Damaged,
-    /// An outcome contradicts that of an earlier folder. `id` is the least id for which this is so, and `other` the
-    /// number of the first such folder: 0 for the working folder, and from 1 for those after it.
+    /// An outcome of the folder contradicts the union, and nothing was added. `id` is the least id at which the folder
+    /// contradicts the union. `other` is the number of the first folder whose added outcome for `id` is contradicted.
+    /// The working folder has the number 0.
     Differs { id: u32, other: usize },
     /// A slot could not be loaded.
     Unread,
@@ -66,8 +67,8 @@ impl Finding {
     }
 }
 
-/// Looks at the slots of the next folder, and adds the outcomes of the newest slot to the collection. If one of them
-/// contradicts an earlier folder's outcome, nothing is added.
+/// Looks at the slots of the next folder, and adds the outcomes of the newest slot to the collection. If one of these
+/// outcomes contradicts the union, nothing is added.
 ///
 /// # Errors
 ///

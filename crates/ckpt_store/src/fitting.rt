@@ -37,8 +37,8 @@ fn fits(job: &Job, outcome: &Outcome) -> bool
         && has_fitting_histogram(job, outcome)
 }
 
-/// Returns true if the id is one of the job's, and there are no more moves than steps in the id's
-/// trajectory.
+/// Returns true if the job has a trajectory with this id, and the trajectory has at least as many
+/// steps as the outcome has moves.
 fn is_within(job: &Job, outcome: &Outcome) -> bool
     ensures { result ≡ (nat_lt outcome.now.id (total job.now)
         && nat_le outcome.now.moved (steps_of (nat_lt outcome.now.id job.now.setting.walks) job.now)) }
@@ -81,9 +81,9 @@ fn are_zeros(values: &[i64]) -> bool
     values.iter().all(|value| *value == 0)
 }
 
-/// Returns true for a walk whose values are from 1 to the number of plans that it visits. The
-/// values count visits, and the visit at the start plan always counts. Returns true for each
-/// endpoint trajectory: its values are scores.
+/// For a walk, returns true if each ask's value is from 1 to the number of plans that the walk
+/// visits. The value counts visits in the ask's tail, and the visit at the start plan always
+/// counts. For an endpoint trajectory, returns true: the values are scores.
 fn counts_visits(job: &Job, outcome: &Outcome) -> bool
     ensures { result ≡ (not (nat_lt outcome.now.id job.now.setting.walks) || all_below (length job.now.setting.asks)
         (λ k. int_le (pos 1) (value_at outcome.now k) && int_le (value_at outcome.now k) (pos (job.now.setting.steps + 1)))) }
@@ -107,8 +107,9 @@ fn is_visit(value: i64, steps: u32) -> bool
     1 <= value && value <= i64::from(steps) + 1
 }
 
-/// Returns true if there is no histogram, or if a walk's histogram adds up to the number of plans
-/// that the walk visits. An endpoint trajectory has no histogram.
+/// Returns true if the outcome has no histogram. Also returns true if the outcome is a walk's and
+/// its histogram adds up to the number of plans that the walk visits. An endpoint trajectory has no
+/// histogram.
 fn has_fitting_histogram(job: &Job, outcome: &Outcome) -> bool
     ensures { result ≡ histogram_fits (nat_lt outcome.now.id job.now.setting.walks) job.now outcome.now }
 {

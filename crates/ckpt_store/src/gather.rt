@@ -19,11 +19,11 @@ use outcome_book::gathering::Gathering;
 use plan_core::job::Job;
 use std::alloc::Global;
 
-/// Adds the outcomes of a folder to the union, and returns the number of them whose ids were not in the union.
+/// Adds the outcomes of a folder to the union. Returns the number of these outcomes whose ids were new in the union.
 ///
 /// # Errors
 ///
-/// The least id whose outcome contradicts the union. In this case nothing is added.
+/// The least id at which `found` contradicts the union. In this case nothing is added.
 pub fn add(gathering: &mut Gathering, job: &Job, found: &[Outcome]) -> Result<u32, u32>
     requires total { gathering.old.total ≡ total job.now }
     requires fit { AreFit job.now found.now }
@@ -37,12 +37,12 @@ pub fn add(gathering: &mut Gathering, job: &Job, found: &[Outcome]) -> Result<u3
     gathering.merge(found)
 }
 
-/// Saves outcomes, by rising id, in the slot and with the generation of `place`.
+/// Saves the checkpoint of these outcomes at `place`. The outcomes must be in the order of rising ids.
 ///
 /// # Errors
 ///
 /// - `Memory`: out of memory for the bytes. No save was attempted.
-/// - `Unsaved`: the keeper failed. One save was attempted, and the slot may hold anything.
+/// - `Unsaved`: the keeper failed. One save was attempted, and its slot may hold anything.
 pub fn save_list<C: Keeper>(
     alloc: Global,
     keeper: &mut C,

@@ -7,11 +7,11 @@ use crate::finding::Finding;
 use audit_model::lists::PlainList;
 use audit_model::memory::Memory;
 
-/// The findings in several folders, in their order.
+/// The findings in several folders, in the order of the folders.
 pub type FindingList = PlainList<Finding>;
 
-/// The result of a gathering: the finding in the working folder, the findings in the other folders, the number of
-/// outcomes in the union, and whether the union was saved.
+/// The result of a gathering. `own` is the finding in the working folder, and `folders` has the findings in the other
+/// folders. `done` is the number of outcomes in the union, and `saved` is true if the union was saved.
 #[derive(Drop)]
 pub struct GatherResult {
     pub own: Finding,
@@ -30,7 +30,7 @@ pub enum Ungathered {
     /// A slot of the working folder could not be loaded because another process has locked the folder. No save was
     /// attempted.
     Taken,
-    /// The save failed, and the slot may hold anything.
+    /// The save failed, and its slot may hold anything.
     Unsaved,
 }
 

@@ -1,4 +1,4 @@
-//! The state of a slot for a job, decoded from its bytes.
+//! The state of a slot for a job, decoded from the slot's bytes.
 
 ghost use Rattle.std.specs.Prelude.{◌≡◌, ◌≤◌, Some, IfOk, OnOk, length, map};
 ghost use Rattle.audit_model.specs.declared.fault.CkptFault.TheVariants as variant;
@@ -39,8 +39,8 @@ pub fn judge_bytes(
     }
 }
 
-/// Returns a broken slot with this fault, or an error if the fault is out of memory: the slot's
-/// bytes may then be a checkpoint.
+/// Returns a broken slot with this fault. Returns an error if the fault is `CkptFault::Memory`,
+/// because the slot's bytes may then be a checkpoint.
 fn broken_slot(fault: CkptFault) -> Result<Slot, Memory>
     ensures slot { IfOk result (λ s. s ≡ Slot.Broken fault) }
     ensures known { OnOk result (fault ≡ variant.Memory → ⊥) }
@@ -53,7 +53,7 @@ fn broken_slot(fault: CkptFault) -> Result<Slot, Memory>
 }
 
 /// Returns the state of a slot with this checkpoint, for the job with this digest. The state is
-/// `Broken` if an outcome is not plausible for the job.
+/// `Broken` if the checkpoint is this job's and an outcome is not plausible.
 fn judge(job: &Job, digest: &[u8; 32], checkpoint: Checkpoint) -> Slot
     requires few { length checkpoint.outcomes.items ≤ most_trajectories }
     requires rising { AreRising (map (λ o. o.id) checkpoint.outcomes.items) }

@@ -1,19 +1,23 @@
-//! Laws of a keeper's slots. Each law is the contract of a function with an empty body.
+//! Laws of a keeper's slots. Each law is the contract of a function that does nothing: its body is empty or calls other
+//! laws.
 
 ghost use Rattle.ckpt_store.specs.Laws.{SavesKeepTheNewest, SavesLeaveConsistentSlots, CheckpointsAreOurs, ConsistentSlotsOpenRight, RightIsConsistent, SavedSlotsAreNewest, SlotsAreWhatTheyAre, StopsLeaveConsistentSlots, WrittenSlotsAreNewest};
 
 use audit_model::laws::{consistent_runs_go_on_rightly, outcomes_without_histogram_match};
 use ckpt_format::laws::{checkpoints_are_read, faultless_bytes_are_checkpoints};
 
-/// Shows that a checkpoint is judged to be the job's if it has the job's digest and each of its outcomes is plausible
-/// for the job.
+/// Shows that the state of a slot is `Ours` if the slot holds a checkpoint with the job's digest and only plausible
+/// outcomes.
 pub fn checkpoints_are_ours()
     ensures { CheckpointsAreOurs }
 {}
 
-/// Shows that the state of a slot matches its bytes. If the state is `Ours`, the bytes are a checkpoint with the job's
-/// digest and the outcomes in the state. If the state is `Other`, they are a checkpoint with another digest. If the
-/// state is `Broken`, they are no checkpoint of the job whose outcomes are all plausible.
+/// Shows that the state of a slot that is not empty matches the slot's bytes:
+///
+/// - If the state is `Ours`, the bytes are a checkpoint with the job's digest and the outcomes of the state. All these
+///   outcomes are plausible.
+/// - If the state is `Other`, the bytes are a checkpoint with another digest.
+/// - If the state is `Broken`, the bytes are not a checkpoint with the job's digest and only plausible outcomes.
 pub fn slots_are_what_they_are()
     ensures { SlotsAreWhatTheyAre }
 {
@@ -21,27 +25,27 @@ pub fn slots_are_what_they_are()
     checkpoints_are_read();
 }
 
-/// Shows that a checkpoint is the newest if it was written to the slot and with the generation that `Slots::place`
-/// gives, whatever both slots held before.
+/// Shows that a checkpoint is in the newest slot if it was written at the place that `Slots::place` gives. This holds
+/// whatever the states of both slots were before.
 pub fn written_slots_are_newest()
     ensures { WrittenSlotsAreNewest }
 {}
 
-/// Shows that the newest slot is the job's and has a checkpoint's outcomes, after this checkpoint of the job was
-/// written to the slot and with the generation that `Slots::place` gives.
+/// Shows what holds after a checkpoint of the job was written at the place that `Slots::place` gives. The state of the
+/// newest slot is then `Ours`, and has this checkpoint's outcomes.
 pub fn saved_slots_are_newest()
     ensures { SavedSlotsAreNewest }
 {}
 
-/// Shows that right outcomes are consistent. Outcomes are consistent if each is that of its trajectory, with its
-/// histogram or without it; they are right if each has its histogram exactly if the job asks for it.
+/// Shows that right outcomes are consistent.
 pub fn right_outcomes_are_consistent()
     ensures { RightIsConsistent }
 {
     outcomes_without_histogram_match();
 }
 
-/// Shows that a run resumes from right outcomes if both slots are consistent.
+/// Shows that a run resumes from right outcomes if both slots are consistent. If the job asks for histograms, the run
+/// leaves out each walk without a histogram. Otherwise the run leaves out all histograms.
 pub fn consistent_slots_open_right()
     ensures { ConsistentSlotsOpenRight }
 {
@@ -49,14 +53,14 @@ pub fn consistent_slots_open_right()
 }
 
 /// Shows that consistent slots stay consistent when a process is killed during a save. The slot of this save must be
-/// unchanged, be consistent, or have no checkpoint of the job.
+/// unchanged, be consistent, or have a state other than `Ours`.
 pub fn a_stop_in_a_save_leaves_consistent_slots()
     ensures { StopsLeaveConsistentSlots }
 {}
 
 /// Shows that any number of saves of right outcomes leave consistent slots consistent, wherever saves failed and
 /// wherever the process was killed. A failed save may leave in its slot the old bytes, a prefix of the new bytes, or
-/// any bytes that are no checkpoint of the job.
+/// anything for which the slot's state is not `Ours`.
 pub fn saves_leave_consistent_slots()
     ensures { SavesLeaveConsistentSlots }
 {
@@ -64,9 +68,14 @@ pub fn saves_leave_consistent_slots()
 }
 
 /// Shows that a series of saves never loses the newest checkpoint, wherever saves failed and wherever the process was
-/// killed. Afterwards the newest slot has one of three checkpoints: the one from before the series if no save
-/// succeeded, that of the last save that succeeded, or that of a later save that failed after writing all its bytes. A
-/// failed save may leave in its slot the old bytes, a prefix of the new bytes, or any bytes that are no valid slot.
+/// killed. Afterwards the newest slot has one of three checkpoints:
+///
+/// - The newest one from before the series, if no save succeeded.
+/// - The checkpoint of the last save that succeeded.
+/// - The checkpoint of a failed save that wrote all its bytes, if no later save succeeded.
+///
+/// A failed save may leave in its slot the old bytes, a prefix of the new bytes, or anything for which the slot is not
+/// valid.
 pub fn saves_keep_the_newest()
     ensures { SavesKeepTheNewest }
 {}

@@ -1,5 +1,24 @@
-//! The two slots of a keeper: their states for a job, the newest of them, and the slot and generation of the next
-//! checkpoint. Also the union of the outcomes in several folders.
+//! The checkpoints in the two slots of a keeper, and the outcomes that a job takes from them.
+//!
+//! A run resumes from the newest checkpoint, and saves its next checkpoint in the other slot. A *gathering* collects
+//! the outcomes of one job from several folders, each with two slots. The first folder is the *working folder*. A
+//! gathering may save the union of the outcomes there.
+//!
+//! Words of this crate:
+//!
+//! - The *state* of a slot for a job is a value of `Slot`: `Absent`, `Broken`, `Other` or `Ours`. A slot is *valid* for
+//!   a job if its state is `Other` or `Ours`.
+//! - The *generation* of a checkpoint is 0, 1 or 2, in turn. If both slots are valid, the generations tell which slot
+//!   is the *newest*. If one slot is valid, that slot is the newest.
+//! - The *place* of a checkpoint is its slot and its generation.
+//! - The *digest* of a job is the SHA-256 of everything that the job's outcomes depend on.
+//! - An outcome is *plausible* for a job if nothing in its numbers shows that it is not the job's.
+//! - An outcome and a list *contradict* each other if the list has another outcome for the same id. A missing histogram
+//!   is no contradiction.
+//! - Outcomes are *consistent* if their ids are distinct ids of the job, and each outcome is what the trajectory with
+//!   its id finds, with or without the histogram. Consistent outcomes are *right* if, besides, each walk has its
+//!   histogram when the job asks for histograms, and no outcome has one otherwise.
+//! - A slot is *consistent* if its state is not `Ours`, or if its outcomes are consistent.
 #![tactic(auto)]
 
 pub mod collection;

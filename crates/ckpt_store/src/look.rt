@@ -41,8 +41,8 @@ impl From<Memory> for LookFault {
 
 /// Loads both slots, slot 0 first, and returns their states for the job with this digest. No slot is changed.
 ///
-/// The returned states are those of the slots' bytes. If the keeper hides its slots from proofs, the contract says only
-/// that there are bytes with these states.
+/// The contract of a keeper may leave open which bytes the slots hold. In this case the contract of `look` says only
+/// that some bytes have the returned states.
 ///
 /// # Errors
 ///
@@ -114,7 +114,7 @@ fn judge_loaded(
     Ok(judge_bytes(alloc, job, digest, bytes)?)
 }
 
-/// Returns the state of a slot whose load failed: a slot with too many bytes is broken, and any other failure is an
+/// Returns the state of a slot whose load failed. A slot with too many bytes is broken, and any other failure is an
 /// error.
 fn slot_of_load_error(error: LoadError) -> Result<Slot, LookFault>
     ensures { result ≡ unloaded error }

@@ -1,4 +1,4 @@
-//! The progress of a job, as its slots show it.
+//! The progress of a job: the number of its outcomes in the newest slot.
 
 ghost use Rattle.std.specs.Prelude.{◌≡◌, ℕ, List, Option, IfOk};
 ghost use Rattle.audit_statement.specs.Slots.{slot_of};
@@ -16,7 +16,7 @@ use ckpt_format::digest::job_digest;
 use plan_core::job::Job;
 use std::alloc::Global;
 
-/// The progress of a job, or the reason why its slots do not show it.
+/// The progress of a job, or the reason why the slots show none.
 #[derive(Clone, Copy, Debug, PartialEq, Eq)]
 pub enum Progress {
     /// The number of the job's outcomes in the newest slot, or 0 if both slots are empty.
@@ -35,7 +35,7 @@ fn slot_for(alloc: Global, job: &Job, digest: &[u8; 32], loaded: &Loaded) -> Res
         Loaded::Absent => Ok(Slot::Absent),
         Loaded::Long => Ok(Slot::Broken(CkptFault::TooLong(LIMIT))),
         Loaded::Bytes(bytes) => {
-            // Never true for bytes that `load_slot` returned: it returns `Long` for a longer file.
+            // Never true for bytes from `load_slot`. For a slot with more bytes, that function returns `Long`.
             if bytes.len() as u64 > LIMIT {
                 return Ok(Slot::Broken(CkptFault::TooLong(LIMIT)));
             }
@@ -44,7 +44,7 @@ fn slot_for(alloc: Global, job: &Job, digest: &[u8; 32], loaded: &Loaded) -> Res
     }
 }
 
-// Returns the progress that the checkpoint of the newest slot shows, or its absence.
+// Returns the progress that the result of `Slots::newest` shows.
 fn progress_by(answer: Result<Option<Checkpoint>, StoreFault>) -> Progress
     ensures { result ≡ definition.progress_by answer }
 {

@@ -15,9 +15,8 @@ use audit_model::place::Place;
 use ckpt_format::ahead::Ahead;
 use ckpt_format::encode::encode_with;
 
-/// Saves the checkpoint of these outcomes in the slot and with the generation of `place`, in the second version of the
-/// format. After a save that succeeds, `place` is the other slot with the next generation. This function allocates
-/// nothing, but the keeper may.
+/// Saves the checkpoint of these outcomes at `place`, in the second version of the format. After a save that succeeds,
+/// `place` is the other slot with the next generation. This function allocates nothing, but the keeper may.
 ///
 /// The keeper must permit the save by its relation `lets`, which exists in proofs only. A save that is permitted may
 /// still fail.
@@ -46,8 +45,9 @@ pub fn save<C: Keeper>(
     save_with(keeper, place, digest, outcomes, room, None)
 }
 
-/// Saves as `save` does. With `ahead`, the checkpoint's digest is finished from the hash that `ahead` has begun, which
-/// saves time if the prediction was right.
+/// Saves as `save` does. `ahead`, if given, has hashed a prediction of the checkpoint's first bytes in advance. If the
+/// prediction is right, only the other bytes remain to be hashed, which saves time. A wrong prediction changes no
+/// result.
 ///
 /// # Errors
 ///

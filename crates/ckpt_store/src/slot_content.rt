@@ -1,4 +1,4 @@
-//! The content of a slot whatever its job, and the newest of two slots.
+//! The content of a slot, whatever job the checkpoint belongs to. Also which of two slots is the newest.
 
 ghost use Rattle.std.specs.Prelude.{◌≡◌, ◌<◌, ℕ, List, Option, Some, IfOk, OnOk};
 ghost use Rattle.audit_model.specs.declared.fault.CkptFault.TheVariants as variant;
@@ -17,7 +17,7 @@ use std::alloc::Global;
 /// The largest number of bytes of a checkpoint.
 pub const LIMIT: u64 = 8_000_084;
 
-/// The content of a slot, whatever job its checkpoint belongs to.
+/// The content of a slot, whatever job the checkpoint belongs to.
 #[derive(Drop)]
 pub enum SlotContent {
     /// The slot is empty.
@@ -39,7 +39,7 @@ pub enum Loaded {
     Bytes(Bytes),
 }
 
-/// Loads a slot. Too many bytes are not an error, but `Loaded::Long`.
+/// Loads a slot. If the slot has too many bytes, returns `Loaded::Long` and no error.
 ///
 /// # Errors
 ///
@@ -65,7 +65,7 @@ pub fn load_slot<C: Keeper>(alloc: Global, keeper: &mut C, slot: u8) -> Result<L
     }
 }
 
-/// Returns the content of a loaded slot: nothing, a checkpoint, or bytes that are none.
+/// Returns the content of a loaded slot: nothing, a checkpoint, or bytes that are no checkpoint.
 ///
 /// # Errors
 ///
@@ -93,8 +93,8 @@ fn content_of_bytes(alloc: Global, bytes: &[u8]) -> Result<SlotContent, Memory>
     }
 }
 
-/// Returns a broken slot with this fault, or an error if the fault is out of memory: the slot's bytes may then be a
-/// checkpoint.
+/// Returns a broken slot with this fault. Returns an error if the fault is `CkptFault::Memory`, because the slot's
+/// bytes may then be a checkpoint.
 fn broken_content(fault: CkptFault) -> Result<SlotContent, Memory>
     ensures slot { IfOk result (λ h. h ≡ SlotContent.Broken fault) }
     ensures known { OnOk result (fault ≡ variant.Memory → ⊥) }
@@ -117,8 +117,11 @@ impl SlotContent {
     }
 }
 
-/// Returns the number of the newest slot, or `None` if no slot is valid. Of two valid slots, slot 1 is the newest if
-/// its generation follows that of slot 0; otherwise slot 0 is.
+/// Returns the number of the newest slot, or `None` if neither slot holds a checkpoint. If both slots hold one, slot 1
+/// is the newest if its generation follows that of slot 0. Otherwise slot 0 is the newest.
+///
+/// The result is for no particular job. `Slots::newest` can differ, because a checkpoint of the job with an
+/// implausible outcome is broken for the job.
 pub fn newest(zero: &SlotContent, one: &SlotContent) -> Option<u8>
     ensures { result ≡ newest_in zero.now one.now }
 {

@@ -8,7 +8,7 @@ use audit_model::fault::CkptFault;
 use audit_model::place::Place;
 use ckpt_format::decode::Checkpoint;
 
-/// The state of a slot for a job.
+/// The state of a slot for a job. The slot is *valid* if its state is `Other` or `Ours`.
 #[derive(Drop)]
 pub enum Slot {
     /// The slot is empty.
@@ -18,7 +18,7 @@ pub enum Slot {
     Broken(CkptFault),
     /// The bytes are a checkpoint of another job, whose digest is `found`.
     Other { found: [u8; 32], generation: u8 },
-    /// The bytes are a checkpoint of this job, and all its outcomes are plausible.
+    /// The bytes are a checkpoint of this job, and all outcomes are plausible.
     Ours(Checkpoint),
 }
 
@@ -34,7 +34,7 @@ pub struct Slots {
 pub enum StoreFault {
     /// No slot is valid, and at least one is not empty.
     Damaged(Slots),
-    /// The newest checkpoint is of the job with the digest `found`, not of the job with the digest `wanted`.
+    /// The newest checkpoint belongs to the job with the digest `found`, not to the job with the digest `wanted`.
     OtherJob { found: [u8; 32], wanted: [u8; 32] },
 }
 
@@ -67,8 +67,8 @@ impl Slot {
         }
     }
 
-    /// Returns the checkpoint of this job. Returns `OtherJob` for a checkpoint of another job, and `None` if the slot
-    /// is not valid.
+    /// Returns the slot's checkpoint if it is this job's, and `None` if the slot is not valid. Returns the error
+    /// `OtherJob` for a checkpoint of another job. `wanted` is the digest of this job.
     fn checkpoint_of(self, wanted: &[u8; 32]) -> Result<Option<Checkpoint>, StoreFault>
         ensures { result ≡ opened self wanted.now }
     {
@@ -84,8 +84,8 @@ impl Slot {
 }
 
 impl Slots {
-    /// Returns the number of the newest slot, or `None` if no slot is valid. Of two valid slots, slot 1 is the newest
-    /// if its generation follows that of slot 0; otherwise slot 0 is.
+    /// Returns the number of the newest slot, or `None` if no slot is valid. If both slots are valid, slot 1 is the
+    /// newest if its generation follows that of slot 0. Otherwise slot 0 is the newest.
     fn newest_number(&self) -> Option<u8>
         ensures { result ≡ newest_seen self.now }
     {
@@ -143,7 +143,7 @@ impl Slots {
     }
 }
 
-/// Returns `slot` with the generation after that of the other slot, `newest`, which is valid.
+/// Returns the place in `slot` with the generation after that of `newest`. `newest` is the other slot, and is valid.
 fn beside(slot: u8, newest: &Slot) -> Place
     ensures place { result ≡ record { slot = slot; generation = definition.generation_after (definition.generation_of (slot_view newest.now)) } }
     ensures generation { result.generation < 3 }

@@ -1,4 +1,4 @@
-//! A whole gathering: the outcomes of several folders, saved in the working folder.
+//! A whole gathering: the looks at all folders, and the save of the union in the working folder.
 
 ghost use Rattle.std.specs.Prelude.{◌≡◌, ◌∷◌, [], ◌++◌, ◌&&◌, ◌||◌, ◌≤◌, IfErr, IfOk, length, map, true};
 ghost use Rattle.std.specs.List.{list_all};
@@ -29,8 +29,8 @@ use ckpt_format::digest::job_digest;
 use plan_core::job::Job;
 use std::alloc::Global;
 
-/// The state after a look at the working folder: the slot and generation of its next checkpoint, the finding in it, and
-/// the collection that has its outcomes.
+/// The state of a gathering after the look at the working folder: the place of the working folder's next checkpoint,
+/// the finding in the working folder, and the collection with the working folder's outcomes.
 #[derive(Drop)]
 struct Begun {
     place: Place,
@@ -38,8 +38,8 @@ struct Begun {
     collection: Collection,
 }
 
-/// Gathers the job's outcomes from the slots of the working folder, then from those of each other folder. With `saves`,
-/// the union is saved as the working folder's next checkpoint, but only if three things hold:
+/// Gathers the job's outcomes from the slots of the working folder, then from those of each other folder. If `saves` is
+/// true, the union is saved as the working folder's next checkpoint, but only if three things hold:
 ///
 /// - The working folder's outcomes were added, or both its slots are empty.
 /// - The outcomes of each other folder were added.
@@ -72,7 +72,7 @@ pub fn gather<C: Keeper, F: Keeper>(
     }
 }
 
-// Gathers from the other folders and saves, after the look at the working folder.
+// Does the rest of `gather` after the look at the working folder.
 fn gather_from<C: Keeper, F: Keeper>(
     alloc: Global,
     keeper: &mut C,
