@@ -1,4 +1,4 @@
--- Predicates on the workers of a run in parts.
+-- Predicates on the workers of a run in batches. Names say *part* for a batch.
 use Rattle.std.specs.Prelude.{◌≡◌, ℕ, ◌+◌, ◌-◌, ◌<◌, ◌≤◌, Bool, List, [], length, replicate, vec_capacity, vec_len, Vec}
 use Rattle.std.specs.List.{All}
 use Rattle.audit_model.specs.Job.{Job}
@@ -21,24 +21,24 @@ pub record IsFreshPart (count workers : ℕ) (p : PartCounter) : Type 0 where
   pub pass : BelongsTo p.claims p.pass
   pub fresh : own p.pass ≡ fresh (workers - 1)
 
--- a worker that can rest after a part: its list has capacity for the outcomes of all trajectories
+-- a worker that can rest after a batch: its list has capacity for the outcomes of all trajectories
 pub record MayRest (job : Job) (walker : ChainState) (share : RoomyOutcomes) : Type 0 where
   pub made : walker.job ≡ job
   pub share_room : total job ≤ length share.items + share.spare
 
 module _ {J : Type 0} where
-  -- a worker between two parts: its list is empty and has capacity for all outcomes
+  -- a worker between two batches: its list is empty and has capacity for all outcomes
   pub record IsIdleWorker (job : Job) (h : IdleWorker J) : Type 0 where
     pub made : h.walker.job ≡ job
     pub empty : h.share.items ≡ []
     pub room : total job ≤ h.share.spare
 
-  -- a worker before a part
+  -- a worker before a batch
   pub record IsLent (job : Job) (c : Claims) (w : Worker J) : Type 0 where
     pub unstarted : IsUnstarted job c w
     pub room : total job ≤ w.share.spare
 
-  -- a worker after a part
+  -- a worker after a batch
   pub record IsBack (job : Job) (todo : List ℕ) (c : Claims) (w : Worker J) : Type 0 where
     pub done : IsWorkerDone job todo c w
     pub made : w.walker.job ≡ job
@@ -56,7 +56,7 @@ module _ {J : Type 0} where
     pub none : vec_len workers ≡ 0
     pub room : vec_len idle_workers ≤ vec_capacity workers
 
-  -- all workers are back from a part, and there is capacity for all to rest
+  -- all workers are back from a batch, and there is capacity for all to rest
   pub record AreBack {A B : Type 0} (job : Job) (todo : List ℕ) (c : Claims) (workers : Vec (Worker J) A) (idle_workers : Vec (IdleWorker J) B) : Type 0 where
     pub workers_are : All (IsBack job todo c) workers.items
     pub some : 0 < vec_len workers

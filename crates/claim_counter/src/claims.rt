@@ -9,8 +9,7 @@ use atomic_table::Table;
 use audit_model::memory::Memory;
 use std::alloc::Global;
 
-/// A lock-free counter that gives each number below a limit to exactly one pass. A pass is the right to draw numbers;
-/// each worker has one.
+/// A lock-free counter that gives each number below a limit to at most one pass.
 #[derive(Drop)]
 pub struct Claims {
     pub(crate) table: Table<(), View, Size, EachOnce, Global>,
@@ -24,7 +23,7 @@ pub struct Claims {
 /// The result of closing a counter.
 #[derive(Clone, Copy, Debug, PartialEq, Eq)]
 pub struct Closed {
-    /// The number of numbers that were given out: all numbers below this one.
+    /// The count of the numbers that were given out: all numbers below `drawn`.
     pub drawn: u32,
 }
 
@@ -36,7 +35,7 @@ impl Claims {
     ghost use Rattle.claim_counter.specs.Passes.{own, size_of, BelongsTo};
 
     /// Makes a counter of the numbers below `limit`, and its first pass. `seats` is the largest number of passes, from
-    /// 1 to 33; further passes are split off the first one. Fails if there is no memory.
+    /// 1 to 33. The other passes are split off the first one. Fails if there is no memory.
     pub fn new(alloc: Global, limit: u32, seats: u32) -> Result<(Claims, Pass), Memory>
         requires limit { limit ≤ most_trajectories }
         requires seats { (1 ≤ seats) × (seats ≤ 33) }
@@ -55,7 +54,8 @@ impl Claims {
         ))
     }
 
-    /// Splits off a pass that has drawn nothing. The number of passes that can still be split off `pass` falls by one.
+    /// Splits a new pass off `pass`. The new pass has drawn nothing. The number of passes that can still be split off
+    /// `pass` falls by one.
     pub fn split(&self, pass: &mut Pass) -> Pass
         requires pass { BelongsTo self.now pass.old }
         requires spare { 0 < (own pass.old).spare }
@@ -72,7 +72,7 @@ impl Claims {
     }
 
     /// Draws the next number in one atomic step. No other pass of this counter ever gets the same number. Returns
-    /// `None` if no number is left; the pass has then ended and must not draw again.
+    /// `None` if no number is left. The pass has then ended, and must not draw again.
     pub fn claim(&self, pass: &mut Pass) -> Option<u32>
         requires pass { BelongsTo self.now pass.old }
         requires before_end { (own pass.old).ended ≡ false }
@@ -116,7 +116,8 @@ impl Claims {
         self.table
             .shared
             .join_seat::<OnePass>(&mut seat, other_seat);
-        // The join alone gives the proof no fact about both passes together; this read of the counter gives it.
+        // After the join alone, the proof knows nothing about both passes together. After this read of the counter it
+        // does.
         self.table.shared.load::<Look>(&mut seat, 0);
         Pass {
             seat,
@@ -125,7 +126,7 @@ impl Claims {
         }
     }
 
-    /// Closes the counter. The pass must have all seats: every other pass was joined into it.
+    /// Closes the counter. `pass` must have all seats: every other pass was joined into it, or was never split off.
     pub fn close(self, pass: Pass) -> Closed
         requires pass { BelongsTo self pass }
         requires only { HasAllSeats (size_of self).seats (own pass) }

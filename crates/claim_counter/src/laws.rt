@@ -1,5 +1,8 @@
-//! Laws of the counter's rule, an invariant on the records of all passes. The larger rule of the table in `tally_desk`
-//! has this rule as a part, and is proved with these laws. Each law is the contract of a function with an empty body.
+//! Laws of the counter's *rule*, an invariant on the records of all passes. Each law is the contract of a function with
+//! an empty body.
+//!
+//! The work queue of `tally_desk` has a larger invariant, which contains this rule and is proved with
+//! these laws, too.
 ghost use Rattle.claim_counter.specs.RecordLaws.{StartIsCounted, NumberKeeps, EndKeeps, SplitKeeps, JoinKeeps, ClaimsAreDrawn, ClaimsDiffer, EndIsTrue, SoleHasAll, CountIsBounded, AllAreOnce, DifferentAreFew};
 
 /// Shows that the rule holds at the start, when one pass has all seats.
@@ -12,7 +15,7 @@ pub fn number_keeps()
     ensures { NumberKeeps }
 {}
 
-/// Shows that a draw at or above the limit keeps the rule.
+/// Shows that a draw at or above the limit keeps the rule, if the pass had not ended before.
 pub fn end_keeps()
     ensures { EndKeeps }
 {}
@@ -47,8 +50,7 @@ pub fn sole_has_all()
     ensures { SoleHasAll }
 {}
 
-/// Shows that there are at most as many draws as the limit plus the number of seats. The counter's word thus never
-/// wraps.
+/// Shows that the number of draws is at most the limit plus the number of seats. The counter's word thus never wraps.
 pub fn count_is_bounded()
     ensures { CountIsBounded }
 {}

@@ -1,5 +1,23 @@
-//! The worker runtime of all runs (`workers`); a counter that gives each number below a limit to one worker; and the
-//! workers of runs without saves, which draw the indices of trajectories from the counter.
+//! The worker runtime of all runs, and the workers of runs without saves.
+//!
+//! Words of this crate:
+//!
+//! - A *batch* is a list of ids that the workers walk together, such as one round of a run whose tests stop early.
+//!   Names such as `PartCounter` and `walk_part` call a batch *part*. Parts in the sense of `--parts` do not occur
+//!   here.
+//! - A *counter* (`Claims`) gives each number below a limit to at most one worker. In a batch the numbers are indices
+//!   of the list of ids.
+//! - A *pass* is the right to draw numbers from one counter. In a batch each worker has a pass. The other passes are
+//!   split off the counter's first pass, and all passes are joined at the end of the batch.
+//! - The *claims* of a pass are the numbers that were drawn with it. Only proofs know the claims.
+//! - The *seats* of a counter are the largest number of its passes. A pass *has all seats* if no other pass is in use.
+//! - A worker's *share* is the list of outcomes that the worker has found in a batch.
+//! - The *book* is the table of all outcomes of a run, by id.
+//! - The *hub* is the plan from which all endpoint trajectories start.
+//! - The *gate* is an observer that receives the id of each trajectory before its walk. A *start token* shows that the
+//!   gate has received an id.
+//! - `judges` has the job's constraint once for each worker, because a constraint may keep data about the current plan
+//!   of its worker.
 #![tactic(auto)]
 
 mod claims;

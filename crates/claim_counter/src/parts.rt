@@ -1,6 +1,5 @@
-//! Walks in parts, one after the other. A part is a list of ids, such as a round of a run whose tests stop early; it is
-//! not a part in the sense of `--parts`. The workers are allocated once for all parts, and each part has its own
-//! counter.
+//! Walks in batches, one after the other. Names say *part* for a batch. The workers are allocated once for all batches,
+//! and each batch has its own counter.
 
 ghost use Rattle.std.specs.Prelude.{◌≡◌, true, ◌+◌, ◌-◌, ◌<◌, ◌≤◌, ◌++◌, All, IfOk, IsPermutation, length, map, vec_capacity, vec_len};
 ghost use Rattle.audit_model.specs.Run.{total};
@@ -30,7 +29,7 @@ use std::alloc::Global;
 use std::thread::Threads;
 use walker::walker::Walker;
 
-/// The counter of one part, and its pass, which has all seats.
+/// The counter of one batch, and its first pass, off which the passes of the other workers are split.
 #[derive(Drop)]
 pub struct PartCounter {
     pub(crate) claims: Claims,
@@ -38,8 +37,7 @@ pub struct PartCounter {
 }
 
 impl PartCounter {
-    /// Makes the counter of a part of `count` trajectories, with a seat for each of `workers` workers. Fails if there
-    /// is no memory.
+    /// Makes the counter of a batch of `count` trajectories, for `workers` workers. Fails if there is no memory.
     pub fn new(alloc: Global, count: u32, workers: u32) -> Result<PartCounter, Memory>
         requires count { count ≤ most_trajectories }
         requires workers { (1 ≤ workers) × (workers ≤ most_workers) }
@@ -50,15 +48,15 @@ impl PartCounter {
     }
 }
 
-/// A worker between two parts: a walker, and an empty list with capacity for the outcomes of all trajectories.
+/// A worker between two batches: a walker, and an empty share with capacity for the outcomes of all trajectories.
 #[derive(Drop)]
 pub struct IdleWorker<J: Judge> {
     pub(crate) walker: Walker<J>,
     pub(crate) share: OutcomeList,
 }
 
-/// The workers of a run and the hub, for any number of parts. Between two parts all workers are idle, and during a part
-/// none is.
+/// The workers of a run and the hub, for any number of batches. Between two batches all workers are in `idle_workers`.
+/// During a batch all workers are in `workers`.
 #[derive(Drop)]
 pub struct PartWorkers<J: Judge> {
     pub(crate) idle_workers: Vec<IdleWorker<J>>,
@@ -97,8 +95,8 @@ fn make_idle_workers<J: Judge>(
     Ok(idle_workers)
 }
 
-/// Makes an idle worker for each constraint. The hub is not computed yet. Fails if there is no memory. Walks allocate
-/// nothing more.
+/// Makes one idle worker with each element of `judges`. The hub is not computed yet. Fails if there is no memory. Later
+/// walks allocate nothing.
 pub fn make_part_workers<J: Judge>(
     alloc: Global,
     job: &Job,
@@ -120,7 +118,7 @@ pub fn make_part_workers<J: Judge>(
     })
 }
 
-// Makes an idle worker ready for the next part by giving it a pass.
+// Makes an idle worker ready for the next batch by giving it a pass.
 fn lend<J: Judge>(job: &Job, claims: &Claims, idle_worker: IdleWorker<J>, pass: Pass) -> Worker<J>
     requires limit { (size_of claims.now).limit ≤ total job.now }
     requires pass { BelongsTo claims.now pass × (own pass ≡ fresh 0) }
@@ -135,7 +133,7 @@ fn lend<J: Judge>(job: &Job, claims: &Claims, idle_worker: IdleWorker<J>, pass: 
     }
 }
 
-// Makes all idle workers ready for the next part. The passes are split off `pass`, and the last worker takes `pass`
+// Makes all idle workers ready for the next batch. The passes are split off `pass`, and the last worker takes `pass`
 // itself.
 fn lend_all<J: Judge>(
     job: &Job,
@@ -163,7 +161,7 @@ fn lend_all<J: Judge>(
     workers.push_reserved(lend(job, claims, last, pass));
 }
 
-// Runs all workers until no trajectory of the part is left, each in its own thread if one can be started.
+// Runs all workers until no trajectory of the batch is left. Each worker has its own thread, if one can be started.
 fn run_all<R: Threads + Sync, J: Judge + Send, G: Gate + Sync>(
     rt: &Runtime<R, G>,
     job: &Job,
@@ -188,7 +186,7 @@ fn run_all<R: Threads + Sync, J: Judge + Send, G: Gate + Sync>(
     );
 }
 
-// Makes a worker idle again, from its walker and its list of outcomes, which is emptied.
+// Makes a worker idle again, from its walker and its share. The share is emptied.
 fn rest<J: Judge>(
     job: &Job,
     walker: Walker<J>,
@@ -233,7 +231,7 @@ fn take_first<J: Judge>(
     pass
 }
 
-// Adds another worker's outcomes to the book, makes the worker idle, and joins its pass to `pass`.
+// Adds another worker's outcomes to the book and makes the worker idle. Returns `pass` joined with the worker's pass.
 fn take_next<J: Judge>(
     job: &Job,
     claims: &Claims,
@@ -269,7 +267,7 @@ fn take_next<J: Judge>(
     both
 }
 
-// Adds the outcomes of all workers to the book, makes the workers idle, and returns their joined pass.
+// Adds the outcomes of all workers to the book and makes the workers idle. Returns the join of their passes.
 fn take_all<J: Judge>(
     job: &Job,
     todo: &[u32],
@@ -293,7 +291,7 @@ fn take_all<J: Judge>(
     ensures none { vec_len workers.new ≡ 0 }
     ensures workers_room { vec_capacity workers.new ≡ vec_capacity workers.old }
 {
-    // Called for its contract: the job is within its limits.
+    // This call only tells the proof that the job is within its limits.
     let _units = job.units();
     let Some(first) = workers.pop() else {
         unreachable!()
@@ -319,7 +317,7 @@ pub fn find_hub<J: Judge>(job: &Job, part_workers: &mut PartWorkers<J>)
 
 /// Walks the trajectories with these ids and adds their outcomes to the book. Each worker has its own thread, if one
 /// can be started. The next id goes to whichever worker is free first, and the gate receives each id before its walk.
-/// Allocates nothing. Afterwards the workers can walk another part.
+/// Allocates nothing. Afterwards the workers can walk another batch.
 pub fn walk_part<R: Threads + Sync, J: Judge + Send, G: Gate + Sync>(
     rt: &Runtime<R, G>,
     job: &Job,

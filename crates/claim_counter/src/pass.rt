@@ -4,8 +4,7 @@ ghost use Rattle.std.specs.Prelude.{◌≡◌, ◌<◌, []};
 use crate::record::View;
 use atomic_table::Seat;
 
-/// The right to draw numbers from a counter. Its *claims*, known to proofs only, are the numbers that were drawn with
-/// it. A pass may move to another thread.
+/// The right to draw numbers from a counter. A pass may move to another thread.
 #[derive(Drop)]
 pub struct Pass {
     pub(crate) seat: Seat<(), View>,

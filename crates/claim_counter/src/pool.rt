@@ -1,4 +1,4 @@
-//! The workers of a run that walks all its trajectories in one part.
+//! The workers of a run that walks all its trajectories in one batch.
 
 ghost use Rattle.std.specs.Prelude.{◌≤◌, IfOk, vec_len};
 ghost use Rattle.claim_counter.specs.Pools.{HasWalkedNothing, IsPool};
@@ -11,15 +11,15 @@ use flip_guard::judge::Judge;
 use plan_core::job::Job;
 use std::alloc::Global;
 
-/// The workers, the hub, and the counter of a run that walks all its trajectories in one part.
+/// The workers, the hub, and the counter of a run that walks all its trajectories in one batch.
 #[derive(Drop)]
 pub struct WorkerPool<J: Judge> {
     pub(crate) part: PartCounter,
     pub(crate) part_workers: PartWorkers<J>,
 }
 
-/// Makes a worker for each constraint, and a counter of `count` trajectories. The hub is not computed yet. Fails if
-/// there is no memory. Walks allocate nothing more.
+/// Makes one worker with each element of `judges`, and a counter of `count` trajectories. The hub is not computed yet.
+/// Fails if there is no memory. Later walks allocate nothing.
 pub fn make_pool<J: Judge>(
     alloc: Global,
     job: &Job,

@@ -1,4 +1,4 @@
-//! Records of passes, for proofs only. No value of these types is made at run time, except for `Size`.
+//! Records of passes, for proofs only. No value of these types exists at run time, except for `Size`.
 use std::collections::LinkedList;
 
 /// The history of a pass.
@@ -7,7 +7,7 @@ pub struct PassRecord {
     pub claims: LinkedList<u32>,
     /// The number of draws that found no number left.
     pub past_end: u64,
-    /// The number of passes that are joined in this one, itself included.
+    /// The number of passes that are joined in this one, counting this one.
     pub weight: u64,
     /// The number of passes that can still be split off this one.
     pub spare: u64,
@@ -15,13 +15,13 @@ pub struct PassRecord {
     pub ended: bool,
 }
 
-/// The facts about a counter that the holder of one pass knows: the counter's size, and the history of the pass.
+/// The facts about a counter that proofs know from one pass: the counter's size, and the history of the pass.
 pub struct View {
     pub size: Size,
     pub own: PassRecord,
 }
 
-/// The size of a counter. Its numbers are below `limit`, and it has at most `seats` passes.
+/// The size of a counter. All numbers are below `limit`, and there are at most `seats` passes.
 #[derive(Clone, Copy)]
 pub struct Size {
     pub limit: u32,

@@ -32,7 +32,7 @@ pub fn has_above(ids: &[u32], bound: u32) -> bool
     false
 }
 
-// Computes the hub if an endpoint trajectory is to be walked: only these start from the hub.
+// Computes the hub if `todo` has an endpoint trajectory. Only endpoint trajectories start from the hub.
 fn walk_hub<J: Judge>(job: &Job, todo: &[u32], part_workers: &mut PartWorkers<J>)
     requires part_workers { IsPartWorkers job.now (vec_len part_workers.old.idle_workers) part_workers.old }
     ensures part_workers { IsPartWorkers job.now (vec_len part_workers.old.idle_workers) part_workers.new }
@@ -88,7 +88,7 @@ pub fn walk_run<R: Threads + Sync, J: Judge + Send, G: Gate + Sync>(
     ensures all { IsPermutation out.new.items (book.old.outcomes ++ map (found job.now) todo.now) }
     ensures room { length out.new.items + out.new.spare ≡ length out.old.items + out.old.spare }
 {
-    // Called for its contract: the book's outcomes have distinct ids.
+    // This call only tells the proof that the book's outcomes have distinct ids.
     let _kept = book.len();
     walk_all(rt, job, todo, pool, book);
     book.sorted_into(out);

@@ -8,8 +8,8 @@ use audit_model::outcome::Outcome;
 use flip_guard::judge::Judge;
 use plan_core::job::Job;
 
-/// A worker during a part: a walker, a pass, and a list with capacity for the outcomes of all numbers that the pass may
-/// draw.
+/// A worker during a batch: a walker, a pass, and a share with capacity for the outcomes of all numbers that the pass
+/// may draw.
 #[derive(Drop)]
 pub struct Worker<J: Judge> {
     pub walker: GatedWalker<J>,
@@ -21,8 +21,8 @@ impl<J: Judge> Worker<J> {
     ghost use Rattle.claim_counter.specs.Workers.{IsShared};
     ghost use Rattle.claim_counter.specs.Parts.{IsBack, IsLent};
 
-    /// Draws indices of `todo` until none is left. After each draw, walks the trajectory whose id has this index, and
-    /// appends its outcome to `share`.
+    /// Draws indices of `todo` until none is left. After each draw, gives the gate the id at this index, walks the
+    /// trajectory with this id, and appends the outcome to `share`.
     pub fn run<G: Gate>(&mut self, job: &Job, todo: &[u32], hub: &[u32], gate: &G, claims: &Claims)
         requires lent { IsLent job.now claims.now self.old }
         requires shared { IsShared job.now todo.now hub.now claims.now }

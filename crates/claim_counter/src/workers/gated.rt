@@ -1,4 +1,4 @@
-//! Walkers that cannot start a trajectory before the gate has received its id.
+//! Walkers that cannot start a trajectory before the gate has received the trajectory's id.
 
 ghost use Rattle.std.specs.Prelude.{◌≡◌, ◌+◌, ◌<◌, ◌≤◌};
 ghost use Rattle.audit_statement.specs.Draw.{draw};
@@ -11,8 +11,8 @@ use plan_core::job::Job;
 use std::marker::Model;
 use walker::walker::Walker;
 
-/// A start token: proof that the gate has received an id, and that the trajectory with this id was not walked since.
-/// Only `tell` makes a token, and a walk consumes it. A token can be neither copied nor dropped.
+/// A start token: proof that the gate has received an id. Only `tell` makes a token, and a walk consumes it, so each
+/// token permits one walk. A token can be neither copied nor dropped.
 pub struct StartToken {
     id: u32,
 }

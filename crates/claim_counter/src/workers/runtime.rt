@@ -1,4 +1,4 @@
-//! The resources of the machine that a run uses.
+//! The threads, the allocator and the gate of a run.
 
 use std::alloc::Global;
 

@@ -5,8 +5,8 @@ ghost use Rattle.std.specs.Fork.{AcceptsEach, ChangesEach};
 use std::thread;
 use std::thread::Threads;
 
-/// Calls `work` with the index of each worker and the worker. Each call has its own thread, if one
-/// can be started; otherwise a running thread makes the call.
+/// Calls `work` once for each worker, with the worker's index and the worker. Each call has its own
+/// thread, if one can be started. Otherwise a running thread makes the call.
 pub fn run_workers<R: Threads + Sync, W: Send, F: Fn(usize, &mut W) + Sync>(
     threads: &R,
     workers: &mut [W],

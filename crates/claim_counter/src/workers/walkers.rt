@@ -10,8 +10,7 @@ use plan_core::job::Job;
 use std::alloc::Global;
 use walker::walker::Walker;
 
-/// Makes a walker for each constraint. Fails if there is no memory. Walks allocate nothing more, so that a run cannot
-/// run out of memory after its first step.
+/// Makes one walker with each element of `judges`. Fails if there is no memory. Later walks allocate nothing.
 pub fn make_walkers<J: Judge>(
     alloc: Global,
     job: &Job,
