@@ -52,8 +52,8 @@ fn make_rounds(alloc: Global, ends: u32, seats: u32) -> Result<Vec<PartCounter>,
     Ok(rounds)
 }
 
-/// Makes a worker for each constraint, and a counter for each round that may be needed. Fails only if out of memory.
-/// The walk itself allocates nothing more. The hub is not computed yet.
+/// Makes one worker with each element of `judges`, and a counter for each round that may be needed. Fails only if out
+/// of memory. Later walks allocate nothing. The hub is not computed yet.
 pub fn make_pool<J: Judge>(
     alloc: Global,
     job: &Job,
