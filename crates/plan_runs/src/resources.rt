@@ -34,7 +34,7 @@ pub struct Resources<J: Judge> {
     pub tester: Option<Walker<J>>,
 }
 
-// Makes a worker for each constraint, for a run with these buffers.
+// Makes one worker with each element of `judges`, for a run with these buffers.
 fn make_workers<J: Judge>(
     alloc: Global,
     job: &Job,

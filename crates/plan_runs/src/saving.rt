@@ -47,7 +47,7 @@ pub struct SavedResources<J: Judge, C> {
     pub tester: Option<Walker<J>>,
 }
 
-// Makes a worker for each constraint but the last. The last constraint is for the walker of the serial test.
+// Makes one worker with each element of `judges` but the last. The last element is for the walker of the serial test.
 fn make_walkers<J: Judge>(
     alloc: Global,
     job: &Job,

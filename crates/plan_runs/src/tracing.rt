@@ -138,7 +138,7 @@ fn write_strides<J: Judge, K: Sink>(
     ensures written { (before : Stream) → WritesAllOf before (K.state out.old) (definition.first_lines job.now (draw job.now.setting.key) traced.id traced.thin 1) (Ok tt)
         → WritesAllOf before (K.state out.new) (all_lines job.now traced) result }
 {
-    // Called for its contract: the job is within its limits.
+    // This call only tells the proof that the job is within its limits.
     let _units = job.units();
     let steps = steps_of(job, traced.id);
     let mut step = 0;
