@@ -1,4 +1,5 @@
-//! Laws of a desk's steps, each the contract of an empty function.
+//! Laws of a desk's steps. Each law is the contract of a function that does nothing: its body is empty or calls other
+//! laws.
 
 ghost use Rattle.tally_desk.specs.Entries.{UnfailedPostsAreRegular};
 ghost use Rattle.tally_desk.specs.Homes.{HomeAs};

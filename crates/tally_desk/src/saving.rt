@@ -26,7 +26,7 @@ pub fn save_rest<C: Keeper>(state: &mut RunState<C>) -> Result<(), Failed>
     ensures rising { AllPairs (λ a b. a.id < b.id) state.new.sorted.items }
     ensures rest { MakesLastSave C.state state.old state.new result }
 {
-    // Called for its contract: the book is within its capacity.
+    // This call only tells the proof that the book is within its capacity.
     let _count = state.book.len();
     state.book.sorted_into(&mut state.sorted);
     if state.has_saved_last() {

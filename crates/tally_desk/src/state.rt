@@ -142,7 +142,7 @@ impl<C: Keeper> RunState<C> {
         requires lets { LetsSave C.state C.lets self.old }
         ensures { AttemptedSave C.state self.old self.new result }
     {
-        // Called for its contract: the book is within its capacity.
+        // This call only tells the proof that the book is within its capacity.
         let _count = self.book.len();
         self.book.sorted_into(&mut self.sorted);
         let saved = save::save_with(
