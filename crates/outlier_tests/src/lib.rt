@@ -25,8 +25,8 @@ pub fn in_tail(tail: Tail, value: i64, start: i64) -> bool
     }
 }
 
-/// Returns the p-value bound of a start plan if `count` of `of` visited plans are in its tail. The
-/// start plan is one of the `count` plans.
+/// Returns the p-value bound of a start plan if `count` of the `of` visited plans are in the tail.
+/// The start plan is one of the `count` plans.
 ///
 /// The bound is the square root of `2 * count / of`, in billionths (Chikina, Frieze and Pegden). It
 /// is rounded up, so that it is never below the exact root.
