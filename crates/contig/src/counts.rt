@@ -105,7 +105,7 @@ impl FaceCounts {
         requires in_range { (u : ℕ) → u < graph.now.units → slice_index plan.now u < length self.old.edges }
         ensures { AreCounts graph.now table.now.faces (length self.old.edges) plan.now self.new }
     {
-        // Called for its contract: before the loop, nothing else tells that the faces are the graph's.
+        // This call only tells the proof, before the loop, that the faces are the graph's.
         let _units = table.units();
         self.clear();
         for unit in 0..graph.units() {
