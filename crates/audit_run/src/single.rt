@@ -98,7 +98,7 @@ pub fn audit_single<
         let after = world (S.state graph.new) (K.state out.new) (C.state result.1) in
         KeepsItsPromise (spoken words.now) before after (N.state note.old) (N.state note.new) result.0 }
 {
-    // Called for its contract: a call with a correct ending meets the top contract.
+    // This call only tells the proof that a call with a correct ending meets the top contract.
     ended_calls_keep_their_promise();
     match prepare(rt.alloc, words, graph) {
         Ok(job) => {
