@@ -17,7 +17,8 @@ pub fn checkpoints_are_ours()
 /// - If the state is `Ours`, the bytes are a checkpoint with the job's digest and the outcomes of the state. All these
 ///   outcomes are plausible.
 /// - If the state is `Other`, the bytes are a checkpoint with another digest.
-/// - If the state is `Broken`, the bytes are not a checkpoint with the job's digest and only plausible outcomes.
+/// - If the state is `Broken`, the bytes are no checkpoint, or a checkpoint with the job's digest and an outcome that
+///   is not plausible.
 pub fn slots_are_what_they_are()
     ensures { SlotsAreWhatTheyAre }
 {
@@ -52,8 +53,8 @@ pub fn consistent_slots_open_right()
     consistent_runs_go_on_rightly();
 }
 
-/// Shows that consistent slots stay consistent when a process is killed during a save. The slot of this save must be
-/// unchanged, be consistent, or have a state other than `Ours`.
+/// Shows that consistent slots stay consistent when a process is killed during a save. The law assumes that the kill
+/// left the slot of this save as it was, or consistent, or with a state other than `Ours`.
 pub fn a_stop_in_a_save_leaves_consistent_slots()
     ensures { StopsLeaveConsistentSlots }
 {}

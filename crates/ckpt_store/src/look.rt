@@ -42,7 +42,7 @@ impl From<Memory> for LookFault {
 /// Loads both slots, slot 0 first, and returns their states for the job with this digest. No slot is changed.
 ///
 /// The contract of a keeper may leave open which bytes the slots hold. In this case the contract of `look` says only
-/// that some bytes have the returned states.
+/// that there are bytes for which the slots have the returned states.
 ///
 /// # Errors
 ///

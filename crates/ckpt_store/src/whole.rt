@@ -39,11 +39,10 @@ struct Begun {
 }
 
 /// Gathers the job's outcomes from the slots of the working folder, then from those of each other folder. If `saves` is
-/// true, the union is saved as the working folder's next checkpoint, but only if three things hold:
+/// true, the union is saved as the working folder's next checkpoint, but only if two things hold:
 ///
 /// - The working folder's outcomes were added, or both its slots are empty.
-/// - The outcomes of each other folder were added.
-/// - No two folders have contradicting outcomes for one id.
+/// - The outcomes of each other folder were added. Hence no two folders contradict each other.
 ///
 /// # Errors
 ///

@@ -23,7 +23,7 @@ pub struct Claims {
 /// The result of closing a counter.
 #[derive(Clone, Copy, Debug, PartialEq, Eq)]
 pub struct Closed {
-    /// The count of the numbers that were given out: all numbers below `drawn`.
+    /// The least number that was not given out. All numbers below it were.
     pub drawn: u32,
 }
 
@@ -116,8 +116,8 @@ impl Claims {
         self.table
             .shared
             .join_seat::<OnePass>(&mut seat, other_seat);
-        // After the join alone, the proof knows nothing about both passes together. After this read of the counter it
-        // does.
+        // The join alone tells the proof nothing about the claims of both passes together. This read of the counter
+        // tells the proof that they are distinct.
         self.table.shared.load::<Look>(&mut seat, 0);
         Pass {
             seat,

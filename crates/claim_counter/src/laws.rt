@@ -1,5 +1,5 @@
-//! Laws of the counter's *rule*, an invariant on the records of all passes. Each law is the contract of a function with
-//! an empty body.
+//! Laws of the counter's invariant (`EachOnce`), which is about the records of all passes. The laws below call it the
+//! *rule*. Each law is the contract of a function with an empty body.
 //!
 //! The work queue of `tally_desk` has a larger invariant, which contains this rule and is proved with
 //! these laws, too.
@@ -45,7 +45,7 @@ pub fn end_is_true()
     ensures { EndIsTrue }
 {}
 
-/// Shows that the claims of a pass that has all seats are all drawn numbers.
+/// Shows that a pass that has all seats has claimed each drawn number.
 pub fn sole_has_all()
     ensures { SoleHasAll }
 {}

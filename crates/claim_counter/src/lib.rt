@@ -7,10 +7,11 @@
 //!   here.
 //! - A *counter* (`Claims`) gives each number below a limit to at most one worker. In a batch the numbers are indices
 //!   of the list of ids.
-//! - A *pass* is the right to draw numbers from one counter. In a batch each worker has a pass. The other passes are
-//!   split off the counter's first pass, and all passes are joined at the end of the batch.
+//! - A *pass* is the right to draw numbers from one counter. In a batch each worker has a pass. A new counter
+//!   has one pass. All others are split off this pass, and at the end of the batch they are joined with it again.
 //! - The *claims* of a pass are the numbers that were drawn with it. Only proofs know the claims.
-//! - The *seats* of a counter are the largest number of its passes. A pass *has all seats* if no other pass is in use.
+//! - The *seats* of a counter: the most passes that it can have at one time. A pass *has all seats* if no other pass is
+//!   in use.
 //! - A worker's *share* is the list of outcomes that the worker has found in a batch.
 //! - The *book* is the table of all outcomes of a run, by id.
 //! - The *hub* is the plan from which all endpoint trajectories start.

@@ -67,7 +67,7 @@ impl Tally {
         tally
     }
 
-    /// Scores the current plan after a move.
+    /// Scores the current plan.
     pub fn update<J: Judge>(&mut self, state: &State<J>, asks: &[Ask], room: &mut Room)
         requires start { self.old.start ≡ each (asked_value state.now.job state.now.job.start) asks.now }
         ensures start { self.new.start ≡ self.old.start }

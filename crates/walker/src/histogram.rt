@@ -14,8 +14,7 @@ use scores::Room;
 /// The histogram of a walk: the start plan's seats, the bin of the plan that was scored last, and
 /// the number of counted visits in each bin.
 ///
-/// If the job asks for no histogram (`asked` is false), the counts stay 0 and no seats are
-/// computed.
+/// If the walk needs no histogram (`asked` is false), the counts stay 0 and no seats are computed.
 #[derive(Drop)]
 pub struct Histogram {
     pub asked: bool,

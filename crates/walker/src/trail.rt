@@ -15,9 +15,8 @@ use scores::Room;
 
 /// The results of a walk so far. `visits` is the number of counted visits.
 ///
-/// The current plan is scored at the start and after each move. When a move leaves a plan, the
-/// visits of this plan since the move before are counted together. The last visits are counted at
-/// the end of the walk.
+/// The current plan is scored at the start and after each move. Its visits are counted together,
+/// when the next move leaves it or the walk ends.
 #[derive(Drop)]
 pub struct Trail {
     pub moved: u32,
@@ -45,8 +44,8 @@ impl Trail {
         }
     }
 
-    /// Counts the visits of the plan that was scored last. `visits` is the number of the walk's
-    /// visits up to the last visit of this plan.
+    /// Counts the visits of the plan that was scored last. `visits` is the number of all visits of
+    /// the walk up to now. Those that were not counted before are visits of this plan.
     pub fn flush(&mut self, visits: u32)
         requires order { self.old.visits ≤ visits }
         requires tails { (k : ℕ) → k < 4 → slice_index self.old.tally.counts k + (visits - self.old.visits) * slice_index self.old.tally.inside k < 2 ^ 32 }

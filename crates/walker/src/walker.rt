@@ -143,7 +143,8 @@ impl<J: Judge> Walker<J> {
         values(&self.state, job.setting().asks.as_slice(), &mut self.room)
     }
 
-    // Does the work of `go_on`, with a counter of searches that exists in proofs only.
+    // Does the work of `go_on`. The counter that is made of `blank` exists in proofs only. It counts
+    // how often a step searches its district to test contiguity.
     fn go_on_by<L: Ledger>(&mut self, job: &Job, way: &mut Way, steps: u32, blank: Blank)
         requires name { blank.name ≡ L.name }
         requires parts { blank.parts ≡ L.parts }
@@ -157,7 +158,8 @@ impl<J: Judge> Walker<J> {
         way.go_on(job, &mut self.state, steps, &mut counter);
     }
 
-    // Does the work of `walk`, with a counter of searches that exists in proofs only.
+    // Does the work of `walk`. The counter that is made of `blank` exists in proofs only. It counts
+    // how often a step searches its district to test contiguity.
     fn walk_by<L: Ledger>(&mut self, job: &Job, hub: &[u32], id: u32, blank: Blank) -> Outcome
         requires name { blank.name ≡ L.name }
         requires parts { blank.parts ≡ L.parts }
@@ -175,7 +177,8 @@ impl<J: Judge> Walker<J> {
         }
     }
 
-    // Does the work of `run`, with a counter of searches that exists in proofs only.
+    // Does the work of `run`. The counter that is made of `blank` exists in proofs only. It counts
+    // how often a step searches its district to test contiguity.
     fn run_by<L: Ledger>(&mut self, job: &Job, stream: u64, steps: u32, blank: Blank) -> Outcome
         requires name { blank.name ≡ L.name }
         requires parts { blank.parts ≡ L.parts }
