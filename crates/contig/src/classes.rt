@@ -1,4 +1,4 @@
-//! Classes of numbered items, as an array of class numbers.
+//! A partition of numbered items into classes: an array with the class number of each item.
 
 ghost use Rattle.std.specs.Prelude.{◌<◌, length};
 ghost use Rattle.audit_model.specs.Replaced.{Replaced};

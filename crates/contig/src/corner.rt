@@ -1,4 +1,4 @@
-//! Faces as seen from one of their units.
+//! Corners: faces as seen from one of their units.
 
 ghost use Rattle.std.specs.Prelude.{◌≡◌, ◌∷◌, [], ◌++◌, OnOk, OnErr};
 
@@ -8,9 +8,9 @@ use std::marker::Model;
 
 /// A face as seen from one of its units.
 ///
-/// `one` and `other` are the positions of the unit's two neighbors on the face in the list of its
-/// neighbors. `far` and `further` are the opposite units: equal in a square, and one of the two
-/// neighbors in a triangle.
+/// `one` and `other` are the two units next to the unit on the face, as positions in the unit's
+/// list of neighbors. `far` and `further` are units of the face: in a pentagon the other two units,
+/// in a square twice the one other unit, in a triangle twice the neighbor at `other`.
 #[derive(Clone, Copy)]
 pub struct Corner {
     pub one: u32,

@@ -1,4 +1,4 @@
-//! Counts per district, updated as units move.
+//! Counts of the edges, units and faces in each district, updated as units move.
 
 ghost use Rattle.std.specs.Prelude.{◌≡◌, ◌≢◌, ℕ, ◌+◌, ◌-◌, ◌<◌, ◌≤◌, ◌↔◌, ◌^◌, cond, [], length, replicate, slice_index, slice_set, count_by, IsTrue, IfOk};
 ghost use Rattle.std.specs.List.{slice_index_or};
@@ -71,7 +71,7 @@ impl FaceCounts {
         self.filled.fill(0);
     }
 
-    /// Adds a unit with its mates and inner corners to a district.
+    /// Adds a unit to a district, with `mates` inner edges and `corners` inner faces.
     #[inline]
     fn raise(&mut self, district: u32, mates: u64, corners: u64)
         requires district { district < length self.old.edges }
@@ -84,7 +84,7 @@ impl FaceCounts {
         self.filled[district as usize] += 1 + corners;
     }
 
-    /// Removes a unit with its mates and inner corners from a district.
+    /// Removes a unit from a district, with `mates` inner edges and `corners` inner faces.
     #[inline]
     fn lower(&mut self, district: u32, mates: u64, corners: u64)
         requires district { district < length self.old.edges }
@@ -98,7 +98,9 @@ impl FaceCounts {
         self.filled[district as usize] = before - (1 + corners);
     }
 
-    /// Recounts the districts of another plan. It allocates nothing.
+    /// Recounts the districts for a plan. Allocates nothing.
+    ///
+    /// Each edge and each face is counted once, at its greatest unit.
     pub fn reset(&mut self, graph: &Graph, table: &FaceTable, plan: &[u32])
         requires made { table.now.graph ≡ graph.now }
         requires plan { length plan.now ≡ graph.now.units }
@@ -117,10 +119,10 @@ impl FaceCounts {
         }
     }
 
-    /// Updates the counts for a unit that is about to move to another district. `mates` are the
-    /// numbers of its neighbors in its own district and in the other one.
+    /// Updates the counts for a unit that is about to move to another district. `mates` has the
+    /// number of the unit's neighbors in its own district, and then in the other one.
     ///
-    /// It costs one pass over the unit's faces, and allocates nothing.
+    /// It costs one pass over the faces at the unit, and allocates nothing.
     pub fn follow(&mut self, table: &FaceTable, leaving: Member, district: u32, mates: (u64, u64))
         requires made { table.now.graph ≡ leaving.graph.now }
         requires home { slice_index leaving.plan.now leaving.unit < length self.old.edges }
@@ -147,7 +149,7 @@ impl FaceCounts {
     }
 }
 
-/// Counts the neighbors of a unit that are in a district and below `end`.
+/// Counts the neighbors of a unit that are in a district and are below `end`.
 #[inline]
 fn mates_in(member: Member, district: u32, end: u32) -> u64
     ensures { result ≡ count_mates member.entry.graph.now (is_before member.entry.plan.now end district) member.entry.unit }
@@ -191,8 +193,8 @@ fn corners_in(member: Member, table: &FaceTable, district: u32, end: u32) -> u64
     count
 }
 
-/// Counts the faces at a unit whose other units are all in one district, and those for another
-/// district.
+/// Counts the faces at a unit whose other units are all in the district `one`. Then counts those
+/// whose other units are all in the district `other`.
 #[inline]
 fn corners_of(member: Member, table: &FaceTable, one: u32, other: u32) -> (u64, u64)
     requires { table.now.graph ≡ member.graph.now }
@@ -211,10 +213,10 @@ fn corners_of(member: Member, table: &FaceTable, one: u32, other: u32) -> (u64, 
     (in_one, in_other)
 }
 
-/// Returns if the other units of a face at a unit are all in one district, and if they are all in
-/// another.
+/// Tests if the other units of a corner are all in the district `one`, and if they are all in the
+/// district `other`.
 ///
-/// Comparing the units with one another first leaves one comparison per district.
+/// The units are first compared with one another. One comparison per district is then enough.
 #[inline]
 fn are_inside(member: Member, corner: Corner, one: u32, other: u32) -> (bool, bool)
     requires { IsOnRow member.graph.now (slice_index_or member.graph.now.neighbours member.unit []) corner }

@@ -1,4 +1,4 @@
-//! Rings of three to five units.
+//! Candidates for faces: three to five units in order.
 
 ghost use Rattle.std.specs.Prelude.{◌≡◌, ◌<◌};
 ghost use Rattle.audit_model.specs.Graph.{IsGraph};
@@ -6,7 +6,8 @@ ghost use Rattle.contig.specs.Rings.{goes_round, turned, differ, follow};
 
 use dual_graph::graph::Graph;
 
-/// A ring of three to five units, in order. Its own side joins the first two.
+/// Three to five units in order. `is_ring` tests if they are a ring. The own side joins the first
+/// two units.
 #[derive(Clone, Copy, Debug, PartialEq, Eq)]
 pub enum Face {
     Triangle(u32, u32, u32),

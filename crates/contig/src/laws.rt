@@ -1,4 +1,4 @@
-//! Laws of faces. Each is the contract of a function with an empty body.
+//! Laws of faces. Each law is the contract of a function with an empty body.
 
 ghost use Rattle.std.specs.Prelude.{◌≡◌, ◌≢◌, ◌&&◌, ◌==◌, ◌+◌, ◌<◌, ◌≤◌, ℕ, Bool, not, List, IsTrue, slice_index};
 ghost use Rattle.audit_model.specs.Graph.{Graph, adjacent, IsIn};
@@ -7,8 +7,11 @@ ghost use Rattle.audit_model.specs.Path.{HasPath, IsConnected};
 ghost use Rattle.audit_model.specs.District.{in_district};
 ghost use Rattle.contig.specs.Faces.{AreFaces, AreLinked, IsClassing, count_units, count_inner_edges, count_inner_faces, without_unit, count_mates, count_inner_faces_at};
 
-/// Shows that in a connected set without holes, two neighbors of a unit in different classes are
-/// disconnected without the unit. Neighbors that share an inner face have one class.
+/// Shows when a connected set without holes falls apart without one of its units.
+///
+/// `class` gives a class to each unit. Two neighbors of the removed unit must have the same class
+/// if a link joins them. If two neighbors in the set have different classes, each path between them
+/// in the set visits the removed unit.
 pub fn classes_part_mates()
     ensures { (g : Graph) (faces : List (List ℕ)) (inside : ℕ → Bool) (u x y : ℕ) (class : ℕ → ℕ) →
         IsSimple g → AreFaces g faces → IsConnected g inside → IsIn g inside u →
@@ -18,8 +21,8 @@ pub fn classes_part_mates()
         HasPath g (λ v. inside v && not (v == u)) x y → ⊥ }
 {}
 
-/// Shows that in a district without holes, a unit with two mates in different classes may not
-/// leave.
+/// Shows that a unit may not leave a connected district without holes if two of its mates have
+/// different classes. The classes are those of `classes_part_mates`.
 pub fn parting_units_may_not_leave()
     ensures { (g : Graph) (faces : List (List ℕ)) (plan : List ℕ) (u x y : ℕ) (class : ℕ → ℕ) →
         IsSimple g → AreFaces g faces → u < g.units → IsConnected g (in_district plan (slice_index plan u)) →
@@ -29,7 +32,8 @@ pub fn parting_units_may_not_leave()
         IsIn g (is_mate g plan u) x → IsIn g (is_mate g plan u) y → class x ≢ class y → MayLeave g plan u → ⊥ }
 {}
 
-/// Shows how the three counts of a set change when one of its units is taken out.
+/// Shows how the numbers of units, inner edges and inner faces of a set change when one unit is
+/// taken out.
 pub fn counts_with_a_unit()
     ensures units { (g : Graph) (inside : ℕ → Bool) (u : ℕ) → IsIn g inside u →
         count_units g inside ≡ count_units g (without_unit inside u) + 1 }
@@ -39,8 +43,8 @@ pub fn counts_with_a_unit()
         count_inner_faces inside faces ≡ count_inner_faces (without_unit inside u) faces + count_inner_faces_at u inside faces }
 {}
 
-/// Shows that a unit whose mates are linked through faces may leave, and that no other unit may if
-/// the district has no hole.
+/// Shows that a unit may leave a connected district if its mates are linked. If the district has no
+/// hole, a unit whose mates are not linked may not leave.
 pub fn linked_units_may_leave()
     ensures linked { (g : Graph) (faces : List (List ℕ)) (plan : List ℕ) (u : ℕ) →
         IsSimple g → AreFaces g faces → IsConnected g (in_district plan (slice_index plan u)) → AreLinked g faces plan u → MayLeave g plan u }

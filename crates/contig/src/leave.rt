@@ -30,7 +30,7 @@ pub fn local_holds(graph: &Graph, plan: &[u32], unit: u32, marks: &mut Marks) ->
     has_linked_mates(graph.member(plan, unit), marks)
 }
 
-// Does the work of `local_holds` for a unit with its graph and plan.
+// Does the work of `local_holds`.
 fn has_linked_mates(leaving: Member, marks: &mut Marks) -> bool
     requires { marks.old.units ≡ leaving.graph.now.units }
     ensures marks { marks.new.units ≡ marks.old.units }
@@ -44,8 +44,8 @@ fn has_linked_mates(leaving: Member, marks: &mut Marks) -> bool
     are_linked(leaving, marks, &mut roots, mates)
 }
 
-/// Returns true if the unit's district without it is nonempty and connected. The search is counted
-/// in `steps`.
+/// Searches the rest of the unit's district, and returns true if the rest is nonempty and
+/// connected. `steps` counts the search.
 pub fn search_holds<L: Ledger>(
     graph: &Graph,
     plan: &[u32],
@@ -63,9 +63,10 @@ pub fn search_holds<L: Ledger>(
     rest_is_whole(graph.member(plan, unit), marks, steps)
 }
 
-/// Returns true if the unit's district, which must be connected, stays connected without it.
+/// Returns true if the unit may leave its district, which must be connected.
 ///
-/// The district is searched only if the unit's mates are not connected among themselves.
+/// The rest is searched only if the unit's mates are not connected among themselves. `steps` counts
+/// the search.
 pub fn may_leave<L: Ledger>(
     graph: &Graph,
     plan: &[u32],
@@ -85,7 +86,7 @@ pub fn may_leave<L: Ledger>(
     can_leave(graph.member(plan, unit), marks, steps)
 }
 
-// Does the work of `may_leave` for a unit with its graph and plan.
+// Does the work of `may_leave`.
 fn can_leave<L: Ledger>(leaving: Member, marks: &mut Marks, steps: &mut Steps<L>) -> bool
     requires { marks.old.units ≡ leaving.graph.now.units }
     ensures marks { marks.new.units ≡ marks.old.units }
@@ -112,11 +113,10 @@ fn can_leave<L: Ledger>(leaving: Member, marks: &mut Marks, steps: &mut Steps<L>
     meet(leaving, marks, &mut roots, mates, steps)
 }
 
-/// Decides by links and counts alone if a unit may leave its district, which must be connected.
-/// `None` means that a search is needed.
+/// Decides by the tests of links and counts if a unit may leave its district, which must be
+/// connected.
 ///
-/// The unit may leave if its mates are linked through faces. Otherwise it may not if the district
-/// has no hole.
+/// Returns `None` if the two tests do not decide, and for each unit with more than 32 neighbors.
 pub fn counting_tells(leaving: Member, table: &FaceTable, counts: &FaceCounts) -> Option<bool>
     requires made { table.now.graph ≡ leaving.graph.now }
     requires counts { AreCounts leaving.graph.now table.now.faces (length counts.now.edges) leaving.plan.now counts.now }

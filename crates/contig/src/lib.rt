@@ -1,18 +1,38 @@
-//! Decides if a unit may leave its district without disconnecting it.
+//! Decides if a unit may leave its district: if the district without the unit is nonempty and
+//! connected. The district must be connected.
 //!
-//! The *mates* of a unit are its neighbors in its own district. *Faces* are rings of three to five
-//! units; each face of a list has a side that no later one has. Cheaper tests come first:
+//! Words of this crate:
 //!
-//! - Links: if the mates are linked, one to the next, through faces inside the district, the unit
-//!   may leave.
-//! - Counts: otherwise, if the numbers of the district's edges and faces show that it has no hole,
-//!   the unit may not leave.
-//! - Mates: otherwise, if the mates are connected among themselves, the unit may leave.
-//! - Search: otherwise the district is searched.
+//! - The *mates* of a unit are its neighbors in its own district. The *rest* is the district
+//!   without the unit.
+//! - A *ring* is three to five distinct units, each adjacent to the next and the last to the first.
+//!   A *side* of a ring is two units next to each other on the ring.
+//! - A *face* is a ring in a list of faces. Its *own side* is a side of no face that was added to
+//!   the list before. The definitions in `specs/` have the list in reverse, so there the own side
+//!   belongs to no later face.
+//! - A face is *at* each unit of its ring. A *corner* is a face as seen from one of its units.
+//! - An edge, a face or a corner is *inner* if all its units are in one district.
+//! - A district *has no hole* if it has fewer inner edges than units and inner faces together.
+//! - A *link* joins two mates of a unit if both are next to the unit on one inner face. The mates
+//!   are *linked* if there is a mate and links connect all of them.
+//! - A *class* is a set of items that were merged. `links` merges two mates that a link joins.
+//! - The mates are *connected among themselves* if there is a mate and edges between mates connect
+//!   all of them. The unit is then *local*: it has a *local certificate*.
+//! - A *search* visits the units of a rest. The *counter* of searches, `Steps`, exists in proofs
+//!   only.
 //!
-//! `face`, `near`, `peel` and `list` find faces; `corner`, `rows` and `table` store them by unit.
-//! `counts` follows a plan, `classes` and `links` test the mates, `parts` and `flood` search, and
-//! `leave` has the calls that decide.
+//! The tests, from the cheapest to the costliest:
+//!
+//! 1. Links: if the mates are linked, the unit may leave.
+//! 2. Counts: otherwise, if the district has no hole, the unit may not leave.
+//! 3. Mates: otherwise, if the mates are connected among themselves, the unit may leave.
+//! 4. Search: otherwise a search decides.
+//!
+//! For a unit with more than 32 neighbors, only tests 3 and 4 are made.
+//!
+//! `face`, `near`, `peel` and `list` find faces. `corner`, `rows` and `table` store the faces by
+//! unit. `classes` and `links` make test 1. `counts` keeps the counts of a plan and makes test 2.
+//! `parts` and `flood` make tests 3 and 4. `leave` has the calls that decide.
 #![tactic(auto)]
 
 mod classes;

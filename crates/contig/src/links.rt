@@ -1,4 +1,4 @@
-//! Links between the mates of a unit, through faces.
+//! Links between the mates of a unit.
 
 ghost use Rattle.std.specs.Prelude.{◌≡◌, ◌≢◌, ◌<◌, ◌≤◌, ◌↔◌, ℕ, List, [], length, map, slice_index, All, IsTrue, IsFalse, MatchOption};
 ghost use Rattle.std.specs.List.{slice_index_or};
@@ -13,11 +13,10 @@ use crate::classes::join;
 use crate::corner::Corner;
 use dual_graph::member::Member;
 
-/// The maximum number of neighbors of a unit for which links are computed.
+/// The limit on the neighbors of a unit: with more of them, links are not computed.
 pub const MOST: usize = 32;
 
-/// Returns true if the mates of a unit are linked, one to the next, through faces inside their
-/// district.
+/// Returns true if the mates of a unit are linked. `corners` are the corners at the unit.
 pub fn are_linked(leaving: Member, corners: &[Corner]) -> bool
     requires few { length (slice_index_or leaving.graph.now.neighbours leaving.unit []) ≤ 32 }
     requires placed { All (IsOnRow leaving.graph.now (slice_index_or leaving.graph.now.neighbours leaving.unit [])) corners.now }
@@ -37,8 +36,7 @@ pub fn are_linked(leaving: Member, corners: &[Corner]) -> bool
     }
 }
 
-/// Returns true if all units of a corner are in the district of its unit. Adding up the four tests
-/// leaves one branch.
+/// Returns true if a corner is inner. Adding up the four tests leaves one branch.
 #[inline]
 fn is_inner(leaving: Member, corner: Corner) -> bool
     requires { IsOnRow leaving.graph.now (slice_index_or leaving.graph.now.neighbours leaving.unit []) corner }
@@ -54,7 +52,7 @@ fn is_inner(leaving: Member, corner: Corner) -> bool
     inside == 4
 }
 
-/// Merges the classes of neighbors that share a face inside the district.
+/// Merges, for each link, the classes of its two mates.
 #[inline]
 fn merge(leaving: Member, corners: &[Corner], classes: &mut [u8; 32])
     requires few { length (slice_index_or leaving.graph.now.neighbours leaving.unit []) ≤ 32 }
@@ -72,7 +70,7 @@ fn merge(leaving: Member, corners: &[Corner], classes: &mut [u8; 32])
     }
 }
 
-/// Returns the position of the first mate in the list of neighbors.
+/// Returns the position of the first mate in the list of neighbors, or `None` if there is no mate.
 #[inline]
 fn first_mate(leaving: Member) -> Option<usize>
     ensures { let g = leaving.entry.graph.now in let plan = leaving.entry.plan.now in let u = leaving.entry.unit in

@@ -1,4 +1,4 @@
-//! Lists of faces in which each has a side that no earlier one has.
+//! Lists of faces.
 
 ghost use Rattle.std.specs.Prelude.{◌≡◌, ℕ, [], ◌∷◌, not, IsTrue, IfOk, OnOk, OnErr};
 ghost use Rattle.std.specs.Bool.{OnTrue, OnFalse};
@@ -14,8 +14,8 @@ use std::alloc::Global;
 use std::collections::HashSet;
 use std::marker::Model;
 
-/// A list of faces, in which the own side of each belongs to no earlier one. Proofs see the last
-/// face first.
+/// A list of faces. The own side of each face belongs to no face that was added before it. Proofs
+/// see the list in reverse: the last face comes first.
 #[derive(Drop)]
 pub struct FaceList {
     faces: Vec<Face>,
@@ -53,8 +53,8 @@ impl FaceList {
         &self.faces
     }
 
-    /// Adds a face if it is a ring and no face of the list has its own side. Returns true if it was
-    /// added. Fails if there is no memory.
+    /// Adds a face if it is a ring and its own side belongs to no face of the list. Returns true if
+    /// the face was added. Fails if there is no memory.
     pub fn push(&mut self, graph: &Graph, face: Face) -> Result<bool, Memory>
         requires faces { AreFaces graph.now self.old }
         ensures faces { AreFaces graph.now self.new }
@@ -71,8 +71,7 @@ impl FaceList {
     }
 }
 
-/// Lists the candidates that are rings and whose own side belongs to no earlier face. Fails if
-/// there is no memory.
+/// Makes a list of the candidates that `push` accepts, in their order. Fails if there is no memory.
 pub fn list_faces(alloc: Global, graph: &Graph, candidates: &[Face]) -> Result<FaceList, Memory>
     ensures { IfOk result (λ l. AreFaces graph.now l) }
 {

@@ -1,5 +1,5 @@
-//! The search for the faces of a graph. Nothing is proved of the search itself: the list of faces
-//! tests each ring that it finds.
+//! Finds the faces of a graph. The search for rings is not proved: the list of faces tests each
+//! ring.
 
 ghost use Rattle.std.specs.Prelude.{◌≡◌, ◌<◌, IfOk};
 ghost use Rattle.contig.specs.Faces.{AreFaces};
@@ -14,14 +14,16 @@ use std::alloc::Global;
 /// The maximum number of neighbors of a unit on a face.
 const DEGREE: usize = 32;
 
-/// The maximum number of rings. A graph with more of them gets no faces.
+/// The maximum number of triangles and squares. A graph with more of them gets no faces.
 const MOST: usize = 4000000;
 
-/// The number of paths per unit to try in the search for pentagons.
+/// The number of paths that the search for pentagons may try, per unit of the graph.
 const WAYS: usize = 16;
 
-/// Finds the triangles and squares of a graph, then pentagons if these leave room. Each face has a
-/// side that no later one has. Fails if there is no memory.
+/// Lists the faces of a graph. Fails if there is no memory.
+///
+/// The candidates are triangles and squares. If these do not yield the greatest possible number of
+/// faces, pentagons are candidates too.
 pub fn faces_of(alloc: Global, graph: &Graph) -> Result<FaceList, Memory>
     ensures { IfOk result (λ l. AreFaces graph.now l) }
 {
@@ -46,8 +48,10 @@ pub fn faces_of(alloc: Global, graph: &Graph) -> Result<FaceList, Memory>
     list_faces(alloc, graph, &longer)
 }
 
-/// Returns true if there are as many rings as a connected graph has independent cycles: one for
-/// each edge beyond those of a spanning tree. Then no more can be added.
+/// Returns true if a connected graph cannot have more faces than `rings`.
+///
+/// The faces are independent cycles, because each face has its own side. A connected graph has one
+/// independent cycle for each edge beyond those of a spanning tree.
 fn are_all(graph: &Graph, rings: usize) -> bool {
     rings.wrapping_add(graph.units() as usize) > graph.edges() as usize
 }
@@ -56,12 +60,12 @@ fn are_all(graph: &Graph, rings: usize) -> bool {
 #[derive(Drop)]
 struct Rings {
     rings: Vec<Face>,
-    /// The number of paths still to try in the search for pentagons.
+    /// The number of paths that the search for pentagons may still try.
     ways: usize,
 }
 
 impl Rings {
-    /// Adds the squares a, b, c, d whose `c` is greater than `a` and not adjacent to it.
+    /// Adds the squares a, b, c, d in which `c` is greater than `a` and not adjacent to `a`.
     fn add_squares(&mut self, graph: &Graph, a: u32, b: u32, d: u32) -> Result<(), Memory>
         requires units { (a < graph.now.units) × (b < graph.now.units) × (d < graph.now.units) }
     {
@@ -78,8 +82,8 @@ impl Rings {
         Ok(())
     }
 
-    /// Adds the triangles and squares in which `a` is the least unit and `b` the smaller of its two
-    /// neighbors.
+    /// Adds the triangles and squares in which `a` is the least unit, and `b` is the smaller of the
+    /// two units next to `a`.
     fn add_beside(&mut self, graph: &Graph, a: u32, b: u32) -> Result<(), Memory>
         requires units { (a < graph.now.units) × (b < graph.now.units) }
     {
@@ -110,15 +114,16 @@ impl Rings {
         Ok(())
     }
 
-    /// Returns true if a pentagon may continue from `from` to `to`: `to` has few enough neighbors,
-    /// and their side has room.
+    /// Returns true if a pentagon may have a side from `from` to `to`. The unit `to` must have at
+    /// most `DEGREE` neighbors, and the side must have room: at most one of the faces found so far
+    /// has it.
     fn goes_on(&self, graph: &Graph, sides: &Sides, from: u32, to: u32) -> bool
         requires { to < graph.now.units }
     {
         graph.neighbours(to).len() <= DEGREE && sides.has_room(graph, from, to)
     }
 
-    /// Adds the pentagons a, b, c, d, e for each `d` between `c` and `e`.
+    /// Adds the pentagons a, b, c, d, e for each fitting unit `d`. `ring` is a, b, c, e.
     fn add_fifth(
         &mut self,
         graph: &Graph,
@@ -143,7 +148,7 @@ impl Rings {
         Ok(())
     }
 
-    /// Adds the pentagons that contain the path b, a, e, in which `a` is the least unit.
+    /// Adds the pentagons in which `a` is the least unit and stands between `b` and `e`.
     fn add_row(
         &mut self,
         graph: &Graph,
@@ -171,7 +176,8 @@ impl Rings {
         Ok(())
     }
 
-    /// Adds the pentagons in which `a` is the least unit and `b` the smaller of its two neighbors.
+    /// Adds the pentagons in which `a` is the least unit, and `b` is the smaller of the two units
+    /// next to `a`.
     fn add_pentagons_beside(
         &mut self,
         graph: &Graph,
@@ -204,7 +210,7 @@ impl Rings {
         Ok(())
     }
 
-    /// Adds the pentagons whose sides all have room, until the paths to try are used up.
+    /// Adds the pentagons whose sides all have room. Stops when no more paths may be tried.
     fn add_pentagons(&mut self, graph: &Graph, sides: &Sides) -> Result<(), Memory> {
         self.ways = (graph.units() as usize).wrapping_mul(WAYS);
         for a in 0..graph.units() {
@@ -214,7 +220,7 @@ impl Rings {
     }
 }
 
-/// Finds the triangles and squares of a graph, and stops soon after `MOST` of them.
+/// Finds the triangles and squares of a graph. Stops early if there are more than `MOST`.
 fn rings_of(alloc: Global, graph: &Graph) -> Result<Rings, Memory> {
     let mut found = Rings {
         rings: Vec::new(alloc),

@@ -1,4 +1,11 @@
-//! A search that grows from all mates of a unit at once.
+//! A search of the rest that starts at all mates of a unit at once.
+//!
+//! Each mate has a *label*, a number from 1. The search gives the label of a visited unit to the
+//! unit's unmarked neighbors. The units with one label form a *part* of the rest. If units of two
+//! parts are adjacent, the parts *meet*, and their labels are joined. `roots` has a class number
+//! for each label, and joined labels have the same number.
+//!
+//! In this module, `link` and `are_linked` concern edges between mates, not faces.
 
 ghost use Rattle.std.specs.Prelude.{◌≡◌, ◌≢◌, ◌+◌, ◌<◌, ◌≤◌, ◌↔◌, ℕ, [], length, slice_index, IsTrue, IsFalse};
 ghost use Rattle.std.specs.List.{slice_index_or};
@@ -15,14 +22,14 @@ use dual_graph::marks::Marks;
 use dual_graph::member::Member;
 use std::sync::ledger::Ledger;
 
-/// The greatest label. Labels begin with 1.
+/// The greatest label.
 pub const MOST: usize = 16;
 
 /// Returns true if a unit may leave its district, which must be connected.
 ///
-/// The mates have the labels 1 to `last`, and labels with one root are joined. One part of the
-/// district grows from each mate in turn. The search ends as soon as all parts have met, or one of
-/// them cannot grow. It is counted in `steps`.
+/// The mates have the labels 1 to `last`. The search visits units in the order of marking, so the
+/// parts grow in turn. The function returns true as soon as all labels are joined. It returns false
+/// as soon as some part can no longer grow. `steps` counts the search.
 #[inline(never)]
 pub fn meet<L: Ledger>(
     leaving: Member,
@@ -60,8 +67,8 @@ pub fn meet<L: Ledger>(
     false
 }
 
-/// Joins the labels of adjacent mates, and returns true if the mates are connected among
-/// themselves. They have the labels 1 to `last`.
+/// Joins the labels of adjacent mates. Returns true if the mates are connected among themselves.
+/// The mates have the labels 1 to `last`.
 pub fn are_linked(leaving: Member, marks: &Marks, roots: &mut [u8; 17], last: usize) -> bool
     requires some { 0 < last }
     requires seeded { IsSeeded leaving.graph.now leaving.plan.now leaving.unit last marks.now }
@@ -76,8 +83,8 @@ pub fn are_linked(leaving: Member, marks: &Marks, roots: &mut [u8; 17], last: us
     all_one(roots, last)
 }
 
-/// Marks the mates of a unit with labels from 1, and returns their number, or 17 if there are more
-/// than 16.
+/// Marks the mates of a unit with the labels 1, 2 and so on. Returns the number of mates, or 17 if
+/// there are more than 16.
 pub fn mark_mates(leaving: Member, marks: &mut Marks) -> usize
     requires { marks.old.units ≡ leaving.graph.now.units }
     ensures units { marks.new.units ≡ leaving.entry.graph.now.units }
@@ -100,7 +107,7 @@ pub fn mark_mates(leaving: Member, marks: &mut Marks) -> usize
     count
 }
 
-/// Returns true if all labels up to the last have one root.
+/// Returns true if the labels 1 to `last` are all joined.
 fn all_one(roots: &[u8], last: usize) -> bool
     requires { last < length roots.now }
     ensures yes { IsTrue result → AllOne roots.now last }
@@ -114,8 +121,8 @@ fn all_one(roots: &[u8], last: usize) -> bool
     true
 }
 
-/// Labels the unmarked neighbors of a marked unit as the unit is, and joins the parts that it
-/// meets. Returns true if it joined any.
+/// Visits a marked unit. Gives its label to its unmarked neighbors in the rest, and joins its label
+/// with the labels of its marked neighbors. Returns true if two labels were joined.
 #[inline]
 fn spread(leaving: Member, marks: &mut Marks, roots: &mut [u8; 17], unit: u32, label: u8) -> bool
     requires unit { unit < leaving.graph.now.units }
@@ -143,8 +150,8 @@ fn spread(leaving: Member, marks: &mut Marks, roots: &mut [u8; 17], unit: u32, l
     met
 }
 
-/// Returns true if the part of a label can still grow: one of its units is at position `at` or
-/// later.
+/// Returns true if the part of a label, with the parts joined to it, can still grow: one of its
+/// units is at position `at` or later.
 fn goes_on(roots: &[u8], ends: &[usize], last: usize, label: u8, at: usize) -> bool
     requires widths { (last < length roots.now) × (last < length ends.now) }
     requires label { label ≤ last }
@@ -158,7 +165,7 @@ fn goes_on(roots: &[u8], ends: &[usize], last: usize, label: u8, at: usize) -> b
     false
 }
 
-/// Joins a mate's part with those of adjacent mates.
+/// Joins the label of a mate with the labels of adjacent mates.
 #[inline]
 fn link(leaving: Member, marks: &Marks, roots: &mut [u8; 17], last: usize, unit: u32)
     requires unit { unit < leaving.graph.now.units }

@@ -1,5 +1,5 @@
-//! An order in which rings become faces. Nothing is proved of it: the list of faces tests each
-//! ring, and the order only decides how many it accepts.
+//! Puts rings in an order in which they can become faces. The order is not proved: it only decides
+//! how many rings the list of faces accepts.
 
 ghost use Rattle.std.specs.Prelude.{◌<◌};
 
@@ -9,22 +9,26 @@ use dual_graph::graph::Graph;
 use std::alloc::Global;
 use std::mem::swap;
 
-/// The weight of a crowded side, in neighbors.
+/// The weight of a crowded side, where each neighbor has weight 1. A side is *crowded* if more than
+/// two rings have it. In a plane graph, at most two faces share a side.
 const CROWDED: usize = 4;
 
-/// The number of classes. The greatest weight is that of a pentagon with 32 neighbors per unit and
-/// five crowded sides.
+/// The number of classes, which `class_of` explains: one more than the greatest weight of a ring. A
+/// pentagon with 32 neighbors per unit and five crowded sides has the greatest weight.
 const CLASSES: usize = 181;
 
-/// The sides of a graph: for each, the number of the rings left that have it, and the exclusive or
-/// of their indices. If one ring is left, that is its index.
+/// For each side in a graph: the number of remaining rings that have it, and the exclusive or of
+/// the indices of these rings. If one ring remains, the exclusive or is its index.
+///
+/// Each entry of the units' lists of neighbors has an index. The index of a side is that of the
+/// greater unit in the list of the lesser unit.
 #[derive(Drop)]
 pub struct Sides {
-    /// The index of the first side of each unit.
+    /// For each unit, the index of the first entry of its list of neighbors.
     begins: Vec<usize>,
     counts: Vec<u32>,
     sums: Vec<usize>,
-    /// Sides that had a single ring when they were last seen.
+    /// Sides that had a single ring when they were added here.
     singles: Vec<usize>,
 }
 
@@ -35,7 +39,7 @@ impl Sides {
         self.number_of(graph, a, b)
     }
 
-    /// Returns true if fewer than two of the rings left have this side.
+    /// Returns true if fewer than two of the remaining rings have this side.
     pub fn has_room(&self, graph: &Graph, a: u32, b: u32) -> bool {
         let side = self.number_of(graph, a, b);
         side < self.counts.len() && self.counts[side] < 2
@@ -54,7 +58,8 @@ impl Sides {
         self.begins[low as usize].wrapping_add(place)
     }
 
-    /// Adds one ring to a side, or removes one. A side left with a single ring is listed.
+    /// Adds the ring `number` to a side, or removes it. A side with a single ring after a removal
+    /// is added to `singles`.
     fn count(&mut self, side: usize, number: usize, more: bool) -> Result<(), Memory> {
         if side >= self.counts.len() || side >= self.sums.len() {
             return Ok(());
@@ -73,7 +78,7 @@ impl Sides {
         Ok(())
     }
 
-    /// Adds one ring to all of its sides, or removes it.
+    /// Adds one ring to all of its sides, or removes it from them.
     fn count_all(
         &mut self,
         graph: &Graph,
@@ -90,7 +95,7 @@ impl Sides {
         Ok(())
     }
 
-    /// Counts the sides of these rings. Fails if there is no memory.
+    /// Counts the rings at each side of the graph. Fails if there is no memory.
     pub fn of(alloc: Global, graph: &Graph, rings: &[Face]) -> Result<Sides, Memory> {
         let begins = begins_of(alloc, graph)?;
         let all = match begins.last() {
@@ -112,7 +117,7 @@ impl Sides {
         Ok(sides)
     }
 
-    /// Lists a side if it has a single ring.
+    /// Adds a side to `singles` if it has a single ring.
     fn see(&mut self, side: usize) -> Result<(), Memory> {
         if side < self.counts.len() && self.counts[side] == 1 {
             self.singles.push(side)?;
@@ -120,7 +125,8 @@ impl Sides {
         Ok(())
     }
 
-    /// Takes a listed side that still has a single ring. Returns the side and the index of the ring.
+    /// Takes a side from `singles` that still has a single ring. Returns the side and the index of
+    /// the ring.
     fn next(&mut self) -> Option<(usize, usize)> {
         for _ in 0..u64::MAX {
             match self.singles.pop() {
@@ -138,7 +144,7 @@ impl Sides {
         None
     }
 
-    /// Counts the sides of a ring that more than two rings have.
+    /// Counts the crowded sides of a ring.
     fn count_crowded_sides(&self, graph: &Graph, ring: Face) -> u8 {
         let mut crowded = 0u8;
         let mut turn = ring;
@@ -152,7 +158,7 @@ impl Sides {
         crowded
     }
 
-    /// Rotates a ring to begin with a side.
+    /// Rotates a ring to make a side its own side.
     fn rotate_to(&self, graph: &Graph, ring: Face, side: usize) -> Face {
         let mut turn = ring;
         for _ in 0..length_of(ring) {
@@ -165,11 +171,12 @@ impl Sides {
     }
 }
 
-/// Orders rings so that each has a side that no earlier one has, and rotates it to begin with that
-/// side.
+/// Orders rings so that each has a side that no earlier ring has, and rotates each ring to begin
+/// with this side.
 ///
-/// It takes off a ring that alone has some side, again and again; the last one comes first. If
-/// there is none, it drops a ring. In a plane graph, at most two faces share a side.
+/// The order is built from its end. As long as one of the remaining rings has a side that no other
+/// remaining ring has, this ring is taken off and kept. If no remaining ring has one, a ring is
+/// dropped.
 pub fn order_by_peeling(alloc: Global, graph: &Graph, rings: &[Face]) -> Result<Vec<Face>, Memory> {
     let mut sides = Sides::of(alloc, graph, rings)?;
     let mut counts = sides.counts.clone()?;
@@ -177,7 +184,7 @@ pub fn order_by_peeling(alloc: Global, graph: &Graph, rings: &[Face]) -> Result<
     let mut kept = Vec::new(alloc);
     keep_singles(graph, rings, &mut sides, &mut left, &mut kept)?;
     if kept.len() < rings.len() {
-        // The classes go by all rings, those among them that are taken off already.
+        // Crowded sides are determined from all rings, including those already taken off.
         swap(&mut sides.counts, &mut counts);
         let order = drop_order(alloc, graph, &sides, rings)?;
         swap(&mut sides.counts, &mut counts);
@@ -190,8 +197,8 @@ pub fn order_by_peeling(alloc: Global, graph: &Graph, rings: &[Face]) -> Result<
     Ok(kept)
 }
 
-/// Returns the indices of the rings in the order in which to drop them, by a counting sort of their
-/// classes.
+/// Returns the indices of the rings in the order in which to drop them, by rising class. It is a
+/// counting sort.
 fn drop_order(
     alloc: Global,
     graph: &Graph,
@@ -213,12 +220,15 @@ fn drop_order(
     Ok(order)
 }
 
-/// Returns the class of a ring. The more neighbors its units have and the more of its sides are
-/// crowded, the sooner it is dropped.
+/// Returns the class of a ring. Rings with more neighbors and with more crowded sides have lower
+/// classes and are dropped sooner.
 ///
-/// A ring around other units has neighbors on both sides, a face on one. Of four mutually adjacent
-/// units, the one with the fewest neighbors is rarely apart from the others. The ring of those
-/// others is then the least loss.
+/// A ring that encloses units has neighbors inside and outside. A face of the map has neighbors
+/// outside only, so its units tend to have fewer neighbors.
+///
+/// Of the four triangles of four mutually adjacent units, at most three become faces. The three
+/// units with the most neighbors form the triangle to drop. This triangle matters only for a
+/// district that has its three units but not the fourth. Such a district is rare.
 fn class_of(graph: &Graph, sides: &Sides, ring: Face) -> usize
     ensures { result < 181 }
 {
@@ -241,7 +251,7 @@ fn neighbours_of(graph: &Graph, ring: Face) -> usize {
     all
 }
 
-/// Turns the sizes of the classes into the positions at which they begin.
+/// Replaces the size of each class by the position at which the class begins.
 fn begin_classes(places: &mut [usize]) {
     let mut end = 0usize;
     for class in 0..places.len() {
@@ -251,7 +261,7 @@ fn begin_classes(places: &mut [usize]) {
     }
 }
 
-/// Puts an index at the next position of its class.
+/// Puts the index of a ring at the next position of its class.
 fn put(order: &mut [usize], places: &mut [usize], class: usize, number: usize) {
     if class < places.len() && places[class] < order.len() {
         let place = places[class];
@@ -260,7 +270,8 @@ fn put(order: &mut [usize], places: &mut [usize], class: usize, number: usize) {
     }
 }
 
-/// Returns the index of the first side of each unit, and then the number of all sides.
+/// Returns the index of the first entry of each unit's list of neighbors, and then the number of
+/// all entries.
 fn begins_of(alloc: Global, graph: &Graph) -> Result<Vec<usize>, Memory> {
     let mut begins = Vec::new(alloc);
     let mut end = 0usize;
@@ -288,7 +299,7 @@ fn first_two(ring: Face) -> (u32, u32) {
     }
 }
 
-/// Takes a ring off. Returns true if it was still left.
+/// Takes a ring off. Returns true if the ring had remained until now.
 fn take_off(
     graph: &Graph,
     rings: &[Face],
@@ -304,7 +315,7 @@ fn take_off(
     Ok(true)
 }
 
-/// Takes off and keeps rings that alone have some side, until there are none.
+/// Takes off and keeps rings that alone have some side, until no such ring remains.
 fn keep_singles(
     graph: &Graph,
     rings: &[Face],

@@ -1,4 +1,4 @@
-//! Corners by unit.
+//! The corners at each unit.
 
 ghost use Rattle.std.specs.Prelude.{◌≡◌, ◌<◌, ℕ, List, [], length, slice_index, IsTrue, IfOk, OnOk};
 ghost use Rattle.std.specs.List.{slice_index_or};
@@ -14,7 +14,7 @@ use audit_model::memory::Memory;
 use dual_graph::graph::Graph;
 use std::alloc::Global;
 
-/// Lists the corners of the faces at each unit. Fails if there is no memory.
+/// Lists the corners at each unit. Fails if there is no memory.
 pub fn rows_of(alloc: Global, graph: &Graph, faces: &[Face]) -> Result<Vec<CornerList>, Memory>
     requires faces { AreFaces graph.now (rings faces.now) }
     ensures { IfOk result (λ rows. HasCorners graph.now (λ w. corners_at w (rings faces.now)) rows.items) }
@@ -26,7 +26,7 @@ pub fn rows_of(alloc: Global, graph: &Graph, faces: &[Face]) -> Result<Vec<Corne
     Ok(rows)
 }
 
-/// Returns the position of a neighbor in a unit's list.
+/// Returns the position of a neighbor in a list of neighbors.
 fn place_of(row: &[u32], other: u32) -> usize
     requires { IsTrue (has row.now other) }
     ensures within { result < length row.now }
@@ -40,7 +40,8 @@ fn place_of(row: &[u32], other: u32) -> usize
     0
 }
 
-/// Adds a corner at a unit. `opposite` are the two units opposite.
+/// Adds a corner at `unit`. `one` and `other` are the unit's neighbors on the face, and `opposite`
+/// are `far` and `further`.
 fn add_corner(
     graph: &Graph,
     rows: &mut Vec<CornerList>,

@@ -1,4 +1,4 @@
-//! The faces of a graph, by unit.
+//! The faces of a graph, stored by unit.
 
 ghost use Rattle.std.specs.Prelude.{◌≡◌, ◌+◌, ◌<◌, ◌≤◌, ◌↔◌, [], length, map, slice_index, IsTrue, IsFalse, IfOk, All};
 ghost use Rattle.std.specs.List.{slice_index_or};
@@ -21,7 +21,7 @@ use std::alloc::Global;
 use std::marker::Model;
 use std::snapshot::Snapshot;
 
-/// The maximum number of faces. A graph with more gets none.
+/// The maximum number of faces. A graph with more faces gets none.
 const MOST: usize = 4000000;
 
 /// The faces of a graph, stored as corners by unit.
@@ -66,7 +66,7 @@ impl FaceTable {
         self.rows.len()
     }
 
-    /// Returns the corners of the faces at a unit.
+    /// Returns the corners at a unit.
     #[inline]
     pub fn at(&self, unit: u32) -> &[Corner]
         requires { unit < self.now.graph.units }
@@ -78,11 +78,10 @@ impl FaceTable {
         self.rows[unit as usize].as_slice()
     }
 
-    /// Returns true if the mates of a unit are linked, one to the next, through faces inside their
-    /// district.
+    /// Returns true if the mates of a unit are linked.
     ///
-    /// If the district is connected, the unit may then leave. No other unit may leave a connected
-    /// district without holes.
+    /// If the district is connected, the unit may then leave. If the mates are not linked and the
+    /// connected district has no hole, the unit may not leave.
     pub fn links_mates(&self, leaving: Member) -> bool
         requires made { self.now.graph ≡ leaving.graph.now }
         requires few { length (slice_index_or leaving.graph.now.neighbours leaving.unit []) ≤ 32 }
@@ -96,7 +95,7 @@ impl FaceTable {
     }
 }
 
-/// Finds the faces of a graph, or none if there are too many.
+/// Finds the faces of a graph. Returns an empty list if there are too many.
 fn some_faces(alloc: Global, graph: &Graph) -> Result<FaceList, Memory>
     ensures faces { IfOk result (λ l. AreFaces graph.now l) }
     ensures few { IfOk result (λ l. length l ≤ 4000000) }
