@@ -1,4 +1,4 @@
-//! A legal plan of a job, with its sums and its open pairs.
+//! The board: a legal plan of a job, with everything that a step reads or updates.
 
 ghost use Rattle.std.specs.Prelude.{◌≡◌, ◌≢◌, ◌+◌, ◌<◌, ◌≤◌, ◌^◌, ◌-◌, ◌↔◌, ℕ, ⊤, nat_le, length, slice_index, slice_set, IfOk, MatchOption, IsTrue};
 ghost use Rattle.audit_model.specs.JobOf.{IsJob};
@@ -37,11 +37,11 @@ use std::marker::Model;
 use std::snapshot::Snapshot;
 use std::sync::ledger::Ledger;
 
-/// A current plan that is legal for its job, with everything that a step reads or updates.
+/// The current plan, which is legal for the job, with its sums and tables.
 ///
-/// These are the sums of the districts, the open pairs, the faces of the graph and their counts in each district, the
-/// number of each unit's neighbors in each district, and marks for a search. `low` and `high` are the population
-/// bounds.
+/// `sums` has the sums of the districts. `marks` is the buffer of a search. `faces` has the faces of the graph, and
+/// `counts` has the counts of `contig` for each district. `near` has the number of each unit's neighbors in each
+/// district. `low` and `high` are the population bounds.
 pub struct Board {
     job: Snapshot<Job>,
     plan: UnitList,
@@ -56,7 +56,7 @@ pub struct Board {
     high: u64,
 }
 
-/// Drops the parts one by one. Written by hand so that a caller's proof sees one call.
+/// Drops the fields one by one. Written by hand so that a caller's proof sees one call.
 impl Drop for Board {
     fn drop(self) {
         let Board {
@@ -152,8 +152,8 @@ impl Board {
         self.sums.view()
     }
 
-    /// Returns the unit and the district that a draw proposes, if the pair is open. A draw for which it returns `None`
-    /// does not change the plan.
+    /// Returns the pair that a draw proposes, if the pair is open. Otherwise the step of the draw does not change the
+    /// plan, and the result is `None`.
     #[inline]
     pub(crate) fn proposal_of(&self, draw: u64) -> Option<(u32, u32)>
         ensures { MatchOption result (next self.now.job self.now.plan draw ≡ self.now.plan)
@@ -166,7 +166,7 @@ impl Board {
         Some(self.pairs.at(place))
     }
 
-    /// Returns true if both districts stay within the population bounds after the flip.
+    /// Returns true if both districts of the flip stay within the population bounds.
     #[inline]
     pub(crate) fn keeps_bounds(&self, flip: Flip) -> bool
         requires made { self.now.job ≡ flip.job.now }
@@ -206,8 +206,7 @@ impl Board {
         is_permitted(judge, flip, &self.near, &mut self.sums, &mut self.plan)
     }
 
-    /// Returns true if the total length of the cut edges after the flip is at most the limit. Computes it from the
-    /// total before the flip.
+    /// Returns true if the total length of the cut edges after the flip is at most the limit.
     #[inline]
     fn keeps_length(&self, flip: Flip) -> bool
         requires made { self.now.job ≡ flip.job.now }
@@ -217,7 +216,7 @@ impl Board {
         is_short(flip, &self.sums, &self.plan)
     }
 
-    /// Returns true if the plan after the flip meets the rules and its cut edges are not too long.
+    /// Returns true if the plan after the flip meets the rules, and its cut edges are not too long in total.
     #[inline]
     fn allows<J: Judge>(&mut self, judge: &J, flip: Flip) -> bool
         requires made { self.old.job ≡ flip.job.now }
@@ -232,8 +231,8 @@ impl Board {
         self.permits(judge, flip)
     }
 
-    /// Decides if the unit may leave its district. It uses the number of the unit's neighbors in its own district, then
-    /// the faces that link these neighbors, then the counts of faces. `None` means that a search is needed.
+    /// Decides if the unit may leave its district, by the number of its neighbors there, then by the links and counts
+    /// of `contig`. Returns `None` if these tests do not decide.
     fn counting_tells(&self, job: &Job, unit: u32) -> Option<bool>
         requires made { self.now.job ≡ job.now }
         requires unit { unit < job.now.graph.units }
@@ -253,8 +252,8 @@ impl Board {
         counting_tells(leaving, &self.faces, &self.counts)
     }
 
-    /// Returns true if the unit may leave its district. The district is searched only if the unit's
-    /// neighbors there are not connected among themselves.
+    /// Returns true if the unit may leave its district. The district is searched only if the unit's neighbors in it are
+    /// not connected among themselves. `steps` counts the search.
     fn searching_tells<L: Ledger>(&mut self, job: &Job, unit: u32, steps: &mut Steps<L>) -> bool
         requires made { self.old.job ≡ job.now }
         requires unit { unit < job.now.graph.units }
@@ -272,10 +271,10 @@ impl Board {
         )
     }
 
-    /// Decides without a search if a flip on an open pair within the population bounds is a move.
+    /// Decides without a search if a flip is a move. The pair must be open and the flip within the population bounds.
     ///
-    /// It tests the counts of faces first and the rules last. `None` means that the flip is a move
-    /// if the unit may leave its district.
+    /// The tests of contiguity come first, then the length of cut edges and the rules. If the result is `None`, the
+    /// flip is a move exactly if the unit may leave its district.
     fn decide_without_search<J: Judge>(&mut self, judge: &J, flip: Flip) -> Option<bool>
         requires made { self.old.job ≡ flip.job.now }
         requires judge { IsSeated flip.job.now self.old.plan (J.judging judge.now) }
@@ -299,8 +298,7 @@ impl Board {
         }
     }
 
-    /// Returns true if the flip on an open pair is a move, so that the plan after it is legal. A
-    /// search is counted in `steps`.
+    /// Returns true if the flip is a move. The pair must be open. `steps` counts a search of the district.
     pub(crate) fn may_move<J: Judge, L: Ledger>(
         &mut self,
         judge: &J,
@@ -343,8 +341,8 @@ impl Board {
         }
     }
 
-    /// Returns true if `may_move` searches a district for this flip. Tests count searches with it;
-    /// nothing is proved of the result.
+    /// Returns true if `may_move` would search a district for this flip. Test programs count searches with it. Nothing
+    /// is proved of the result.
     pub(crate) fn asks_search<J: Judge>(&mut self, judge: &J, flip: Flip) -> bool
         requires made { self.old.job ≡ flip.job.now }
         requires judge { IsSeated flip.job.now self.old.plan (J.judging judge.now) }
@@ -390,8 +388,8 @@ impl Board {
     }
 }
 
-/// Moves a unit to a district, in the plan and in its sums. `mates` are the numbers of its neighbors in
-/// its old district and in the new one.
+/// Moves a unit to a district, in the plan and in its sums. `mates` has the number of the unit's neighbors in its old
+/// district, and then in the new one.
 fn shift(flip: Flip, mates: (u64, u64), sums: &mut Sums, plan: &mut UnitList)
     requires summed { IsSummed flip.job.now plan.old sums.old }
     requires home_mates { mates.0 ≡ count_near flip.job.now.graph plan.old flip.unit (slice_index plan.old flip.unit) }
@@ -418,8 +416,8 @@ fn put_unit(plan: &mut UnitList, unit: u32, district: u32)
     plan.as_mut_slice()[unit as usize] = district;
 }
 
-/// Returns true if the total length of the cut edges after the flip is at most the limit. Computes it from the total
-/// before the flip.
+/// Returns true if the total length of the cut edges after the flip is at most the limit. The new total is computed
+/// from the total before the flip.
 #[inline]
 fn is_short(flip: Flip, sums: &Sums, plan: &UnitList) -> bool
     requires summed { IsSummed flip.job.now plan.now sums.now }
@@ -438,8 +436,8 @@ fn is_short(flip: Flip, sums: &Sums, plan: &UnitList) -> bool
 
 /// Returns true if the constraint permits the plan after the flip.
 ///
-/// The constraint is shown that plan and its number of cut edges. The plan and its sums are
-/// restored afterwards.
+/// The constraint reads a plan and the number of its cut edges. The function therefore writes the flip into `plan` and
+/// the new number into `sums`. It undoes both after the call.
 #[inline(never)]
 fn is_permitted<J: Judge>(
     judge: &J,
@@ -476,8 +474,8 @@ fn is_permitted<J: Judge>(
 
 /// Returns true if both populations stay within the bounds when `people` move.
 ///
-/// If a bound is violated, a difference wraps around to 2^63 or more. So one comparison, of the larger difference,
-/// tests both bounds.
+/// If a bound is violated, its difference wraps around to 2^63 or more, and otherwise it is less. One comparison of the
+/// larger difference therefore tests both bounds.
 #[inline]
 fn are_kept(low: u64, high: u64, people: u64, from: u64, to: u64) -> bool
     requires people { people ≤ from }

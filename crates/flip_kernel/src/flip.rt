@@ -14,10 +14,10 @@ use plan_core::job::Job;
 use std::marker::Brand;
 use std::sync::ledger::{Blank, Ledger};
 
-/// Takes the step of a draw. Returns true if it changed the plan.
+/// Takes the step of a draw. Returns true if the step changed the plan.
 ///
-/// The functions of `contig` count each search of a district in `steps`. A step makes at most one
-/// search, and none if the unit's neighbors in its district are connected among themselves.
+/// `steps` counts the searches: at most one. There is none if the unit's neighbors in its district
+/// are connected among themselves.
 #[inline]
 pub fn try_flip<J: Judge, L: Ledger>(
     job: &Job,
@@ -46,10 +46,11 @@ pub fn try_flip<J: Judge, L: Ledger>(
     }
 }
 
-/// Returns the draw that leads back from the plan after `draw`.
+/// Returns the mirror of a draw: the draw that leads back from the plan after `draw`.
 ///
-/// It is `draw` itself if that changes nothing, else a draw of the same block. The state is
-/// unchanged, and nothing is allocated.
+/// If `draw` changes nothing, the mirror is `draw` itself. Otherwise it is the draw of the same
+/// block that proposes the unit and its old district. The state is unchanged, and nothing is
+/// allocated.
 pub fn mirror<J: Judge>(job: &Job, state: &mut State<J>, draw: u64) -> u64
     requires made { state.old.job ≡ job.now }
     ensures value { result ≡ mirrored job.now state.old.plan draw }
@@ -65,8 +66,7 @@ pub fn mirror<J: Judge>(job: &Job, state: &mut State<J>, draw: u64) -> u64
     find_mirror::<J, Brand>(job, state, draw, Blank::new(1))
 }
 
-// Does the work of `mirror`, with its own counter of searches. The draw that leads back is in the
-// same block, at the place of the unit's old district. The flip is tested, not made.
+// Does the work of `mirror`, with its own counter of searches. The flip is tested but not made.
 fn find_mirror<J: Judge, L: Ledger>(job: &Job, state: &mut State<J>, draw: u64, blank: Blank) -> u64
     requires name { blank.name ≡ L.name }
     requires parts { blank.parts ≡ L.parts }

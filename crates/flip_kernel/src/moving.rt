@@ -4,7 +4,7 @@ ghost use Rattle.std.specs.Prelude.{◌<◌};
 
 use plan_core::job::Job;
 
-/// A unit of a job, and a district of it.
+/// A unit of a job, and the district of the job to which the unit would go.
 #[derive(Clone, Copy)]
 pub struct Flip<'a> {
     pub job: &'a Job,

@@ -15,15 +15,14 @@ use dual_graph::member::Member;
 use std::alloc::Global;
 use std::marker::Model;
 
-/// The maximum number of pairs of a unit and a district for which a table is kept. With more pairs
-/// there is no table.
+/// The maximum number of pairs for which there is a table.
 ///
-/// A larger table costs more in cache misses than it saves in passes over neighbors.
+/// A larger table costs more by cache misses than it saves.
 const MOST_PAIRS: u64 = 131072;
 
 /// For each pair of a unit and a district, the number of the unit's neighbors in the district.
 ///
-/// The table is empty if there are too many pairs. The neighbors are then scanned instead.
+/// If there are too many pairs, the table is empty, and each call scans the neighbors instead.
 #[derive(Drop)]
 pub struct NeighborCounts {
     table: Vec<u32>,
@@ -38,8 +37,8 @@ impl Model for NeighborCounts {
 }
 
 impl NeighborCounts {
-    /// Allocates a table for all pairs, or an empty one if there are too many. Fails if there is no
-    /// memory.
+    /// Allocates a table for all pairs, or an empty table if there are too many. Fails if there is
+    /// no memory.
     pub fn zeros(alloc: Global, units: u32, districts: u32) -> Result<NeighborCounts, Memory>
         ensures { IfOk result (λ c. HasPairs units districts c) }
     {
@@ -54,7 +53,7 @@ impl NeighborCounts {
         })
     }
 
-    /// Recounts the neighbors for a plan. It allocates nothing.
+    /// Recounts the neighbors for a plan. Allocates nothing.
     pub fn refill(&mut self, graph: &Graph, plan: &[u32], districts: u32)
         requires plan { length plan.now ≡ graph.now.units }
         requires in_range { (u : ℕ) → u < graph.now.units → slice_index plan.now u < districts }
@@ -81,7 +80,7 @@ impl NeighborCounts {
         }
     }
 
-    /// Returns true if the numbers are in the table.
+    /// Returns true if the table is not empty.
     #[inline]
     fn is_stored(&self) -> bool
         ensures { IsTrue result → 0 < length self.now }
@@ -100,7 +99,7 @@ impl NeighborCounts {
         self.table[member.unit as usize * districts as usize + district as usize]
     }
 
-    /// Returns the number of a unit's neighbors in one district, and in another.
+    /// Returns the number of a unit's neighbors in the district `one`, and then in `other`.
     #[inline]
     pub fn mates(&self, member: Member, districts: u32, one: u32, other: u32) -> (u64, u64)
         requires one { one < districts }
@@ -117,7 +116,7 @@ impl NeighborCounts {
         (u64::from(in_one), u64::from(in_other))
     }
 
-    /// Returns true if the table shows that a unit has one neighbor in its own district.
+    /// Returns true if the table shows that a unit has exactly one neighbor in its own district.
     #[inline]
     pub fn has_one_mate(&self, member: Member, districts: u32) -> bool
         requires home { slice_index member.plan.now member.unit < districts }
@@ -131,7 +130,7 @@ impl NeighborCounts {
         self.read(member, districts, home) == 1
     }
 
-    /// Returns true if the unit is in another district and has a neighbor in this one.
+    /// Returns true if the pair of the unit and the district is open.
     #[inline]
     pub fn opens(&self, member: Member, districts: u32, district: u32) -> bool
         requires district { district < districts }
@@ -146,7 +145,7 @@ impl NeighborCounts {
     }
 }
 
-/// Writes the number of neighbors of each pair.
+/// Writes the number of each unit's neighbors in each district.
 fn count_all(graph: &Graph, plan: &[u32], districts: u32, table: &mut [u32])
     requires plan { length plan.now ≡ graph.now.units }
     requires in_range { (u : ℕ) → u < graph.now.units → slice_index plan.now u < districts }
@@ -159,7 +158,7 @@ fn count_all(graph: &Graph, plan: &[u32], districts: u32, table: &mut [u32])
     }
 }
 
-/// Counts the neighbors of a unit by district. All its numbers must be 0.
+/// Counts the neighbors of a unit by district. The unit's numbers must be 0 before.
 fn count_beside(member: Member, districts: u32, table: &mut [u32])
     requires in_range { (u : ℕ) → u < member.graph.now.units → slice_index member.plan.now u < districts }
     requires width { member.graph.now.units * districts ≤ length table.old }
@@ -173,8 +172,8 @@ fn count_beside(member: Member, districts: u32, table: &mut [u32])
     }
 }
 
-/// Updates the entries of each neighbor of a unit that is about to move: one less for the old
-/// district, one more for the new district.
+/// Updates the numbers of each neighbor of a unit that is about to move. The number for the old
+/// district falls by one, and the number for the new district rises by one.
 fn pass_neighbor(leaving: Member, districts: u32, district: u32, table: &mut [u32])
     requires in_range { (u : ℕ) → u < leaving.graph.now.units → slice_index leaving.plan.now u < districts }
     requires district { district < districts }
@@ -189,7 +188,7 @@ fn pass_neighbor(leaving: Member, districts: u32, district: u32, table: &mut [u3
     }
 }
 
-/// Takes one from the number at one place, and adds it to the number at another.
+/// Subtracts one from the number at `from`, and adds one to the number at `to`.
 #[inline]
 fn pass_one(table: &mut [u32], from: usize, to: usize)
     requires places { (from < length table.old) × (to < length table.old) }

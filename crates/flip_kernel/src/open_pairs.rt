@@ -1,4 +1,4 @@
-//! The open pairs: those that may be a move at all.
+//! The table of the open pairs. Only the flip of an open pair can be a move.
 
 ghost use Rattle.std.specs.Int.{bit_at};
 ghost use Rattle.std.specs.Prelude.{◌≡◌, ◌≢◌, ℕ, ◌+◌, ◌*◌, ◌/◌, ◌<◌, ◌≤◌, cond, false, [], length, slice_index, slice_set, replicate, IfOk, IsTrue};
@@ -14,8 +14,7 @@ use dual_graph::member::Member;
 use std::alloc::Global;
 use std::marker::Model;
 
-/// For each pair of a unit and a district, one bit: the pair is open if the unit is in another
-/// district and has a neighbor in this one.
+/// One bit for each pair, at its place: true if the pair is open.
 #[derive(Drop)]
 pub struct OpenPairs {
     words: Vec<u64>,
@@ -31,7 +30,7 @@ impl Model for OpenPairs {
 }
 
 impl OpenPairs {
-    /// Allocates bits for all pairs, with none open. Fails if there is no memory.
+    /// Allocates a bit for each pair, with no pair open. Fails if there is no memory.
     pub fn none(alloc: Global, units: u32, districts: u32) -> Result<OpenPairs, Memory>
         ensures { IfOk result (λ o. units * districts ≤ length o) }
     {
@@ -49,7 +48,7 @@ impl OpenPairs {
         bit_of(&self.words, place)
     }
 
-    /// Opens or closes a pair.
+    /// Opens or closes a pair: its bit becomes `flag`.
     #[inline]
     fn put(&mut self, districts: u32, unit: u32, district: u32, flag: bool)
         requires { unit * districts + district < length self.old }
@@ -58,8 +57,8 @@ impl OpenPairs {
         put_bit(&mut self.words, place_of(unit, district, districts), flag);
     }
 
-    /// Opens or closes a pair, unless its district is `there`, the unit's own. That pair is closed
-    /// already.
+    /// Opens or closes a pair, unless its district is `there`, the unit's own district. A pair with
+    /// the unit's own district is closed already.
     #[inline]
     fn put_elsewhere(&mut self, districts: u32, unit: u32, district: u32, there: u32, flag: bool)
         requires inside { unit * districts + district < length self.old }
@@ -78,8 +77,8 @@ impl OpenPairs {
         self.words.fill(0);
     }
 
-    /// Opens the pairs of a unit with each other district in which it has a neighbor. All its pairs
-    /// must be closed.
+    /// Opens the pairs of a unit with each other district in which it has a neighbor. All pairs of
+    /// the unit must be closed before.
     fn open_beside(&mut self, graph: &Graph, plan: &[u32], districts: u32, unit: u32)
         requires plan { length plan.now ≡ graph.now.units }
         requires in_range { (u : ℕ) → u < graph.now.units → slice_index plan.now u < districts }
@@ -95,7 +94,7 @@ impl OpenPairs {
         }
     }
 
-    /// Recomputes the open pairs of a plan. It allocates nothing.
+    /// Recomputes the open pairs for a plan. Allocates nothing.
     pub fn refill(&mut self, graph: &Graph, plan: &[u32], districts: u32)
         requires plan { length plan.now ≡ graph.now.units }
         requires in_range { (u : ℕ) → u < graph.now.units → slice_index plan.now u < districts }
@@ -110,8 +109,8 @@ impl OpenPairs {
 
     /// Updates the open pairs after a unit has moved away from `home`, where it has a neighbor.
     ///
-    /// It costs one pass over the unit's neighbors. If the table of `near` is empty, it also scans
-    /// the neighbors of these neighbors. It allocates nothing.
+    /// It costs one pass over the unit's neighbors, and allocates nothing. If the table of `near`
+    /// is empty, the neighbors of each neighbor are scanned too.
     pub fn update(&mut self, moved: Member, districts: u32, home: u32, near: &NeighborCounts)
         requires in_range { (u : ℕ) → u < moved.graph.now.units → slice_index moved.plan.now u < districts }
         requires home { home < districts }
@@ -180,10 +179,10 @@ fn put_bit(words: &mut [u64], place: usize, flag: bool)
 /// The greatest number of neighbors that are scanned without a branch.
 const SHORT: usize = 16;
 
-/// Returns true if the unit is in another district and has a neighbor in this one.
+/// Returns true if the pair of the unit and the district is open.
 ///
-/// A short row is scanned to its end, so that no branch depends on the districts. A long row is
-/// scanned up to the first hit.
+/// A short list of neighbors is scanned to its end, without a branch that depends on the districts.
+/// A long list is scanned only to the first neighbor in the district.
 pub(crate) fn scan_open(graph: &Graph, plan: &[u32], unit: u32, district: u32) -> bool
     requires plan { length plan.now ≡ graph.now.units }
     requires unit { unit < graph.now.units }

@@ -1,18 +1,19 @@
-//! The proposal of a draw.
+//! The proposal of a draw: the pair at the place of the draw in its block.
 
 ghost use Rattle.std.specs.Prelude.{◌≡◌, ◌+◌, ◌*◌, ◌/◌, ◌%◌, ◌^◌, ◌<◌, ◌≤◌, cond, None, Some};
 ghost use Rattle.audit_model.specs.Proposal.{proposal};
 ghost use Rattle.flip_kernel.specs.Blocks.{AreBlocks, place_in};
 ghost use Rattle.audit_model.specs.Limits.{most_units, most_districts};
 
-/// The pairs of a unit and a district. Draws form blocks with one draw per pair.
+/// The pairs of a unit and a district, and the numbers that find the pair of a draw.
 #[derive(Drop)]
 pub struct Pairs {
     pub districts: u32,
     pub count: u64,
     /// The greatest draw at which a whole block can begin.
     pub last: u64,
-    /// 2^64 - 1 divided by `count` and rounded down. It replaces a division by a multiplication.
+    /// 2^64 - 1 divided by `count` and rounded down. With it, `divide` multiplies instead of
+    /// dividing.
     pub inverse: u64,
     /// 2^64 - 1 divided by `districts` and rounded down.
     pub district_inverse: u64,
@@ -37,7 +38,7 @@ impl Pairs {
         }
     }
 
-    /// Returns the remainder of a draw by `count`, which is its place in its block.
+    /// Returns the remainder of a draw by `count`: the place of the draw in its block.
     #[inline]
     pub fn rest(&self, draw: u64) -> u64
         requires { AreBlocks self.now }
@@ -46,8 +47,8 @@ impl Pairs {
         divide(draw, self.count, self.inverse).1
     }
 
-    /// Returns true if a draw with this remainder lies after the last whole block. Such a draw has
-    /// no place.
+    /// Returns true if a draw with the remainder `rest` lies after the last whole block. Such a
+    /// draw proposes nothing.
     #[inline]
     pub fn is_past(&self, draw: u64, rest: u64) -> bool
         requires blocks { AreBlocks self.now }
@@ -57,7 +58,8 @@ impl Pairs {
         draw - rest > self.last
     }
 
-    /// Returns the place of a draw in its block, or `None` after the last whole block.
+    /// Returns the place of a draw in its block, or `None` if the draw lies after the last whole
+    /// block.
     #[inline]
     pub fn place(&self, draw: u64) -> Option<u64>
         requires { AreBlocks self.now }
@@ -82,8 +84,8 @@ impl Pairs {
     }
 }
 
-/// Returns the quotient and the remainder of a number, given the inverse of the divisor: 2^64 - 1
-/// divided by it and rounded down.
+/// Returns the quotient and the remainder of a number. `inverse` is 2^64 - 1 divided by `divisor`
+/// and rounded down.
 ///
 /// The high half of the product of `number` and `inverse` is the quotient or one less.
 #[inline]
@@ -104,7 +106,8 @@ fn divide(number: u64, divisor: u64, inverse: u64) -> (u64, u64)
 
 /// Returns the unit and the district that a draw proposes.
 ///
-/// Draws after the last whole block propose nothing, so that each pair has equally many draws.
+/// Draws after the last whole block propose nothing. Each pair is thus proposed by the same number
+/// of draws.
 #[inline]
 pub fn propose(draw: u64, units: u32, districts: u32) -> Option<(u32, u32)>
     requires units { (0 < units) × (units ≤ most_units) }

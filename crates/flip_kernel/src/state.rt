@@ -1,4 +1,4 @@
-//! A legal plan of a job, with a constraint that learns of every change of the plan.
+//! The state of the chain: the board with the constraint.
 
 ghost use Rattle.std.specs.Prelude.{◌≡◌, ◌+◌, ◌≤◌, ◌↔◌, slice_set, IfOk, MatchOption, IsTrue, IsFalse};
 ghost use Rattle.audit_model.specs.JobOf.{IsJob};
@@ -21,8 +21,7 @@ use std::alloc::Global;
 use std::marker::Model;
 use std::sync::ledger::Ledger;
 
-/// The state of the chain: a legal current plan with its sums and tables, and a constraint that is
-/// asked before each move.
+/// The board and the constraint. The constraint is asked before each move, and updated after it.
 #[derive(Drop)]
 pub struct State<J: Judge> {
     board: Board,
@@ -83,8 +82,8 @@ impl<J: Judge> State<J> {
         self.board.view()
     }
 
-    /// Returns the unit and the district that a draw proposes, if the pair is open. The board
-    /// itself stays private: no step can change the plan without the constraint.
+    /// Returns the pair that a draw proposes, if the pair is open. The board stays private, so that
+    /// no other module changes the plan without updating the constraint.
     #[inline]
     pub(crate) fn proposal_of(&self, draw: u64) -> Option<(u32, u32)>
         ensures { MatchOption result (next self.now.job self.now.plan draw ≡ self.now.plan)
@@ -93,8 +92,8 @@ impl<J: Judge> State<J> {
         self.board.proposal_of(draw)
     }
 
-    /// Returns true if the flip on an open pair is a move: the plan after it is legal. Neither the
-    /// plan nor the constraint changes.
+    /// Returns true if the flip is a move. The pair must be open. Neither the plan nor the
+    /// constraint changes.
     pub(crate) fn may_move<L: Ledger>(&mut self, flip: Flip, steps: &mut Steps<L>) -> bool
         requires made { self.old.job ≡ flip.job.now }
         requires beside { IsTrue (is_open flip.job.now.graph self.old.plan flip.unit flip.district) }
@@ -124,7 +123,7 @@ impl<J: Judge> State<J> {
         }
     }
 
-    /// Makes a move, in the plan and in the constraint.
+    /// Makes a move, and updates the constraint.
     fn make_move(&mut self, flip: Flip)
         requires made { self.old.job ≡ flip.job.now }
         requires allowed { IsMove flip.job.now self.old.plan flip.unit flip.district }
@@ -136,9 +135,9 @@ impl<J: Judge> State<J> {
             .moved(self.board.plan().as_slice(), flip.unit, home);
     }
 
-    /// Makes the flip on an open pair if it is a move. Returns true if it was made.
+    /// Makes the flip if it is a move. Returns true if the flip was made. The pair must be open.
     ///
-    /// The populations are tested first: they reject most of the flips that get this far.
+    /// The population bounds are tested first, because they reject most flips that get this far.
     #[inline]
     pub(crate) fn flip<L: Ledger>(&mut self, flip: Flip, steps: &mut Steps<L>) -> bool
         requires made { self.old.job ≡ flip.job.now }
@@ -155,8 +154,8 @@ impl<J: Judge> State<J> {
         self.flip_within(flip, steps)
     }
 
-    /// Does the work of `flip` for a flip within the population bounds. It is rare, and kept out of
-    /// line.
+    /// Does the work of `flip` for a flip within the population bounds. Few flips get this far, so
+    /// the code is kept out of line.
     #[inline(never)]
     fn flip_within<L: Ledger>(&mut self, flip: Flip, steps: &mut Steps<L>) -> bool
         requires made { self.old.job ≡ flip.job.now }
