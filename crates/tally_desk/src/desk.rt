@@ -22,8 +22,8 @@ use std::time::Duration;
 /// The longest sleep, in milliseconds, of a worker that waits for a save.
 const LONGEST_SLEEP: u64 = 100;
 
-/// A work queue over a list of ids, shared by several passes. It collects the outcomes in a book and saves a checkpoint
-/// whenever the number of posts is a multiple of `save_every`. Claims are lock-free; only posts wait for each other.
+/// A desk, shared by the workers of a run. It saves a checkpoint whenever the number of posts is a multiple of
+/// `save_every`. Claims are lock-free, and only posts wait for each other.
 #[derive(Drop)]
 pub struct Desk<C: Keeper> {
     pub(crate) table: Table<RunState<C>, DeskView, Founding<C>, OneTally<C>, Global>,
@@ -49,8 +49,8 @@ impl<C: Keeper> Desk<C> {
     ghost use Rattle.tally_desk.specs.RunResult.{starts};
     ghost use Rattle.tally_desk.specs.Views.{waiting};
 
-    /// Makes a desk for at most `seats` passes, and its first pass. The desk takes over the state of a run, whose book
-    /// must have no outcome whose id is in `todo`.
+    /// Makes a desk for at most `seats` passes, and its first pass. The desk takes over the state of a run. The book of
+    /// the state must have no outcome with an id of `todo`.
     ///
     /// # Errors
     ///
@@ -70,7 +70,7 @@ impl<C: Keeper> Desk<C> {
             Belongs (table_of d.0) parts d.1 × (view_of d.1 ≡ first_view parts)) }
         ensures refused { IfErr result (λ r. (r.book ≡ state.book) × (r.keeper ≡ state.keeper)) }
     {
-        // Called for their contracts: the job is within its limits, and the book is within its capacity.
+        // These calls only tell the proof that the job is within its limits and the book within its capacity.
         let _units = job.units();
         let _len = state.book.len();
         let founding = Founding {
@@ -104,7 +104,7 @@ impl<C: Keeper> Desk<C> {
         }
     }
 
-    /// Returns true if the list has an id of `walks` or above: the trajectories of these ids start from the hub.
+    /// Returns true if the list has an id of `walks` or above. The trajectories with these ids start from the hub.
     pub fn needs_hub(&self, walks: u32) -> bool
         ensures none { IsFalse result → All (λ id. id < walks) (parts_at C.state self.now).todo }
         ensures some { All (λ id. id < walks) (parts_at C.state self.now).todo → IsFalse result }
@@ -112,8 +112,8 @@ impl<C: Keeper> Desk<C> {
         has_above(self.todo.as_slice(), walks)
     }
 
-    /// Draws the next place of the list in one atomic step and returns its id. No other pass of this desk ever gets the
-    /// same place. Returns `None` if no id was left. The pass has then ended.
+    /// Draws the next place of the list in one atomic step, and returns the id there. No other pass of this desk ever
+    /// gets the same place. If no id is left, the pass has ended, and the result is `None`.
     pub fn claim(&self, pass: &mut DeskPass) -> Option<u32>
         requires pass { Belongs (table_of self.now) (parts_at C.state self.now) pass.old }
         requires before_end { (view_of pass.old).own.ended ≡ false }
@@ -133,8 +133,8 @@ impl<C: Keeper> Desk<C> {
         }
     }
 
-    /// Posts the outcome of a claim. Retries until it gets a ticket and its turn comes, and sleeps while another pass
-    /// saves. Only the keeper may allocate.
+    /// Posts the outcome of a claimed id. Waits as long as another pass has its turn, and sleeps if that turn makes a
+    /// save. Only the keeper may allocate.
     pub fn post<R: Wait>(&self, rt: &R, pass: &mut DeskPass, outcome: Outcome)
         requires pass { Belongs (table_of self.now) (parts_at C.state self.now) pass.old }
         requires claimed { 0 < times outcome.id (claimed_ids (parts_at C.state self.now) (view_of pass.old)) }
@@ -150,7 +150,7 @@ impl<C: Keeper> Desk<C> {
         pass.badge = seat.into_badge();
     }
 
-    /// Posts the outcome of a claim, as `post` does, unless another pass has its turn. Returns true if it was posted.
+    /// Posts the outcome of a claimed id, unless another pass has its turn. Returns true if the outcome was posted.
     pub fn try_post<R: Wait>(&self, rt: &R, pass: &mut DeskPass, outcome: Outcome) -> bool
         requires pass { Belongs (table_of self.now) (parts_at C.state self.now) pass.old }
         requires claimed { 0 < times outcome.id (claimed_ids (parts_at C.state self.now) (view_of pass.old)) }
@@ -175,9 +175,10 @@ impl<C: Keeper> Desk<C> {
         }
     }
 
-    // Takes a ticket for a post of this id once no other ticket is out. The turn of the ticket then begins at once.
-    // Passes do not queue: after a turn, the first pass that asks gets the next turn. So no turn is kept for a pass
-    // whose thread is not running.
+    // Waits until no ticket is out, and takes the next ticket. The turn of this ticket begins at once.
+    //
+    // Waiting passes are not queued: after a turn, the first pass that asks gets the next ticket. Thus no turn is kept
+    // for a pass whose thread is not running.
     fn take_ticket<R: Wait, B: Posting>(
         &self,
         rt: &R,
@@ -200,8 +201,8 @@ impl<C: Keeper> Desk<C> {
         unreachable!()
     }
 
-    // Lets other threads run while a ticket is out. Sleeps if the ticket's turn makes a save. Other turns are too short
-    // for sleeping.
+    // Lets other threads run while a ticket is out. Sleeps if a save is due with the ticket's post. Other turns are too
+    // short for sleeping.
     fn rest<R: Wait>(&self, rt: &R) {
         let words = &self.table.shared;
         let served = words.peek(2);
@@ -216,20 +217,20 @@ impl<C: Keeper> Desk<C> {
         }
     }
 
-    // Wakes all passes that sleep through the turn of this ticket.
+    // Wakes all workers that sleep because of the turn of this ticket.
     fn wake(&self, ticket: u64) {
         if self.makes_save(ticket) {
             self.table.shared.wake_all(2);
         }
     }
 
-    // Returns true if a save is due in the turn of this ticket.
+    // Returns true if a save is due with the post of this ticket.
     #[inline]
     fn makes_save(&self, ticket: u64) -> bool {
         ticket.wrapping_add(1) % u64::from(self.save_every) == 0
     }
 
-    // Takes a ticket for a post of this id, if none is out.
+    // Takes the next ticket, for a post of this id. Returns `None` if a ticket is out.
     fn try_ticket<B: Posting>(&self, seat: &mut Seat<RunState<C>, DeskView>, id: u32) -> Option<u64>
         requires name { B.id ≡ id }
         requires table { seat.old.table_id ≡ table_of self.now }
@@ -249,8 +250,7 @@ impl<C: Keeper> Desk<C> {
         if found == served { Some(served) } else { None }
     }
 
-    // Spins until the ticket is served. The pass then owns the table's only slot, with the state of the
-    // run.
+    // Waits for the turn of the ticket. In its turn, the pass owns the table's only slot with the state of the run.
     fn await_turn<R: Wait>(
         &self,
         rt: &R,
@@ -273,7 +273,7 @@ impl<C: Keeper> Desk<C> {
         unreachable!()
     }
 
-    // Posts the outcome and serves the next ticket.
+    // Posts the outcome, makes a save if one is due, and ends the turn.
     fn serve(&self, seat: &mut Seat<RunState<C>, DeskView>, ticket: u64, outcome: Outcome)
         requires table { seat.old.table_id ≡ table_of self.now }
         requires right { outcome ≡ found (parts_at C.state self.now).job outcome.id }
@@ -287,7 +287,7 @@ impl<C: Keeper> Desk<C> {
         self.wake(ticket);
     }
 
-    /// Splits off a pass that has claimed nothing. `pass` can then be split once less.
+    /// Splits a pass with no claims off `pass`. Afterwards one pass less can be split off `pass`.
     pub fn split(&self, pass: &mut DeskPass) -> DeskPass
         requires pass { Belongs (table_of self.now) (parts_at C.state self.now) pass.old }
         requires spare { 0 < (view_of pass.old).own.spare }
@@ -305,7 +305,7 @@ impl<C: Keeper> Desk<C> {
         }
     }
 
-    /// Joins two passes into one with the claims and posts of both. The result has ended if both have.
+    /// Joins two passes into one with the claims and posts of both. The joined pass has ended if both have.
     pub fn join(&self, first: DeskPass, second: DeskPass) -> DeskPass
         requires first { Belongs (table_of self.now) (parts_at C.state self.now) first }
         requires second { Belongs (table_of self.now) (parts_at C.state self.now) second }
@@ -325,8 +325,7 @@ impl<C: Keeper> Desk<C> {
         let mut seat = take_out(&mut badge);
         let other = take_out(&mut other_badge);
         self.table.shared.join_seat::<DeskSplit>(&mut seat, other);
-        // From the join the prover learns nothing about both passes together. It learns it from this read of the
-        // counter.
+        // This read of the counter only tells the proof what both passes know together.
         self.table.shared.load::<See>(&mut seat, 0);
         DeskPass {
             badge: seat.into_badge(),
@@ -335,8 +334,8 @@ impl<C: Keeper> Desk<C> {
         }
     }
 
-    /// Closes the desk with its only pass, which must have ended and have posted all its claims. Returns the state of
-    /// the run.
+    /// Closes the desk and returns the state of the run. `pass` must be its only pass, must have ended, and must have
+    /// posted all its claims.
     pub fn close(self, pass: DeskPass) -> RunState<C>
         requires pass { Belongs (table_of self) (parts_at C.state self) pass }
         requires only { HasAllSeats (parts_at C.state self).seats (view_of pass).own }

@@ -1,6 +1,6 @@
 //! Posts at a desk.
 
-/// A post: its ticket, its id, and `saved`, which is true if a save was made with this post and succeeded.
+/// A post: its ticket, its id, and its mark. `saved` is true if a save was made with this post and succeeded.
 #[derive(Clone, Copy, Debug, PartialEq, Eq)]
 pub struct Entry {
     pub ticket: u64,

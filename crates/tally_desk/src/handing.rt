@@ -1,4 +1,4 @@
-//! The table of a desk, made of the state of a run.
+//! The table of a desk, made from the state of a run.
 
 ghost use Rattle.std.specs.Prelude.{◌≡◌, ◌∷◌, [], IfOk, IfErr, vec_len};
 ghost use Rattle.tally_desk.specs.Desks.{first_view};
@@ -14,8 +14,8 @@ use atomic_table::{Seat, Table};
 use audit_io::keeper::Keeper;
 use std::alloc::Global;
 
-// Gives the state capacity for `count` posts, and takes out all posts. If out of memory, the state is returned as it
-// was.
+// Gives the state an empty list of posts, with capacity for `count` posts, and sets the number of failed saves to 0. If
+// out of memory, returns the state unchanged.
 pub(crate) fn furnish<C>(
     alloc: Global,
     mut state: RunState<C>,
@@ -34,7 +34,7 @@ pub(crate) fn furnish<C>(
     }
 }
 
-// Makes the table of a desk and its first seat.
+// Makes the table of a desk and its first seat. If out of memory, returns the state unchanged.
 pub(crate) fn open<C: Keeper>(
     alloc: Global,
     state: RunState<C>,

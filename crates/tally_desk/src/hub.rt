@@ -12,8 +12,7 @@ use flip_guard::judge::Judge;
 use plan_core::job::Job;
 use walker::walker::Walker;
 
-/// Computes the hub if the desk's list has an id whose trajectory starts from it, and only then. The list belongs to
-/// the desk, so the hub is computed after the desk's memory is allocated.
+/// Computes the hub if a trajectory of the desk's list starts from it. Otherwise leaves `hub` unchanged.
 pub fn walk_hub<C: Keeper, J: Judge>(
     desk: &Desk<C>,
     job: &Job,

@@ -1,5 +1,5 @@
-//! Laws of a desk's steps. Each law is the contract of a function that does nothing: its body is empty or calls other
-//! laws.
+//! Laws of the steps of a desk. Each law is the contract of a function that does nothing: its body is empty or calls
+//! other laws.
 
 ghost use Rattle.tally_desk.specs.Entries.{UnfailedPostsAreRegular};
 ghost use Rattle.tally_desk.specs.Homes.{HomeAs};
@@ -16,27 +16,28 @@ use ckpt_store::laws::{
     saves_leave_consistent_slots,
 };
 
-/// Shows that each step of a pass keeps the rule of the desk. The events of a step are a claim, a post, or a post and a
-/// save. In the model of a run as a machine (`Machine` of `audit_model`), they lead from the state that matches the
-/// desk before the step to the one that matches it afterwards.
+/// Shows that each step of a pass keeps the rule of the desk, and matches events of a run in the model `Machine` of
+/// `audit_model`. The events of a step are a claim, a post, or a post and a save.
 pub fn steps_are_events<C: Keeper>()
     ensures { (parts : Parts) → StepsAreEvents (HomeAs C.state C.lets) parts }
 {}
 
-/// Shows that if a pass has posted all its claims, this is true again after one more claim and its post. It is also
-/// true of the join of two such passes.
+/// Shows which passes are *whole*: have posted all their claims. A pass without claims is whole. A whole pass is whole
+/// again after one more claim and the post of this claim. The join of two whole passes is whole.
 pub fn posts_stay_whole()
     ensures { PostsStayWhole }
 {}
 
-/// Shows that one save was made with the last post of each group of `save_every` posts, if no save failed.
+/// Shows that one save was made for each full group of `save_every` posts, if no save failed. If the last group is
+/// full, its save was made with the last post.
 pub fn unfailed_posts_are_regular()
     ensures { UnfailedPostsAreRegular }
 {}
 
-/// Shows what the slots hold after a run in which no save failed. The last save is that of the last post, or one more
-/// at the end. The last save has all outcomes, is in the slot of its place, and that slot is the newest. The other slot
-/// is unchanged or holds the save before.
+/// Shows what the slots hold after a run in which no save failed.
+///
+/// The last save was made with the last post or at the end of the run. It has all outcomes, and its slot is the newest.
+/// The other slot is unchanged or holds the save before.
 pub fn unfailed_runs_save_in_turn()
     ensures { UnfailedRunsSaveInTurn }
 {
@@ -44,22 +45,24 @@ pub fn unfailed_runs_save_in_turn()
     checkpoints_are_ours();
 }
 
-/// Shows that the outcomes of each checkpoint of a desk were found by the job's trajectories, if the initial outcomes
-/// were.
+/// Shows that the job's trajectories found the outcomes of each checkpoint of a desk, if they found the initial
+/// outcomes.
 pub fn saved_outcomes_are_right()
     ensures { SavedOutcomesAreRight }
 {}
 
-/// Shows that a stop anywhere in a run leaves consistent slots, wherever its saves failed, if the initial outcomes are
-/// correct.
+/// Shows that a stop anywhere in a run leaves consistent slots, even if saves failed. The initial outcomes must be
+/// right and the slots must be consistent before the run.
 pub fn stops_leave_consistent_slots()
     ensures { RunStopsLeaveConsistentSlots }
 {
     saves_leave_consistent_slots();
 }
 
-/// Shows that after a stop anywhere in a run the newest slot is the one from before the run or a newer one: the last
-/// save that succeeded, or a later save that was stopped or failed after it wrote its slot.
+/// Shows which slot is the newest after a stop anywhere in a run.
+///
+/// If no save wrote a whole checkpoint, the newest slot is the same as before the run. Otherwise it is the slot of the
+/// last save that succeeded, or of a later save that wrote all its bytes before it failed or was stopped.
 pub fn stops_keep_the_newest()
     ensures { RunStopsKeepTheNewest }
 {

@@ -1,5 +1,5 @@
-//! Hashing the next checkpoint ahead of time, a little with each post. A save is then short, and the workers that wait
-//! for it wait briefly.
+//! Hashes the next checkpoint ahead of time, a little with each post. A save then takes less time, and the workers that
+//! wait for it wait less.
 
 use audit_model::memory::Memory;
 use audit_model::outcome::Outcome;
@@ -7,13 +7,15 @@ use audit_model::place::Place;
 use ckpt_format::ahead::Ahead;
 use std::alloc::Global;
 
-/// The largest number of outcomes hashed with one post. If a post would have to hash more, no outcome is hashed ahead:
-/// saves are then so frequent that workers wait for hashing in any case.
+/// The largest number of outcomes hashed with one post. If more would be necessary, nothing is hashed ahead: saves are
+/// then so frequent that hashing ahead would not make workers wait less.
 const MOST_EACH: usize = 32;
 
-/// The prefix of the next checkpoint: the first outcomes of the last checkpoint, up to the least id still to do.
-/// Nothing needs to be proved about it: a wrong prefix only costs time, since a checkpoint that does not begin with it
-/// is hashed from its first byte.
+/// The prefix of the next checkpoint: the outcomes of the last checkpoint with ids below the least id that is pending.
+/// These outcomes come first in the next checkpoint too.
+///
+/// Nothing is proved of the prefix. If the prefix is wrong, the whole checkpoint is hashed when it is saved, which only
+/// costs time.
 #[derive(Drop)]
 pub(crate) struct NextSave {
     pub(crate) ahead: Ahead,
@@ -24,8 +26,8 @@ pub(crate) struct NextSave {
 }
 
 impl NextSave {
-    /// Makes an empty prefix, with capacity for a checkpoint of `bytes` bytes. The only error is out of memory, and no
-    /// other call allocates.
+    /// Makes an empty prefix, with capacity for a checkpoint of `bytes` bytes. Fails if there is no memory. The other
+    /// calls allocate nothing.
     pub fn with_room(alloc: Global, save_every: u32, bytes: usize) -> Result<NextSave, Memory> {
         Ok(NextSave {
             ahead: Ahead::with_room(alloc, bytes)?,
@@ -36,8 +38,8 @@ impl NextSave {
         })
     }
 
-    /// Starts the checkpoint for this place. `outcomes` are those so far by rising id, and `todo` has the ids of the
-    /// run.
+    /// Starts the prefix of the checkpoint at this place. `outcomes` are the outcomes of the last checkpoint by rising
+    /// id, and `todo` has the ids of the run.
     pub fn begin(&mut self, digest: &[u8; 32], place: Place, outcomes: &[Outcome], todo: &[u32]) {
         let count = outcomes.len().saturating_add(self.save_every as usize);
         self.ahead.begin(
@@ -51,7 +53,7 @@ impl NextSave {
         self.taken = 0;
     }
 
-    /// Hashes a few more outcomes of the last checkpoint.
+    /// Hashes the next few outcomes of the prefix. `outcomes` are those of the last checkpoint.
     pub fn go_on(&mut self, outcomes: &[Outcome]) {
         let end = self.sure.min(outcomes.len());
         for _ in 0..self.each {
@@ -64,7 +66,7 @@ impl NextSave {
     }
 }
 
-// Returns the number of outcomes whose ids are below the first id in `todo` that has no outcome yet.
+// Returns the number of outcomes whose ids are below the first id of `todo` without an outcome.
 fn count_sure(outcomes: &[Outcome], todo: &[u32]) -> usize {
     let mut done = 0;
     for (place, outcome) in outcomes.iter().enumerate() {

@@ -1,4 +1,4 @@
-//! A caller's seat at a desk.
+//! The passes of a desk.
 ghost use Rattle.std.specs.Prelude.{◌≡◌, ◌<◌, ◌∷◌, []};
 ghost use Rattle.tally_desk.specs.Views.{no_turn, view_in};
 
@@ -7,7 +7,7 @@ use crate::view::DeskView;
 use atomic_table::{Badge, Seat};
 use std::mem;
 
-/// The right to claim ids at a desk and to post their outcomes. It takes a few bytes, and may cross threads.
+/// The right to claim ids at a desk and to post their outcomes. A pass takes a few bytes, and may cross threads.
 #[derive(Drop)]
 pub struct DeskPass {
     pub(crate) badge: Badge<DeskView>,
@@ -24,7 +24,7 @@ impl DeskPass {
     ghost use Rattle.std.specs.Prelude.{◌≡◌};
     ghost use Rattle.tally_desk.specs.Passes.{view_of};
 
-    /// Returns true if this pass, and each pass that was joined to it, has made a claim that found no id left.
+    /// Returns true if this pass, and each pass that was joined to it, has found no id left.
     pub fn ended(&self) -> bool
         ensures { result ≡ (view_of self.now).own.ended }
     {
@@ -39,7 +39,7 @@ impl DeskPass {
     }
 }
 
-// Takes the seat out of a badge and leaves the badge empty.
+// Takes the seat out of a badge, and leaves an empty badge.
 pub(crate) fn take_out<C>(badge: &mut Badge<DeskView>) -> Seat<RunState<C>, DeskView>
     requires { badge.old.views ≡ view_in badge.old.views ∷ [] }
     ensures table { result.table_id ≡ badge.old.table_id }

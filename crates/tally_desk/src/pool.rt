@@ -31,18 +31,18 @@ pub struct DeskPool<J: Judge> {
     pub(crate) hub: UnitList,
 }
 
-/// The number of steps from which a trajectory counts as long. Outcomes of long trajectories are not buffered.
+/// The number of steps from which a trajectory is long. Outcomes of long trajectories are not buffered.
 const LONG_STEPS: u32 = 100_000;
 
 /// The largest capacity of one outcome buffer.
 const MOST_BUFFERED: usize = 4096;
 
-/// The largest number of workers with an outcome buffer. With more buffering workers, the worker that saves would get
-/// too little of the processors.
+/// The largest number of workers with an outcome buffer. If more workers walked on during a save, the worker that saves
+/// would get too little processor time.
 const MOST_HOLDERS: usize = 4;
 
-/// Makes a walker and a buffer for each of `judges`, each of which must be a constraint made for this job. The only
-/// error is out of memory, and walking allocates nothing more.
+/// Makes a walker and a buffer for each of `judges`. Each of these must be a constraint made for this job. Fails if
+/// there is no memory. Walking then allocates nothing more.
 pub fn make_pool<J: Judge>(alloc: Global, job: &Job, judges: Vec<J>) -> Result<DeskPool<J>, Memory>
     requires judges { AreJudges job.now J.judging judges.items }
     ensures { IfOk result (IsDeskPool job.now (vec_len judges)) }
@@ -67,8 +67,7 @@ fn holders(workers: usize) -> usize
     workers.min(MOST_HOLDERS)
 }
 
-// Returns the capacity of each outcome buffer. All buffers together hold fewer outcomes than are posted between two
-// saves.
+// Returns the capacity of each outcome buffer. All buffers together hold fewer than `save_every` outcomes.
 fn room_each(setting: &Setting, workers: usize) -> usize
     ensures room { result ≡ buffer_room setting.now workers }
     ensures few { holders workers * result ≤ setting.now.save_every - 1 }
@@ -104,7 +103,7 @@ fn make_rooms(alloc: Global, setting: &Setting, workers: usize) -> Result<Vec<Ve
     Ok(buffered)
 }
 
-// Makes a worker of each walker, with its own pass and buffer.
+// Makes a worker of each walker, with a pass and a buffer of its own.
 pub(crate) fn seat<C: Keeper, J: Judge>(
     desk: &Desk<C>,
     mut pass: DeskPass,

@@ -1,5 +1,5 @@
-//! Posting with a buffer: while another worker has its turn, outcomes are buffered up to the capacity, and the worker
-//! walks on.
+//! Posts with a buffer. While another worker has its turn, a worker buffers its outcomes and walks on, until its buffer
+//! is full.
 
 ghost use Rattle.std.specs.Prelude.{◌≡◌, ◌∷◌, [], ◌++◌, vec_capacity};
 ghost use Rattle.tally_desk.specs.Tables.{parts_at, table_of};
@@ -12,8 +12,10 @@ use audit_io::keeper::Keeper;
 use audit_model::outcome::Outcome;
 use std::sync::Wait;
 
-/// Posts the outcome of the last claim and then the buffered ones, until another pass has its turn. An outcome that
-/// cannot be posted at once is buffered. If the buffer is full, the pass waits for its turn and posts the outcome.
+/// Posts the outcome of the last claim, and then buffered outcomes until another pass has its turn.
+///
+/// If another pass has its turn at the start, the outcome is buffered. If the buffer is full, the pass waits until it
+/// can post the outcome.
 pub fn hand_in<R: Wait, C: Keeper>(
     rt: &R,
     desk: &Desk<C>,
@@ -31,7 +33,7 @@ pub fn hand_in<R: Wait, C: Keeper>(
     }
 }
 
-/// Posts all buffered outcomes. Each post waits for its turn.
+/// Posts all buffered outcomes. Waits as long as other passes have their turns.
 pub fn post_all<R: Wait, C: Keeper>(
     rt: &R,
     desk: &Desk<C>,
@@ -48,8 +50,8 @@ pub fn post_all<R: Wait, C: Keeper>(
     }
 }
 
-// Posts the outcome, or buffers it if another pass has its turn and the buffer is not full. Returns true if it was
-// posted.
+// Posts the outcome, and returns true. If another pass has its turn and the buffer is not full, buffers the outcome
+// instead, and returns false.
 fn post_or_hold<R: Wait, C: Keeper>(
     rt: &R,
     desk: &Desk<C>,

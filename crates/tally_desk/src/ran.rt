@@ -1,4 +1,4 @@
-//! A run over a desk.
+//! A whole run that saves: the desk, the workers, and the last save.
 
 ghost use Rattle.std.specs.Prelude.{◌≡◌, ◌≤◌, IfErr, IfOk, vec_len};
 ghost use Rattle.audit_model.specs.Limits.{most_workers};
@@ -36,10 +36,13 @@ pub struct RunResult<C> {
     pub saved: Result<(), Failed>,
 }
 
-/// Walks the trajectories with these ids. Saves a checkpoint of all outcomes after each `save_every` posts and at the
-/// end. A failed save stops nothing, and the next save goes to the place of the failed one. Each worker is a thread, if
-/// one can be started. An id goes to the next worker that asks, and the gate learns each id before its walk. At the end
-/// the state's list `sorted` has all outcomes by rising id.
+/// Walks the trajectories with the ids of `todo`.
+///
+/// A checkpoint of all outcomes is saved after each `save_every` posts. One more is saved at the end, unless the last
+/// post just saved one. A failed save does not end the run, and the next save goes to the same place.
+///
+/// Each worker is a thread, if one can be started. The gate learns each id before its walk. At the end, the list
+/// `sorted` of the state has all outcomes by rising id.
 ///
 /// # Errors
 ///
@@ -66,7 +69,7 @@ pub fn run_over<R: Threads + Wait + Sync, C: Keeper + Send, J: Judge + Send, G: 
     }
 }
 
-// Returns `Ok` if no save failed, neither at the desk nor at the end.
+// Returns `Ok` if no save failed: neither one at the desk nor the last save.
 fn both(failed: u32, rest: Result<(), Failed>) -> Result<(), Failed>
     ensures { BothSaved failed rest result }
 {
@@ -101,7 +104,7 @@ fn work<R: Threads + Wait + Sync, C: Keeper + Send, J: Judge + Send, G: Gate + S
     desk.close(pass)
 }
 
-// Makes the desk of a run and walks all its ids. If the desk is out of memory, nothing is walked.
+// Makes the desk of a run and walks all its ids. If out of memory for the desk, nothing is walked.
 fn walk_over<R: Threads + Wait + Sync, C: Keeper + Send, J: Judge + Send, G: Gate + Sync>(
     rt: &Runtime<R, G>,
     job: &Job,
@@ -128,7 +131,7 @@ fn walk_over<R: Threads + Wait + Sync, C: Keeper + Send, J: Judge + Send, G: Gat
     }
 }
 
-// Makes the last save of a run, unless its desk saved with the last post.
+// Makes the last save of a run, unless a save with the last post succeeded.
 fn save_last<C: Keeper>(mut state: RunState<C>) -> RunResult<C>
     requires place { IsPlace state.place }
     requires room { HasSaveRoom state.book.total state.sorted state.room }

@@ -1,4 +1,4 @@
-//! The invariant of a desk's table, and the effect of each step.
+//! The rule of a desk's table, and the effect of each step.
 
 ghost use Rattle.std.specs.Prelude.{ℕ};
 
@@ -8,7 +8,7 @@ use atomic_table::{Join, Play, Split, TableRule};
 use audit_io::keeper::Keeper;
 use std::marker::{Brand, PhantomData};
 
-/// The rule of a desk: each id is claimed and posted once.
+/// The rule of a desk: no place is drawn twice, and no claim is posted twice.
 pub struct OneTally<C> {
     keeper: PhantomData<C>,
 }
@@ -23,7 +23,7 @@ impl<C: Keeper> TableRule<RunState<C>, DeskView, Founding<C>> for OneTally<C> {
     ghost first = { λ key. first_view (parts_of C.state key) };
 }
 
-/// A draw of the next place.
+/// The step of a claim: a draw of the next place.
 pub(crate) struct NextPlace;
 
 impl<C> Play<RunState<C>, DeskView> for NextPlace {
@@ -32,7 +32,7 @@ impl<C> Play<RunState<C>, DeskView> for NextPlace {
     ghost then = { DrawsPlace };
 }
 
-/// The id that a pass posts, for proofs.
+/// The id that a pass posts, in proofs only.
 pub(crate) trait Posting {
     ghost id: { ℕ };
 }
@@ -41,7 +41,7 @@ impl Posting for Brand {
     ghost id = { 0 };
 }
 
-/// An attempt to take a ticket for a post.
+/// The step of an attempt to take a ticket for a post.
 pub(crate) struct Take<B> {
     id: PhantomData<B>,
 }
@@ -52,7 +52,7 @@ impl<C, B: Posting> Play<RunState<C>, DeskView> for Take<B> {
     ghost then = { TriesTicket B.id };
 }
 
-/// A read of the ticket that is served.
+/// The step of a read of word 2, by which a pass with a ticket learns that its turn has begun.
 pub(crate) struct PollTicket;
 
 impl<C: Keeper> Play<RunState<C>, DeskView> for PollTicket {
@@ -62,7 +62,7 @@ impl<C: Keeper> Play<RunState<C>, DeskView> for PollTicket {
     ghost then = { LooksForTurn (HomeAs C.state C.lets) };
 }
 
-/// The end of a turn.
+/// The step that ends a turn.
 pub(crate) struct Serve;
 
 impl<C> Play<RunState<C>, DeskView> for Serve {
@@ -71,7 +71,7 @@ impl<C> Play<RunState<C>, DeskView> for Serve {
     ghost then = { Serves };
 }
 
-/// A read of the number of draws, after two passes are joined.
+/// The step of a read of the counter, after two passes are joined.
 pub(crate) struct See;
 
 impl<C> Play<RunState<C>, DeskView> for See {
@@ -80,7 +80,7 @@ impl<C> Play<RunState<C>, DeskView> for See {
     ghost then = { SeesSeats };
 }
 
-/// A split of one pass, or a join of two.
+/// The step of splitting a pass, or of joining two.
 pub(crate) struct DeskSplit;
 
 impl Split<DeskView> for DeskSplit {

@@ -1,13 +1,13 @@
-//! Laws on the contents of a run's saves, each the contract of an empty function.
+//! Laws of the saves of a run. Each law is the contract of a function with an empty body.
 
 ghost use Rattle.tally_desk.specs.Holding.{RunAttemptsAreRight, SavesHoldParts};
 
-/// Shows that a save holds all initial outcomes and those of some ids to do.
+/// Shows that each save holds all initial outcomes and the outcomes of some ids of `todo`.
 pub fn saves_hold_parts()
     ensures { SavesHoldParts }
 {}
 
-/// Shows that the outcomes of each save attempt were found by the job's trajectories, if the initial outcomes were.
+/// Shows that the job's trajectories found the outcomes of each save attempt, if they found the initial outcomes.
 pub fn run_attempts_are_right()
     ensures { RunAttemptsAreRight }
 {}

@@ -14,8 +14,8 @@ use audit_io::keeper::Keeper;
 use audit_io::source::Failed;
 use ckpt_store::save;
 
-/// Sorts all outcomes by rising id, and saves their checkpoint unless the last post saved one. Only the keeper may
-/// allocate.
+/// Sorts all outcomes by rising id. Saves their checkpoint, unless a save with the last post succeeded. Only the keeper
+/// may allocate.
 pub fn save_rest<C: Keeper>(state: &mut RunState<C>) -> Result<(), Failed>
     requires place { IsPlace state.old.place }
     requires room { HasSaveRoom state.old.book.total state.old.sorted state.old.room }

@@ -23,8 +23,8 @@ pub struct DeskPlan {
     pub place: Place,
 }
 
-/// The state of a run that saves, from its start to its end. A desk takes it over, changes it with each post, and
-/// returns it when it is closed. Posting and saving allocate nothing.
+/// The state of a run that saves. A desk takes the state over, changes it with each post, and returns it when the desk
+/// is closed. Posting and saving allocate nothing, but the keeper may.
 #[derive(Drop)]
 pub struct RunState<C> {
     /// The initial outcomes, and those that were posted.
@@ -162,7 +162,7 @@ impl<C: Keeper> RunState<C> {
         }
     }
 
-    // Saves a checkpoint of the book if one is due after this number of posts. Returns true if a save was made and
+    // Saves a checkpoint of the book if a save is due after this number of posts. Returns true if a save was made and
     // succeeded.
     fn save_where_due(&mut self, posts: u64) -> bool
         requires every { 1 ≤ self.old.save_every }
@@ -178,8 +178,8 @@ impl<C: Keeper> RunState<C> {
         self.save_book()
     }
 
-    /// Appends an outcome, and saves a checkpoint of the book if the number of posts is a multiple of `save_every`.
-    /// `todo` has the ids of the run. Returns true if a save was made and succeeded. Only the keeper may allocate.
+    /// Adds the outcome of a post, and saves a checkpoint of the book if a save is due. `todo` has the ids of the run.
+    /// Returns true if a save was made and succeeded. Only the keeper may allocate.
     pub fn turn(&mut self, outcome: Outcome, todo: &[u32]) -> bool
         requires { (parts : Parts) × ((posted : List model.Entry) × MayTurn C.state C.lets parts self.old posted outcome) }
         ensures turned { (parts : Parts) (posted : List model.Entry) → MayTurn C.state C.lets parts self.old posted outcome
@@ -198,8 +198,8 @@ impl<C: Keeper> RunState<C> {
         saved
     }
 
-    // Hashes a little more of the next checkpoint. After a due save it starts the next checkpoint instead, if another
-    // save will come.
+    // Hashes a little more of the next checkpoint. If a save was due after these posts and one more will be due, starts
+    // the prefix of the next checkpoint instead.
     fn look_ahead(&mut self, posts: u64, todo: &[u32])
         ensures { self.new ≡ record self.old { next = self.new.next } }
     {

@@ -1,5 +1,4 @@
-//! A pass at a desk as proofs know it (`DeskView`), and the values that a desk was made with (`Founding`).
-//! (`Founding`).
+//! The knowledge of proofs about a pass (`DeskView`) and about the start of a desk (`Founding`).
 
 use audit_model::lists::UnitList;
 use audit_model::place::Place;
@@ -8,8 +7,7 @@ use plan_core::job::Job;
 use std::marker::Model;
 use std::snapshot::Snapshot;
 
-/// The claims, the posts and the turn of a pass, as proofs know them. No value is ever made at run
-/// time.
+/// The claims, the posts and the turn of a pass, in proofs only. No value of this type exists at run time.
 pub struct DeskView {
     nothing: (),
 }
@@ -22,7 +20,7 @@ impl Model for DeskView {
     ghost view = { λ _. spent_view };
 }
 
-/// The initial state of a desk as it was passed in, for proofs only.
+/// The arguments with which a desk was made, as proofs know them.
 #[derive(Drop)]
 pub struct Founding<C> {
     pub(crate) job: Snapshot<Job>,

@@ -1,4 +1,4 @@
-//! Walks the trajectories of a run that saves, in several threads.
+//! The threads of a run that saves, and the join of their passes.
 
 ghost use Rattle.std.specs.Prelude.{◌≡◌, ◌+◌, ◌<◌, ℕ, All, true, vec_len};
 ghost use Rattle.tally_desk.specs.Tables.{parts_at, table_of};
@@ -16,7 +16,7 @@ use plan_core::job::Job;
 use std::sync::Wait;
 use std::thread::Threads;
 
-/// Runs each worker in its own thread, if one can be started.
+/// Runs each worker in a thread of its own, if one can be started.
 pub fn walk_each<R: Threads + Wait + Sync, C: Keeper + Send, J: Judge + Send, G: Gate + Sync>(
     rt: &Runtime<R, G>,
     job: &Job,

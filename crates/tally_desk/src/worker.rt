@@ -1,4 +1,4 @@
-//! One thread of a run that saves.
+//! A worker of a run that saves.
 
 use crate::desk::Desk;
 use crate::pass::DeskPass;
@@ -11,7 +11,7 @@ use flip_guard::judge::Judge;
 use plan_core::job::Job;
 use std::sync::Wait;
 
-/// A walker, a pass, and the outcomes buffered while another worker had its turn. The buffer never grows.
+/// A worker: a walker, a pass, and a buffer of outcomes. The buffer never grows beyond its capacity.
 #[derive(Drop)]
 pub struct DeskWorker<J: Judge> {
     pub walker: GatedWalker<J>,
@@ -24,8 +24,8 @@ impl<J: Judge> DeskWorker<J> {
     ghost use Rattle.tally_desk.specs.Tables.{parts_at, table_of};
     ghost use Rattle.tally_desk.specs.Pools.{IsDeskWorkerDone, IsUnstartedAtDesk, WalksAtDesk};
 
-    /// Claims ids at the desk until none is left, walks each trajectory and posts its outcome. While another worker has
-    /// its turn, outcomes are buffered and posted after a later walk.
+    /// Claims ids until none is left, walks each trajectory, and posts its outcome. Outcomes that cannot be posted at
+    /// once are buffered, and posted after a later walk or at the end.
     pub fn run<R: Wait, C: Keeper, G: Gate>(
         &mut self,
         rt: &R,
