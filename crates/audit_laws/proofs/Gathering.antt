@@ -1,24 +1,12 @@
 -- Slots reached by runs and gatherings, in any folders, are consistent.
-use Rattle.std.proofs.Common.{◌≡◌, ◌⊎◌, inl, inr, ◌∙◌, ℕ, Bool, true, false, List, length, take, Option, Some, None, refl, sym, ap, subst}
-use Rattle.std.proofs.lemmas.Bool.{cases_lt}
-use Rattle.std.proofs.lemmas.List.{take_all}
-use Rattle.std.proofs.lemmas.Slice.Eq.{bytes_eq-Decides}
-use Rattle.audit_model.specs.Pair.{Pair, Stored, stored}
+use Rattle.std.proofs.Common.{List}
+use Rattle.audit_model.specs.Pair.{Pair, stored}
 use Rattle.audit_model.specs.declared.outcome.Outcome.{Outcome}
-use Rattle.audit_model.specs.First.{first_below}
 use Rattle.audit_model.specs.Job.{Job}
 use Rattle.audit_model.specs.Run.{IsConsistent}
-use Rattle.audit_model.specs.Trajectory.{Draws}
-use Rattle.audit_statement.specs.Checkpoint.{IsCheckpoint, job_digest}
-use Rattle.audit_statement.specs.Slots.{IsConsistentSlot, slot_of, IsNotOurs}
-use Rattle.ckpt_format.specs.declared.decode.Checkpoint.{Checkpoint}
-use Rattle.ckpt_format.proofs.Made.{none-from_checkpoint}
-use Rattle.ckpt_format.proofs.Stated.{checkpoints_are_read, checkpoints_have_length}
-use Rattle.ckpt_store.specs.Fitting.{is_unfit, slot_judged_digest, slot_judged_ours}
-use Rattle.audit_statement.specs.Histories.{IsEnded}
+use Rattle.audit_statement.specs.Checkpoint.{job_digest}
+use Rattle.audit_statement.specs.Slots.{slot_of}
 use Rattle.ckpt_store.specs.Laws.{ConsistentSlotsOpenRight, RightIsConsistent, SavesLeaveConsistentSlots, StopsLeaveConsistentSlots}
-use Rattle.ckpt_store.proofs.Judged.{slot_of_read}
-use Rattle.ckpt_store.proofs.Prefixes.{cut_is_broken}
 use Rattle.audit_statement.specs.Draw.{draw}
 use Rattle.ckpt_store.specs.GatheredLaws.{ConsistentSlotsGiveConsistentOutcomes}
 use Rattle.outcome_book.specs.Laws.{UnionsAreConsistent}

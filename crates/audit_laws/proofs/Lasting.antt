@@ -26,7 +26,7 @@ use Rattle.audit_model.proofs.Below.{length-map_below, get_or-map_below}
 use Rattle.audit_model.proofs.Filtered.{each_passes}
 use Rattle.audit_model.proofs.First.{first_below_none}
 use Rattle.audit_model.proofs.Fitting as fitting
-use Rattle.audit_statement.specs.Checkpoint.{IsCheckpoint, checkpoint, checkpoint_fault, digest_place, generation_place, job_digest, stated_count}
+use Rattle.audit_statement.specs.Checkpoint.{IsCheckpoint, checkpoint_fault, digest_place, generation_place, job_digest, stated_count}
 use Rattle.audit_statement.specs.Draw.{draw}
 use Rattle.audit_statement.specs.Endings.{StartsFrom, first_place, initial_outcomes_from, place_of, saves}
 use Rattle.audit_statement.specs.Histories.{AreCarriedOut, AreInTurn, HasFailed, IsNotValid, KeepsNewest, bytes_at, newest_bytes, stopped_in}

@@ -1,6 +1,6 @@
 -- The lengths of edges, and the total length of the edges that a plan cuts: the perimeter between districts, as
 -- GerryChain's `interior_boundaries` adds it up from `shared_perim`. It is a sum over edges; the code keeps a running total.
-use Rattle.std.specs.Prelude.{◌≡◌, ◌⊎◌, ℕ, ◌+◌, ◌*◌, ◌^◌, ◌<◌, ◌==◌, ◌&&◌, Bool, cond, not, IsTrue, List, [], length, slice_index}
+use Rattle.std.specs.Prelude.{◌≡◌, ◌⊎◌, ℕ, ◌+◌, ◌^◌, ◌<◌, ◌==◌, ◌&&◌, Bool, cond, not, IsTrue, List, [], length, slice_index}
 use Rattle.std.specs.List.{All, slice_index_or}
 use Rattle.audit_model.specs.Below.{count_below, sum_below}
 use Rattle.audit_model.specs.Graph.{Graph, adjacent}

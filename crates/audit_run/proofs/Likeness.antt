@@ -1,5 +1,5 @@
 -- Plans of one graph and one setting agree in everything that their constraints are made of.
-use Rattle.std.proofs.Common.{◌≡◌, ◌∙◌, ℕ, ◌<◌, List, length, sym, subst}
+use Rattle.std.proofs.Common.{◌≡◌, ◌∙◌, ◌<◌, List, length, sym, subst}
 use Rattle.std.specs.List.{All, slice_index_or}
 use Rattle.audit_model.specs.JobOf.{IsJob}
 use Rattle.plan_csv.specs.declared.named.Named.{Named}

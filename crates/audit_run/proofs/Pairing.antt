@@ -1,5 +1,5 @@
 -- Two lists whose elements correspond in order.
-use Rattle.std.proofs.Common.{ℕ, suc, ◌++◌, List, [], ◌∷◌, arith}
+use Rattle.std.proofs.Common.{suc, ◌++◌, List, [], ◌∷◌, arith}
 use Rattle.std.specs.List.{All}
 use Rattle.plan_runs.specs.Paired.{ArePaired}
 

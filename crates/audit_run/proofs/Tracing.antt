@@ -10,7 +10,7 @@ use Rattle.audit_model.specs.State.{Kept, Stream}
 use Rattle.audit_model.specs.declared.setting.Command.{Command}
 use Rattle.audit_model.specs.declared.setting.Command.TheVariants.{Trace}
 use Rattle.audit_statement.specs.Draw.{draw}
-use Rattle.audit_statement.specs.Endings.{AppendsPart, IsPrepared, NoSaveFailed, SameUnless, SavesWhere, WritesText, is_walking, saves}
+use Rattle.audit_statement.specs.Endings.{AppendsPart, NoSaveFailed, SameUnless, SavesWhere, WritesText, is_walking, saves}
 use Rattle.audit_statement.specs.Trace.{trace_text}
 use Rattle.audit_statement.specs.World.{World, world}
 use Rattle.audit_laws.specs.Calls.{Finishes}

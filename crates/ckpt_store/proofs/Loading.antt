@@ -1,5 +1,5 @@
 -- A slot with more bytes than a checkpoint can have.
-use Rattle.std.proofs.Common.{◌≡◌, ℕ, ◌+◌, ◌<◌, List, length, Option, Some, None, refl, sym, arith}
+use Rattle.std.proofs.Common.{ℕ, ◌+◌, ◌<◌, List, length, Option, Some, None, refl, sym, arith}
 use Rattle.std.specs.Prelude.{Err, replicate}
 use Rattle.std.proofs.lemmas.List.{length-replicate}
 use Rattle.audit_model.specs.Pair.{Pair, stored}

@@ -1,16 +1,15 @@
 -- The effect of a failed gathering on a keeper that was only looked at before.
-use Rattle.std.proofs.Common.{◌≡◌, ◌∙◌, Bool, List, ℕ, true, false, ◌&&◌, refl, sym, subst, Option, Result, Ok, Err, IfErr}
+use Rattle.std.proofs.Common.{◌≡◌, ◌∙◌, Bool, List, ℕ, false, subst, Option, Result, Ok, Err, IfErr}
 use Rattle.audit_model.specs.Faults.{Rose}
 use Rattle.audit_model.specs.Pair.{Pair, KeepsOther}
 use Rattle.audit_model.specs.State.{Kept}
-use Rattle.audit_model.specs.Attempts.{Try, attempted_too}
+use Rattle.audit_model.specs.Attempts.{attempted_too}
 use Rattle.audit_model.specs.declared.outcome.Outcome.{Outcome}
 use Rattle.audit_model.specs.Job.{Job}
 use Rattle.audit_statement.specs.Checkpoint.{checkpoint}
 use Rattle.ckpt_store.specs.declared.gather_result.Ungathered.{Ungathered}
 use Rattle.ckpt_store.specs.declared.gather_result.Ungathered.TheVariants as ungathered
-use Rattle.audit_statement.specs.Due.{Lets}
-use Rattle.ckpt_store.specs.Whole.{HasBegun, HasFailed, IsUnsaved, IsUnsavedUnion, IsUntouched, LetsGathering, MayBeSaved}
+use Rattle.ckpt_store.specs.Whole.{HasFailed, IsUnsaved, IsUnsavedUnion, IsUntouched, MayBeSaved}
 
 -- two looks in a row leave the keeper untouched
 more : (before between after : Kept) → IsUntouched before between → IsUntouched between after → IsUntouched before after

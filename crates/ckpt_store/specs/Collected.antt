@@ -1,6 +1,6 @@
 -- The union of several folders' outcomes, and the outcomes that each folder added.
 -- Source: this project. The first list is that of the working folder.
-use Rattle.std.specs.Prelude.{◌≡◌, ℕ, ◌<◌, List, [], ◌∷◌, ◌++◌, length, get_or}
+use Rattle.std.specs.Prelude.{ℕ, ◌<◌, List, [], ◌∷◌, ◌++◌, length, get_or}
 use Rattle.audit_model.specs.declared.outcome.Outcome.{Outcome}
 use Rattle.outcome_book.specs.Union.{AgreesWith}
 

@@ -1,6 +1,6 @@
 -- The effect of a whole gathering.
 -- Source: this project. The slots are stated from the findings, while the code looks at one folder after the other.
-use Rattle.std.specs.Prelude.{◌≡◌, ℕ, Bool, true, false, ◌&&◌, List, [], length, Option}
+use Rattle.std.specs.Prelude.{◌≡◌, ℕ, Bool, true, false, ◌&&◌, List, length, Option}
 use Rattle.audit_model.specs.Faults.{Rose}
 use Rattle.audit_model.specs.Pair.{HoldsBytes, KeepsOther, Pair}
 use Rattle.audit_model.specs.State.{Kept}

@@ -1,5 +1,5 @@
 -- Predicates on the workers of a run in batches. Names say *part* for a batch.
-use Rattle.std.specs.Prelude.{◌≡◌, ℕ, ◌+◌, ◌-◌, ◌<◌, ◌≤◌, Bool, List, [], length, replicate, vec_capacity, vec_len, Vec}
+use Rattle.std.specs.Prelude.{◌≡◌, ℕ, ◌+◌, ◌-◌, ◌<◌, ◌≤◌, List, [], length, replicate, vec_capacity, vec_len, Vec}
 use Rattle.std.specs.List.{All}
 use Rattle.audit_model.specs.Job.{Job}
 use Rattle.audit_model.specs.Run.{total}

@@ -1,5 +1,5 @@
 -- The state of a worker before a run, between two draws, and after the run.
-use Rattle.std.specs.Prelude.{◌≡◌, ℕ, ◌+◌, ◌≤◌, Bool, true, false, List, [], length, map}
+use Rattle.std.specs.Prelude.{◌≡◌, ℕ, ◌+◌, ◌≤◌, true, false, List, [], length, map}
 use Rattle.claim_counter.specs.declared.claims.Claims.{Claims}
 use Rattle.claim_counter.specs.declared.pass.Pass.{Pass}
 use Rattle.claim_counter.specs.Records.{fresh, AreDifferentBelow}

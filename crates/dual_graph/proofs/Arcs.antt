@@ -1,7 +1,7 @@
 -- The places where rows begin, as numbers of directed edges.
-use Rattle.std.proofs.Common.{◌≡◌, ℕ, zero, suc, ◌+◌, ◌-◌, ◌<◌, ◌≤◌, List, [], length, get_or, drop, ap, ◌∙◌, add-one, arith}
+use Rattle.std.proofs.Common.{◌≡◌, ℕ, zero, suc, ◌+◌, ◌-◌, ◌<◌, ◌≤◌, List, [], length, get_or, drop, ap, add-one, arith}
 use Rattle.std.proofs.lemmas.List.{length-take, length-drop}
-use Rattle.audit_model.specs.Below.{map_below, sum_below}
+use Rattle.audit_model.specs.Below.{sum_below}
 use Rattle.audit_model.specs.Length.{degree}
 use Rattle.audit_model.proofs.Below.{get_or-map_below}
 use Rattle.dual_graph.specs.Flat.{row, graph_of, HasRows}

@@ -1,8 +1,8 @@
 -- The lengths of edges that are read against their definition.
-use Rattle.std.proofs.Common.{◌≡◌, ℕ, zero, suc, ◌+◌, ◌-◌, ◌^◌, ◌<◌, ◌≤◌, Bool, true, false, cond, not, ◌==◌, List, [], ◌∷◌, ◌++◌, length, get_or, map, Option, Some, None, refl, sym, ap, ◌∙◌, subst, inl, inr, arith}
+use Rattle.std.proofs.Common.{◌≡◌, ℕ, zero, suc, ◌+◌, ◌-◌, ◌^◌, ◌<◌, ◌≤◌, Bool, true, false, cond, not, ◌==◌, List, [], ◌++◌, length, get_or, map, Option, Some, None, refl, sym, ap, ◌∙◌, subst, inl, inr, arith}
 use Rattle.std.specs.Prelude.{codes, nat_le, nat_lt}
 use Rattle.std.specs.List.{All, slice_index_or}
-use Rattle.std.specs.Option.{is_none, option_and_then, option_map, option_or, unwrap_or}
+use Rattle.std.specs.Option.{option_and_then, option_map, option_or, unwrap_or}
 use Rattle.std.proofs.lemmas.Bool.{cases_Bool, cases_lt, cond-true, cond-false, leb-true, lt-ltb, le-ltb}
 use Rattle.std.proofs.lemmas.List.{ext_get_or, get_or_append_left, get_or-append-add, get_or-map, length-append, length-map}
 use Rattle.std.proofs.lemmas.List.Elements.{All-append}
@@ -12,7 +12,7 @@ use Rattle.audit_model.specs.declared.fault.GraphFault.{GraphFault}
 use Rattle.audit_model.specs.declared.fault.GraphFault.TheVariants as fault
 use Rattle.audit_model.specs.declared.setting.Columns.{Columns}
 use Rattle.audit_model.specs.declared.setting.Label.{Label}
-use Rattle.audit_model.specs.Below.{any_below, filter_below, join_below, map_below, sum_below}
+use Rattle.audit_model.specs.Below.{filter_below, join_below, sum_below}
 use Rattle.audit_model.specs.First.{first_below, first_some_below}
 use Rattle.audit_model.specs.Graph.{Graph, IsGraph, adjacent, has}
 use Rattle.audit_model.specs.Label.{same_label}
@@ -25,8 +25,8 @@ use Rattle.audit_model.proofs.ListFacts.{at_has, has_at}
 use Rattle.audit_statement.specs.Reading.{Document, graph, id_of, joined, node_named, same_id}
 use Rattle.audit_statement.specs.Reading as reading
 use Rattle.dual_json.specs.Edges.{entries_at, first_entry_in, first_in}
-use Rattle.dual_json.specs.Lengths.{all_lengths, fault_if_named, is_labelled, is_unequal, lacks_length, lacks_value, length_between, length_in, length_of_pair, length_or_zero, lengths_fault, lengths_if_named, listed_length, row_lengths, unequal_fault}
-use Rattle.dual_json.specs.Places.{AreLabels, nth, object_at, place_of_entry, place_of_label}
+use Rattle.dual_json.specs.Lengths.{all_lengths, fault_if_named, is_labelled, is_unequal, lacks_length, lacks_value, length_between, length_of_pair, length_or_zero, lengths_if_named, listed_length, row_lengths, unequal_fault}
+use Rattle.dual_json.specs.Places.{AreLabels, nth, object_at, place_of_label}
 use Rattle.dual_json.proofs.Bridge.{entry_same, option_map_same}
 
 -- ---- one list of several

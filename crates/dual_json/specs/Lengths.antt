@@ -1,5 +1,5 @@
 -- The lengths of edges, from an attribute of the adjacency entries.
-use Rattle.std.specs.Prelude.{◌≡◌, ℕ, ◌==◌, Bool, false, not, cond, nat_le, nat_lt, List, [], length, map, Option, Some, None, is_none, unwrap_or, option_map, option_and_then}
+use Rattle.std.specs.Prelude.{ℕ, ◌==◌, Bool, false, not, cond, nat_le, nat_lt, List, [], length, map, Option, Some, None, is_none, unwrap_or, option_map, option_and_then}
 use Rattle.std.specs.List.{slice_index_or}
 use Rattle.std.specs.Option.{option_or}
 use Rattle.serde_json.specs.Data.{Data}

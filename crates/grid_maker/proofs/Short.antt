@@ -3,7 +3,6 @@ use Rattle.std.proofs.Common.{◌≡◌, ℕ, zero, suc, ◌+◌, ◌-◌, ◌*�
 use Rattle.std.specs.Prelude.{decimal, option_to_list}
 use Rattle.std.specs.List.{join_with_byte}
 use Rattle.std.proofs.lemmas.Fmt.{length-decimal-le}
-use Rattle.std.proofs.Math.Nat.{suc-mul}
 use Rattle.audit_model.specs.Below.{filter_below, map_below}
 use Rattle.audit_statement.specs.Grid.{grid, grid_side, are_beside, first_votes_of, bracketed, neighbours_json, node_json}
 use Rattle.grid_maker.specs.Beside.{above, left, right, below}

@@ -1,7 +1,7 @@
 -- A constraint with all rules takes the plans of a job.
-use Rattle.std.proofs.Common.{◌≡◌, ◌∙◌, ℕ, ◌≤◌, Bool, true, ◌||◌, List, [], length, ap, refl, sym, inl, inr, arith}
+use Rattle.std.proofs.Common.{◌≡◌, ◌∙◌, ℕ, ◌≤◌, true, List, [], length, refl, sym, inl, inr, arith}
 use Rattle.std.specs.Prelude.{◌==◌, ◌⊎◌}
-use Rattle.std.proofs.lemmas.Bool.{and_from, eq-eqb, le-leb, or_right}
+use Rattle.std.proofs.lemmas.Bool.{eq-eqb, le-leb, or_right}
 use Rattle.audit_model.specs.declared.rules.Group.{Group}
 use Rattle.audit_model.specs.declared.rules.Rules.{Rules}
 use Rattle.audit_model.specs.Job.{Job, rules}

@@ -1,16 +1,13 @@
 -- The lines of a trajectory and of a range, one after the other.
-use Rattle.std.proofs.Common.{◌≡◌, ℕ, zero, suc, ◌+◌, ◌-◌, ◌*◌, ◌<◌, ◌≤◌, List, [], ◌∷◌, ◌++◌, length, min, take, map, replicate, Ok, Err, Result, pos, ℤ, refl, sym, ap, ◌∙◌, subst, arith, add-one, append-nil, append_assoc, codes}
-use Rattle.std.proofs.lemmas.List.{take-append-le}
-use Rattle.std.proofs.Math.Seq.{take-length}
-use Rattle.std.specs.Io.KnownBytes.{Appends}
+use Rattle.std.proofs.Common.{◌≡◌, ℕ, zero, suc, ◌+◌, ◌-◌, ◌*◌, ◌≤◌, List, [], ◌∷◌, ◌++◌, length, min, take, replicate, Ok, Err, Result, pos, ℤ, refl, sym, ap, ◌∙◌, subst, arith, add-one, append-nil, append_assoc, codes}
 use Rattle.audit_io.specs.declared.source.Failed.{Failed}
 use Rattle.audit_model.specs.Faults.{Rose}
 use Rattle.audit_model.specs.Job.{Job}
 use Rattle.audit_model.specs.State.{Stream}
 use Rattle.audit_model.specs.Trajectory.{Draws, four_values}
-use Rattle.audit_statement.specs.Along.{ask_values, moves_after, own_steps, plan_after}
+use Rattle.audit_statement.specs.Along.{own_steps, plan_after}
 use Rattle.audit_statement.specs.Report.{line}
-use Rattle.audit_statement.specs.Trace.{count_shown, first_lines, line_at, plan_line, shown, range_lines, shown_before, trace_head, trace_id_line, trace_line, trace_text, trajectory_lines}
+use Rattle.audit_statement.specs.Trace.{count_shown, first_lines, line_at, shown, range_lines, trace_head, trace_id_line, trace_line, trace_text, trajectory_lines}
 use Rattle.report.specs.Said.{WritesAllOf}
 use Rattle.report.proofs.Appended.{appends_more, appends_nothing, part_after, part_of_more}
 

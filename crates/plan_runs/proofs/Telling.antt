@@ -1,5 +1,5 @@
 -- The outcomes of a run are those that its report covers.
-use Rattle.std.proofs.Common.{◌≡◌, ◌∙◌, ℕ, ◌<◌, ◌≤◌, List, [], length, take, refl, sym, ap, subst, arith}
+use Rattle.std.proofs.Common.{◌≡◌, ◌∙◌, ℕ, ◌≤◌, List, [], length, take, sym, ap, subst, arith}
 use Rattle.std.proofs.lemmas.List.{length-take, take_all}
 use Rattle.audit_model.specs.declared.outcome.Outcome.{Outcome}
 use Rattle.audit_model.specs.Below.{map_below}
@@ -9,7 +9,7 @@ use Rattle.audit_model.specs.Stopping.{stops_of}
 use Rattle.audit_model.specs.Trajectory.{outcome, sequence}
 use Rattle.audit_statement.specs.Draw.{draw}
 use Rattle.audit_statement.specs.Report.{report}
-use Rattle.report.specs.Outcomes.{AreStopsOf, reported}
+use Rattle.report.specs.Outcomes.{AreStopsOf}
 use Rattle.sequential_test.specs.Rounds.{AreParts, StopsInTime}
 use Rattle.audit_laws.specs.Runs.{AreAll, IsRunJob}
 use Rattle.audit_laws.proofs.Running.{no_stops, reports_all, run_setting, whole_outcomes}

@@ -1,5 +1,5 @@
 -- The serial test of a run.
-use Rattle.std.proofs.Common.{◌≡◌, ℕ, ◌≤◌, Bool, true, false, List, Some, refl, sym, subst}
+use Rattle.std.proofs.Common.{◌≡◌, ◌≤◌, Bool, true, false, Some, refl, sym, subst}
 use Rattle.audit_model.specs.declared.outcome.Serial.{Serial}
 use Rattle.audit_model.specs.Job.{Job}
 use Rattle.audit_model.specs.Serially.{place_and_ranks}

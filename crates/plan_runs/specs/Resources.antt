@@ -1,5 +1,5 @@
 -- The resources of a run that saves nothing.
-use Rattle.std.specs.Prelude.{◌≡◌, ℕ, ◌+◌, ◌≤◌, Bool, List, length, Vec, vec_len}
+use Rattle.std.specs.Prelude.{◌≡◌, ℕ, ◌+◌, ◌≤◌, length, Vec, vec_len}
 use Rattle.flip_guard.specs.Judging.{Judging}
 use Rattle.audit_model.specs.Job.{Job}
 use Rattle.claim_counter.specs.declared.pool.WorkerPool.{WorkerPool}

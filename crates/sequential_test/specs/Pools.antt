@@ -1,5 +1,5 @@
 -- Predicates on the workers of a run whose tests stop early.
-use Rattle.std.specs.Prelude.{◌≡◌, ℕ, suc, ◌+◌, ◌-◌, ◌<◌, ◌≤◌, Bool, List, length, vec_len, IsPermutation}
+use Rattle.std.specs.Prelude.{◌≡◌, ℕ, suc, ◌+◌, ◌-◌, ◌<◌, ◌≤◌, List, length, vec_len, IsPermutation}
 use Rattle.std.specs.List.{slice_index_or}
 use Rattle.audit_model.specs.Job.{Job}
 use Rattle.audit_model.specs.Room.{RoomyOutcomes}

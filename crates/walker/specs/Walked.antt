@@ -2,7 +2,7 @@
 use Rattle.std.specs.Prelude.{◌≡◌, ℕ, List}
 use Rattle.audit_model.specs.Job.{Job}
 use Rattle.audit_model.specs.Trajectory.{moves, visit}
-use Rattle.audit_statement.specs.Along.{first_plan, moves_after, plan_after, stream_of}
+use Rattle.audit_statement.specs.Along.{first_plan, stream_of}
 use Rattle.audit_statement.specs.Draw.{draw}
 use Rattle.chacha_draws.specs.DrawPlace.{DrawPlace}
 use Rattle.flip_kernel.specs.ChainState.{ChainState}

@@ -1,4 +1,4 @@
-use Rattle.std.proofs.Common.{◌<◌, ◌≤◌, ℕ, sym, subst}
+use Rattle.std.proofs.Common.{◌<◌, ◌≤◌, sym, subst}
 use Rattle.plan_runs.specs.declared.tracing.TraceRange.{TraceRange}
 use Rattle.audit_run.proofs.Tracing.{good_range, traced_ends}
 use Rattle.audit_run.proofs.trace.trace_job.Goals as goal

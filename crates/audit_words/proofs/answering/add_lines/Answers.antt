@@ -1,4 +1,4 @@
-use Rattle.std.proofs.Common.{Bor, List, ℕ, [], arith, get_or, refl}
+use Rattle.std.proofs.Common.{Bor, List, ℕ, [], arith, refl}
 use Rattle.audit_words.proofs.Lines.{adds_as, adds_both, adds_none, lines_all, lines_next}
 use Rattle.audit_words.proofs.answering.add_lines.Goals as goal
 

@@ -1,5 +1,5 @@
 use Rattle.std.proofs.Common.{ap, ◌∙◌}
-use Rattle.audit_statement.specs.Checkpoint.{digest_name, has_further_rules, has_newer_rules, has_rules}
+use Rattle.audit_statement.specs.Checkpoint.{digest_name, has_further_rules, has_rules}
 use Rattle.ckpt_format.proofs.Hashing.{hashes_same}
 use Rattle.ckpt_format.proofs.digest.hash_name_of.Goals as goal
 

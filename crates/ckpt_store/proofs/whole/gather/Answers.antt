@@ -1,4 +1,4 @@
-use Rattle.std.proofs.Common.{◌∙◌, map, sym}
+use Rattle.std.proofs.Common.{◌∙◌, map}
 use Rattle.ckpt_store.proofs.Untouched.{may_from, unsaved_from}
 use Rattle.ckpt_store.proofs.whole.gather.Goals as goal
 

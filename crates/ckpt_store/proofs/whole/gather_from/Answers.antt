@@ -1,4 +1,4 @@
-use Rattle.std.proofs.Common.{◌≡◌, ◌∙◌, ℕ, List, ap, map, refl, sym, subst}
+use Rattle.std.proofs.Common.{◌∙◌, ℕ, List, ap, map, refl, sym, subst}
 use Rattle.std.proofs.lemmas.Bool.{true≢false}
 use Rattle.audit_statement.specs.Due.{LetsCheckpoint}
 use Rattle.ckpt_store.specs.Findings.{AreFound, may_save}

@@ -1,4 +1,4 @@
-use Rattle.std.proofs.Common.{◌≡◌, ℕ, List, [], length, set, sym, ap, ◌∙◌, arith}
+use Rattle.std.proofs.Common.{◌≡◌, length, set, sym, ◌∙◌, arith}
 use Rattle.district_sums.proofs.Measured.{nothing_cut}
 use Rattle.district_sums.proofs.lengths.length_after.Goals as goal
 

@@ -1,11 +1,10 @@
-use Rattle.std.proofs.Common.{◌≡◌, ℕ, ◌+◌, ◌-◌, ◌*◌, ◌^◌, ◌<◌, ◌≤◌, Bool, ◌==◌, ◌&&◌, cond, not, List, [], length, get_or, set, take, refl, sym, ap, ◌∙◌, subst, inl, inr, arith, add-one}
+use Rattle.std.proofs.Common.{◌≡◌, ℕ, ◌+◌, ◌-◌, ◌<◌, ◌≤◌, Bool, ◌==◌, ◌&&◌, cond, not, List, [], length, get_or, take, sym, ap, ◌∙◌, subst, inl, inr, arith}
 use Rattle.std.specs.Prelude.{nat_lt}
 use Rattle.std.proofs.lemmas.Bool.{cases_Bool, cond-true, cond-false}
 use Rattle.audit_model.specs.Below.{sum_below}
 use Rattle.audit_model.specs.Graph.{Graph, IsGraph}
-use Rattle.audit_model.specs.Length.{AreLengths, degree, edge_length}
-use Rattle.audit_model.proofs.Lengths.{degree_few, length_small}
-use Rattle.district_sums.specs.Following.{length_apart}
+use Rattle.audit_model.specs.Length.{degree, edge_length}
+use Rattle.audit_model.proofs.Lengths.{degree_few}
 use Rattle.district_sums.proofs.Measured.{among_all, among_more, among_none, apart_among, length_read, length_there}
 use Rattle.district_sums.proofs.lengths.lengths_apart.Goals as goal
 

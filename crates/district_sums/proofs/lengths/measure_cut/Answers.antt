@@ -1,5 +1,4 @@
-use Rattle.std.proofs.Common.{◌≡◌, List, [], length, sym, ap, ◌∙◌, arith}
-use Rattle.audit_model.specs.Length.{cut_length}
+use Rattle.std.proofs.Common.{sym, arith}
 use Rattle.district_sums.proofs.Measured.{nothing_cut}
 use Rattle.district_sums.proofs.lengths.measure_cut.Goals as goal
 

@@ -1,6 +1,4 @@
-use Rattle.std.proofs.Common.{◌≡◌, ℕ, ◌+◌, ◌<◌, List, length, get_or, set, ap, ◌∙◌, arith}
-use Rattle.audit_model.specs.Graph.{Graph}
-use Rattle.audit_model.specs.Length.{AreLengths, cut_length}
+use Rattle.std.proofs.Common.{◌≡◌, ℕ, ◌<◌, List, length, get_or, ap, ◌∙◌, arith}
 use Rattle.audit_model.proofs.Lengths.{cut_length_few}
 use Rattle.district_sums.specs.Following.{length_apart}
 use Rattle.district_sums.proofs.Measured.{shifted_length, apart_few}

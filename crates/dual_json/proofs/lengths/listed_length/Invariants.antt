@@ -1,6 +1,6 @@
 use Rattle.std.proofs.Common.{◌≡◌, None}
 use Rattle.audit_model.specs.First.{first_below}
-use Rattle.dual_json.specs.Lengths.{is_labelled, length_or_zero}
+use Rattle.dual_json.specs.Lengths.{is_labelled}
 use Rattle.dual_json.specs.Names.{label_from}
 use Rattle.dual_json.specs.Places.{object_at}
 use Rattle.dual_json.specs.Shape.{views}

@@ -1,7 +1,7 @@
 use Rattle.std.proofs.Common.{◌≡◌, ◌∙◌, ℕ, zero, suc, ap, refl, sym}
 use Rattle.audit_model.specs.declared.setting.Setting.{Setting}
 use Rattle.audit_model.specs.Job.{Job}
-use Rattle.report.specs.Outcomes.{reported, reported_by}
+use Rattle.report.specs.Outcomes.{reported_by}
 use Rattle.audit_laws.proofs.Running.{reports_all}
 use Rattle.plan_runs.proofs.ending.due.Goals as goal
 

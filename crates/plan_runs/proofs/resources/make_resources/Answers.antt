@@ -1,4 +1,4 @@
-use Rattle.std.proofs.Common.{◌≤◌, ◌∙◌, arith}
+use Rattle.std.proofs.Common.{arith}
 use Rattle.audit_model.proofs.ListFacts.{popped_last, popped_rest}
 use Rattle.flip_kernel.specs.Judged.{IsJudgeFor}
 use Rattle.plan_runs.proofs.resources.make_resources.Goals as goal

@@ -1,4 +1,4 @@
-use Rattle.std.proofs.Common.{◌≡◌, ◌∙◌, ap, sym, subst}
+use Rattle.std.proofs.Common.{◌∙◌, ap, sym, subst}
 use Rattle.audit_model.specs.declared.setting.Setting.{Setting}
 use Rattle.plan_runs.specs.RunBuffers.{AreBuffersFor}
 use Rattle.plan_runs.proofs.saving.make_saved_resources.Goals as goal

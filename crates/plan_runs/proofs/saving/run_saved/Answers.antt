@@ -1,4 +1,4 @@
-use Rattle.std.proofs.Common.{◌≡◌, ◌∙◌, ◌≤◌, ℕ, List, ap, arith, subst, sym}
+use Rattle.std.proofs.Common.{◌∙◌, ◌≤◌, ℕ, List, ap, arith, subst, sym}
 use Rattle.tally_desk.specs.Pools.{IsDeskPool}
 use Rattle.report.specs.declared.ended.Ended.{Ended}
 use Rattle.audit_laws.specs.Calls.{Finishes}

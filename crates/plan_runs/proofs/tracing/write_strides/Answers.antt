@@ -1,11 +1,9 @@
-use Rattle.std.proofs.Common.{◌≡◌, ◌<◌, ◌≤◌, ◌+◌, ◌-◌, ℕ, List, min, Ok, Err, ap, sym, subst, ◌∙◌, arith}
+use Rattle.std.proofs.Common.{◌≡◌, ◌<◌, ◌≤◌, ◌+◌, ◌-◌, ℕ, min, Ok, Err, ap, sym, subst, ◌∙◌, arith}
 use Rattle.audit_model.specs.Rounded.{quotient_up}
 use Rattle.audit_statement.specs.Along.{own_steps}
 use Rattle.audit_statement.specs.Draw.{draw}
 use Rattle.flip_kernel.specs.ChainState.{ChainState}
-use Rattle.plan_runs.specs.Tracers.{IsCurrentAt}
 use Rattle.plan_runs.proofs.Strides.{lines_cut, lines_then, shown_next}
-use Rattle.report.specs.Said.{WritesAllOf}
 use Rattle.walker.specs.Walked.{IsUnderWay}
 use Rattle.plan_runs.proofs.tracing.write_strides.Goals as goal
 

@@ -1,4 +1,4 @@
-use Rattle.std.proofs.Common.{ℕ, List, ◌++◌, Ok, Err, sym, subst, ◌∙◌}
+use Rattle.std.proofs.Common.{ℕ, List, Ok, Err, sym, subst, ◌∙◌}
 use Rattle.audit_statement.specs.Draw.{draw}
 use Rattle.audit_statement.specs.Trace.{trace_id_line}
 use Rattle.plan_runs.specs.Tracers.{all_lines}

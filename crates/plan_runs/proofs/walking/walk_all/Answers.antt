@@ -1,5 +1,4 @@
-use Rattle.std.proofs.Common.{◌∙◌, refl, sym, subst, ap, length}
-use Rattle.audit_model.specs.declared.outcome.Outcome.{Outcome}
+use Rattle.std.proofs.Common.{◌∙◌, refl, sym, subst}
 use Rattle.claim_counter.specs.Walks.{IsTodo, IsWithin}
 use Rattle.audit_laws.proofs.Running.{are_all}
 use Rattle.plan_runs.proofs.Telling.{all_found}

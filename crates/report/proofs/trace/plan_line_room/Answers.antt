@@ -1,4 +1,3 @@
-use Rattle.std.proofs.Common.{arith}
 use Rattle.report.proofs.Changes.{plan_line_le, trace_id_line_le}
 use Rattle.report.proofs.trace.plan_line_room.Goals as goal
 

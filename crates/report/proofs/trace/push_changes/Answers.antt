@@ -1,9 +1,9 @@
-use Rattle.std.proofs.Common.{◌≡◌, true, Ok, arith, length}
+use Rattle.std.proofs.Common.{◌≡◌, true, arith, length}
 use Rattle.std.specs.Prelude.{◌==◌, not, slice_index}
 use Rattle.std.proofs.lemmas.Bool.{ne_eqb, not_from_false}
 use Rattle.std.proofs.lemmas.Result.{err_from_is_err_and}
 use Rattle.audit_statement.specs.Trace.{change_word}
-use Rattle.report.proofs.Changes.{appends-none, observed, observed_more, observed_same, observed_err}
+use Rattle.report.proofs.Changes.{appends-none, observed_err}
 use Rattle.report.proofs.trace.push_changes.Goals as goal
 
 pub loop-unit-init : goal.loop-unit-init

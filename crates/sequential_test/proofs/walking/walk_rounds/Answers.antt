@@ -1,4 +1,4 @@
-use Rattle.std.proofs.Common.{◌≡◌, ◌∙◌, ℕ, ◌+◌, ◌≤◌, ap, arith, length, min, ◌*◌, refl, subst, sym, vec_len}
+use Rattle.std.proofs.Common.{◌∙◌, ℕ, ◌+◌, ◌≤◌, ap, arith, length, min, ◌*◌, refl, subst, sym, vec_len}
 use Rattle.audit_model.specs.Run.{total}
 use Rattle.audit_model.proofs.Below.{length-map_below}
 use Rattle.audit_model.specs.declared.setting.Setting.{Setting}

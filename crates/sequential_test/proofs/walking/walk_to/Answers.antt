@@ -1,4 +1,4 @@
-use Rattle.std.proofs.Common.{◌≡◌, ◌∙◌, ℕ, ap, arith, length, subst, sym, vec_len}
+use Rattle.std.proofs.Common.{◌∙◌, ℕ, ap, arith, subst, sym, vec_len}
 use Rattle.claim_counter.specs.Parts.{IsFreshPart}
 use Rattle.outcome_book.specs.Booked.{AreApart}
 use Rattle.audit_model.specs.Run.{by_id}

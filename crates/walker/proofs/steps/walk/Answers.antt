@@ -1,6 +1,6 @@
-use Rattle.std.proofs.Common.{refl, ap, ◌∙◌, arith}
+use Rattle.std.proofs.Common.{refl, ap, ◌∙◌}
 use Rattle.audit_model.specs.declared.setting.Setting.{Setting}
-use Rattle.walker.proofs.Stepping.{walked_all, walked_state, walked_moves}
+use Rattle.walker.proofs.Stepping.{walked_all, walked_state}
 use Rattle.walker.proofs.steps.walk.Goals as goal
 
 pub returns-clause-plan : goal.returns-clause-plan

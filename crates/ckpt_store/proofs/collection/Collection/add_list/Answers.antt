@@ -1,4 +1,4 @@
-use Rattle.std.proofs.Common.{◌≡◌, ◌∙◌, List, ap, map, subst, sym}
+use Rattle.std.proofs.Common.{◌∙◌, List, ap, map, subst, sym}
 use Rattle.audit_model.specs.declared.buffers.RoomyList.{RoomyList}
 use Rattle.audit_model.specs.declared.outcome.Outcome.{Outcome}
 use Rattle.outcome_book.specs.Gathered.{Gathered}

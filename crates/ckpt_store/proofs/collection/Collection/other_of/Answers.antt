@@ -1,4 +1,4 @@
-use Rattle.std.proofs.Common.{◌≡◌, ◌∙◌, [], List, None, Some, ap, arith, get_or, length, map, subst, sym}
+use Rattle.std.proofs.Common.{◌∙◌, [], List, ap, arith, get_or, length, map, subst}
 use Rattle.std.proofs.lemmas.List.{length-map}
 use Rattle.std.proofs.lemmas.Option.{none-some, same_Some}
 use Rattle.audit_model.specs.declared.buffers.RoomyList.{RoomyList}

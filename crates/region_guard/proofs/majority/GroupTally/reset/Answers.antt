@@ -1,4 +1,4 @@
-use Rattle.std.proofs.Common.{ℕ, ◌*◌, ◌^◌, get_or, length, arith}
+use Rattle.std.proofs.Common.{ℕ, ◌^◌, get_or, length, arith}
 use Rattle.std.proofs.lemmas.Nat.{mul-le}
 use Rattle.audit_model.proofs.Meeting.{below_above_all}
 use Rattle.region_guard.proofs.Tallying.{own_columns, small_sum, tallied_anew}

@@ -1,4 +1,4 @@
-use Rattle.std.proofs.Common.{◌≡◌, ◌∙◌, ◌++◌, ◌∷◌, [], ℕ, List, ap, append_assoc, flat_map, subst, sym}
+use Rattle.std.proofs.Common.{◌∙◌, ◌++◌, ◌∷◌, [], ℕ, List, ap, append_assoc, flat_map, subst, sym}
 use Rattle.report.specs.Pieces.{piece_text}
 use Rattle.report.specs.Said.{IsSaid}
 use Rattle.report.proofs.NoteLines.{two_texts}
