@@ -16,9 +16,9 @@ What is counted: crates, functions and the entries of dependencies; parameters (
 of proofs/ that stand below a comment; and the calls on the shortest way from the top call to the
 flip, by names as they stand in the text. A limit have: crates, those calls, types of one name,
 functions that are named by a participle, functions of more than 40 lines, files of more than 500,
-lines of code over 120 columns (clauses and texts are left out), lemmas that nothing cites, and
-uses of the type `Any` in Python. Tests are left out, but not those in Python. The counts read the
-text with patterns, and not as the prover does.
+lines of code over 120 columns (clauses and texts are left out), lemmas that nothing cites, imports
+that nothing uses, and uses of the type `Any` in Python. Tests are left out, but not those in
+Python. The counts read the text with patterns, and not as the prover does.
 """
 import argparse
 import dataclasses
@@ -48,6 +48,7 @@ LIMITS = {
     "files_of_more_than_500_lines": 0,
     "lines_over_120_columns": 0,
     "lemmas_that_nothing_cites": 0,
+    "imports_that_nothing_uses": 0,
     "uses_of_any": 8,
 }
 # Functions of more than 40 lines with one `match`, whose arms are one row of a table each.
@@ -366,6 +367,9 @@ def above_limit(folder: str) -> dict[str, list[str]]:
         ],
         "lines_over_120_columns": wide_lines(folder),
         "lemmas_that_nothing_cites": [f"{name} in {path}" for path, name in uncited.uncited()],
+        "imports_that_nothing_uses": [
+            f"{name} in {path}" for path, name in uncited.unused_imports()
+        ],
         "uses_of_any": uses_of_any(),
     }
 

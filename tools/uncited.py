@@ -1,11 +1,12 @@
-"""Lists the lemmas of proofs/ that nothing cites.
+"""Lists the lemmas of proofs/ that nothing cites, and the imports that nothing uses.
 
 Usage: python3 -m tools.uncited
 
 A lemma is cited where its name stands outside of `use` lines: in another paragraph of its own file,
 or in a file that names the file of the lemma. A file of lemmas named Rows has worked rows, which
-are tests, and is left out. The script reads the text with patterns, and not as the prover does: a
-variable with the name of a lemma counts as a citation.
+are tests, and is left out. An import of specs/ or proofs/ is used where its name, or each part of
+its operator, stands outside of `use` lines. The script reads the text with patterns, and not as the
+prover does: a variable with the name of a lemma counts as a citation.
 """
 import collections
 import pathlib
@@ -19,6 +20,7 @@ DECLARED = re.compile(
     re.M,
 )
 WORD = re.compile(r"[A-Za-z_][A-Za-z0-9_'\-]*")
+IMPORTS = re.compile(r"^ *use [\w.']+\.\{([^}]*)\} *$", re.M)
 NO_LEMMAS = ("Lib", "Answers", "Invariants", "Proof", "Rows")
 Words = set[str]
 Names = dict[tuple[str, str], set[pathlib.Path]]
@@ -113,8 +115,31 @@ def uncited() -> list[tuple[str, str]]:
     return found
 
 
+def is_used(name: str, text: str) -> bool:
+    """Returns true if an imported name stands in a text without comments and `use` lines."""
+    if "◌" in name:
+        return all(part in text for part in name.split("◌") if part)
+    if WORD.fullmatch(name):
+        return re.search(rf"(?<![\w'\-.]){re.escape(name)}(?![\w'\-])", text) is not None
+    return name in text
+
+
+def unused_imports() -> list[tuple[str, str]]:
+    """Returns each import of specs/ and proofs/ that nothing uses: its file and its name."""
+    found = []
+    for path, text in read_all().items():
+        if path.suffix != ".antt":
+            continue
+        imports = IMPORTS.findall(text)
+        rest = without_comments(IMPORTS.sub("", text))
+        for name in (name.strip() for names in imports for name in names.split(",")):
+            if not is_used(name.split(" as ")[-1].lstrip("#"), rest):
+                found.append((str(path.relative_to(CRATES)), name))
+    return found
+
+
 def main() -> None:
-    for path, name in uncited():
+    for path, name in uncited() + unused_imports():
         print(path, name)
 
 

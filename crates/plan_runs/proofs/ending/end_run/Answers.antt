@@ -1,4 +1,4 @@
-use Rattle.std.proofs.Common.{◌<◌, ◌≤◌, ◌∙◌, length, sym, ap, subst, arith}
+use Rattle.std.proofs.Common.{◌<◌, ◌≤◌, ◌∙◌, sym, ap, subst, arith}
 use Rattle.audit_model.specs.Run.{total}
 use Rattle.report.specs.Outcomes.{reported}
 use Rattle.audit_laws.specs.Calls.{Finishes}
