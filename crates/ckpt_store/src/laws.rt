@@ -54,7 +54,8 @@ pub fn consistent_slots_open_right()
 }
 
 /// Shows that consistent slots stay consistent when a process is killed during a save. The law assumes that the kill
-/// left the slot of this save as it was, or consistent, or with a state other than `Ours`.
+/// left in the slot of this save its old bytes, a checkpoint with consistent outcomes, or bytes whose state is not
+/// `Ours`.
 pub fn a_stop_in_a_save_leaves_consistent_slots()
     ensures { StopsLeaveConsistentSlots }
 {}

@@ -16,8 +16,8 @@
 //! - An outcome and a list *contradict* each other if the list has another outcome for the same id. A missing histogram
 //!   is no contradiction.
 //! - Outcomes are *consistent* if their ids are distinct ids of the job, and each outcome is what the trajectory with
-//!   its id finds, with or without the histogram. Consistent outcomes are *right* if they also have the histograms that
-//!   the job asks for: either the job asks for histograms and each walk has its own, or no outcome has one.
+//!   its id finds, with or without the histogram. Consistent outcomes are *right* if they also have just the histograms
+//!   that the job asks for. If the job asks for histograms, each walk has its own. If not, no outcome has one.
 //! - A slot is *consistent* if its state is not `Ours`, or if its outcomes are consistent.
 #![tactic(auto)]
 

@@ -41,8 +41,8 @@ impl From<Memory> for LookFault {
 
 /// Loads both slots, slot 0 first, and returns their states for the job with this digest. No slot is changed.
 ///
-/// The contract of a keeper may leave open which bytes the slots hold. In this case the contract of `look` says only
-/// that there are bytes for which the slots have the returned states.
+/// The contract of a keeper may leave open which bytes the slots hold. Then the contract of `look` says only this: the
+/// returned states are those of some bytes that the keeper's contract lets the slots hold.
 ///
 /// # Errors
 ///

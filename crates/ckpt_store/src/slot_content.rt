@@ -120,8 +120,8 @@ impl SlotContent {
 /// Returns the number of the newest slot, or `None` if neither slot holds a checkpoint. If both slots hold one, slot 1
 /// is the newest if its generation follows that of slot 0. Otherwise slot 0 is the newest.
 ///
-/// The result is for no particular job. `Slots::newest` is for a job, and may give another slot: if a slot holds a
-/// checkpoint of its job with an implausible outcome, this slot is broken for it.
+/// The result is for no particular job. For a job, another slot may be the newest: if a slot holds a checkpoint of the
+/// job with an implausible outcome, the slot is broken for this job, but not here.
 pub fn newest(zero: &SlotContent, one: &SlotContent) -> Option<u8>
     ensures { result ≡ newest_in zero.now one.now }
 {

@@ -144,7 +144,7 @@ impl<J: Judge> Walker<J> {
     }
 
     // Does the work of `go_on`. The counter that is made of `blank` exists in proofs only. It counts
-    // how often a step searches its district to test contiguity.
+    // the steps that had to search a district to test contiguity.
     fn go_on_by<L: Ledger>(&mut self, job: &Job, way: &mut Way, steps: u32, blank: Blank)
         requires name { blank.name ≡ L.name }
         requires parts { blank.parts ≡ L.parts }
@@ -159,7 +159,7 @@ impl<J: Judge> Walker<J> {
     }
 
     // Does the work of `walk`. The counter that is made of `blank` exists in proofs only. It counts
-    // how often a step searches its district to test contiguity.
+    // the steps that had to search a district to test contiguity.
     fn walk_by<L: Ledger>(&mut self, job: &Job, hub: &[u32], id: u32, blank: Blank) -> Outcome
         requires name { blank.name ≡ L.name }
         requires parts { blank.parts ≡ L.parts }
@@ -178,7 +178,7 @@ impl<J: Judge> Walker<J> {
     }
 
     // Does the work of `run`. The counter that is made of `blank` exists in proofs only. It counts
-    // how often a step searches its district to test contiguity.
+    // the steps that had to search a district to test contiguity.
     fn run_by<L: Ledger>(&mut self, job: &Job, stream: u64, steps: u32, blank: Blank) -> Outcome
         requires name { blank.name ≡ L.name }
         requires parts { blank.parts ≡ L.parts }
