@@ -12,7 +12,6 @@ ghost use Rattle.audit_statement.specs.Checkpoint as definition;
 ghost use Rattle.flip_kernel.specs.Judged.{IsJudgeFor};
 ghost use Rattle.claim_counter.specs.Walkers.{IsWalker};
 ghost use Rattle.tally_desk.specs.Pools.{WalksAtDesk};
-ghost use Rattle.tally_desk.specs.Tables.{parts_at, table_of};
 ghost use Rattle.tally_desk.specs.Parts.{IsPlaceFor, MayFound};
 ghost use Rattle.tally_desk.specs.Passes.{IsFirstPass};
 
@@ -57,10 +56,10 @@ fn take_turn<R: Wait, C: Keeper, J: Judge>(
     pass: &mut DeskPass,
 )
     requires walks { IsWalker job.now walker.old }
-    requires shared { WalksAtDesk job.now (parts_at C.state desk.now) [] }
-    requires pass { OwesNothing (table_of desk.now) (parts_at C.state desk.now) pass.old }
+    requires shared { WalksAtDesk job.now desk.now.parts [] }
+    requires pass { OwesNothing desk.now pass.old }
     ensures walks { IsWalker job.now walker.new }
-    ensures pass { OwesNothing (table_of desk.now) (parts_at C.state desk.now) pass.new }
+    ensures pass { OwesNothing desk.now pass.new }
 {
     if pass.ended() {
         return;
@@ -80,11 +79,11 @@ fn take_turns<R: Wait, C: Keeper, J: Judge>(
     second: &mut DeskPass,
 )
     requires walks { IsWalker job.now walker.old }
-    requires shared { WalksAtDesk job.now (parts_at C.state desk.now) [] }
-    requires first { OwesNothing (table_of desk.now) (parts_at C.state desk.now) first.old }
-    requires second { OwesNothing (table_of desk.now) (parts_at C.state desk.now) second.old }
-    ensures first { OwesNothing (table_of desk.now) (parts_at C.state desk.now) first.new }
-    ensures second { OwesNothing (table_of desk.now) (parts_at C.state desk.now) second.new }
+    requires shared { WalksAtDesk job.now desk.now.parts [] }
+    requires first { OwesNothing desk.now first.old }
+    requires second { OwesNothing desk.now second.old }
+    ensures first { OwesNothing desk.now first.new }
+    ensures second { OwesNothing desk.now second.new }
 {
     for _ in 0..IDS {
         take_turn(rt, job, walker, desk, first);
@@ -101,9 +100,9 @@ fn serve<R: Wait, C: Keeper + Drop, J: Judge>(
     pass: DeskPass,
 ) -> Option<RunState<C>>
     requires walks { IsWalker job.now walker.old }
-    requires shared { WalksAtDesk job.now (parts_at C.state desk) [] }
-    requires pass { IsFirstPass (table_of desk) (parts_at C.state desk) pass }
-    requires two { (parts_at C.state desk).seats ≡ 2 }
+    requires shared { WalksAtDesk job.now desk.parts [] }
+    requires pass { IsFirstPass desk pass }
+    requires two { desk.parts.seats ≡ 2 }
 {
     let mut first = pass;
     let mut second = desk.split(&mut first);
@@ -186,9 +185,9 @@ fn open<C: Keeper + Drop>(
     requires found { MayFound job.now (C.state state.keeper).slots state todo }
     requires within { IsWithin job.now todo }
     requires no_ends { job.now.setting.ends ≡ 0 }
-    ensures shared { IfSome result (λ d. WalksAtDesk job.now (parts_at C.state d.0) []) }
-    ensures pass { IfSome result (λ d. IsFirstPass (table_of d.0) (parts_at C.state d.0) d.1) }
-    ensures two { IfSome result (λ d. (parts_at C.state d.0).seats ≡ 2) }
+    ensures shared { IfSome result (λ d. WalksAtDesk job.now d.0.parts []) }
+    ensures pass { IfSome result (λ d. IsFirstPass d.0 d.1) }
+    ensures two { IfSome result (λ d. d.0.parts.seats ≡ 2) }
 {
     match Desk::new(alloc, job, state, todo, 2) {
         Ok(made) => Some(made),
@@ -206,9 +205,9 @@ fn open_with<C: Keeper + Drop>(
     requires lets { (kept : KeeperState) (slot : ℕ) (bytes : List ℕ) → C.lets kept slot bytes }
     requires every { 1 ≤ every }
     requires no_ends { job.now.setting.ends ≡ 0 }
-    ensures shared { IfSome result (λ d. WalksAtDesk job.now (parts_at C.state d.0) []) }
-    ensures pass { IfSome result (λ d. IsFirstPass (table_of d.0) (parts_at C.state d.0) d.1) }
-    ensures two { IfSome result (λ d. (parts_at C.state d.0).seats ≡ 2) }
+    ensures shared { IfSome result (λ d. WalksAtDesk job.now d.0.parts []) }
+    ensures pass { IfSome result (λ d. IsFirstPass d.0 d.1) }
+    ensures two { IfSome result (λ d. d.0.parts.seats ≡ 2) }
 {
     match state_of(alloc, job, keeper, every) {
         Some((state, todo)) => open(alloc, job, state, todo),

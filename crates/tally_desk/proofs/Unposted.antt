@@ -10,7 +10,6 @@ use Rattle.audit_model.specs.declared.setting.Setting.{Setting}
 use mathlib.Core.List.{map-append}
 use Rattle.std.proofs.lemmas.Bool.Decides.{eqb_tells}
 use Rattle.std.proofs.lemmas.List.Elements.{All-nil, All-push}
-use Rattle.atomic_table.specs.Seated.{TableId}
 use Rattle.audit_model.specs.declared.outcome.Outcome.{Outcome}
 use Rattle.audit_model.specs.Times.{times}
 use Rattle.audit_model.proofs.ListFacts.{popped_rest}
@@ -18,6 +17,7 @@ use Rattle.audit_model.proofs.Times.{one, one_same, times_push}
 use Rattle.claim_counter.specs.Walks.{found}
 use Rattle.tally_desk.specs.declared.pass.DeskPass.{DeskPass}
 use Rattle.tally_desk.specs.declared.entry.Entry.{Entry}
+use Rattle.tally_desk.specs.DeskModel.{DeskModel}
 use Rattle.tally_desk.specs.Desks.{claimed_ids, ended_view}
 use Rattle.tally_desk.specs.Entries.{post_of, posted_id, ids_of}
 use Rattle.tally_desk.specs.Parts.{Parts}
@@ -92,13 +92,13 @@ posted_buffered parts v w buffered o h p = record {
 -- ---- the buffer of a pass
 
 -- the buffer may be replaced by an equal list
-pub same_buffered : (table : TableId) (parts : Parts) (p : DeskPass) (xs ys : List Outcome) → xs ≡ ys → IsHolding table parts p xs → IsHolding table parts p ys
-same_buffered table parts p xs ys same h = subst (IsHolding table parts p) same h
+pub same_buffered : (desk : DeskModel) (p : DeskPass) (xs ys : List Outcome) → xs ≡ ys → IsHolding desk p xs → IsHolding desk p ys
+same_buffered desk p xs ys same h = subst (IsHolding desk p) same h
 
 -- the buffer after a post of its last outcome
-pub holds_fewer : (table : TableId) (parts : Parts) (p q : DeskPass) (buffered : List Outcome) (o : Outcome) → IsHolding table parts p (buffered ++ o ∷ []) → Belongs table parts q
-    → Posts o.id (view_of p) (view_of q) → IsHolding table parts q buffered
-holds_fewer table parts p q buffered o h belongs posts = record { belongs = belongs; rest = posted_buffered parts (view_of p) (view_of q) buffered o h.rest posts }
+pub holds_fewer : (desk : DeskModel) (p q : DeskPass) (buffered : List Outcome) (o : Outcome) → IsHolding desk p (buffered ++ o ∷ []) → Belongs desk q
+    → Posts o.id (view_of p) (view_of q) → IsHolding desk q buffered
+holds_fewer desk p q buffered o h belongs posts = record { belongs = belongs; rest = posted_buffered desk.parts (view_of p) (view_of q) buffered o h.rest posts }
 
 -- ---- buffer capacities by place
 

@@ -1,5 +1,6 @@
 pub mod Counter
 pub mod Pools
+pub mod DeskModel
 pub mod Desks
 pub mod Entries
 pub mod Founded
@@ -16,6 +17,5 @@ pub mod Righted
 pub mod Rooms
 pub mod Saves
 pub mod Saving
-pub mod Tables
 pub mod Unposted
 pub mod Views

@@ -2,12 +2,12 @@
 use Rattle.std.specs.Prelude.{◌≡◌, ℕ, ◌<◌, Bool, List, length, slice_index, Some}
 use Rattle.std.specs.List.{range_with_len}
 use Rattle.std.specs.List.Sorted.{IsPermutation}
-use Rattle.atomic_table.specs.Seated.{TableId}
 use Rattle.audit_model.specs.State.{Kept}
 use Rattle.claim_counter.specs.Records.{with_claim}
 use Rattle.tally_desk.specs.declared.entry.Entry.{Entry}
 use Rattle.tally_desk.specs.declared.pass.DeskPass.{DeskPass}
 use Rattle.tally_desk.specs.declared.state.RunState.{RunState}
+use Rattle.tally_desk.specs.DeskModel.{DeskModel}
 use Rattle.tally_desk.specs.Desks.{AreDue, claimed_ids, ended_view, first_view, joined_view, left_view, right_view, with_entry, with_own}
 use Rattle.tally_desk.specs.Entries.{post_of, ids_of, tickets_of}
 use Rattle.tally_desk.specs.Homes.{IsEquipped, KeptAs}
@@ -19,15 +19,15 @@ use Rattle.audit_model.specs.Times.{times}
 abbrev pub view_of : DeskPass → PassView
 view_of p = view_in p.badge.views
 
--- the pass belongs to the desk with this table and these constants
-pub record Belongs (table : TableId) (parts : Parts) (p : DeskPass) : Type 0 where
-  pub of_table : p.badge.table_id ≡ table
-  pub of_parts : (view_of p).parts ≡ Some parts
+-- the pass belongs to the desk
+pub record Belongs (desk : DeskModel) (p : DeskPass) : Type 0 where
+  pub of_table : p.badge.table_id ≡ desk.table
+  pub of_parts : (view_of p).parts ≡ Some desk.parts
 
--- the first pass of the desk with this table, which has all seats
-pub record IsFirstPass (table : TableId) (parts : Parts) (p : DeskPass) : Type 0 where
-  pub belongs : Belongs table parts p
-  pub first : view_of p ≡ first_view parts
+-- the first pass of the desk, which has all seats
+pub record IsFirstPass (desk : DeskModel) (p : DeskPass) : Type 0 where
+  pub belongs : Belongs desk p
+  pub first : view_of p ≡ first_view desk.parts
 
 -- the pass drew a new place of the list and claims the id there
 pub record Claims (parts : Parts) (id : ℕ) (before now : PassView) : Type 0 where

@@ -1,10 +1,10 @@
 -- Predicates on the workers at a desk.
 use Rattle.std.specs.Prelude.{◌≡◌, ℕ, ◌-◌, ◌*◌, ◌<◌, ◌≤◌, true, false, List, [], length, vec_capacity, vec_len, Vec}
 use Rattle.std.specs.List.{All}
-use Rattle.atomic_table.specs.Seated.{TableId}
 use Rattle.audit_model.specs.Job.{Job}
 use Rattle.audit_model.specs.declared.outcome.Outcome.{Outcome}
 use Rattle.tally_desk.specs.declared.pass.DeskPass.{DeskPass}
+use Rattle.tally_desk.specs.DeskModel.{DeskModel}
 use Rattle.tally_desk.specs.Parts.{Parts}
 use Rattle.tally_desk.specs.Passes.{Belongs, HasPostedAll, view_of}
 use Rattle.claim_counter.specs.Walkers.{AreWalkers, IsWalker}
@@ -43,22 +43,22 @@ pub record WalksAtDesk (job : Job) (parts : Parts) (units : List ℕ) : Type 0 w
   pub hub : ServesEnds job parts.todo units
 
 -- a worker between two claims: each claim is posted or buffered, and the pass has not ended
-pub record IsAtDesk (table : TableId) (parts : Parts) (w : ChainState) (p : DeskPass) (buffered : List Outcome) : Type 0 where
-  pub walks : IsWalker parts.job w
-  pub holds : IsHolding table parts p buffered
+pub record IsAtDesk (desk : DeskModel) (w : ChainState) (p : DeskPass) (buffered : List Outcome) : Type 0 where
+  pub walks : IsWalker desk.parts.job w
+  pub holds : IsHolding desk p buffered
   pub going : (view_of p).own.ended ≡ false
   pub weight : (view_of p).own.weight ≡ 1
   pub spare : (view_of p).own.spare ≡ 0
 
 -- a worker before the first claim: its buffer is empty and no larger than allowed
-pub record IsUnstartedAtDesk {J : Type 0} (table : TableId) (parts : Parts) (w : DeskWorker J) : Type 0 where
-  pub at_desk : IsAtDesk table parts w.walker w.pass []
-  pub buffered : IsRoomWithin (buffer_room parts.job.setting parts.seats) w.buffered
+pub record IsUnstartedAtDesk {J : Type 0} (desk : DeskModel) (w : DeskWorker J) : Type 0 where
+  pub at_desk : IsAtDesk desk w.walker w.pass []
+  pub buffered : IsRoomWithin (buffer_room desk.parts.job.setting desk.parts.seats) w.buffered
 
 -- a worker that found no id left and has posted all its claims
-pub record IsDeskWorkerDone {J : Type 0} (table : TableId) (parts : Parts) (w : DeskWorker J) : Type 0 where
-  pub belongs : Belongs table parts w.pass
+pub record IsDeskWorkerDone {J : Type 0} (desk : DeskModel) (w : DeskWorker J) : Type 0 where
+  pub belongs : Belongs desk w.pass
   pub ended : (view_of w.pass).own.ended ≡ true
   pub weight : (view_of w.pass).own.weight ≡ 1
   pub spare : (view_of w.pass).own.spare ≡ 0
-  pub whole : HasPostedAll parts (view_of w.pass)
+  pub whole : HasPostedAll desk.parts (view_of w.pass)

@@ -1,12 +1,12 @@
 -- Predicates on outcomes that a worker has buffered and not yet posted.
 use Rattle.std.specs.Prelude.{◌≡◌, ℕ, ◌+◌, ◌-◌, ◌/◌, ◌<◌, ◌≤◌, min, max, nat_le, nat_lt, if◌then◌else◌, List, [], map, length, slice_index_or, Vec, vec_capacity}
 use Rattle.std.specs.List.{All}
-use Rattle.atomic_table.specs.Seated.{TableId}
 use Rattle.audit_model.specs.Times.{times}
 use Rattle.audit_model.specs.declared.outcome.Outcome.{Outcome}
 use Rattle.audit_model.specs.declared.setting.Setting.{Setting}
 use Rattle.claim_counter.specs.Walks.{found}
 use Rattle.tally_desk.specs.declared.pass.DeskPass.{DeskPass}
+use Rattle.tally_desk.specs.DeskModel.{DeskModel}
 use Rattle.tally_desk.specs.Desks.{claimed_ids}
 use Rattle.tally_desk.specs.Entries.{ids_of}
 use Rattle.tally_desk.specs.Parts.{Parts}
@@ -27,10 +27,10 @@ pub record HoldsRest (parts : Parts) (v : PassView) (buffered : List Outcome) : 
   pub once : (id : ℕ) → 0 < times id (buffered_ids buffered) → times id (claimed_ids parts v) ≡ 1
   pub right : All (λ o. o ≡ found parts.job o.id) buffered
 
--- the pass belongs to the desk with this table, and all its claims that are not posted are buffered
-pub record IsHolding (table : TableId) (parts : Parts) (p : DeskPass) (buffered : List Outcome) : Type 0 where
-  pub belongs : Belongs table parts p
-  pub rest : HoldsRest parts (view_of p) buffered
+-- the pass belongs to the desk, and all its claims that are not posted are buffered
+pub record IsHolding (desk : DeskModel) (p : DeskPass) (buffered : List Outcome) : Type 0 where
+  pub belongs : Belongs desk p
+  pub rest : HoldsRest desk.parts (view_of p) buffered
 
 -- ---- buffer capacities
 

@@ -1,7 +1,7 @@
 //! The desk: a work queue with a checkpoint writer.
 ghost use Rattle.std.specs.Prelude.{◌≡◌, ◌≤◌};
 
-use crate::handing::{furnish, open};
+use crate::handing::open;
 use crate::pass::{DeskPass, take_out};
 use crate::rule::{DeskSplit, NextPlace, OneTally, PollTicket, Posting, See, Serve, Take};
 use crate::state::RunState;
@@ -13,8 +13,7 @@ use audit_model::outcome::Outcome;
 use claim_counter::walking::has_above;
 use plan_core::job::Job;
 use std::alloc::Global;
-use std::marker::Brand;
-use std::snapshot::Snapshot;
+use std::marker::{Brand, Model};
 use std::sync::Wait;
 use std::thread;
 use std::time::Duration;
@@ -22,8 +21,9 @@ use std::time::Duration;
 /// The longest sleep, in milliseconds, of a worker that waits for a save.
 const LONGEST_SLEEP: u64 = 100;
 
-/// A desk, shared by the workers of a run. It saves a checkpoint whenever the number of posts is a multiple of
-/// `save_every`. Claims are lock-free, and only posts wait for each other.
+/// A work queue over a list of ids, with a checkpoint writer. Each worker has a pass (`DeskPass`): its permission to
+/// claim ids and to post their outcomes. The desk collects the outcomes in a book and saves a checkpoint whenever the
+/// number of posts is a multiple of `save_every`. Claims are lock-free; only posts wait for each other.
 #[derive(Drop)]
 pub struct Desk<C: Keeper> {
     pub(crate) table: Table<RunState<C>, DeskView, Founding<C>, OneTally<C>, Global>,
@@ -35,17 +35,25 @@ pub struct Desk<C: Keeper> {
     ghost some_every: { 1 ≤ save_every },
 }
 
+impl<C: Keeper> Model for Desk<C> {
+    ghost use Rattle.tally_desk.specs.DeskModel.{DeskModel};
+    ghost use Rattle.tally_desk.specs.Founded.{parts_of};
+
+    ghost Value = { DeskModel };
+
+    ghost view = { λ d. record { table = d.table.shared.table_id; parts = parts_of C.state d.table.shared.key } };
+}
+
 impl<C: Keeper> Desk<C> {
     ghost use Rattle.std.specs.Prelude.{◌≡◌, ◌+◌, ◌-◌, ◌^◌, ◌<◌, ◌≤◌, ◌∷◌, [], ◌++◌, ℕ, IsTrue, All, IfOk, IfErr, IfSome, IfNone, IsFalse, true, false, length, vec_len};
     ghost use Rattle.audit_model.specs.Times.{times};
     ghost use Rattle.claim_counter.specs.Views.{HasAllSeats};
     ghost use Rattle.claim_counter.specs.Walks.{found};
-    ghost use Rattle.tally_desk.specs.Desks.{BeginsTurn, CanPost, HasServed, IsInTurn, IsWaiting, claimed_ids, ended_view, first_view, joined_view, left_view, right_view, with_turn};
+    ghost use Rattle.tally_desk.specs.Desks.{BeginsTurn, CanPost, HasServed, IsInTurn, IsWaiting, claimed_ids, ended_view, joined_view, left_view, right_view, with_turn};
     ghost use Rattle.tally_desk.specs.Entries.{ids_of};
-    ghost use Rattle.tally_desk.specs.Tables.{parts_at, table_of};
     ghost use Rattle.tally_desk.specs.Homes.{HomeAs};
     ghost use Rattle.tally_desk.specs.Parts.{LetsDesk, MayFound};
-    ghost use Rattle.tally_desk.specs.Passes.{Belongs, Claims, HasPostedAll, IsClosed, Posts, view_of};
+    ghost use Rattle.tally_desk.specs.Passes.{Belongs, Claims, HasPostedAll, IsClosed, IsFirstPass, Posts, view_of};
     ghost use Rattle.tally_desk.specs.RunResult.{starts};
     ghost use Rattle.tally_desk.specs.Views.{waiting};
 
@@ -65,29 +73,12 @@ impl<C: Keeper> Desk<C> {
         requires found { MayFound job.now (C.state state.keeper).slots state todo }
         requires seats { (1 ≤ seats) × (seats ≤ 33) }
         requires lets { LetsDesk C.lets (starts C.state job.now state todo seats) }
-        ensures parts { IfOk result (λ d. parts_at C.state d.0 ≡ starts C.state job.now state todo seats) }
-        ensures pass { IfOk result (λ d. let parts = parts_at C.state d.0 in
-            Belongs (table_of d.0) parts d.1 × (view_of d.1 ≡ first_view parts)) }
+        ensures parts { IfOk result (λ d. d.0.parts ≡ starts C.state job.now state todo seats) }
+        ensures pass { IfOk result (λ d. IsFirstPass d.0 d.1) }
         ensures refused { IfErr result (λ r. (r.book ≡ state.book) × (r.keeper ≡ state.keeper)) }
     {
-        // These calls only tell the proof that the job is within its limits and the book within its capacity.
-        let _units = job.units();
-        let _len = state.book.len();
-        let founding = Founding {
-            job: Snapshot::of(job),
-            book: Snapshot::of(&state.book),
-            todo: Snapshot::of(&todo),
-            save_every: state.save_every,
-            seats,
-            place: state.place,
-            keeper: Snapshot::of(&state.keeper),
-        };
         let save_every = state.save_every;
-        let state = match furnish(alloc, state, todo.len()) {
-            Ok(state) => state,
-            Err(refused) => return Err(refused),
-        };
-        match open(alloc, state, &founding) {
+        match open(alloc, job, state, &todo, seats) {
             Ok((table, seat)) => Ok((
                 Desk {
                     table,
@@ -106,8 +97,8 @@ impl<C: Keeper> Desk<C> {
 
     /// Returns true if the list has an id of `walks` or above. The trajectories with these ids start from the hub.
     pub fn needs_hub(&self, walks: u32) -> bool
-        ensures none { IsFalse result → All (λ id. id < walks) (parts_at C.state self.now).todo }
-        ensures some { All (λ id. id < walks) (parts_at C.state self.now).todo → IsFalse result }
+        ensures none { IsFalse result → All (λ id. id < walks) self.now.parts.todo }
+        ensures some { All (λ id. id < walks) self.now.parts.todo → IsFalse result }
     {
         has_above(self.todo.as_slice(), walks)
     }
@@ -115,12 +106,12 @@ impl<C: Keeper> Desk<C> {
     /// Draws the next place of the list in one atomic step, and returns the id there. No other pass of this desk ever
     /// gets the same place. If no id is left, the pass has ended, and the result is `None`.
     pub fn claim(&self, pass: &mut DeskPass) -> Option<u32>
-        requires pass { Belongs (table_of self.now) (parts_at C.state self.now) pass.old }
+        requires pass { Belongs self.now pass.old }
         requires before_end { (view_of pass.old).own.ended ≡ false }
-        ensures pass { Belongs (table_of self.now) (parts_at C.state self.now) pass.new }
-        ensures claimed { IfSome result (λ id. Claims (parts_at C.state self.now) id (view_of pass.old) (view_of pass.new)) }
+        ensures pass { Belongs self.now pass.new }
+        ensures claimed { IfSome result (λ id. Claims self.now.parts id (view_of pass.old) (view_of pass.new)) }
         ensures end { IfNone result (view_of pass.new ≡ ended_view (view_of pass.old)) }
-        ensures few { length (view_of pass.new).own.claims ≤ length (parts_at C.state self.now).todo }
+        ensures few { length (view_of pass.new).own.claims ≤ length self.now.parts.todo }
     {
         let mut seat = take_out(&mut pass.badge);
         let drawn = self.table.shared.fetch_add::<NextPlace>(&mut seat, 0, 1);
@@ -136,11 +127,11 @@ impl<C: Keeper> Desk<C> {
     /// Posts the outcome of a claimed id. Waits as long as another pass has its turn, and sleeps if that turn makes a
     /// save. Only the keeper may allocate.
     pub fn post<R: Wait>(&self, rt: &R, pass: &mut DeskPass, outcome: Outcome)
-        requires pass { Belongs (table_of self.now) (parts_at C.state self.now) pass.old }
-        requires claimed { 0 < times outcome.id (claimed_ids (parts_at C.state self.now) (view_of pass.old)) }
+        requires pass { Belongs self.now pass.old }
+        requires claimed { 0 < times outcome.id (claimed_ids self.now.parts (view_of pass.old)) }
         requires unposted { times outcome.id (ids_of (view_of pass.old).entries) ≡ 0 }
-        requires right { outcome ≡ found (parts_at C.state self.now).job outcome.id }
-        ensures pass { Belongs (table_of self.now) (parts_at C.state self.now) pass.new }
+        requires right { outcome ≡ found self.now.parts.job outcome.id }
+        ensures pass { Belongs self.now pass.new }
         ensures posted { Posts outcome.id (view_of pass.old) (view_of pass.new) }
     {
         let mut seat = take_out(&mut pass.badge);
@@ -152,11 +143,11 @@ impl<C: Keeper> Desk<C> {
 
     /// Posts the outcome of a claimed id, unless another pass has its turn. Returns true if the outcome was posted.
     pub fn try_post<R: Wait>(&self, rt: &R, pass: &mut DeskPass, outcome: Outcome) -> bool
-        requires pass { Belongs (table_of self.now) (parts_at C.state self.now) pass.old }
-        requires claimed { 0 < times outcome.id (claimed_ids (parts_at C.state self.now) (view_of pass.old)) }
+        requires pass { Belongs self.now pass.old }
+        requires claimed { 0 < times outcome.id (claimed_ids self.now.parts (view_of pass.old)) }
         requires unposted { times outcome.id (ids_of (view_of pass.old).entries) ≡ 0 }
-        requires right { outcome ≡ found (parts_at C.state self.now).job outcome.id }
-        ensures pass { Belongs (table_of self.now) (parts_at C.state self.now) pass.new }
+        requires right { outcome ≡ found self.now.parts.job outcome.id }
+        ensures pass { Belongs self.now pass.new }
         ensures posted { result ≡ true → Posts outcome.id (view_of pass.old) (view_of pass.new) }
         ensures missed { result ≡ false → view_of pass.new ≡ view_of pass.old }
     {
@@ -186,9 +177,9 @@ impl<C: Keeper> Desk<C> {
         id: u32,
     ) -> u64
         requires name { B.id ≡ id }
-        requires table { seat.old.table_id ≡ table_of self.now }
+        requires table { seat.old.table_id ≡ self.now.table }
         requires empty { seat.old.me.1 ≡ [] }
-        requires post { CanPost (parts_at C.state self.now) seat.old.me.0 id }
+        requires post { CanPost self.now.parts seat.old.me.0 id }
         ensures table { seat.new.table_id ≡ seat.old.table_id }
         ensures seat { seat.new.me ≡ (with_turn seat.old.me.0 (waiting result id), []) }
     {
@@ -201,7 +192,7 @@ impl<C: Keeper> Desk<C> {
         unreachable!()
     }
 
-    // Lets other threads run while a ticket is out. Sleeps if a save is due with the ticket's post. Other turns are too
+    // Lets other threads run while another pass has its turn. Sleeps if that turn makes a save. Other turns are too
     // short for sleeping.
     fn rest<R: Wait>(&self, rt: &R) {
         let words = &self.table.shared;
@@ -233,9 +224,9 @@ impl<C: Keeper> Desk<C> {
     // Takes the next ticket, for a post of this id. Returns `None` if a ticket is out.
     fn try_ticket<B: Posting>(&self, seat: &mut Seat<RunState<C>, DeskView>, id: u32) -> Option<u64>
         requires name { B.id ≡ id }
-        requires table { seat.old.table_id ≡ table_of self.now }
+        requires table { seat.old.table_id ≡ self.now.table }
         requires empty { seat.old.me.1 ≡ [] }
-        requires post { CanPost (parts_at C.state self.now) seat.old.me.0 id }
+        requires post { CanPost self.now.parts seat.old.me.0 id }
         ensures table { seat.new.table_id ≡ seat.old.table_id }
         ensures taken { IfSome result (λ t. seat.new.me ≡ (with_turn seat.old.me.0 (waiting t id), [])) }
         ensures missed { IfNone result (seat.new.me ≡ seat.old.me) }
@@ -250,7 +241,7 @@ impl<C: Keeper> Desk<C> {
         if found == served { Some(served) } else { None }
     }
 
-    // Waits for the turn of the ticket. In its turn, the pass owns the table's only slot with the state of the run.
+    // Spins until the turn of this ticket comes. The pass then owns the table's only slot, with the state of the run.
     fn await_turn<R: Wait>(
         &self,
         rt: &R,
@@ -258,11 +249,11 @@ impl<C: Keeper> Desk<C> {
         ticket: u64,
         id: u32,
     )
-        requires table { seat.old.table_id ≡ table_of self.now }
+        requires table { seat.old.table_id ≡ self.now.table }
         requires empty { seat.old.me.1 ≡ [] }
-        requires waits { IsWaiting (parts_at C.state self.now) ticket id seat.old.me.0 }
+        requires waits { IsWaiting self.now.parts ticket id seat.old.me.0 }
         ensures table { seat.new.table_id ≡ seat.old.table_id }
-        ensures begins { BeginsTurn (HomeAs C.state C.lets) (parts_at C.state self.now) ticket id seat.old.me seat.new.me }
+        ensures begins { BeginsTurn (HomeAs C.state C.lets) self.now.parts ticket id seat.old.me seat.new.me }
     {
         for _ in rt.forever() {
             if self.table.shared.load::<PollTicket>(seat, 2) == ticket {
@@ -273,11 +264,12 @@ impl<C: Keeper> Desk<C> {
         unreachable!()
     }
 
-    // Posts the outcome, makes a save if one is due, and ends the turn.
+    // Posts the outcome of a claim in the turn of this ticket, with a save if one is due. Then ends the turn, and wakes
+    // the passes that sleep through it.
     fn serve(&self, seat: &mut Seat<RunState<C>, DeskView>, ticket: u64, outcome: Outcome)
-        requires table { seat.old.table_id ≡ table_of self.now }
-        requires right { outcome ≡ found (parts_at C.state self.now).job outcome.id }
-        requires turn { IsInTurn (HomeAs C.state C.lets) (parts_at C.state self.now) ticket outcome.id seat.old.me }
+        requires table { seat.old.table_id ≡ self.now.table }
+        requires right { outcome ≡ found self.now.parts.job outcome.id }
+        requires turn { IsInTurn (HomeAs C.state C.lets) self.now.parts ticket outcome.id seat.old.me }
         ensures table { seat.new.table_id ≡ seat.old.table_id }
         ensures served { HasServed ticket outcome.id seat.old.me seat.new.me }
     {
@@ -289,10 +281,10 @@ impl<C: Keeper> Desk<C> {
 
     /// Splits a pass with no claims off `pass`. Afterwards one pass less can be split off `pass`.
     pub fn split(&self, pass: &mut DeskPass) -> DeskPass
-        requires pass { Belongs (table_of self.now) (parts_at C.state self.now) pass.old }
+        requires pass { Belongs self.now pass.old }
         requires spare { 0 < (view_of pass.old).own.spare }
-        ensures rest { Belongs (table_of self.now) (parts_at C.state self.now) pass.new × (view_of pass.new ≡ left_view (view_of pass.old)) }
-        ensures new { Belongs (table_of self.now) (parts_at C.state self.now) result × (view_of result ≡ right_view (view_of pass.old)) }
+        ensures rest { Belongs self.now pass.new × (view_of pass.new ≡ left_view (view_of pass.old)) }
+        ensures new { Belongs self.now result × (view_of result ≡ right_view (view_of pass.old)) }
     {
         let mut seat = take_out(&mut pass.badge);
         let other = self.table.shared.split_seat::<DeskSplit>(&mut seat);
@@ -307,9 +299,9 @@ impl<C: Keeper> Desk<C> {
 
     /// Joins two passes into one with the claims and posts of both. The joined pass has ended if both have.
     pub fn join(&self, first: DeskPass, second: DeskPass) -> DeskPass
-        requires first { Belongs (table_of self.now) (parts_at C.state self.now) first }
-        requires second { Belongs (table_of self.now) (parts_at C.state self.now) second }
-        ensures pass { Belongs (table_of self.now) (parts_at C.state self.now) result }
+        requires first { Belongs self.now first }
+        requires second { Belongs self.now second }
+        ensures pass { Belongs self.now result }
         ensures both { view_of result ≡ joined_view (view_of first) (view_of second) }
     {
         let DeskPass {
@@ -325,7 +317,8 @@ impl<C: Keeper> Desk<C> {
         let mut seat = take_out(&mut badge);
         let other = take_out(&mut other_badge);
         self.table.shared.join_seat::<DeskSplit>(&mut seat, other);
-        // This read of the counter only tells the proof what both passes know together.
+        // Called for its contract: the joined pass has at most 33 seats, so the sum of the spares below does not
+        // overflow. The contract of the join does not say so.
         self.table.shared.load::<See>(&mut seat, 0);
         DeskPass {
             badge: seat.into_badge(),
@@ -337,11 +330,11 @@ impl<C: Keeper> Desk<C> {
     /// Closes the desk and returns the state of the run. `pass` must be its only pass, must have ended, and must have
     /// posted all its claims.
     pub fn close(self, pass: DeskPass) -> RunState<C>
-        requires pass { Belongs (table_of self) (parts_at C.state self) pass }
-        requires only { HasAllSeats (parts_at C.state self).seats (view_of pass).own }
+        requires pass { Belongs self pass }
+        requires only { HasAllSeats self.parts.seats (view_of pass).own }
         requires ended { (view_of pass).own.ended ≡ true }
-        requires posted { HasPostedAll (parts_at C.state self) (view_of pass) }
-        ensures { IsClosed C.state (parts_at C.state self) (view_of pass) result }
+        requires posted { HasPostedAll self.parts (view_of pass) }
+        ensures { IsClosed C.state self.parts (view_of pass) result }
     {
         let Desk {
             table,

@@ -1,10 +1,11 @@
 //! The table of a desk, made from the state of a run.
 
-ghost use Rattle.std.specs.Prelude.{◌≡◌, ◌∷◌, [], IfOk, IfErr, vec_len};
+ghost use Rattle.std.specs.Prelude.{◌≡◌, ◌≤◌, ◌∷◌, [], IfOk, IfErr, vec_len};
 ghost use Rattle.tally_desk.specs.Desks.{first_view};
 ghost use Rattle.tally_desk.specs.Founded.{parts_of};
 ghost use Rattle.tally_desk.specs.Homes.{HomeAs};
-ghost use Rattle.tally_desk.specs.Parts.{IsPlan};
+ghost use Rattle.tally_desk.specs.Parts.{IsPlan, LetsDesk, MayFound};
+ghost use Rattle.tally_desk.specs.RunResult.{starts};
 ghost use Rattle.tally_desk.specs.RunStates.{HoldsOne, IsFurnished};
 
 use crate::rule::OneTally;
@@ -12,11 +13,14 @@ use crate::state::RunState;
 use crate::view::{DeskView, Founding};
 use atomic_table::{Seat, Table};
 use audit_io::keeper::Keeper;
+use audit_model::lists::UnitList;
+use plan_core::job::Job;
 use std::alloc::Global;
+use std::snapshot::Snapshot;
 
-// Gives the state an empty list of posts, with capacity for `count` posts, and sets the number of failed saves to 0. If
-// out of memory, returns the state unchanged.
-pub(crate) fn furnish<C>(
+// Replaces the state's list of posts by an empty one with capacity for `count` posts, and its number of failed saves by
+// zero. If out of memory, the state is returned unchanged.
+fn furnish<C>(
     alloc: Global,
     mut state: RunState<C>,
     count: usize,
@@ -34,8 +38,67 @@ pub(crate) fn furnish<C>(
     }
 }
 
-// Makes the table of a desk and its first seat. If out of memory, returns the state unchanged.
+// Records the initial state of a desk, for proofs.
+fn take_snapshots<C: Keeper>(
+    job: &Job,
+    state: &RunState<C>,
+    todo: &UnitList,
+    seats: u32,
+) -> Founding<C>
+    requires found { MayFound job.now (C.state state.now.keeper).slots state.now todo.now }
+    requires seats { (1 ≤ seats) × (seats ≤ 33) }
+    ensures parts { parts_of C.state result ≡ starts C.state job.now state.now todo.now seats }
+    ensures todo { result.todo.value ≡ todo.now }
+    ensures plan { IsPlan (parts_of C.state result) }
+{
+    // Called for their contracts: the job is within its limits, and the book is within its capacity.
+    let _units = job.units();
+    let _len = state.book.len();
+    Founding {
+        job: Snapshot::of(job),
+        book: Snapshot::of(&state.book),
+        todo: Snapshot::of(todo),
+        save_every: state.save_every,
+        seats,
+        place: state.place,
+        keeper: Snapshot::of(&state.keeper),
+    }
+}
+
+// Makes the table of a desk and its first seat from the state of a run. If out of memory, the book and the keeper are
+// returned unchanged.
 pub(crate) fn open<C: Keeper>(
+    alloc: Global,
+    job: &Job,
+    state: RunState<C>,
+    todo: &UnitList,
+    seats: u32,
+) -> Result<
+    (
+        Table<RunState<C>, DeskView, Founding<C>, OneTally<C>, Global>,
+        Seat<RunState<C>, DeskView>,
+    ),
+    RunState<C>,
+>
+    requires found { MayFound job.now (C.state state.keeper).slots state todo.now }
+    requires seats { (1 ≤ seats) × (seats ≤ 33) }
+    requires lets { LetsDesk C.lets (starts C.state job.now state todo.now seats) }
+    ensures counts { IfOk result (λ t. (t.0.shared.table_id.words ≡ 3) × (t.0.shared.table_id.slots ≡ 1)) }
+    ensures parts { IfOk result (λ t. parts_of C.state t.0.shared.key ≡ starts C.state job.now state todo.now seats) }
+    ensures todo { IfOk result (λ t. t.0.shared.key.todo.value ≡ todo.now) }
+    ensures seat { IfOk result (λ t. (t.1.table_id ≡ t.0.shared.table_id)
+        × (t.1.me ≡ (first_view (parts_of C.state t.0.shared.key), []))) }
+    ensures refused { IfErr result (λ r. (r.book ≡ state.book) × (r.keeper ≡ state.keeper)) }
+{
+    let founding = take_snapshots(job, &state, todo, seats);
+    match furnish(alloc, state, todo.len()) {
+        Ok(state) => make_table(alloc, state, &founding),
+        Err(refused) => Err(refused),
+    }
+}
+
+// Makes the table of a desk and its first seat. If out of memory, the state is returned unchanged.
+fn make_table<C: Keeper>(
     alloc: Global,
     state: RunState<C>,
     founding: &Founding<C>,

@@ -1,31 +1,26 @@
 //! The hub of a run that saves.
 
-ghost use Rattle.std.specs.Prelude.{◌≡◌, ◌<◌, All, length};
-ghost use Rattle.tally_desk.specs.Tables.{parts_at};
-ghost use Rattle.claim_counter.specs.Walkers.{IsWalker};
+ghost use Rattle.std.specs.Prelude.{◌≡◌, ◌<◌, All, vec_len};
 ghost use Rattle.claim_counter.specs.Walks.{ServesEnds};
+ghost use Rattle.tally_desk.specs.Pools.{IsDeskPool};
 
 use crate::desk::Desk;
+use crate::pool::DeskPool;
 use audit_io::keeper::Keeper;
-use audit_model::lists::UnitList;
 use flip_guard::judge::Judge;
 use plan_core::job::Job;
-use walker::walker::Walker;
 
-/// Computes the hub if a trajectory of the desk's list starts from it. Otherwise leaves `hub` unchanged.
-pub fn walk_hub<C: Keeper, J: Judge>(
-    desk: &Desk<C>,
-    job: &Job,
-    walker: &mut Walker<J>,
-    hub: &mut UnitList,
-)
-    requires walks { IsWalker job.now walker.old }
-    requires units { length hub.old ≡ job.now.graph.units }
-    ensures walks { IsWalker job.now walker.new }
-    ensures hub { ServesEnds job.now (parts_at C.state desk.now).todo hub.new }
-    ensures unneeded { All (λ id. id < job.now.setting.walks) (parts_at C.state desk.now).todo → hub.new ≡ hub.old }
+/// Computes the hub if the desk's list has an id whose trajectory starts from it, and only then. The list belongs to
+/// the desk, so the hub is computed after the desk's memory is allocated.
+pub fn walk_hub<C: Keeper, J: Judge>(desk: &Desk<C>, job: &Job, pool: &mut DeskPool<J>)
+    requires pool { IsDeskPool job.now (vec_len pool.old.walkers) pool.old }
+    requires some { 0 < vec_len pool.old.walkers }
+    ensures pool { IsDeskPool job.now (vec_len pool.old.walkers) pool.new }
+    ensures hub { ServesEnds job.now desk.now.parts.todo pool.new.hub }
+    ensures unneeded { All (λ id. id < job.now.setting.walks) desk.now.parts.todo → pool.new ≡ pool.old }
 {
     if desk.needs_hub(job.setting().walks) {
-        walker.hub_into(job, hub.as_mut_slice());
+        let walker = &mut pool.walkers[0];
+        walker.hub_into(job, pool.hub.as_mut_slice());
     }
 }

@@ -16,8 +16,10 @@ use ckpt_store::laws::{
     saves_leave_consistent_slots,
 };
 
-/// Shows that each step of a pass keeps the rule of the desk, and matches events of a run in the model `Machine` of
-/// `audit_model`. The events of a step are a claim, a post, or a post and a save.
+/// Shows that each step of a pass keeps the invariant of the desk's table, and that the desk is a run machine
+/// (`Machine` of `audit_model`). Each step has its events in the machine: none, a claim, a post, or a post and a save.
+/// They take the machine from the state that matches the desk before the step to the state that matches it after the
+/// step.
 pub fn steps_are_events<C: Keeper>()
     ensures { (parts : Parts) → StepsAreEvents (HomeAs C.state C.lets) parts }
 {}

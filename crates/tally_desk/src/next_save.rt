@@ -38,8 +38,8 @@ impl NextSave {
         })
     }
 
-    /// Starts the prefix of the checkpoint at this place. `outcomes` are the outcomes of the last checkpoint by rising
-    /// id, and `todo` has the ids of the run.
+    /// Starts the checkpoint that the next save writes to this place. `outcomes` has the outcomes of the last save
+    /// attempt by rising id, and `todo` has all ids that the run walks, by rising id.
     pub fn begin(&mut self, digest: &[u8; 32], place: Place, outcomes: &[Outcome], todo: &[u32]) {
         let count = outcomes.len().saturating_add(self.save_every as usize);
         self.ahead.begin(

@@ -1,4 +1,4 @@
-//! The passes of a desk.
+//! A worker's permission at a desk.
 ghost use Rattle.std.specs.Prelude.{◌≡◌, ◌<◌, ◌∷◌, []};
 ghost use Rattle.tally_desk.specs.Views.{no_turn, view_in};
 
@@ -7,7 +7,7 @@ use crate::view::DeskView;
 use atomic_table::{Badge, Seat};
 use std::mem;
 
-/// The right to claim ids at a desk and to post their outcomes. A pass takes a few bytes, and may cross threads.
+/// The permission to claim ids at a desk and to post their outcomes. It takes a few bytes, and may cross threads.
 #[derive(Drop)]
 pub struct DeskPass {
     pub(crate) badge: Badge<DeskView>,

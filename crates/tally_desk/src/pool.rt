@@ -1,7 +1,6 @@
 //! The workers of a run that saves while it walks.
 
 ghost use Rattle.std.specs.Prelude.{◌≡◌, ◌+◌, ◌-◌, ◌*◌, ◌<◌, ◌≤◌, ◌∷◌, [], ◌++◌, All, IfOk, vec_len};
-ghost use Rattle.tally_desk.specs.Tables.{parts_at, table_of};
 ghost use Rattle.tally_desk.specs.Passes.{IsFirstPass};
 ghost use Rattle.tally_desk.specs.Pools.{IsDeskPool, IsUnstartedAtDesk, MaySeat};
 ghost use Rattle.tally_desk.specs.Unposted.{AreRooms, buffer_room, holders, room_at};
@@ -37,8 +36,8 @@ const LONG_STEPS: u32 = 100_000;
 /// The largest capacity of one outcome buffer.
 const MOST_BUFFERED: usize = 4096;
 
-/// The largest number of workers with an outcome buffer. If more workers walked on during a save, the worker that saves
-/// would get too little processor time.
+/// The largest number of workers with an outcome buffer. These workers walk on during a save. If there were more, the
+/// worker that saves would get too little processor time.
 const MOST_HOLDERS: usize = 4;
 
 /// Makes a walker and a buffer for each of `judges`. Each of these must be a constraint made for this job. Fails if
@@ -111,9 +110,9 @@ pub(crate) fn seat<C: Keeper, J: Judge>(
     mut workers: Vec<DeskWorker<J>>,
     mut lists: Vec<Vec<Outcome>>,
 ) -> Vec<DeskWorker<J>>
-    requires pass { IsFirstPass (table_of desk.now) (parts_at C.state desk.now) pass }
-    requires pool { MaySeat (parts_at C.state desk.now) walkers workers lists }
-    ensures unstarted { All (IsUnstartedAtDesk (table_of desk.now) (parts_at C.state desk.now)) result.items }
+    requires pass { IsFirstPass desk.now pass }
+    requires pool { MaySeat desk.now.parts walkers workers lists }
+    ensures unstarted { All (IsUnstartedAtDesk desk.now) result.items }
     ensures count { vec_len result ≡ vec_len walkers }
 {
     let Some(last) = walkers.pop() else {

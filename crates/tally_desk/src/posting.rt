@@ -2,7 +2,6 @@
 //! is full.
 
 ghost use Rattle.std.specs.Prelude.{◌≡◌, ◌∷◌, [], ◌++◌, vec_capacity};
-ghost use Rattle.tally_desk.specs.Tables.{parts_at, table_of};
 ghost use Rattle.tally_desk.specs.Passes.{view_of};
 ghost use Rattle.tally_desk.specs.Unposted.{IsHolding};
 
@@ -23,8 +22,8 @@ pub fn hand_in<R: Wait, C: Keeper>(
     buffered: &mut Vec<Outcome>,
     outcome: Outcome,
 )
-    requires { IsHolding (table_of desk.now) (parts_at C.state desk.now) pass.old (buffered.old.items ++ outcome ∷ []) }
-    ensures holds { IsHolding (table_of desk.now) (parts_at C.state desk.now) pass.new buffered.new.items }
+    requires { IsHolding desk.now pass.old (buffered.old.items ++ outcome ∷ []) }
+    ensures holds { IsHolding desk.now pass.new buffered.new.items }
     ensures own { (view_of pass.new).own ≡ (view_of pass.old).own }
     ensures room { vec_capacity buffered.new ≡ vec_capacity buffered.old }
 {
@@ -40,8 +39,8 @@ pub fn post_all<R: Wait, C: Keeper>(
     pass: &mut DeskPass,
     buffered: &mut Vec<Outcome>,
 )
-    requires { IsHolding (table_of desk.now) (parts_at C.state desk.now) pass.old buffered.old.items }
-    ensures holds { IsHolding (table_of desk.now) (parts_at C.state desk.now) pass.new [] }
+    requires { IsHolding desk.now pass.old buffered.old.items }
+    ensures holds { IsHolding desk.now pass.new [] }
     ensures own { (view_of pass.new).own ≡ (view_of pass.old).own }
     ensures room { vec_capacity buffered.new ≡ vec_capacity buffered.old }
 {
@@ -59,8 +58,8 @@ fn post_or_hold<R: Wait, C: Keeper>(
     buffered: &mut Vec<Outcome>,
     outcome: Outcome,
 ) -> bool
-    requires { IsHolding (table_of desk.now) (parts_at C.state desk.now) pass.old (buffered.old.items ++ outcome ∷ []) }
-    ensures holds { IsHolding (table_of desk.now) (parts_at C.state desk.now) pass.new buffered.new.items }
+    requires { IsHolding desk.now pass.old (buffered.old.items ++ outcome ∷ []) }
+    ensures holds { IsHolding desk.now pass.new buffered.new.items }
     ensures own { (view_of pass.new).own ≡ (view_of pass.old).own }
     ensures room { vec_capacity buffered.new ≡ vec_capacity buffered.old }
 {
@@ -82,8 +81,8 @@ fn post_while_free<R: Wait, C: Keeper>(
     pass: &mut DeskPass,
     buffered: &mut Vec<Outcome>,
 )
-    requires { IsHolding (table_of desk.now) (parts_at C.state desk.now) pass.old buffered.old.items }
-    ensures holds { IsHolding (table_of desk.now) (parts_at C.state desk.now) pass.new buffered.new.items }
+    requires { IsHolding desk.now pass.old buffered.old.items }
+    ensures holds { IsHolding desk.now pass.new buffered.new.items }
     ensures own { (view_of pass.new).own ≡ (view_of pass.old).own }
     ensures room { vec_capacity buffered.new ≡ vec_capacity buffered.old }
 {

@@ -5,7 +5,6 @@ ghost use Rattle.audit_model.specs.Limits.{most_workers};
 ghost use Rattle.ckpt_store.specs.Places.{IsPlace};
 ghost use Rattle.claim_counter.specs.Walks.{IsWithin};
 ghost use Rattle.tally_desk.specs.Pools.{IsDeskPool, MaySeat, WalksAtDesk};
-ghost use Rattle.tally_desk.specs.Tables.{parts_at, table_of};
 ghost use Rattle.tally_desk.specs.Parts.{LetsDesk, MayFound, Parts};
 ghost use Rattle.tally_desk.specs.Passes.{IsClosed, IsFirstPass};
 ghost use Rattle.tally_desk.specs.RunResult.{BothSaved, HasRun, starts};
@@ -87,10 +86,10 @@ fn work<R: Threads + Wait + Sync, C: Keeper + Send, J: Judge + Send, G: Gate + S
     pass: DeskPass,
     pool: DeskPool<J>,
 ) -> RunState<C>
-    requires pass { IsFirstPass (table_of desk) (parts_at C.state desk) pass }
-    requires pool { MaySeat (parts_at C.state desk) pool.walkers pool.workers pool.buffered }
-    requires shared { WalksAtDesk job.now (parts_at C.state desk) pool.hub }
-    ensures { (v : PassView) × IsClosed C.state (parts_at C.state desk) v result }
+    requires pass { IsFirstPass desk pass }
+    requires pool { MaySeat desk.parts pool.walkers pool.workers pool.buffered }
+    requires shared { WalksAtDesk job.now desk.parts pool.hub }
+    ensures { (v : PassView) × IsClosed C.state desk.parts v result }
 {
     let DeskPool {
         walkers,
@@ -124,7 +123,7 @@ fn walk_over<R: Threads + Wait + Sync, C: Keeper + Send, J: Judge + Send, G: Gat
     let seats = pool.walkers.len() as u32;
     match Desk::new(rt.alloc, job, state, todo, seats) {
         Ok((desk, pass)) => {
-            walk_hub(&desk, job, &mut pool.walkers[0], &mut pool.hub);
+            walk_hub(&desk, job, &mut pool);
             Ok(work(rt, job, desk, pass, pool))
         }
         Err(refused) => Err(refused),

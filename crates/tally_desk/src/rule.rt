@@ -52,7 +52,7 @@ impl<C, B: Posting> Play<RunState<C>, DeskView> for Take<B> {
     ghost then = { TriesTicket B.id };
 }
 
-/// The step of a read of word 2, by which a pass with a ticket learns that its turn has begun.
+/// A read of the ticket whose turn it is.
 pub(crate) struct PollTicket;
 
 impl<C: Keeper> Play<RunState<C>, DeskView> for PollTicket {

@@ -1,4 +1,4 @@
-//! The knowledge of proofs about a pass (`DeskView`) and about the start of a desk (`Founding`).
+//! A pass at a desk as proofs know it (`DeskView`), and the values that a desk was made with (`Founding`).
 
 use audit_model::lists::UnitList;
 use audit_model::place::Place;
@@ -7,7 +7,7 @@ use plan_core::job::Job;
 use std::marker::Model;
 use std::snapshot::Snapshot;
 
-/// The claims, the posts and the turn of a pass, in proofs only. No value of this type exists at run time.
+/// The claims, the posts and the turn of a pass, as proofs know them. No value is ever made at run time.
 pub struct DeskView {
     nothing: (),
 }

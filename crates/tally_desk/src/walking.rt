@@ -1,7 +1,6 @@
 //! The threads of a run that saves, and the join of their passes.
 
 ghost use Rattle.std.specs.Prelude.{◌≡◌, ◌+◌, ◌<◌, ℕ, All, true, vec_len};
-ghost use Rattle.tally_desk.specs.Tables.{parts_at, table_of};
 ghost use Rattle.tally_desk.specs.Passes.{Belongs, HasPostedAll, view_of};
 ghost use Rattle.tally_desk.specs.Pools.{IsDeskWorkerDone, IsUnstartedAtDesk, WalksAtDesk};
 
@@ -24,9 +23,9 @@ pub fn walk_each<R: Threads + Wait + Sync, C: Keeper + Send, J: Judge + Send, G:
     desk: &Desk<C>,
     workers: &mut [DeskWorker<J>],
 )
-    requires unstarted { All (IsUnstartedAtDesk (table_of desk.now) (parts_at C.state desk.now)) workers.old }
-    requires shared { WalksAtDesk job.now (parts_at C.state desk.now) hub.now }
-    ensures { All (IsDeskWorkerDone (table_of desk.now) (parts_at C.state desk.now)) workers.new }
+    requires unstarted { All (IsUnstartedAtDesk desk.now) workers.old }
+    requires shared { WalksAtDesk job.now desk.now.parts hub.now }
+    ensures { All (IsDeskWorkerDone desk.now) workers.new }
 {
     let threads = rt.threads;
     let gate = rt.gate;
@@ -34,21 +33,21 @@ pub fn walk_each<R: Threads + Wait + Sync, C: Keeper + Send, J: Judge + Send, G:
         threads,
         workers,
         &|_, worker: &mut DeskWorker<J>|
-            requires unstarted { IsUnstartedAtDesk (table_of desk.now) (parts_at C.state desk.now) worker.now }
-            requires shared { WalksAtDesk job.now (parts_at C.state desk.now) hub.now }
-            ensures { IsDeskWorkerDone (table_of desk.entry.now) (parts_at C.state desk.entry.now) worker.new }
+            requires unstarted { IsUnstartedAtDesk desk.now worker.now }
+            requires shared { WalksAtDesk job.now desk.now.parts hub.now }
+            ensures { IsDeskWorkerDone desk.entry.now worker.new }
         { worker.run(threads, job, hub, gate, desk) },
     );
 }
 
 /// Joins the passes of all workers into one.
 pub fn gather<C: Keeper, J: Judge>(desk: &Desk<C>, mut workers: Vec<DeskWorker<J>>) -> DeskPass
-    requires workers { All (IsDeskWorkerDone (table_of desk.now) (parts_at C.state desk.now)) workers.items }
+    requires workers { All (IsDeskWorkerDone desk.now) workers.items }
     requires some { 0 < vec_len workers }
-    ensures pass { Belongs (table_of desk.now) (parts_at C.state desk.now) result }
+    ensures pass { Belongs desk.now result }
     ensures ended { (view_of result).own.ended ≡ true }
     ensures seats { (view_of result).own.weight + (view_of result).own.spare ≡ vec_len workers }
-    ensures whole { HasPostedAll (parts_at C.state desk.now) (view_of result) }
+    ensures whole { HasPostedAll desk.now.parts (view_of result) }
 {
     let Some(first) = workers.pop() else {
         unreachable!()

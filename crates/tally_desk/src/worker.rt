@@ -21,7 +21,6 @@ pub struct DeskWorker<J: Judge> {
 
 impl<J: Judge> DeskWorker<J> {
     ghost use Rattle.std.specs.Prelude.{◌≡◌, vec_capacity};
-    ghost use Rattle.tally_desk.specs.Tables.{parts_at, table_of};
     ghost use Rattle.tally_desk.specs.Pools.{IsDeskWorkerDone, IsUnstartedAtDesk, WalksAtDesk};
 
     /// Claims ids until none is left, walks each trajectory, and posts its outcome. Outcomes that cannot be posted at
@@ -34,9 +33,9 @@ impl<J: Judge> DeskWorker<J> {
         gate: &G,
         desk: &Desk<C>,
     )
-        requires unstarted { IsUnstartedAtDesk (table_of desk.now) (parts_at C.state desk.now) self.old }
-        requires shared { WalksAtDesk job.now (parts_at C.state desk.now) hub.now }
-        ensures done { IsDeskWorkerDone (table_of desk.now) (parts_at C.state desk.now) self.new }
+        requires unstarted { IsUnstartedAtDesk desk.now self.old }
+        requires shared { WalksAtDesk job.now desk.now.parts hub.now }
+        ensures done { IsDeskWorkerDone desk.now self.new }
         ensures room { vec_capacity self.new.buffered ≡ vec_capacity self.old.buffered }
     {
         let walker = &mut self.walker;

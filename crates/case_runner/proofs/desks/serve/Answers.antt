@@ -1,5 +1,4 @@
 use Rattle.std.proofs.Common.{◌∙◌, ap, arith, subst, sym}
-use Rattle.tally_desk.specs.Tables.{parts_at}
 use Rattle.tally_desk.specs.Passes.{HasPostedAll, view_of}
 use Rattle.tally_desk.specs.Views.{PassView}
 use Rattle.tally_desk.proofs.Wholes.{posts_stay_whole}
@@ -7,7 +6,7 @@ use Rattle.case_runner.proofs.desks.serve.Goals as goal
 
 pub take_turns-requires-clause-first : goal.take_turns-requires-clause-first
 take_turns-requires-clause-first g c =
-    let parts = parts_at g.C.Keeper.state c.args.desk in
+    let parts = c.args.desk.parts in
     let first = c.requires.pass.first in
     let rest = c.split-second.ensures.rest in
     record {
@@ -19,7 +18,7 @@ take_turns-requires-clause-first g c =
 
 pub take_turns-requires-clause-second : goal.take_turns-requires-clause-second
 take_turns-requires-clause-second g c =
-    let parts = parts_at g.C.Keeper.state c.args.desk in
+    let parts = c.args.desk.parts in
     let new = c.split-second.ensures.new in
     record {
       belongs = new.0;
@@ -30,6 +29,6 @@ take_turns-requires-clause-second g c =
 
 pub close-requires-clause-posted : goal.close-requires-clause-posted
 close-requires-clause-posted g c =
-    let parts = parts_at g.C.Keeper.state c.args.desk in
+    let parts = c.args.desk.parts in
     subst (HasPostedAll parts) (sym c.join-both.ensures.both)
     (posts_stay_whole.join parts (view_of c.take_turns.new.first) (view_of c.take_turns.new.second) c.take_turns.ensures.first.whole c.take_turns.ensures.second.whole)

@@ -1,6 +1,5 @@
 use Rattle.std.proofs.Common.{◌∙◌, All, ap, arith, length, subst, sym}
 use Rattle.std.proofs.lemmas.List.Elements.{All-nil, All-push}
-use Rattle.tally_desk.specs.Tables.{parts_at, table_of}
 use Rattle.tally_desk.specs.Passes.{HasPostedAll, view_of}
 use Rattle.tally_desk.specs.Views.{PassView}
 use Rattle.claim_counter.specs.Walkers.{IsWalker}
@@ -13,13 +12,12 @@ use Rattle.audit_model.proofs.ListFacts.{popped_last, popped_rest}
 
 pub loop-walker-init : goal.loop-walker-init
 loop-walker-init g c =
-    let parts = parts_at g.C.Keeper.state c.args.desk.now in
-    let table = table_of c.args.desk.now in
+    let parts = c.args.desk.now.parts in
     let first = c.requires.pass.first in
     let left = c.in-Some.ensures.len in
     record {
       walkers = popped_rest (IsWalker parts.job) _ _ c.in-Some.last c.requires.pool.walkers_are c.in-Some.ensures.items;
-      unstarted = subst (All (IsUnstartedAtDesk table parts)) (sym c.requires.pool.blank) (All-nil (IsUnstartedAtDesk table parts));
+      unstarted = subst (All (IsUnstartedAtDesk c.args.desk.now)) (sym c.requires.pool.blank) (All-nil (IsUnstartedAtDesk c.args.desk.now));
       pass = c.requires.pass.belongs;
       going = ap (λ (v : PassView). v.own.ended) first;
       weight = ap (λ (v : PassView). v.own.weight) first;
@@ -33,16 +31,15 @@ loop-walker-init g c =
 
 pub loop-walker-preserved : goal.loop-walker-preserved
 loop-walker-preserved g c =
-    let parts = parts_at g.C.Keeper.state c.args.desk.now in
-    let table = table_of c.args.desk.now in
+    let parts = c.args.desk.now.parts in
     let was = c.loop-walker.invariant in
     let rest = c.split-part.ensures.rest in
     let new = c.split-part.ensures.new in
     let left = c.in-Some-pop.ensures.len in
     record {
       walkers = popped_rest (IsWalker parts.job) _ _ c.in-Some-pop.walker was.walkers c.in-Some-pop.ensures.items;
-      unstarted = subst (All (IsUnstartedAtDesk table parts)) (sym c.push_reserved.ensures.items)
-          (All-push (IsUnstartedAtDesk table parts) c.loop-walker.workers.items _ was.unstarted (record {
+      unstarted = subst (All (IsUnstartedAtDesk c.args.desk.now)) (sym c.push_reserved.ensures.items)
+          (All-push (IsUnstartedAtDesk c.args.desk.now) c.loop-walker.workers.items _ was.unstarted (record {
             at_desk = record {
               walks = subst (IsWalker parts.job) (sym c.new.ensures) (popped_last (IsWalker parts.job) _ _ c.in-Some-pop.walker was.walkers c.in-Some-pop.ensures.items);
               holds = record {
@@ -69,11 +66,10 @@ loop-walker-preserved g c =
 
 pub returns-clause-unstarted : goal.returns-clause-unstarted
 returns-clause-unstarted g c =
-    let parts = parts_at g.C.Keeper.state c.args.desk.now in
-    let table = table_of c.args.desk.now in
+    let parts = c.args.desk.now.parts in
     let was = c.loop-walker.invariant in
-    subst (All (IsUnstartedAtDesk table parts)) (sym c.push_reserved-2.ensures.items)
-    (All-push (IsUnstartedAtDesk table parts) c.loop-walker.workers.items _ was.unstarted (record {
+    subst (All (IsUnstartedAtDesk c.args.desk.now)) (sym c.push_reserved-2.ensures.items)
+    (All-push (IsUnstartedAtDesk c.args.desk.now) c.loop-walker.workers.items _ was.unstarted (record {
       at_desk = record {
         walks = subst (IsWalker parts.job) (sym c.new-2.ensures) (popped_last (IsWalker parts.job) _ _ c.in-Some.last c.requires.pool.walkers_are c.in-Some.ensures.items);
         holds = record { belongs = was.pass; rest = nothing_buffered parts (view_of c.loop-walker.pass) was.whole };

@@ -1,12 +1,11 @@
 use Rattle.std.proofs.Common.{◌≡◌, vec_capacity, vec_len}
-use Rattle.tally_desk.specs.Tables.{parts_at, table_of}
 use Rattle.tally_desk.specs.Passes.{view_of}
 use Rattle.tally_desk.specs.Unposted.{IsHolding}
 use Rattle.tally_desk.proofs.posting.post_all.Given as goal
 
 abbrev pub invariant-loop-outcome : goal.invariant-loop-outcome
 invariant-loop-outcome g l = record {
-  holds : IsHolding (table_of l.desk) (parts_at g.C.Keeper.state l.desk) l.pass l.buffered.items;
+  holds : IsHolding l.desk l.pass l.buffered.items;
   own : (view_of l.pass).own ≡ (view_of l.fn.pass).own;
   room : vec_capacity l.buffered ≡ vec_capacity l.fn.buffered;
 }

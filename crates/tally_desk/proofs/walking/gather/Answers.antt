@@ -1,6 +1,5 @@
 use Rattle.std.proofs.Common.{◌∙◌, ◌≡◌, ap, subst, sym, arith, true}
 use Rattle.tally_desk.specs.declared.pass.DeskPass.{DeskPass}
-use Rattle.tally_desk.specs.Tables.{parts_at, table_of}
 use Rattle.tally_desk.specs.Passes.{Belongs, HasPostedAll, view_of}
 use Rattle.tally_desk.specs.Views.{PassView}
 use Rattle.tally_desk.specs.Pools.{IsDeskWorkerDone}
@@ -11,12 +10,12 @@ use Rattle.audit_model.proofs.ListFacts.{popped_last, popped_rest}
 
 pub loop-worker-init : goal.loop-worker-init
 loop-worker-init g c =
-    let parts = parts_at g.C.Keeper.state c.args.desk.now in
-    let done = popped_last (IsDeskWorkerDone (table_of c.args.desk.now) (parts_at g.C.Keeper.state c.args.desk.now)) _ _ c.in-Some.first c.requires.workers c.in-Some.ensures.items in
+    let parts = c.args.desk.now.parts in
+    let done = popped_last (IsDeskWorkerDone c.args.desk.now) _ _ c.in-Some.first c.requires.workers c.in-Some.ensures.items in
     let back = sym c.into_pass-pass.ensures in
     record {
-      workers = popped_rest (IsDeskWorkerDone (table_of c.args.desk.now) (parts_at g.C.Keeper.state c.args.desk.now)) _ _ c.in-Some.first c.requires.workers c.in-Some.ensures.items;
-      pass = subst (Belongs (table_of c.args.desk.now) parts) back done.belongs;
+      workers = popped_rest (IsDeskWorkerDone c.args.desk.now) _ _ c.in-Some.first c.requires.workers c.in-Some.ensures.items;
+      pass = subst (Belongs c.args.desk.now) back done.belongs;
       ended = subst (λ (p : DeskPass). (view_of p).own.ended ≡ true) back done.ended;
       seats =
           let one : (view_of c.into_pass-pass.result).own.weight ≡ 1 = subst (λ (p : DeskPass). (view_of p).own.weight ≡ 1) back done.weight in
@@ -28,20 +27,20 @@ loop-worker-init g c =
 
 pub join-pass-requires-clause-second : goal.join-pass-requires-clause-second
 join-pass-requires-clause-second g c =
-    let done = popped_last (IsDeskWorkerDone (table_of c.args.desk.now) (parts_at g.C.Keeper.state c.args.desk.now)) _ _ c.in-Some-pop.worker c.loop-worker.invariant.workers c.in-Some-pop.ensures.items in
-    subst (Belongs (table_of c.args.desk.now) (parts_at g.C.Keeper.state c.args.desk.now)) (sym c.into_pass.ensures) done.belongs
+    let done = popped_last (IsDeskWorkerDone c.args.desk.now) _ _ c.in-Some-pop.worker c.loop-worker.invariant.workers c.in-Some-pop.ensures.items in
+    subst (Belongs c.args.desk.now) (sym c.into_pass.ensures) done.belongs
 
 pub loop-worker-preserved : goal.loop-worker-preserved
 loop-worker-preserved g c =
-    let parts = parts_at g.C.Keeper.state c.args.desk.now in
+    let parts = c.args.desk.now.parts in
     let was = c.loop-worker.invariant in
-    let done = popped_last (IsDeskWorkerDone (table_of c.args.desk.now) (parts_at g.C.Keeper.state c.args.desk.now)) _ _ c.in-Some-pop.worker was.workers c.in-Some-pop.ensures.items in
+    let done = popped_last (IsDeskWorkerDone c.args.desk.now) _ _ c.in-Some-pop.worker was.workers c.in-Some-pop.ensures.items in
     let back = sym c.into_pass.ensures in
     let both = c.join-pass.ensures.both in
     let ended = subst (λ (p : DeskPass). (view_of p).own.ended ≡ true) back done.ended in
     let whole = subst (λ (p : DeskPass). HasPostedAll parts (view_of p)) back done.whole in
     record {
-      workers = popped_rest (IsDeskWorkerDone (table_of c.args.desk.now) (parts_at g.C.Keeper.state c.args.desk.now)) _ _ c.in-Some-pop.worker was.workers c.in-Some-pop.ensures.items;
+      workers = popped_rest (IsDeskWorkerDone c.args.desk.now) _ _ c.in-Some-pop.worker was.workers c.in-Some-pop.ensures.items;
       pass = c.join-pass.ensures.pass;
       ended = ap (λ (v : PassView). v.own.ended) both ∙ and_from _ _ was.ended ended;
       seats =

@@ -2,8 +2,11 @@ use Rattle.std.proofs.Common.{rules, arith, sym, subst, ap, ◌∙◌, ◌≡◌
 use Rattle.atomic_table.specs.Table.{rest}
 use Rattle.std.specs.List.{range_with_len}
 use Rattle.tally_desk.specs.declared.state.RunState.{RunState}
+use Rattle.claim_counter.specs.Walks.{found}
+use Rattle.tally_desk.specs.DeskModel.{DeskModel}
+use Rattle.tally_desk.specs.Desks.{IsInTurn}
 use Rattle.tally_desk.specs.Entries.{post_of, is_due}
-use Rattle.tally_desk.specs.Tables.{parts_at}
+use Rattle.tally_desk.specs.Founded.{parts_of}
 use Rattle.tally_desk.specs.Homes.{HomeAs, MayTurn}
 use Rattle.tally_desk.proofs.Steps.{carried_now, posted_at_home, posted_len, serve}
 use Rattle.tally_desk.proofs.Todo.{todo_small}
@@ -11,12 +14,12 @@ use Rattle.tally_desk.proofs.Tallying.{posts_few}
 use Rattle.tally_desk.proofs.desk.Desk.serve.Goals as goal
 
 pub slot_mut-state-requires : goal.slot_mut-state-requires
-slot_mut-state-requires g c = let turn = c.requires.turn in (c.requires.table, (turn.home, turn.slots ∙ ap (λ (l : List (ℕ × RunState g.row.C.Denot)). (0, turn.home) ∷ rest l) (sym turn.slots)))
+slot_mut-state-requires g c = let turn = c.requires.turn in (c.requires.table ∙ sym (ap (λ (d : DeskModel). d.table) c.self.view_is), (turn.home, turn.slots ∙ ap (λ (l : List (ℕ × RunState g.row.C.Denot)). (0, turn.home) ∷ rest l) (sym turn.slots)))
 
 pub turn-requires : goal.turn-requires
 turn-requires g c =
-    let turn = c.requires.turn in
-    let parts = parts_at g.C.Keeper.state c.args.self.now in
+    let parts = parts_of g.C.Keeper.state c.self.inside.table.shared.key in
+    let turn = subst (λ (d : DeskModel). IsInTurn (HomeAs g.C.Keeper.state g.C.Keeper.lets) d.parts c.args.ticket c.args.outcome.id c.args.seat.now.me) (sym c.self.view_is) c.requires.turn in
     let len = posted_len (HomeAs g.C.Keeper.state g.C.Keeper.lets) parts _ _ _ turn in
     let may : MayTurn g.C.Keeper.state g.C.Keeper.lets parts c.slot_mut-state.result.now turn.posted c.args.outcome = record {
       plan = turn.awaits.plan;
@@ -24,23 +27,23 @@ turn-requires g c =
       in_order = turn.awaits.in_order ∙ ap (range_with_len 0) (sym len);
       of_todo = turn.awaits.of_todo;
       due = turn.awaits.due;
-      right = c.requires.right;
+      right = subst (λ (d : DeskModel). c.args.outcome ≡ found d.parts.job c.args.outcome.id) (sym c.self.view_is) c.requires.right;
       to_do = turn.awaits.to_do;
       unposted = turn.awaits.unposted;
     } in (parts, (turn.posted, may))
 
 pub overflow_add-ticket : goal.overflow_add-ticket
 overflow_add-ticket g c =
-    let turn = c.requires.turn in
-    let parts = parts_at g.C.Keeper.state c.args.self.now in
+    let parts = parts_of g.C.Keeper.state c.self.inside.table.shared.key in
+    let turn = subst (λ (d : DeskModel). IsInTurn (HomeAs g.C.Keeper.state g.C.Keeper.lets) d.parts c.args.ticket c.args.outcome.id c.args.seat.now.me) (sym c.self.view_is) c.requires.turn in
     let len = posted_len (HomeAs g.C.Keeper.state g.C.Keeper.lets) parts _ _ _ turn in
     let left = todo_small parts turn.awaits.plan in
     omega (arith, len, left, posts_few parts _ _ turn.posted turn.awaits)
 
 pub store-requires : goal.store-requires
 store-requires g c =
-    let turn = c.requires.turn in
-    let parts = parts_at g.C.Keeper.state c.args.self.now in
+    let parts = parts_of g.C.Keeper.state c.self.inside.table.shared.key in
+    let turn = subst (λ (d : DeskModel). IsInTurn (HomeAs g.C.Keeper.state g.C.Keeper.lets) d.parts c.args.ticket c.args.outcome.id c.args.seat.now.me) (sym c.self.view_is) c.requires.turn in
     let len = posted_len (HomeAs g.C.Keeper.state g.C.Keeper.lets) parts _ _ _ turn in
     let may : MayTurn g.C.Keeper.state g.C.Keeper.lets parts c.slot_mut-state.result.now turn.posted c.args.outcome = record {
       plan = turn.awaits.plan;
@@ -48,7 +51,7 @@ store-requires g c =
       in_order = turn.awaits.in_order ∙ ap (range_with_len 0) (sym len);
       of_todo = turn.awaits.of_todo;
       due = turn.awaits.due;
-      right = c.requires.right;
+      right = subst (λ (d : DeskModel). c.args.outcome ≡ found d.parts.job c.args.outcome.id) (sym c.self.view_is) c.requires.right;
       to_do = turn.awaits.to_do;
       unposted = turn.awaits.unposted;
     } in
@@ -62,8 +65,8 @@ store-requires g c =
 
 pub returns-clause-served : goal.returns-clause-served
 returns-clause-served g c =
-    let turn = c.requires.turn in
-    let parts = parts_at g.C.Keeper.state c.args.self.now in
+    let parts = parts_of g.C.Keeper.state c.self.inside.table.shared.key in
+    let turn = subst (λ (d : DeskModel). IsInTurn (HomeAs g.C.Keeper.state g.C.Keeper.lets) d.parts c.args.ticket c.args.outcome.id c.args.seat.now.me) (sym c.self.view_is) c.requires.turn in
     let len = posted_len (HomeAs g.C.Keeper.state g.C.Keeper.lets) parts _ _ _ turn in
     let at_home = posted_at_home (HomeAs g.C.Keeper.state g.C.Keeper.lets) parts _ _ _ _ turn c.slot_mut-state.ensures.value in
     let home_len : length c.slot_mut-state.result.now.posted.items ≡ c.args.ticket = ap length at_home.entries ∙ len in

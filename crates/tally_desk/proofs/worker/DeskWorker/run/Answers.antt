@@ -2,7 +2,6 @@ use Rattle.std.proofs.Common.{◌∙◌, List, ap, refl, subst, sym}
 use Rattle.audit_model.specs.declared.outcome.Outcome.{Outcome}
 use Rattle.claim_counter.specs.declared.record.PassRecord.{PassRecord}
 use Rattle.tally_desk.specs.Pools.{IsAtDesk}
-use Rattle.tally_desk.specs.Tables.{parts_at, table_of}
 use Rattle.tally_desk.specs.Passes.{view_of}
 use Rattle.tally_desk.specs.Unposted.{HoldsRest}
 use Rattle.tally_desk.specs.Views.{PassView}
@@ -12,15 +11,15 @@ use Rattle.tally_desk.proofs.worker.DeskWorker.run.Goals as goal
 
 pub loop-id-init : goal.loop-id-init
 loop-id-init g c = record {
-  at_desk = subst (λ (buffered : List Outcome). IsAtDesk (table_of c.args.desk.now) (parts_at g.C.Keeper.state c.args.desk.now) c.args.self.now.walker c.args.self.now.pass buffered)
+  at_desk = subst (λ (buffered : List Outcome). IsAtDesk c.args.desk.now c.args.self.now.walker c.args.self.now.pass buffered)
       (sym c.requires.unstarted.buffered.blank) c.requires.unstarted.at_desk;
   room = refl;
 }
 
 pub hand_in-requires : goal.hand_in-requires
 hand_in-requires g c =
-    let parts = parts_at g.C.Keeper.state c.args.desk.now in
-    let right = walked_found c.args.job.now (parts_at g.C.Keeper.state c.args.desk.now).job c.in-Some.id c.tell-token.result c.walk-outcome.result c.requires.shared.same c.tell-token.ensures c.walk-outcome.ensures.outcome in
+    let parts = c.args.desk.now.parts in
+    let right = walked_found c.args.job.now c.args.desk.now.parts.job c.in-Some.id c.tell-token.result c.walk-outcome.result c.requires.shared.same c.tell-token.ensures c.walk-outcome.ensures.outcome in
     let named = walked_id c.args.job.now c.in-Some.id c.tell-token.result c.walk-outcome.result c.tell-token.ensures c.walk-outcome.ensures.outcome in
     record {
       belongs = c.in-Some.ensures.pass;
@@ -46,7 +45,7 @@ loop-id-preserved g c =
 
 pub post_all-requires : goal.post_all-requires
 post_all-requires g c =
-    let parts = parts_at g.C.Keeper.state c.args.desk.now in
+    let parts = c.args.desk.now.parts in
     record {
       belongs = c.claim.ensures.pass;
       rest = subst (λ (v : PassView). HoldsRest parts v c.loop-id.buffered.items) (sym c.in_default.ensures.end)
@@ -63,5 +62,5 @@ returns-clause-done g c =
       ended = ap (λ (r : PassRecord). r.ended) own ∙ ap (λ (v : PassView). v.own.ended) end;
       weight = ap (λ (r : PassRecord). r.weight) own ∙ ap (λ (v : PassView). v.own.weight) end ∙ was.weight;
       spare = ap (λ (r : PassRecord). r.spare) own ∙ ap (λ (v : PassView). v.own.spare) end ∙ was.spare;
-      whole = all_posted (parts_at g.C.Keeper.state c.args.desk.now) (view_of c.post_all.new.pass) c.post_all.ensures.holds.rest;
+      whole = all_posted c.args.desk.now.parts (view_of c.post_all.new.pass) c.post_all.ensures.holds.rest;
     }

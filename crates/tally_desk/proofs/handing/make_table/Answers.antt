@@ -6,7 +6,7 @@ use Rattle.tally_desk.specs.Founded.{parts_of}
 use Rattle.tally_desk.specs.Homes.{HomeAs}
 use Rattle.tally_desk.proofs.Steps.{opens}
 use Rattle.tally_desk.proofs.Counting.{counter_laws}
-use Rattle.tally_desk.proofs.handing.open.Goals as goal
+use Rattle.tally_desk.proofs.handing.make_table.Goals as goal
 
 pub new-requires : goal.new-requires
 new-requires g c =
