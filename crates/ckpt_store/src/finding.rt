@@ -27,8 +27,8 @@ pub enum Finding {
     /// No slot is valid, and at least one is not empty.
     Damaged,
     /// An outcome of the folder contradicts the union, and nothing was added. `id` is the least id at which the folder
-    /// contradicts the union. `other` is the number of the first folder whose outcome for `id` was added and differs
-    /// from this folder's. The working folder has the number 0.
+    /// contradicts the union. `other` is the number of the first folder whose outcome for `id` was added and
+    /// contradicts this folder's. The working folder has the number 0.
     Differs { id: u32, other: usize },
     /// A slot could not be loaded.
     Unread,

@@ -32,8 +32,8 @@ pub fn written_slots_are_newest()
     ensures { WrittenSlotsAreNewest }
 {}
 
-/// Shows what holds after a checkpoint of the job was written at the place that `Slots::place` gives. The state of the
-/// newest slot is then `Ours`, and has this checkpoint's outcomes.
+/// Shows what holds after a checkpoint of the job, with plausible outcomes only, was written at the place that
+/// `Slots::place` gives. The state of the newest slot is then `Ours`, and has this checkpoint's outcomes.
 pub fn saved_slots_are_newest()
     ensures { SavedSlotsAreNewest }
 {}
@@ -53,9 +53,9 @@ pub fn consistent_slots_open_right()
     consistent_runs_go_on_rightly();
 }
 
-/// Shows that consistent slots stay consistent when a process is killed during a save. The law assumes that the kill
-/// left in the slot of this save its old bytes, a checkpoint with consistent outcomes, or bytes whose state is not
-/// `Ours`.
+/// Shows that consistent slots stay consistent when a process is killed during a save. The law assumes one
+/// of three things of the slot of this save: it has its old bytes, it has a checkpoint with consistent outcomes, or its
+/// state is not `Ours`.
 pub fn a_stop_in_a_save_leaves_consistent_slots()
     ensures { StopsLeaveConsistentSlots }
 {}

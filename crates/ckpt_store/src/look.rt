@@ -42,7 +42,7 @@ impl From<Memory> for LookFault {
 /// Loads both slots, slot 0 first, and returns their states for the job with this digest. No slot is changed.
 ///
 /// The contract of a keeper may leave open which bytes the slots hold. Then the contract of `look` says only this: the
-/// returned states are those of some bytes that the keeper's contract lets the slots hold.
+/// keeper's contract allows some bytes in the slots, and the returned states are the states of these bytes.
 ///
 /// # Errors
 ///

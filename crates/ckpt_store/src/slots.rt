@@ -131,7 +131,7 @@ impl Slots {
         }
     }
 
-    /// Returns the result of [`Slots::newest`] if no slot is valid.
+    /// Does the part of [`Slots::newest`] for slots of which none is valid.
     fn without_valid(self) -> Result<Option<Checkpoint>, StoreFault>
         ensures { result ≡ without_valid self }
     {

@@ -117,7 +117,7 @@ impl Claims {
             .shared
             .join_seat::<OnePass>(&mut seat, other_seat);
         // The join alone tells the proof nothing about the claims of both passes together. This read of the counter
-        // tells the proof that they are distinct.
+        // tells the proof that all these claims are distinct.
         self.table.shared.load::<Look>(&mut seat, 0);
         Pass {
             seat,

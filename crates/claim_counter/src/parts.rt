@@ -203,7 +203,8 @@ fn rest<J: Judge>(
     idle_workers.push_reserved(IdleWorker { walker, share });
 }
 
-// Adds the first worker's outcomes to the book, makes the worker idle, and returns its pass.
+// Adds a worker's outcomes to the book, makes the worker idle, and returns its pass. The caller takes this worker
+// before all others.
 fn take_first<J: Judge>(
     job: &Job,
     worker: Worker<J>,

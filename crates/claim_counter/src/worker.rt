@@ -1,4 +1,4 @@
-//! The work of one thread.
+//! The work of one worker.
 
 use crate::workers::{GatedWalker, StartToken};
 use crate::{Claims, Pass};

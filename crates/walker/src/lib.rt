@@ -7,9 +7,10 @@
 //! and its outcome has the values of its last plan. The hub is the plan after `--hub-steps` steps
 //! from the start plan, along stream 1.
 //!
-//! A *visit* is a plan at which a walk stands before a step or at its end, counted each time. An
-//! *ask* of the job is a score and a side, `low` or `high`. The *tail* of an ask has the plans that
-//! are at least as extreme as the start plan on this side.
+//! A walk *visits* the plan at which it stands before each step, and its last plan. A plan that is
+//! visited several times counts each time. An *ask* of the job is a score and a side, `low` or
+//! `high`. The *tail* of an ask has the plans that are at least as extreme as the start plan on this
+//! side.
 #![tactic(auto)]
 
 mod asked;
