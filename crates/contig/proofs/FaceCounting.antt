@@ -17,7 +17,7 @@ kept true b e = not_from_false b e
 kept false b e = refl
 
 -- a count is the count without one number, plus that number's own
-count_split : (n : ℕ) (p : ℕ → Bool) (u : ℕ) → u < n → count_below n p ≡ count_below n (λ k. p k && not (k == u)) + cond (p u) 1 0
+pub count_split : (n : ℕ) (p : ℕ → Bool) (u : ℕ) → u < n → count_below n p ≡ count_below n (λ k. p k && not (k == u)) + cond (p u) 1 0
 count_split n p u l = elim (cases_Bool (p u)) [
   | inl e ↦ omega (arith, count_below_without n p u l e, cond-true {A = ℕ} (p u) 1 0 e)
   | inr e ↦ omega (arith, count_below_same n p (λ k. p k && not (k == u)) (λ k below. same k e), cond-false {A = ℕ} (p u) 1 0 e)

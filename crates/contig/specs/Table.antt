@@ -3,15 +3,18 @@ use Rattle.std.specs.Prelude.{ℕ, ◌≤◌, List, length}
 use Rattle.audit_model.specs.Graph.{Graph}
 use Rattle.contig.specs.Faces.{AreFaces}
 use Rattle.contig.specs.declared.corner.Corner.{Corner}
+use Rattle.contig.specs.declared.sector.Sector.{Sector}
 use Rattle.contig.specs.Corners.{HasCorners, corners_at}
+use Rattle.contig.specs.Order.{HasSectors}
 
 -- a graph and a list of its faces
 pub record Faced : Type 0 where
   pub graph : Graph
   pub faces : List (List ℕ)
 
--- the faces are those of the graph, there are not too many, and the rows have their corners
-pub record IsFaceTable (faced : Faced) (rows : List (List Corner)) : Type 0 where
+-- the faces are those of the graph, there are not too many, the rows have their corners, and the sectors their order
+pub record IsFaceTable (faced : Faced) (rows : List (List Corner)) (sectors : List (List Sector)) : Type 0 where
   pub faces : AreFaces faced.graph faced.faces
   pub few : length faced.faces ≤ 4000000
   pub corners : HasCorners faced.graph (λ u. corners_at u faced.faces) rows
+  pub order : HasSectors faced.graph rows sectors

@@ -1,14 +1,17 @@
 //! Counts of the edges, units and faces in each district, updated as units move.
 
-ghost use Rattle.std.specs.Prelude.{◌≡◌, ◌≢◌, ℕ, ◌+◌, ◌-◌, ◌<◌, ◌≤◌, ◌↔◌, ◌^◌, cond, [], length, replicate, slice_index, slice_set, count_by, IsTrue, IfOk};
+ghost use Rattle.std.specs.Prelude.{◌≡◌, ◌≢◌, ℕ, ◌+◌, ◌-◌, ◌<◌, ◌≤◌, ◌↔◌, ◌^◌, cond, [], length, replicate, slice_index, slice_set, count_by, IsTrue, IfOk, All};
 ghost use Rattle.std.specs.List.{slice_index_or};
 ghost use Rattle.audit_model.specs.District.{in_district};
 ghost use Rattle.contig.specs.Corners.{IsOnRow, is_filled, corners_at, units_of};
 ghost use Rattle.contig.specs.Counts.{AreCounts, HasNoHole, is_before};
 ghost use Rattle.contig.specs.Faces.{AreFaces, count_mates};
+ghost use Rattle.contig.specs.Order.{IsOnGraph, is_joined};
+ghost use Rattle.audit_model.specs.Below.{count_below};
 ghost use Rattle.audit_model.specs.Limits.{most_edges};
 
 use crate::corner::Corner;
+use crate::sector::Sector;
 use crate::table::FaceTable;
 use audit_model::memory::Memory;
 use dual_graph::graph::Graph;
@@ -203,6 +206,43 @@ fn corners_of(member: Member, table: &FaceTable, one: u32, other: u32) -> (u64, 
     ensures faces { AreFaces table.now.graph table.now.faces }
     ensures few { length table.now.faces ≤ 4000000 }
 {
+    let sectors = table.sectors_at(member.unit);
+    if sectors.is_empty() {
+        return scan_corners(member, table, one, other);
+    }
+    count_joined(member, sectors, one, other)
+}
+
+/// Counts the sectors whose face and neighbors are all in one district, and those for another
+/// district. The loop has no branch that depends on the plan.
+#[inline]
+fn count_joined(member: Member, sectors: &[Sector], one: u32, other: u32) -> (u64, u64)
+    requires some { 0 < length sectors.now }
+    requires within { All (IsOnGraph member.graph.now) sectors.now }
+    ensures one { result.0 ≡ count_below (length sectors.now) (is_joined (in_district member.entry.plan.now one) sectors.now) }
+    ensures other { result.1 ≡ count_below (length sectors.now) (is_joined (in_district member.entry.plan.now other) sectors.now) }
+{
+    let plan = member.plan;
+    let last = sectors[sectors.len() - 1];
+    let mut before = plan[last.near as usize];
+    let mut in_one = 0;
+    let mut in_other = 0;
+    for sector in sectors {
+        let here = plan[sector.near as usize];
+        let whole = sector.faced & (here == before) & (plan[sector.far as usize] == here);
+        in_one = with_one(in_one, whole & (here == one));
+        in_other = with_one(in_other, whole & (here == other));
+        before = here;
+    }
+    (in_one, in_other)
+}
+
+/// Does the work of `corners_of` for a unit whose neighbors are in no order, corner by corner.
+fn scan_corners(member: Member, table: &FaceTable, one: u32, other: u32) -> (u64, u64)
+    requires { table.now.graph ≡ member.graph.now }
+    ensures one { result.0 ≡ count_by (is_filled (in_district member.entry.plan.now one)) (corners_at member.entry.unit table.now.faces) }
+    ensures other { result.1 ≡ count_by (is_filled (in_district member.entry.plan.now other)) (corners_at member.entry.unit table.now.faces) }
+{
     let mut in_one = 0;
     let mut in_other = 0;
     for corner in table.at(member.unit) {
@@ -232,8 +272,9 @@ fn are_inside(member: Member, corner: Corner, one: u32, other: u32) -> (bool, bo
     (whole & (district == one), whole & (district == other))
 }
 
+/// Returns a number, with one added if `counts` is true. It compiles without a branch.
 #[inline]
-fn with_one(count: u64, counts: bool) -> u64
+pub(crate) fn with_one(count: u64, counts: bool) -> u64
     requires few { count < 2 ^ 63 }
     ensures { result ≡ count + cond counts 1 0 }
 {

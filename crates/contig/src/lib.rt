@@ -31,7 +31,9 @@
 //! For a unit with more than 32 neighbors, only tests 3 and 4 are made.
 //!
 //! `face`, `near`, `peel` and `list` find faces. `corner`, `rows` and `table` store the faces by
-//! unit. `classes` and `links` make test 1. `counts` keeps the counts of a plan and makes test 2.
+//! unit. `sector` and `order` store the neighbors of a unit in the order of the faces round it,
+//! where there is such an order. `classes` and `links` make test 1. `counts` keeps the counts of a
+//! plan and makes test 2.
 //! `parts` and `flood` make tests 3 and 4. `leave` has the calls that decide.
 #![tactic(auto)]
 
@@ -45,9 +47,11 @@ pub mod leave;
 pub mod links;
 pub mod list;
 pub mod near;
+mod order;
 mod parts;
 mod peel;
 mod rows;
+mod sector;
 pub mod table;
 
 pub use counts::FaceCounts;

@@ -7,10 +7,13 @@ ghost use Rattle.audit_model.specs.Local.{is_mate};
 ghost use Rattle.contig.specs.Corners.{IsOnRow, units_of, corners_at};
 ghost use Rattle.contig.specs.Links.{AreClasses, AreMerged, is_inner};
 ghost use Rattle.contig.specs.Faces.{AreFaces, AreLinked};
+ghost use Rattle.contig.specs.Order.{AreSectors, IsOnGraph};
 ghost use Rattle.audit_model.specs.Replaced.{Replaced};
 
 use crate::classes::join;
 use crate::corner::Corner;
+use crate::counts::with_one;
+use crate::sector::Sector;
 use dual_graph::member::Member;
 
 /// The limit on the neighbors of a unit: with more of them, links are not computed.
@@ -104,4 +107,31 @@ fn all_of(leaving: Member, classes: &[u8; 32], class: u8) -> bool
         all = all & ((plan[row[place] as usize] != district) | (classes[place] == class));
     }
     all
+}
+
+/// Returns true if the mates of a unit are linked, one to the next, through faces inside their
+/// district. The sectors are those of the unit.
+///
+/// Mates in the order of the faces are linked if at most one of them has no link to the one before.
+/// The loop has no branch that depends on the plan.
+pub fn are_linked_in_order(leaving: Member, sectors: &[Sector]) -> bool
+    requires some { 0 < length sectors.now }
+    requires placed { All (IsOnGraph leaving.graph.now) sectors.now }
+    ensures { let g = leaving.entry.graph.now in let u = leaving.entry.unit in
+        (faces : List (List ℕ)) → AreFaces g faces → AreSectors g faces u sectors.now → IsTrue result ↔ AreLinked g faces leaving.entry.plan.now u }
+{
+    let plan = leaving.plan;
+    let district = plan[leaving.unit as usize];
+    let last = sectors[sectors.len() - 1];
+    let mut before = plan[last.near as usize] == district;
+    let mut some = false;
+    let mut starts: u64 = 0;
+    for sector in sectors {
+        let inside = plan[sector.near as usize] == district;
+        let joined = sector.faced & inside & before & (plan[sector.far as usize] == district);
+        starts = with_one(starts, inside & !joined);
+        some = some | inside;
+        before = inside;
+    }
+    some & (starts <= 1)
 }

@@ -8,12 +8,15 @@ ghost use Rattle.audit_model.specs.Path.{IsConnected};
 ghost use Rattle.audit_model.specs.District.{in_district};
 ghost use Rattle.contig.specs.Counts.{filled_of};
 ghost use Rattle.contig.specs.Faces.{AreFaces, AreLinked, count_inner_edges};
+ghost use Rattle.contig.specs.Order.{AreSectors, IsOnGraph};
 
 use crate::corner::{Corner, CornerList};
-use crate::links::are_linked;
+use crate::links::{are_linked, are_linked_in_order};
 use crate::list::FaceList;
 use crate::near::faces_of;
+use crate::order::all_sectors;
 use crate::rows::rows_of;
+use crate::sector::{Sector, SectorList};
 use audit_model::memory::Memory;
 use dual_graph::graph::Graph;
 use dual_graph::member::Member;
@@ -24,12 +27,14 @@ use std::snapshot::Snapshot;
 /// The maximum number of faces. A graph with more faces gets none.
 const MOST: usize = 4000000;
 
-/// The faces of a graph, stored as corners by unit.
+/// The faces of a graph, stored as corners by unit, and as sectors where a unit's neighbors lie in
+/// their order.
 #[derive(Drop)]
 pub struct FaceTable {
     graph: Snapshot<Graph>,
     list: Snapshot<FaceList>,
     rows: Vec<CornerList>,
+    sectors: Vec<SectorList>,
 }
 
 impl Model for FaceTable {
@@ -39,7 +44,7 @@ impl Model for FaceTable {
 
     ghost view = { λ t. record { graph = t.graph.value; faces = t.list.value } };
 
-    ghost invariant = { λ t. IsFaceTable (record { graph = t.graph.value; faces = t.list.value }) t.rows.items };
+    ghost invariant = { λ t. IsFaceTable (record { graph = t.graph.value; faces = t.list.value }) t.rows.items t.sectors.items };
 }
 
 impl FaceTable {
@@ -49,10 +54,12 @@ impl FaceTable {
     {
         let list = some_faces(alloc, graph)?;
         let rows = rows_of(alloc, graph, list.faces())?;
+        let sectors = all_sectors(alloc, graph, &rows)?;
         Ok(FaceTable {
             graph: Snapshot::of(graph),
             list: Snapshot::of(&list),
             rows,
+            sectors,
         })
     }
 
@@ -78,6 +85,36 @@ impl FaceTable {
         self.rows[unit as usize].as_slice()
     }
 
+    /// Returns the neighbors of a unit in the order of the faces round it. The list is empty if they
+    /// have no such order.
+    #[inline]
+    pub fn sectors_at(&self, unit: u32) -> &[Sector]
+        requires { unit < self.now.graph.units }
+        ensures faces { AreFaces self.now.graph self.now.faces }
+        ensures few { length self.now.faces ≤ 4000000 }
+        ensures within { All (IsOnGraph self.now.graph) result.now }
+        ensures order { 0 < length result.now → AreSectors self.now.graph self.now.faces unit result.now }
+    {
+        // Reading a field makes the type's invariant known to the prover.
+        let _ = &self.rows;
+        self.sectors[unit as usize].as_slice()
+    }
+
+    /// Does the work of `links_mates`: by the order of the faces where there is one, and otherwise
+    /// by merging neighbors corner by corner.
+    fn are_mates_linked(&self, leaving: Member) -> bool
+        requires made { self.now.graph ≡ leaving.graph.now }
+        requires few { length (slice_index_or leaving.graph.now.neighbours leaving.unit []) ≤ 32 }
+        ensures linked { IsTrue result ↔ AreLinked leaving.entry.graph.now self.now.faces leaving.entry.plan.now leaving.entry.unit }
+        ensures faces { AreFaces self.now.graph self.now.faces }
+    {
+        let sectors = self.sectors_at(leaving.unit);
+        if sectors.is_empty() {
+            return are_linked(leaving, self.at(leaving.unit));
+        }
+        are_linked_in_order(leaving, sectors)
+    }
+
     /// Returns true if the mates of a unit are linked.
     ///
     /// If the district is connected, the unit may then leave. If the mates are not linked and the
@@ -91,7 +128,7 @@ impl FaceTable {
         ensures may_not { let g = leaving.entry.graph.now in let plan = leaving.entry.plan.now in let u = leaving.entry.unit in
             IsFalse result → IsConnected g (in_district plan (slice_index plan u)) → count_inner_edges g (in_district plan (slice_index plan u)) + 1 ≤ filled_of g self.now.faces (in_district plan (slice_index plan u)) → MayLeave g plan u → ⊥ }
     {
-        are_linked(leaving, self.at(leaving.unit))
+        self.are_mates_linked(leaving)
     }
 }
 

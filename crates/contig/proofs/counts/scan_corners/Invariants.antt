@@ -3,7 +3,7 @@ use Rattle.std.specs.Prelude.{count_by, []}
 use Rattle.std.specs.List.{slice_index_or}
 use Rattle.audit_model.specs.District.{in_district}
 use Rattle.contig.specs.Corners.{is_filled, units_of}
-use Rattle.contig.proofs.counts.corners_of.Given as goal
+use Rattle.contig.proofs.counts.scan_corners.Given as goal
 
 abbrev pub invariant-loop-corner : goal.invariant-loop-corner
 invariant-loop-corner l = record {
