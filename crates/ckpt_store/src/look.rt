@@ -41,8 +41,8 @@ impl From<Memory> for LookFault {
 
 /// Loads both slots, slot 0 first, and returns their states for the job with this digest. No slot is changed.
 ///
-/// The contract of a keeper may leave open which bytes the slots hold. Then the contract of `look` says only this: the
-/// keeper's contract allows some bytes in the slots, and the returned states are the states of these bytes.
+/// The contract of a keeper may leave open which bytes the slots hold. Then the contract of `look` says only that the
+/// returned states are those of bytes that the slots may hold by the keeper's contract.
 ///
 /// # Errors
 ///

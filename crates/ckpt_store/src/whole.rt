@@ -167,7 +167,8 @@ fn begin_with(
     })
 }
 
-// Looks at the slots of each other folder, and adds their outcomes to the collection.
+// Looks at the slots of each other folder. Adds the outcomes of the newest slot to the collection, unless they
+// contradict it.
 fn find_each<F: Keeper>(
     alloc: Global,
     collection: &mut Collection,

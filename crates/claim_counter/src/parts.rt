@@ -29,7 +29,8 @@ use std::alloc::Global;
 use std::thread::Threads;
 use walker::walker::Walker;
 
-/// The counter of one batch, and its first pass, off which the passes of the other workers are split.
+/// The counter of one batch, and the counter's first pass. One worker gets this pass. The passes of the other workers
+/// are split off it.
 #[derive(Drop)]
 pub struct PartCounter {
     pub(crate) claims: Claims,

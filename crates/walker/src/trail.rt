@@ -63,7 +63,7 @@ impl Trail {
         self.visits = visits;
     }
 
-    /// Scores the current plan after a move.
+    /// Counts a move, and scores the plan after it.
     pub fn update<J: Judge>(&mut self, job: &Job, state: &State<J>, room: &mut Room)
         requires made { state.now.job ≡ job.now }
         requires few { self.old.moved < 10 ^ 9 }
