@@ -27,7 +27,7 @@ fn other_end(row: &[u32], corner: Corner, unit: u32) -> Option<u32>
     None
 }
 
-/// Returns the first place of a neighbor from this one on, or the number of sectors.
+/// Returns the position of a neighbor, from `place` on, or the number of sectors.
 fn find_from(sectors: &[Sector], place: usize, unit: u32) -> usize
     ensures { result ≤ length sectors.now }
 {
@@ -39,7 +39,7 @@ fn find_from(sectors: &[Sector], place: usize, unit: u32) -> usize
     sectors.len()
 }
 
-/// Returns the place from this one on of a neighbor that some corner joins to this one, or the
+/// Returns the position, from `place` on, of a neighbor that some corner joins to `unit`, or the
 /// number of sectors.
 fn place_beside(
     graph: &Graph,
@@ -79,8 +79,9 @@ fn is_end(graph: &Graph, row: &[u32], corners: &[Corner], unit: u32) -> bool
     true
 }
 
-/// Returns the place of the neighbor that is to stand at a place. It is one that a corner joins to
-/// the neighbor before, if possible, and otherwise one with at most one corner.
+/// Chooses the sector that is to stand at `place`, and returns its position. A corner joins its
+/// neighbor to the one before, if possible. Otherwise its neighbor has at most one corner, if
+/// possible.
 fn next_place(
     graph: &Graph,
     row: &[u32],
@@ -121,7 +122,7 @@ fn exchange(sectors: &mut Vec<Sector>, one: usize, other: usize)
 }
 
 /// Sorts the sectors of a unit so that a corner joins each neighbor to the one before, where there
-/// is such a corner. Of the order nothing is proved: `put_faces` tests it.
+/// is such a corner. Nothing is proved of the order: `put_faces` tests it.
 fn sort_round(graph: &Graph, row: &[u32], corners: &[Corner], sectors: &mut Vec<Sector>)
     requires placed { All (IsOnRow graph.now row.now) corners.now }
     requires unfaced { AreUnfaced graph.now row.now sectors.old.items }
@@ -214,7 +215,7 @@ fn put_faces(graph: &Graph, row: &[u32], corners: &[Corner], sectors: &mut Vec<S
     true
 }
 
-/// Lists the sectors of a unit if its neighbors lie round it. The list is empty otherwise, and if a
+/// Lists the sectors of a unit. The list is empty if its neighbors have no order round it, or if a
 /// face has five units. Fails if there is no memory.
 fn sectors_of(
     alloc: Global,
