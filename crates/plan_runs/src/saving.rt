@@ -32,7 +32,7 @@ use std::alloc::Global;
 use std::sync::Wait;
 use std::thread::Threads;
 use tally_desk::pool::DeskPool;
-use tally_desk::ran::{RunResult, run_over};
+use tally_desk::run::{RunResult, run_over};
 use tally_desk::state::{DeskPlan, RunState};
 use walker::walker::Walker;
 

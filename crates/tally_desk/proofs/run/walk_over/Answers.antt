@@ -5,7 +5,7 @@ use Rattle.claim_counter.specs.Walkers.{AreWalkers}
 use Rattle.tally_desk.specs.Unposted.{IsRoomWithin, buffer_room}
 use Rattle.tally_desk.proofs.Unposted.{rooms_within}
 use Rattle.claim_counter.specs.Walks.{IsWithin}
-use Rattle.tally_desk.proofs.ran.walk_over.Goals as goal
+use Rattle.tally_desk.proofs.run.walk_over.Goals as goal
 
 pub work-requires-clause-pool : goal.work-requires-clause-pool
 work-requires-clause-pool g c κs inside =

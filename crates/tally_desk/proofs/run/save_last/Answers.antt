@@ -4,7 +4,7 @@ use Rattle.ckpt_store.proofs.Turns.{saved_slots_are_newest}
 use Rattle.tally_desk.specs.RunResult.{BothSaved}
 use Rattle.tally_desk.proofs.InTurn.{unfailed_runs_save_in_turn}
 use Rattle.tally_desk.proofs.LastSave.{has_run, lets_last}
-use Rattle.tally_desk.proofs.ran.save_last.Goals as goal
+use Rattle.tally_desk.proofs.run.save_last.Goals as goal
 
 pub save_rest-rest-requires-clause-lets : goal.save_rest-rest-requires-clause-lets
 save_rest-rest-requires-clause-lets g c = λ none.

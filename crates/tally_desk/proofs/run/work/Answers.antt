@@ -2,7 +2,7 @@ use Rattle.std.proofs.Common.{◌≡◌, All, length, rules, subst, sym}
 use Rattle.std.proofs.lemmas.List.{with_items_is}
 use Rattle.tally_desk.specs.Passes.{view_of}
 use Rattle.tally_desk.specs.Pools.{IsDeskWorkerDone}
-use Rattle.tally_desk.proofs.ran.work.Goals as goal
+use Rattle.tally_desk.proofs.run.work.Goals as goal
 
 pub gather-pass-requires-clause-workers : goal.gather-pass-requires-clause-workers
 gather-pass-requires-clause-workers g c =

@@ -1,6 +1,6 @@
 use Rattle.std.proofs.Common.{ap, arith}
 use Rattle.outcome_book.specs.Booked.{Booked}
-use Rattle.tally_desk.proofs.ran.run_over.Goals as goal
+use Rattle.tally_desk.proofs.run.run_over.Goals as goal
 
 pub save_last-requires-clause-room : goal.save_last-requires-clause-room
 save_last-requires-clause-room g c =
