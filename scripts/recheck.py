@@ -94,6 +94,8 @@ class Job:
         self.key = bytes.fromhex(re.findall("^key (.*)$", text, re.M)[0])
         rows = re.findall(r"^(?:walk \d+ moved \d+|ends|stop) (\S+) (\S+) start", text, re.M)
         self.asks: List[Tuple[str, str]] = rows[:len(rows) // (n["walks"] + (n["ends"] > 0))]
+        for tail in {tail for _, tail in self.asks}.difference(TAILS):
+            raise ValueError(f"unknown tail {tail}")
         self.is_shift, self.is_serial = lines[0] == "district-audit 2", "\nserial " in text
         self.source = [line for line in lines[1:3] if line.startswith(("source ", "columns "))]
         names = {name: words[name] for name in COLUMNS if words.get(name)}

@@ -433,6 +433,14 @@ def changed_digits(room: Path, report: str) -> None:
     COUNTS.judge("each changed digit", not missed, f"not found in the lines {missed}")
 
 
+def unknown_tail(room: Path, report: str) -> None:
+    """A report on a tail that is neither low nor high is an error, and no tail of another name."""
+    (room / "tail").write_text(re.sub(r" (low|high) start ", r" \1er start ", report))
+    status, text = checked(room / "graph", room / "tail", *FAULTY)
+    is_right = status == 2 and "ValueError: unknown tail " in text
+    COUNTS.judge("an unknown tail", is_right, f"status {status}: {text}")
+
+
 def trace_faults(room: Path, job: model.Job, trace: str) -> None:
     """Checks a trace with a wrong plan, a missing line, and a plan that is not legal."""
     lines = trace.split("\n")
@@ -553,6 +561,7 @@ def faults(auditor: str, room: Path) -> None:
     job, report, trace = right_texts(auditor, graph, room)
     model_faults(graph, room, job, report)
     changed_digits(room, report)
+    unknown_tail(room, report)
     trace_faults(room, job, trace)
     checkpoint_faults(room, job)
     plans_faults(auditor, room)
