@@ -13,7 +13,7 @@ use std::io::{ErrorKind, Read, Write};
 pub(crate) fn read_again<T: Read>(from: &mut T, into: &mut [u8]) -> io::Result<usize>
     ensures amount { ReadsAtMost result into.new }
     ensures bytes { ReadConsumes (T.remaining from.old) (T.remaining from.new) result into.new }
-    ensures again { IfErr result (λ e. error_kind e ≢ ErrorKind.Interrupted) }
+    ensures uninterrupted { IfErr result (λ e. error_kind e ≢ ErrorKind.Interrupted) }
 {
     for _ in 0..u64::MAX {
         match from.read(into) {
@@ -33,7 +33,7 @@ pub(crate) fn read_again<T: Read>(from: &mut T, into: &mut [u8]) -> io::Result<u
 pub(crate) fn write_again<T: Write>(to: &mut T, bytes: &[u8]) -> io::Result<usize>
     ensures amount { WritesAtMost result bytes.now }
     ensures bytes { WriteAppends (T.contents to.old) (T.contents to.new) result bytes.now }
-    ensures again { IfErr result (λ e. error_kind e ≢ ErrorKind.Interrupted) }
+    ensures uninterrupted { IfErr result (λ e. error_kind e ≢ ErrorKind.Interrupted) }
 {
     for _ in 0..u64::MAX {
         match to.write(bytes) {

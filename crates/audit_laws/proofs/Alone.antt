@@ -41,13 +41,13 @@ module _ (words : List (List ℕ)) (before after : World) where
   unsaved (Some save_fault) u h0 h5 h7 h9 = absurd (h9 refl)
   unsaved r u h0 h5 h7 h9 = u.slots
 
-  untried : (r : Option Ending) → LeavesUntouched words before after (marks_of r) → status_of r ≢ 0 → status_of r ≢ 5 → status_of r ≢ 7 → status_of r ≢ 9
+  no_attempt : (r : Option Ending) → LeavesUntouched words before after (marks_of r) → status_of r ≢ 0 → status_of r ≢ 5 → status_of r ≢ 7 → status_of r ≢ 9
       → after.keeper.attempted ≡ before.keeper.attempted
-  untried None u h0 h5 h7 h9 = absurd (h0 refl)
-  untried (Some write_fault) u h0 h5 h7 h9 = absurd (h5 refl)
-  untried (Some (stopped done all)) u h0 h5 h7 h9 = absurd (h7 refl)
-  untried (Some save_fault) u h0 h5 h7 h9 = absurd (h9 refl)
-  untried r u h0 h5 h7 h9 = u.attempted
+  no_attempt None u h0 h5 h7 h9 = absurd (h0 refl)
+  no_attempt (Some write_fault) u h0 h5 h7 h9 = absurd (h5 refl)
+  no_attempt (Some (stopped done all)) u h0 h5 h7 h9 = absurd (h7 refl)
+  no_attempt (Some save_fault) u h0 h5 h7 h9 = absurd (h9 refl)
+  no_attempt r u h0 h5 h7 h9 = u.attempted
 
   no_load_fault : (s : Setting) → setting_of words ≡ Ok s → IsFalse (loads s) → IsLoadFault words before after → ⊥
   no_load_fault s e off c =
@@ -67,7 +67,7 @@ module _ (words : List (List ℕ)) (before after : World) where
   alone_at r c u = record {
     unwritten = unwritten r u;
     unsaved = unsaved r u;
-    untried = untried r u;
+    no_attempt = no_attempt r u;
     refused_words = λ h. same_at _ before.source after.source (passes_none _ (setting_of words) h) u.source;
     not_reading = λ s e off. same_at _ before.source after.source (passes_not (λ s. is_reading s.command) words s e off) u.source;
     not_saving = λ s e off. (

@@ -286,17 +286,17 @@ module _ (law : ConsistentSlotsOpenRight) (words : List (List ℕ)) (before afte
   attempted_where false made job is walks none s = attempted_none job (ap (λ (b : Bool). b && has_walked status) is) (none refl).0 (none refl).1
   attempted_where true made job is walks none s = attempted_all_of job s.outcomes is walks s.opened s.attempted
 
-  untried_where : {A : Type 0} (job : Job) (x y : A) → IsPrepared words before.source after.source job → SameUnless (passes saves (setting_of words)) x y → saves job.setting ≡ false → y ≡ x
-  untried_where job x y prepared same off = by (passes saves (setting_of words)) (ap (passes saves) prepared.accepted.words_are ∙ off) same
+  no_attempt_where : {A : Type 0} (job : Job) (x y : A) → IsPrepared words before.source after.source job → SameUnless (passes saves (setting_of words)) x y → saves job.setting ≡ false → y ≡ x
+  no_attempt_where job x y prepared same off = by (passes saves (setting_of words)) (ap (passes saves) prepared.accepted.words_are ∙ off) same
     where
       by : (b : Bool) → b ≡ false → SameUnless b x y → y ≡ x
       by true e s = cc
       by false e s = s
 
-  untried_both : (job : Job) → IsPrepared words before.source after.source job → SameUnless (passes saves (setting_of words)) before.keeper.attempted after.keeper.attempted
+  no_attempt_both : (job : Job) → IsPrepared words before.source after.source job → SameUnless (passes saves (setting_of words)) before.keeper.attempted after.keeper.attempted
       → SameUnless (passes saves (setting_of words)) before.keeper.save_faults after.keeper.save_faults → saves job.setting ≡ false
       → (after.keeper.attempted ≡ before.keeper.attempted) × (after.keeper.save_faults ≡ before.keeper.save_faults)
-  untried_both job prepared same calm off = (untried_where job before.keeper.attempted after.keeper.attempted prepared same off, untried_where job before.keeper.save_faults after.keeper.save_faults prepared calm off)
+  no_attempt_both job prepared same calm off = (no_attempt_where job before.keeper.attempted after.keeper.attempted prepared same off, no_attempt_where job before.keeper.save_faults after.keeper.save_faults prepared calm off)
 
   idle_at : (b : Bool) → has_walked status ≡ false → (b && has_walked status) ≡ false
   idle_at true is = is
@@ -304,9 +304,9 @@ module _ (law : ConsistentSlotsOpenRight) (words : List (List ℕ)) (before afte
 
   pub attempted_at : (job : Job) → IsTheJob words before job → (r : Option Ending) → status ≡ status_of r → Cause words before after r → LeavesUntouched words before after (marks_of r) → Attempted job
   attempted_at job t None e c u =
-      subst Attempted (job_is words before after job c.job t c.prepared) (attempted_where (saves c.job.setting) ⊤ c.job refl (ap has_walked e) (λ off. (untried_where c.job before.keeper.attempted after.keeper.attempted c.prepared u.attempted off, u.save_faults)) c.saved)
+      subst Attempted (job_is words before after job c.job t c.prepared) (attempted_where (saves c.job.setting) ⊤ c.job refl (ap has_walked e) (λ off. (no_attempt_where c.job before.keeper.attempted after.keeper.attempted c.prepared u.attempted off, u.save_faults)) c.saved)
   attempted_at job t (Some write_fault) e c u =
-      subst Attempted (job_is words before after job c.job t c.prepared) (attempted_where (saves c.job.setting) (NoSaveFailed before after) c.job refl (ap has_walked e) (untried_both c.job c.prepared u.attempted u.save_faults) c.saved)
+      subst Attempted (job_is words before after job c.job t c.prepared) (attempted_where (saves c.job.setting) (NoSaveFailed before after) c.job refl (ap has_walked e) (no_attempt_both c.job c.prepared u.attempted u.save_faults) c.saved)
   attempted_at job t (Some (stopped done all)) e c u = subst Attempted (job_is words before after job c.job t c.prepared) (attempted_all_of c.job c.saved.outcomes c.saving (ap has_walked e) c.saved.opened c.saved.attempted)
   attempted_at job t (Some save_fault) e c u = subst Attempted (job_is words before after job c.job t c.prepared) (attempted_all_of c.job c.outcomes c.saving (ap has_walked e) c.opened c.attempted)
   attempted_at job t r e c u = attempted_none job (idle_at (saves job.setting) (ap has_walked e)) u.attempted u.save_faults

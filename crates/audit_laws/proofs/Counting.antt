@@ -96,14 +96,14 @@ count-ids n [] apart below = count-none n
 count-ids n (x ∷ xs) apart below =
     omega (
       arith,
-      count-or n (λ k. x.id == k) (has_id xs) (λ k e. lacks k (eqb-true x.id k e)),
+      count-or n (λ k. x.id == k) (has_id xs) (λ k e. missing k (eqb-true x.id k e)),
       count-one n x.id (below 0 x (omega arith)),
       count-ids n xs
           (λ i j d before inside. apart (suc i) (suc j) d (omega arith) (omega arith)) (λ k d inside. below (suc k) d (omega arith)),
     )
   where
-    lacks : (k : ℕ) → x.id ≡ k → has_id xs k ≡ false
-    lacks k same = no_id xs k (λ j d inside e. apart 0 (suc j) d (omega arith) (omega arith) (same ∙ sym e))
+    missing : (k : ℕ) → x.id ≡ k → has_id xs k ≡ false
+    missing k same = no_id xs k (λ j d inside e. apart 0 (suc j) d (omega arith) (omega arith) (same ∙ sym e))
 
 -- the pending and the initial outcomes are all outcomes
 pub pending_rest : (job : Job) (outcomes : List Outcome) → AreApart outcomes → All (λ o. o.id < total job) outcomes → pending job outcomes + length outcomes ≡ total job
@@ -151,33 +151,33 @@ count-all (suc n) first second each few k inside passes = by (cases_order k n) (
 -- ---- the pending ids, and those in the run's part
 
 module _ (job : Job) (outcomes : List Outcome) where
-  abbrev pub lacks : ℕ → Bool
-  lacks id = not (has_id outcomes id)
+  abbrev pub is_pending : ℕ → Bool
+  is_pending id = not (has_id outcomes id)
 
   abbrev pub lies : ℕ → Bool
-  lies id = lacks id && is_in_part job.setting.parts job.setting.part id
+  lies id = is_pending id && is_in_part job.setting.parts job.setting.part id
 
   -- an id of the part that is to be walked is pending
-  pub lies_misses : (k : ℕ) → lies k ≡ true → lacks k ≡ true
-  lies_misses k e = (and_parts (lacks k) (is_in_part job.setting.parts job.setting.part k) e).0
+  pub lies_misses : (k : ℕ) → lies k ≡ true → is_pending k ≡ true
+  lies_misses k e = (and_parts (is_pending k) (is_in_part job.setting.parts job.setting.part k) e).0
 
   length-run_ids : (budget : ℕ) → length (run_ids job outcomes budget) ≡ min budget (count (total job) lies)
   length-run_ids budget = length-take budget (filter_below (total job) lies)
 
   -- the ids walked are at most the pending ones
   pub few_run_ids : (budget : ℕ) → length (run_ids job outcomes budget) ≤ pending job outcomes
-  few_run_ids budget = omega (arith, length-run_ids budget, count-fewer (total job) lies lacks lies_misses)
+  few_run_ids budget = omega (arith, length-run_ids budget, count-fewer (total job) lies is_pending lies_misses)
 
   -- if the number of ids walked is that of the pending ones, each pending id is walked
   pub walks_each : (budget : ℕ) → pending job outcomes ≤ length (run_ids job outcomes budget)
       → (id : ℕ) → id < total job → has_id outcomes id ≡ false → has (run_ids job outcomes budget) id ≡ true
   walks_each budget all id below absent =
       let many = length-run_ids budget in
-      let fewer = count-fewer (total job) lies lacks lies_misses in
+      let fewer = count-fewer (total job) lies is_pending lies_misses in
       let whole : run_ids job outcomes budget ≡ filter_below (total job) lies =
       take_all budget (filter_below (total job) lies) (omega (arith, all, many, fewer)) in
       subst (λ (ids : List ℕ). has ids id ≡ true) (sym whole)
-      (filter_below-has (total job) lies id below (count-all (total job) lies lacks lies_misses (omega (arith, all, many)) id below (ap not absent)))
+      (filter_below-has (total job) lies id below (count-all (total job) lies is_pending lies_misses (omega (arith, all, many)) id below (ap not absent)))
 
   -- with one part, the first pending ids are walked
   whole_part : (budget : ℕ) → job.setting.parts ≡ 1 → job.setting.part ≡ 0 → run_ids job outcomes budget ≡ take budget (pending_ids job outcomes)
@@ -189,4 +189,4 @@ module _ (job : Job) (outcomes : List Outcome) where
   -- with one part and a budget for all ids, all pending ids are walked
   pub walks_all : (budget : ℕ) → job.setting.parts ≡ 1 → job.setting.part ≡ 0 → total job ≤ budget → pending job outcomes ≤ length (run_ids job outcomes budget)
   walks_all budget one first enough =
-      omega (arith, enough, ap length (whole_part budget one first), length-take budget (pending_ids job outcomes), length-filter_below (total job) lacks)
+      omega (arith, enough, ap length (whole_part budget one first), length-take budget (pending_ids job outcomes), length-filter_below (total job) is_pending)

@@ -33,12 +33,12 @@ use Rattle.audit_statement.specs.Words.{setting_of}
 judged_from : (setting : Setting) (bytes : List ℕ) (p : Parsed) → setting.region ≡ [] → setting.source ≡ false → length bytes ≤ most_bytes
     → reading bytes setting.columns ≡ Ok p → job_of p setting [] ≡ Ok (job_from p setting []) → judged setting bytes ≡ Ok (job_from p setting [])
 unfolding judged
-judged_from setting bytes p none untold few is made =
+judged_from setting bytes p none no_source few is made =
     ap (from_bytes setting bytes) (le-ltb most_bytes (length bytes) few)
     ∙ ap (from_parsed setting bytes) is
     ∙ ap (λ (region : List ℕ). from_regions setting (origin_of setting bytes) p (regions_by region bytes)) none
     ∙ ap (from_job (origin_of setting bytes)) made
-    ∙ ap (λ (b : Bool). Ok (with_origin (origin_if b bytes) (job_from p setting []))) untold
+    ∙ ap (λ (b : Bool). Ok (with_origin (origin_if b bytes) (job_from p setting []))) no_source
 
 -- a budget for all ids leaves nothing pending in a run of one part
 nothing_left : (job : Job) (outcomes : List Outcome) → (job.setting.parts ≡ 1) × (job.setting.part ≡ 0) → total job ≤ job.setting.budget
@@ -87,7 +87,7 @@ plain_ends words before after n m status k rest bytes run silent observed fit no
         words_are = fit.words_are;
         input = ap (input_by setting.command setting) observed ∙ input_is setting.command setting bytes plain.run;
       };
-      accepted = judged_from setting bytes taken.parsed plain.no_regions plain.untold fit.few_bytes taken.read_so taken.accepted;
+      accepted = judged_from setting bytes taken.parsed plain.no_regions plain.no_source fit.few_bytes taken.read_so taken.accepted;
       budget = has_budget made before plain whole
           (accepted_words_cover words setting fit.words_are (ap is_walking plain.run) plain.no_saves);
       reads = none.reads;

@@ -38,25 +38,25 @@ job_is p setting job e = made_is (job_from p setting []) job (plan_fault (job_fr
 -- an accepted job of a reading is the job of these bytes
 from_parsed_is : (setting : Setting) (bytes : List ℕ) (r : Result Parsed GraphFault) (job : Job) → setting.region ≡ [] → setting.source ≡ false → reading bytes setting.columns ≡ r
     → from_parsed setting bytes r ≡ Ok job → IsJudged setting bytes job
-from_parsed_is setting bytes (Ok p) job none untold is e =
+from_parsed_is setting bytes (Ok p) job none no_source is e =
     let plain : from_regions setting (origin_of setting bytes) p (Ok []) ≡ Ok job =
     subst (λ (region : List ℕ). from_regions setting (origin_of setting bytes) p (regions_by region bytes) ≡ Ok job) none e in
     let kept = from_job_is (origin_of setting bytes) (job_of p setting []) job plain in
-    let no_origin : origin_of setting bytes ≡ None = ap (λ (b : Bool). origin_if b bytes) untold in
+    let no_origin : origin_of setting bytes ≡ None = ap (λ (b : Bool). origin_if b bytes) no_source in
     record {
       parsed = p;
       read_so = is;
       made = ap (with_origin None) (job_is p setting kept.0 kept.1) ∙ ap (λ (o : Option Origin). with_origin o kept.0) (sym no_origin) ∙ kept.2;
     }
-from_parsed_is setting bytes (Err f) job none untold is e = cc
+from_parsed_is setting bytes (Err f) job none no_source is e = cc
 
 -- an accepted job of bytes is the job of these bytes
 from_bytes_is : (setting : Setting) (bytes : List ℕ) (many : Bool) (job : Job) → setting.region ≡ [] → setting.source ≡ false → from_bytes setting bytes many ≡ Ok job
     → IsJudged setting bytes job
-from_bytes_is setting bytes true job none untold e = cc
-from_bytes_is setting bytes false job none untold e = from_parsed_is setting bytes (reading bytes setting.columns) job none untold refl e
+from_bytes_is setting bytes true job none no_source e = cc
+from_bytes_is setting bytes false job none no_source e = from_parsed_is setting bytes (reading bytes setting.columns) job none no_source refl e
 
 -- an accepted job of a setting and bytes is the job of these bytes
 pub judged_is : (setting : Setting) (bytes : List ℕ) (job : Job) → setting.region ≡ [] → setting.source ≡ false → judged setting bytes ≡ Ok job → IsJudged setting bytes job
 unfolding judged
-judged_is setting bytes job none untold e = from_bytes_is setting bytes (nat_lt most_bytes (length bytes)) job none untold e
+judged_is setting bytes job none no_source e = from_bytes_is setting bytes (nat_lt most_bytes (length bytes)) job none no_source e

@@ -100,7 +100,7 @@ module _ (words : List (List ℕ)) (before after : World) (done : IsDone words b
   }
 
   judged_so : IsJudged setting bytes job
-  judged_so = judged_is setting bytes job plain.no_regions plain.untold accepted
+  judged_so = judged_is setting bytes job plain.no_regions plain.no_source accepted
 
   no_rules : HasNoRules job
   no_rules =

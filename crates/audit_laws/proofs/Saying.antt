@@ -116,7 +116,7 @@ pub record IsPlain (setting : Setting) : Type 0 where
   pub no_frozen : setting.columns.frozen ≡ []
   pub no_lengths : setting.columns.length ≡ []
   pub any_length : setting.max_length ≡ most_length
-  pub untold : setting.source ≡ false
+  pub no_source : setting.source ≡ false
 
 -- ---- the whole setting
 
@@ -208,5 +208,5 @@ silent_is_plain rest faultless h = record {
   no_frozen = silent_text rest Freeze (h 9 [] (omega arith));
   no_lengths = silent_text rest Length (h 10 [] (omega arith));
   any_length = any_length rest faultless (silent_text rest Length (h 10 [] (omega arith)));
-  untold = ap (λ (t : List ℕ). bytes_eq t (codes "yes")) (silent_text rest Source (h 8 [] (omega arith)));
+  no_source = ap (λ (t : List ℕ). bytes_eq t (codes "yes")) (silent_text rest Source (h 8 [] (omega arith)));
 }

@@ -117,7 +117,7 @@ above_all_most (x ∷ xs) n each = omega (arith, each 0 (omega arith), above_all
 
 -- a member and a non-member differ
 pub other : (xs : List ℕ) (n m : ℕ) → has xs n ≡ false → has xs m ≡ true → n ≡ m → ⊥
-other xs n m lacks has-m e = both_ways (has xs n) lacks (subst (λ k. has xs k ≡ true) (sym e) has-m)
+other xs n m missing has-m e = both_ways (has xs n) missing (subst (λ k. has xs k ≡ true) (sym e) has-m)
 
 -- a list has its second number
 pub has_2 : (a b : ℕ) (xs : List ℕ) → has (a ∷ b ∷ xs) b ≡ true

@@ -21,36 +21,36 @@ enough : (n : ℕ) (test : ℕ → Bool) (id : ℕ) → has (take n (filter_belo
 enough n test id = ap (λ xs. has xs id) (take_all n (filter_below n test) (length-filter_below n test))
 
 module _ (parts part : ℕ) (job : Job) (initial_outcomes : List Outcome) where
-  lacks : ℕ → Bool
-  lacks id = not (has_id initial_outcomes id)
+  is_pending : ℕ → Bool
+  is_pending id = not (has_id initial_outcomes id)
 
   lies : ℕ → Bool
-  lies id = lacks id && (id % parts == part)
+  lies id = is_pending id && (id % parts == part)
 
   pub each_in_its_part : (id : ℕ) → has (part_ids parts part job initial_outcomes (total job)) id ≡ (has (pending_ids job initial_outcomes) id && is_in_part parts part id)
-  unfolding lies lacks
+  unfolding lies is_pending
   each_in_its_part id =
       enough (total job) lies id
-      ∙ same_bool (has (filter_below (total job) lies) id) (has (filter_below (total job) lacks) id && (id % parts == part))
+      ∙ same_bool (has (filter_below (total job) lies) id) (has (filter_below (total job) is_pending) id && (id % parts == part))
       (λ h.
       let found = has-filter_below (total job) lies id h in
-      let both = and_parts (lacks id) (id % parts == part) found.1 in
-      and_from (has (filter_below (total job) lacks) id) (id % parts == part) (filter_below-has (total job) lacks id found.0 both.0) both.1)
+      let both = and_parts (is_pending id) (id % parts == part) found.1 in
+      and_from (has (filter_below (total job) is_pending) id) (id % parts == part) (filter_below-has (total job) is_pending id found.0 both.0) both.1)
       (λ h.
-      let both = and_parts (has (filter_below (total job) lacks) id) (id % parts == part) h in
-      let found = has-filter_below (total job) lacks id both.0 in
-      filter_below-has (total job) lies id found.0 (and_from (lacks id) (id % parts == part) found.1 both.1))
+      let both = and_parts (has (filter_below (total job) is_pending) id) (id % parts == part) h in
+      let found = has-filter_below (total job) is_pending id both.0 in
+      filter_below-has (total job) lies id found.0 (and_from (is_pending id) (id % parts == part) found.1 both.1))
 
   pub within_its_part : (budget id : ℕ) → has (part_ids parts part job initial_outcomes budget) id ≡ true
       → (id < total job) × ((has_id initial_outcomes id ≡ false) × (id % parts ≡ part))
-  unfolding lies lacks
+  unfolding lies is_pending
   within_its_part budget id h =
       let found = has-filter_below (total job) lies id (has-take budget (filter_below (total job) lies) id h) in
-      let both = and_parts (lacks id) (id % parts == part) found.1 in
+      let both = and_parts (is_pending id) (id % parts == part) found.1 in
       (found.0, (not-true (has_id initial_outcomes id) both.0, eqb-true (id % parts) part both.1))
 
   pub once_in_its_part : (budget : ℕ) → AllApart (part_ids parts part job initial_outcomes budget)
-  unfolding lies lacks
+  unfolding lies is_pending
   once_in_its_part budget = apart-take budget (filter_below (total job) lies) (apart-filter_below (total job) lies)
 
 -- the single part of an undivided run has all missing ids

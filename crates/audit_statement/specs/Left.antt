@@ -11,7 +11,7 @@ use Rattle.audit_statement.specs.World.{World}
 pub record LeavesAlone (words : List (List ℕ)) (before after : World) (status : ℕ) : Type 0 where
   pub unwritten : status ≢ 0 → status ≢ 5 → status ≢ 9 → after.out.bytes ≡ before.out.bytes
   pub unsaved : status ≢ 0 → status ≢ 5 → status ≢ 7 → status ≢ 9 → after.keeper.slots ≡ before.keeper.slots
-  pub untried : status ≢ 0 → status ≢ 5 → status ≢ 7 → status ≢ 9 → after.keeper.attempted ≡ before.keeper.attempted
+  pub no_attempt : status ≢ 0 → status ≢ 5 → status ≢ 7 → status ≢ 9 → after.keeper.attempted ≡ before.keeper.attempted
   pub refused_words : IsErr (setting_of words) → after.source ≡ before.source
   pub not_reading : (setting : Setting) → setting_of words ≡ Ok setting → IsFalse (is_reading setting.command) → after.source ≡ before.source
   pub not_saving : (setting : Setting) → setting_of words ≡ Ok setting → IsFalse (saves setting)

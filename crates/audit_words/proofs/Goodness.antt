@@ -179,7 +179,7 @@ AreReadable-good word Plans words spells faultless h =
     )
 AreReadable-good word Trace words spells faultless h =
     let good = find-all (is_good Trace words) (names_of Trace) h in
-    let lacks = trace_misses words in
+    let missing = trace_misses words in
     let misses_tests = trace_misses_tests words in (
       record {
         slack = good 4 (omega arith);
@@ -190,15 +190,15 @@ AreReadable-good word Trace words spells faultless h =
         hub_steps = good 9 (omega arith);
         ask = good 10 (omega arith);
         workers = good_workers Trace words faultless misses_tests;
-        budget = good_budget Trace words faultless lacks (good 8 (omega arith));
-        save = good_save Trace words faultless lacks;
-        resume = good_resume Trace words faultless lacks;
+        budget = good_budget Trace words faultless missing (good 8 (omega arith));
+        save = good_save Trace words faultless missing;
+        resume = good_resume Trace words faultless missing;
         max_cut = good 11 (omega arith);
         shift = good_shift Trace words faultless misses_tests;
         stop = good_stop Trace words faultless misses_tests;
         serial = good_serial Trace words faultless misses_tests;
-        parts = good_parts Trace words faultless lacks;
-        part = good_part Trace words faultless lacks;
+        parts = good_parts Trace words faultless missing;
+        part = good_part Trace words faultless missing;
       },
       record {
         max_split = good 13 (omega arith);

@@ -87,21 +87,21 @@ module _ (command : Command) (words : List NameAndValue) (faultless : fault_of_p
       ap (λ (found : Option NameAndValue). unwrap_or (option_or (option_and_then (λ pair. pair.1) found) (default_of name)) [])
       (no_such (name_text name) words (not_there (name_text name) unnamed))
 
-module _ (command : Command) (words : List NameAndValue) (faultless : fault_of_pairs command words ≡ None) (lacks : Misses command words of_saving) where
+module _ (command : Command) (words : List NameAndValue) (faultless : fault_of_pairs command words ≡ None) (missing : Misses command words of_saving) where
   pub save_is : text_of Check words Save ≡ codes "0"
-  save_is = defaulted command words faultless Save (lacks Save refl)
+  save_is = defaulted command words faultless Save (missing Save refl)
 
   pub resume_is : text_of Check words Resume ≡ codes "no"
-  resume_is = defaulted command words faultless Resume (lacks Resume refl)
+  resume_is = defaulted command words faultless Resume (missing Resume refl)
 
   pub budget_is : text_of Check words Budget ≡ codes "100000"
-  budget_is = defaulted command words faultless Budget (lacks Budget refl)
+  budget_is = defaulted command words faultless Budget (missing Budget refl)
 
   pub parts_is : text_of Check words Parts ≡ codes "1"
-  parts_is = defaulted command words faultless Parts (lacks Parts refl)
+  parts_is = defaulted command words faultless Parts (missing Parts refl)
 
   pub part_is : text_of Check words Part ≡ codes "0"
-  part_is = defaulted command words faultless Part (lacks Part refl)
+  part_is = defaulted command words faultless Part (missing Part refl)
 
   pub good_parts : is_good Check words Parts ≡ true
   unfolding digits
@@ -135,19 +135,19 @@ module _ (command : Command) (words : List NameAndValue) (faultless : fault_of_p
           (subst (λ (save : List ℕ). (is_number 0 100000 (codes "100000") && (not (is_number 0 0 save) || nat_le n (unwrap_or (number_of (codes "100000")) 0))) ≡ true) (sym save_is) few)
 
 -- the workers and other tests of a trace have their defaults
-module _ (command : Command) (words : List NameAndValue) (faultless : fault_of_pairs command words ≡ None) (lacks : Misses command words of_tests) where
+module _ (command : Command) (words : List NameAndValue) (faultless : fault_of_pairs command words ≡ None) (missing : Misses command words of_tests) where
   pub good_workers : is_good Check words Workers ≡ true
   unfolding digits
-  good_workers = ap (is_number 1 32) (defaulted command words faultless Workers (lacks Workers refl))
+  good_workers = ap (is_number 1 32) (defaulted command words faultless Workers (missing Workers refl))
 
   pub stop_is : text_of Check words Stop ≡ codes "0"
-  stop_is = defaulted command words faultless Stop (lacks Stop refl)
+  stop_is = defaulted command words faultless Stop (missing Stop refl)
 
   pub serial_is : text_of Check words Serial ≡ codes "no"
-  serial_is = defaulted command words faultless Serial (lacks Serial refl)
+  serial_is = defaulted command words faultless Serial (missing Serial refl)
 
   pub good_shift : is_good Check words Shift ≡ true
-  good_shift = ap (λ t. bytes_eq t (codes "yes") || bytes_eq t (codes "no")) (defaulted command words faultless Shift (lacks Shift refl))
+  good_shift = ap (λ t. bytes_eq t (codes "yes") || bytes_eq t (codes "no")) (defaulted command words faultless Shift (missing Shift refl))
 
   pub good_stop : is_good Check words Stop ≡ true
   unfolding digits

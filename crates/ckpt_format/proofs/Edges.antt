@@ -28,21 +28,21 @@ rises_far row j (suc k) rises l m =
     ]
 
 -- a number that stands at no place of the list is not a member
-lacks : (row : List ℕ) (n : ℕ) → ((k : ℕ) → k < length row → get_or row k 0 ≡ n → ⊥) → has row n ≡ false
-lacks row n none = false_from_ne_true (has row n) (λ h. let at = has_at row n h in none at.0 at.1 at.2)
+is_missing : (row : List ℕ) (n : ℕ) → ((k : ℕ) → k < length row → get_or row k 0 ≡ n → ⊥) → has row n ≡ false
+is_missing row n none = false_from_ne_true (has row n) (λ h. let at = has_at row n h in none at.0 at.1 at.2)
 
 -- the numbers below a bound that pass and are in the list, if the bound lies between two places
 listed_below : (test : ℕ → Bool) (row : List ℕ) (i b : ℕ) → Rises row → i ≤ length row → ((k : ℕ) → k < i → get_or row k 0 < b)
     → ((k : ℕ) → i ≤ k → k < length row → b ≤ get_or row k 0) → filter_below b (λ v. test v && has row v) ≡ filter test (take i row)
 listed_below test row zero b rises l below above =
-    filter_below_cut (λ v. test v && has row v) 0 b (omega arith) (λ k m r. and_right (test k) (has row k) (lacks row k (λ j s e. omega (arith, above j (omega arith) s, e))))
+    filter_below_cut (λ v. test v && has row v) 0 b (omega arith) (λ k m r. and_right (test k) (has row k) (is_missing row k (λ j s e. omega (arith, above j (omega arith) s, e))))
 listed_below test row (suc i) b rises l below above =
     let x = get_or row i 0 in
     let passes = λ (v : ℕ). test v && has row v in
     let inside : x < b = below i (omega arith) in
     let earlier : (k : ℕ) → k < i → get_or row k 0 < x = λ k m. rises_far row k i rises m (omega arith) in
     let later : (k : ℕ) → i < k → k < length row → b ≤ get_or row k 0 = λ k m r. above k (omega arith) r in
-    let none : (k : ℕ) → suc x ≤ k → k < b → passes k ≡ false = λ k m r. and_right (test k) (has row k) (lacks row k (λ j s e. elim (cases_lt i j) [
+    let none : (k : ℕ) → suc x ≤ k → k < b → passes k ≡ false = λ k m r. and_right (test k) (has row k) (is_missing row k (λ j s e. elim (cases_lt i j) [
       | inl far ↦ omega (arith, later j far s, e)
       | inr near ↦
           elim (cases_eq j i) [

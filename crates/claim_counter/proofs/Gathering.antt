@@ -44,8 +44,8 @@ module _ {J : Type 0} (job : Job) (todo : List ℕ) (c : Claims) (w : Worker J) 
 
   absent_from : (now : List Outcome) (before : List ℕ) → AreDifferentBelow (length todo) (before ++ places) → Misses now todo before
       → All (λ o. IsFalse (has_id now o.id)) w.share.items
-  absent_from now before together lacks =
-      subst (All (λ (o : Outcome). IsFalse (has_id now o.id))) (sym done.shared) (share_absent job todo before places now together different lacks)
+  absent_from now before together missing =
+      subst (All (λ (o : Outcome). IsFalse (has_id now o.id))) (sym done.shared) (share_absent job todo before places now together different missing)
 
   first_absent : (kept : List Outcome) → IsTodo job kept todo → All (λ o. IsFalse (has_id kept o.id)) w.share.items
   first_absent kept is = absent_from kept [] different (λ k inside none. is.absent k 0 inside)
@@ -60,10 +60,10 @@ module _ {J : Type 0} (job : Job) (todo : List ℕ) (c : Claims) (w : Worker J) 
 
   -- the book accepts the first worker's outcomes
   pub first_share : (b : Booked) → MissesIds job b todo → ((id : ℕ) → HasFewVisits (outcome job (draw job.setting.key) id)) → IsShareFor b w.share.items
-  first_share b lacks law = record {
-    below = done_within lacks.ids.within b.total lacks.whole;
-    absent = first_absent b.outcomes lacks.ids;
-    apart = done_apart lacks.ids.apart;
+  first_share b missing law = record {
+    below = done_within missing.ids.within b.total missing.whole;
+    absent = first_absent b.outcomes missing.ids;
+    apart = done_apart missing.ids.apart;
     bins = done_few law;
   }
 
@@ -71,10 +71,10 @@ module _ {J : Type 0} (job : Job) (todo : List ℕ) (c : Claims) (w : Worker J) 
   pub more_share : (b now : Booked) (before : List ℕ) → MissesIds job b todo → now.total ≡ b.total → AreDifferentBelow (size_of c).limit before
       → now.outcomes ≡ b.outcomes ++ map (found_at job todo) before → ((id : ℕ) → HasFewVisits (outcome job (draw job.setting.key) id))
       → AreDifferentBelow (size_of c).limit (before ++ places) → IsShareFor now w.share.items
-  more_share b now before lacks same apart_before holds law together = record {
-    below = done_within lacks.ids.within now.total (same ∙ lacks.whole);
-    absent = more_absent b.outcomes now.outcomes before lacks.ids apart_before holds together;
-    apart = done_apart lacks.ids.apart;
+  more_share b now before missing same apart_before holds law together = record {
+    below = done_within missing.ids.within now.total (same ∙ missing.whole);
+    absent = more_absent b.outcomes now.outcomes before missing.ids apart_before holds together;
+    apart = done_apart missing.ids.apart;
     bins = done_few law;
   }
 

@@ -125,12 +125,12 @@ module _ (job : Job) (todo places : List ℕ) (different : AreDifferentBelow (le
 -- a book has no outcome of a list whose places are others
 pub share_absent : (job : Job) (todo before places : List ℕ) (kept : List Outcome) → AreDifferentBelow (length todo) (before ++ places)
     → AreDifferentBelow (length todo) places → Misses kept todo before → All (λ o. IsFalse (has_id kept o.id)) (map (found_at job todo) places)
-share_absent job todo before places kept together different lacks = All-map (λ (o : Outcome). has_id kept o.id ≡ false) (found_at job todo) places (λ k d inside.
+share_absent job todo before places kept together different missing = All-map (λ (o : Outcome). has_id kept o.id ≡ false) (found_at job todo) places (λ k d inside.
     let place = get_or places k d in
     let none : times place before ≡ 0 =
     omega (arith, times-append place before places, different_once (length todo) (before ++ places) together place, times_at places k d inside) in
     subst (λ id. has_id kept id ≡ false) (sym (found_id job (get_or todo place 0)))
-    (lacks place (different_below (length todo) places different k d inside) none))
+    (missing place (different_below (length todo) places different k d inside) none))
 
 -- ---- all places
 

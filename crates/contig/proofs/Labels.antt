@@ -13,9 +13,9 @@ use Rattle.audit_model.proofs.Paths.{first_in}
 -- a test that passes one more number counts more
 pub count_less : (n : ℕ) (p q : ℕ → Bool) (x : ℕ) → x < n → ((k : ℕ) → p k ≡ true → q k ≡ true) → q x ≡ true → p x ≡ false
     → count_below n p + 1 ≤ count_below n q
-count_less n p q x l weaker has-x lacks-x =
+count_less n p q x l weaker has-x missing-x =
     let rest = count_below_more n p (λ k. q k && not (k == x)) (λ k h. and_from (q k) (not (k == x)) (weaker k h)
-    (not_from_false (k == x) (ne_eqb k x (λ e. both_ways (p x) lacks-x (subst (λ m. p m ≡ true) e h))))) in
+    (not_from_false (k == x) (ne_eqb k x (λ e. both_ways (p x) missing-x (subst (λ m. p m ≡ true) e h))))) in
     omega (arith, rest, count_below_without n q x l has-x)
 
 -- a sum with one smaller term, and none greater, is smaller
@@ -52,11 +52,11 @@ two_counted n p two =
 -- one edge fewer
 pub edges_less : (g : Graph) (t less : ℕ → ℕ → Bool) (a b : ℕ) → a < b → b < g.units → adjacent g a b ≡ true → t a b ≡ true → less a b ≡ false
     → ((v w : ℕ) → less v w ≡ true → t v w ≡ true) → count_edges g less + 1 ≤ count_edges g t
-edges_less g t less a b ab bound near has-edge lacks-edge weaker =
+edges_less g t less a b ab bound near has-edge missing-edge weaker =
     sum_less g.units (λ v. count_below v (λ w. adjacent g w v && less w v)) (λ v. count_below v (λ w. adjacent g w v && t w v)) b bound
     (λ v. count_below_more v (λ w. adjacent g w v && less w v) (λ w. adjacent g w v && t w v) (λ w h. more w v h))
     (count_less b (λ w. adjacent g w b && less w b) (λ w. adjacent g w b && t w b) a ab (λ w h. more w b h)
-    (and_from (adjacent g a b) (t a b) near has-edge) (never (adjacent g a b) (less a b) lacks-edge))
+    (and_from (adjacent g a b) (t a b) near has-edge) (never (adjacent g a b) (less a b) missing-edge))
   where
     more : (w v : ℕ) → (adjacent g w v && less w v) ≡ true → (adjacent g w v && t w v) ≡ true
     more w v h = let parts = and_parts (adjacent g w v) (less w v) h in and_from (adjacent g w v) (t w v) parts.0 (weaker w v parts.1)

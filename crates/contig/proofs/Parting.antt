@@ -94,24 +94,24 @@ module _ (g : Graph) (simple : IsSimple g) (inside : ℕ → Bool) (u : ℕ) (cl
   unfolding IsMutual without
   without_mutual t a b mutual_t v w h =
       let parts = and_parts (t v w) (not (is_pair a b v w)) h in
-      and_from (t w v) (not (is_pair a b w v)) (mutual_t v w parts.0) (not_from_false (is_pair a b w v) (lacks (is_pair a b w v) refl (not-true (is_pair a b v w) parts.1)))
+      and_from (t w v) (not (is_pair a b w v)) (mutual_t v w parts.0) (not_from_false (is_pair a b w v) (missing (is_pair a b w v) refl (not-true (is_pair a b v w) parts.1)))
     where
-      lacks : (c : Bool) → is_pair a b w v ≡ c → is_pair a b v w ≡ false → c ≡ false
-      lacks true e f = absurd (both_ways (is_pair a b v w) f (pair_turned a b w v e))
-      lacks false e f = refl
+      missing : (c : Bool) → is_pair a b w v ≡ c → is_pair a b v w ≡ false → c ≡ false
+      missing true e f = absurd (both_ways (is_pair a b v w) f (pair_turned a b w v e))
+      missing false e f = refl
 
   without_covered : (t : ℕ → ℕ → Bool) (a b : ℕ) (later : List (List ℕ)) → list_any (λ face. has_side face a b) later ≡ false
       → IsCovered t later → IsCovered (without t a b) later
   unfolding IsCovered without
   without_covered t a b [] own covered = tt
   without_covered t a b (face ∷ later) own covered = (
-    λ inner v w h. and_from (t v w) (not (is_pair a b v w)) (covered.0 inner v w h) (not_from_false (is_pair a b v w) (lacks v w h (is_pair a b v w) refl)),
+    λ inner v w h. and_from (t v w) (not (is_pair a b v w)) (covered.0 inner v w h) (not_from_false (is_pair a b v w) (missing v w h (is_pair a b v w) refl)),
     without_covered t a b later (or_parts (has_side face a b) (list_any (λ other. has_side other a b) later) own).1 covered.1,
   )
     where
-      lacks : (v w : ℕ) → has_side face v w ≡ true → (c : Bool) → is_pair a b v w ≡ c → c ≡ false
-      lacks v w h true e = absurd (both_ways (has_side face a b) (or_parts (has_side face a b) (list_any (λ other. has_side other a b) later) own).0 (side_at face a b v w e h))
-      lacks v w h false e = refl
+      missing : (v w : ℕ) → has_side face v w ≡ true → (c : Bool) → is_pair a b v w ≡ c → c ≡ false
+      missing v w h true e = absurd (both_ways (has_side face a b) (or_parts (has_side face a b) (list_any (λ other. has_side other a b) later) own).0 (side_at face a b v w e h))
+      missing v w h false e = refl
 
   without_fewer : (t : ℕ → ℕ → Bool) (a b : ℕ) → IsMutual t → a < g.units → b < g.units → adjacent g a b ≡ true → t a b ≡ true
       → count_edges g (without t a b) + 1 ≤ count_edges g t

@@ -123,7 +123,7 @@ pub fn counting_tells(leaving: Member, table: &FaceTable, counts: &FaceCounts) -
     requires district { slice_index leaving.plan.now leaving.unit < length counts.now.edges }
     requires connected { IsConnected leaving.graph.now (in_district leaving.plan.now (slice_index leaving.plan.now leaving.unit)) }
     ensures observed { MatchOption result ⊤ (λ may. IsTrue may ↔ MayLeave leaving.entry.graph.now leaving.entry.plan.now leaving.entry.unit) }
-    ensures untold { let g = leaving.entry.graph.now in let plan = leaving.entry.plan.now in let u = leaving.entry.unit in
+    ensures undecided { let g = leaving.entry.graph.now in let plan = leaving.entry.plan.now in let u = leaving.entry.unit in
         MatchOption result (length (slice_index_or g.neighbours u []) ≤ 32 → (AreLinked g table.now.faces plan u → ⊥) × (HasNoHole counts.now (slice_index plan u) → ⊥)) (λ may. ⊤) }
 {
     if leaving.graph.neighbours(leaving.unit).len() > MOST_LINKED {

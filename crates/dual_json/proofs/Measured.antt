@@ -25,7 +25,7 @@ use Rattle.audit_model.proofs.ListFacts.{at_has, has_at}
 use Rattle.audit_statement.specs.Reading.{Document, graph, id_of, joined, node_named, same_id}
 use Rattle.audit_statement.specs.Reading as reading
 use Rattle.dual_json.specs.Edges.{entries_at, first_entry_in, first_in}
-use Rattle.dual_json.specs.Lengths.{all_lengths, fault_if_named, is_labelled, is_unequal, lacks_length, lacks_value, length_between, length_of_pair, length_or_zero, lengths_if_named, listed_length, row_lengths, unequal_fault}
+use Rattle.dual_json.specs.Lengths.{all_lengths, fault_if_named, is_labelled, is_unequal, has_no_length, has_no_value, length_between, length_of_pair, length_or_zero, lengths_if_named, listed_length, row_lengths, unequal_fault}
 use Rattle.dual_json.specs.Places.{AreLabels, nth, object_at, place_of_label}
 use Rattle.dual_json.proofs.Bridge.{entry_same, option_map_same}
 
@@ -226,10 +226,10 @@ module _ (d : Document) (columns : Columns) (ids : List Label) (are : AreLabels 
   -- the fault of the lengths is the definition's
   pub length_fault_same : reading.length_fault d columns ≡ fault_if_named columns.length ids d.adjacency
   length_fault_same = ap (λ o. cond (not (length columns.length == 0)) o None) (
-      ap (λ o. option_or o (option_or (first_entry_of (lacks_length columns.length) fault.BadLength) (option_or unequals None)))
-      (entry_same d ids are (lacks_value columns.length) (lacks_value columns.length) fault.MissingLength long (λ x. refl))
+      ap (λ o. option_or o (option_or (first_entry_of (has_no_length columns.length) fault.BadLength) (option_or unequals None)))
+      (entry_same d ids are (has_no_value columns.length) (has_no_value columns.length) fault.MissingLength long (λ x. refl))
       ∙ ap (λ o. option_or missing (option_or o (option_or unequals None)))
-      (entry_same d ids are (lacks_length columns.length) (lacks_length columns.length) fault.BadLength long (λ x. refl))
+      (entry_same d ids are (has_no_length columns.length) (has_no_length columns.length) fault.BadLength long (λ x. refl))
       ∙ ap (λ o. option_or missing (option_or bad o)) (or_none unequals ∙ unequals_same))
     where
       first_entry_of : (Data → Bool) → (ℕ → ℕ → GraphFault) → Option GraphFault
@@ -240,10 +240,10 @@ module _ (d : Document) (columns : Columns) (ids : List Label) (are : AreLabels 
           (λ i. option_map (fault.UnequalLengths i) (first_below (length (entries_at d.adjacency i)) (λ place. reading.is_unequal d columns i (object_at (entries_at d.adjacency i) place))))
 
       missing : Option GraphFault
-      missing = first_entry_in (lacks_value columns.length) fault.MissingLength d.adjacency
+      missing = first_entry_in (has_no_value columns.length) fault.MissingLength d.adjacency
 
       bad : Option GraphFault
-      bad = first_entry_in (lacks_length columns.length) fault.BadLength d.adjacency
+      bad = first_entry_in (has_no_length columns.length) fault.BadLength d.adjacency
 
   -- functions that agree on a list's items map it alike
   map_same : (xs : List ℕ) (f h : ℕ → ℕ) → ((v : ℕ) → has xs v ≡ true → f v ≡ h v) → map f xs ≡ map h xs

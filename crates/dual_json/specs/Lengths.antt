@@ -27,11 +27,11 @@ abbrev pub length_or_zero : List ℕ → Data → ℕ
 length_or_zero key d = unwrap_or (length_in key d) 0
 
 -- an entry without a value at the key, and one without a length there
-abbrev pub lacks_value : List ℕ → Data → Bool
-lacks_value key d = is_none (get key d)
+abbrev pub has_no_value : List ℕ → Data → Bool
+has_no_value key d = is_none (get key d)
 
-abbrev pub lacks_length : List ℕ → Data → Bool
-lacks_length key d = is_none (length_in key d)
+abbrev pub has_no_length : List ℕ → Data → Bool
+has_no_length key d = is_none (length_in key d)
 
 -- the entry has this label as its id
 abbrev pub is_labelled : Label → Data → Bool
@@ -63,8 +63,8 @@ unequal_fault key ids lists =
 -- the first fault of the lengths
 abbrev pub lengths_fault : List ℕ → List Label → List (List Data) → Option GraphFault
 lengths_fault key ids lists =
-    option_or (first_entry_in (lacks_value key) fault.MissingLength lists)
-    (option_or (first_entry_in (lacks_length key) fault.BadLength lists) (unequal_fault key ids lists))
+    option_or (first_entry_in (has_no_value key) fault.MissingLength lists)
+    (option_or (first_entry_in (has_no_length key) fault.BadLength lists) (unequal_fault key ids lists))
 
 -- the lengths from a node to its neighbors
 abbrev pub row_lengths : List ℕ → List Label → List (List Data) → Graph → ℕ → List ℕ

@@ -7,7 +7,7 @@ ghost use Rattle.std.specs.Prelude.{◌≡◌, ◌<◌, ◌≤◌, ◌⊎◌, �
 ghost use Rattle.audit_model.specs.declared.fault.GraphFault.TheVariants.{Memory, MissingLength, BadLength};
 ghost use Rattle.audit_model.specs.Limits.{most_units};
 ghost use Rattle.dual_json.specs.Edges.{entries_at, first_in, first_entry_in};
-ghost use Rattle.dual_json.specs.Lengths.{all_lengths, fault_if_named, is_labelled, is_unequal, lacks_length, lacks_value, length_between, length_in, length_of_pair, length_or_zero, lengths_fault, lengths_if_named, listed_length, row_lengths, unequal_fault};
+ghost use Rattle.dual_json.specs.Lengths.{all_lengths, fault_if_named, is_labelled, is_unequal, has_no_length, has_no_value, length_between, length_in, length_of_pair, length_or_zero, lengths_fault, lengths_if_named, listed_length, row_lengths, unequal_fault};
 ghost use Rattle.dual_json.specs.Names.{label_from};
 ghost use Rattle.dual_json.specs.Shape.{lists_in, views};
 ghost use Rattle.dual_json.specs.Values.{value_data};
@@ -52,15 +52,15 @@ fn length_at(entry: &Value<'_>, key: &str) -> Option<u32>
 }
 
 /// Returns true if the entry has no value at the key.
-fn lacks_value(entry: &Value<'_>, key: &str) -> bool
-    ensures { result ≡ lacks_value key.now (value_data entry.now) }
+fn has_no_value(entry: &Value<'_>, key: &str) -> bool
+    ensures { result ≡ has_no_value key.now (value_data entry.now) }
 {
     entry.get(key).is_none()
 }
 
 /// Returns true if the entry has no integer from 0 to 2^32 - 1 at the key.
-fn lacks_length(entry: &Value<'_>, key: &str) -> bool
-    ensures { result ≡ lacks_length key.now (value_data entry.now) }
+fn has_no_length(entry: &Value<'_>, key: &str) -> bool
+    ensures { result ≡ has_no_length key.now (value_data entry.now) }
 {
     length_at(entry, key).is_none()
 }
@@ -74,10 +74,10 @@ fn length_or_zero(entry: &Value<'_>, key: &str) -> u32
 
 /// Returns the index of the first entry without a value at the key.
 fn first_without(entries: &[Value<'_>], key: &str) -> Option<usize>
-    ensures { result ≡ first_in (lacks_value key.now) (views entries.now) }
+    ensures { result ≡ first_in (has_no_value key.now) (views entries.now) }
 {
     for place in 0..entries.len() {
-        if lacks_value(&entries[place], key) {
+        if has_no_value(&entries[place], key) {
             return Some(place);
         }
     }
@@ -86,10 +86,10 @@ fn first_without(entries: &[Value<'_>], key: &str) -> Option<usize>
 
 /// Returns the index of the first entry whose value is no length.
 fn first_unread(entries: &[Value<'_>], key: &str) -> Option<usize>
-    ensures { result ≡ first_in (lacks_length key.now) (views entries.now) }
+    ensures { result ≡ first_in (has_no_length key.now) (views entries.now) }
 {
     for place in 0..entries.len() {
-        if lacks_length(&entries[place], key) {
+        if has_no_length(&entries[place], key) {
             return Some(place);
         }
     }
@@ -100,8 +100,8 @@ fn first_unread(entries: &[Value<'_>], key: &str) -> Option<usize>
 /// entry that has none.
 fn check_values(adjacency: &[Value<'_>], key: &str) -> Result<(), GraphFault>
     requires { length adjacency.now ≤ most_units }
-    ensures { MatchResult result (λ _. first_entry_in (lacks_value key.now) MissingLength (lists_in adjacency.now) ≡ None)
-        (λ f. first_entry_in (lacks_value key.now) MissingLength (lists_in adjacency.now) ≡ Some f) }
+    ensures { MatchResult result (λ _. first_entry_in (has_no_value key.now) MissingLength (lists_in adjacency.now) ≡ None)
+        (λ f. first_entry_in (has_no_value key.now) MissingLength (lists_in adjacency.now) ≡ Some f) }
 {
     for node in 0..adjacency.len() {
         if let Some(place) = first_without(entries_of(adjacency, node), key) {
@@ -118,8 +118,8 @@ fn check_values(adjacency: &[Value<'_>], key: &str) -> Result<(), GraphFault>
 /// entry that has none.
 fn check_lengths(adjacency: &[Value<'_>], key: &str) -> Result<(), GraphFault>
     requires { length adjacency.now ≤ most_units }
-    ensures { MatchResult result (λ _. first_entry_in (lacks_length key.now) BadLength (lists_in adjacency.now) ≡ None)
-        (λ f. first_entry_in (lacks_length key.now) BadLength (lists_in adjacency.now) ≡ Some f) }
+    ensures { MatchResult result (λ _. first_entry_in (has_no_length key.now) BadLength (lists_in adjacency.now) ≡ None)
+        (λ f. first_entry_in (has_no_length key.now) BadLength (lists_in adjacency.now) ≡ Some f) }
 {
     for node in 0..adjacency.len() {
         if let Some(place) = first_unread(entries_of(adjacency, node), key) {

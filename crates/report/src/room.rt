@@ -78,7 +78,7 @@ fn lines_room(job: &Job) -> usize
 /// Returns an upper bound on the bytes of the lines of the job's origin.
 fn origin_room(job: &Job) -> Option<usize>
     ensures enough { IfSome result (λ room. length (definition.origin_lines job.now job.now.origin) ≤ room) }
-    ensures untold { job.now.origin ≡ None → result ≡ Some 0 }
+    ensures no_origin { job.now.origin ≡ None → result ≡ Some 0 }
     ensures few { IfSome result (λ room. room ≤ names_length job.now.setting.columns job.now.setting.region * 6 + 300) }
     ensures none { result ≡ None → 2 ^ 61 ≤ names_length job.now.setting.columns job.now.setting.region }
 {

@@ -133,10 +133,10 @@ module _ (newest : SavedSlotsAreNewest) (ours : CheckpointsAreOurs) (parts : Par
       let old = by_id (total parts.job) (booked parts (up_to_save (saves_made l) l)) in
       let earlier = (place.generation + 2) % 3 in
       let is : other_stored after place.slot ≡ Some (checkpoint 2 (job_digest parts.job) earlier old) = other_is after place.slot slot ∙ last ∙ save.bytes in
-      let intact : generation_of (slot_of parts.job (job_digest parts.job) (other_stored after place.slot)) ≡ Some earlier =
+      let valid : generation_of (slot_of parts.job (job_digest parts.job) (other_stored after place.slot)) ≡ Some earlier =
       ap (λ (q : Stored). generation_of (slot_of parts.job (job_digest parts.job) q)) is
       ∙ ap generation_of (ours parts.job (checkpoint 2 (job_digest parts.job) earlier old) 2 (job_digest parts.job) earlier old save.sound (saved_fit parts plan l (saves_made l) of_todo)) in
-      (fresh parts.job fit).later earlier intact (after_before place.generation generation)
+      (fresh parts.job fit).later earlier valid (after_before place.generation generation)
 
 module _ (newest : SavedSlotsAreNewest) (ours : CheckpointsAreOurs) (parts : Parts) (plan : IsPlan parts) (l : List Entry) (t i : ℕ) where
   abbrev more : List Entry

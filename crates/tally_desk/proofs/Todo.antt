@@ -44,14 +44,14 @@ filter_passes x (suc n) test some_here = by (times x (filter_below n test)) refl
     by (suc k) more before = before (omega (arith, more))
 
 module _ (parts : Parts) (plan : IsPlan parts) where
-  abbrev lacks : ℕ → Bool
-  lacks id = not (has_id parts.initial_outcomes id) && is_in_part parts.job.setting.parts parts.job.setting.part id
+  abbrev is_pending : ℕ → Bool
+  is_pending id = not (has_id parts.initial_outcomes id) && is_in_part parts.job.setting.parts parts.job.setting.part id
 
-  todo_taken : (x : ℕ) → times x parts.todo ≤ times x (filter_below (total parts.job) lacks)
-  todo_taken x = omega (arith, ap (times x) plan.todo.1, sum_by-take-le (one x) (filter_below (total parts.job) lacks) plan.todo.0)
+  todo_taken : (x : ℕ) → times x parts.todo ≤ times x (filter_below (total parts.job) is_pending)
+  todo_taken x = omega (arith, ap (times x) plan.todo.1, sum_by-take-le (one x) (filter_below (total parts.job) is_pending) plan.todo.0)
 
   pub todo_below_total : (x : ℕ) → times x parts.todo ≤ once_below x (total parts.job)
-  todo_below_total x = omega (arith, todo_taken x, filter_once x (total parts.job) lacks)
+  todo_below_total x = omega (arith, todo_taken x, filter_once x (total parts.job) is_pending)
 
   pub todo_once : (x : ℕ) → times x parts.todo ≤ 1
   todo_once x = let most : once_below x (total parts.job) ≤ 1 = grind arith in omega (arith, todo_below_total x, most)
@@ -62,7 +62,7 @@ module _ (parts : Parts) (plan : IsPlan parts) where
   pub todo_lacked : (x : ℕ) → 0 < times x parts.todo → has_id parts.initial_outcomes x ≡ false
   todo_lacked x some_here = not-true (has_id parts.initial_outcomes x)
       (and_parts (not (has_id parts.initial_outcomes x)) (is_in_part parts.job.setting.parts parts.job.setting.part x)
-      (filter_passes x (total parts.job) lacks (omega (arith, some_here, todo_taken x)))).0
+      (filter_passes x (total parts.job) is_pending (omega (arith, some_here, todo_taken x)))).0
 
   pub todo_few : length parts.todo ≤ total parts.job
   todo_few = length-apart (total parts.job) parts.todo todo_below_total

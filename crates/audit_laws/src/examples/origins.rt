@@ -67,14 +67,14 @@ pub fn notes_of_limits()
 
 /// Shows that bytes have an origin if the setting requests it.
 pub fn small_origins()
-    ensures untold { origin_of (run_of 5000 1 8 0 1000 []) (codes "{}") ≡ None }
+    ensures no_origin { origin_of (run_of 5000 1 8 0 1000 []) (codes "{}") ≡ None }
     ensures observed { origin_of (record (run_of 5000 1 8 0 1000 []) { source = true }) (codes "{}") ≡ Some (record { sha256 = sha256 (codes "{}"); bytes = 2 }) }
 {}
 
 /// Shows the job that is made from bytes, with its origin if the setting requests it. Each of several plans has the
 /// origin of the whole input.
 pub fn jobs_with_origins()
-    ensures untold { judged (record (run_of 5000 1 8 0 1000 []) { columns = columns }) path_text ≡ Ok (job_of_four path_of_four (record (run_of 5000 1 8 0 1000 []) { columns = columns })) }
+    ensures no_origin { judged (record (run_of 5000 1 8 0 1000 []) { columns = columns }) path_text ≡ Ok (job_of_four path_of_four (record (run_of 5000 1 8 0 1000 []) { columns = columns })) }
     ensures observed { judged (record (run_of 5000 1 8 0 1000 []) { columns = columns; source = true }) path_text ≡
         Ok (record (job_of_four path_of_four (record (run_of 5000 1 8 0 1000 []) { columns = columns; source = true })) { origin = Some (record { sha256 = sha256 path_text; bytes = 274 }) }) }
     ensures several { jobs_reading (record (run_of 5000 1 8 0 1000 []) { columns = columns; source = true }) path_and_plans ≡

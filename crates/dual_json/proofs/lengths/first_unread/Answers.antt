@@ -1,7 +1,7 @@
 use Rattle.std.proofs.Common.{◌≡◌, ℕ, length, None, refl, sym, ap, ◌∙◌, subst, arith}
 use Rattle.audit_model.specs.First.{first_below}
 use Rattle.audit_model.proofs.First.{first_below_more, first_below_here}
-use Rattle.dual_json.specs.Lengths.{lacks_length}
+use Rattle.dual_json.specs.Lengths.{has_no_length}
 use Rattle.dual_json.specs.Places.{object_at}
 use Rattle.dual_json.specs.Shape.{views}
 use Rattle.dual_json.proofs.Listed.{object_is, length-views}
@@ -10,22 +10,22 @@ use Rattle.dual_json.proofs.lengths.first_unread.Goals as goal
 pub loop-place-init : goal.loop-place-init
 loop-place-init c = refl
 
-pub returns-then-lacks_length : goal.returns-then-lacks_length
-returns-then-lacks_length c =
+pub returns-then-has_no_length : goal.returns-then-has_no_length
+returns-then-has_no_length c =
     let l = c.loop-place-test.true in
-    sym (first_below_here (length (views c.args.entries.now)) c.loop-place.place (λ k. lacks_length c.args.key.now (object_at (views c.args.entries.now) k)) c.loop-place.invariant (omega (arith, l, length-views c.args.entries.now))
-    (ap (lacks_length c.args.key.now) (object_is c.args.entries.now c.loop-place.place c.index-entries-place.result l c.index-entries-place.is)
-    ∙ sym c.lacks_length.ensures ∙ c.if-lacks_length.true))
+    sym (first_below_here (length (views c.args.entries.now)) c.loop-place.place (λ k. has_no_length c.args.key.now (object_at (views c.args.entries.now) k)) c.loop-place.invariant (omega (arith, l, length-views c.args.entries.now))
+    (ap (has_no_length c.args.key.now) (object_is c.args.entries.now c.loop-place.place c.index-entries-place.result l c.index-entries-place.is)
+    ∙ sym c.has_no_length.ensures ∙ c.if-has_no_length.true))
 
 pub loop-place-preserved : goal.loop-place-preserved
 loop-place-preserved c =
-    first_below_more c.loop-place.place (λ k. lacks_length c.args.key.now (object_at (views c.args.entries.now) k)) c.loop-place.invariant
-    (ap (lacks_length c.args.key.now) (object_is c.args.entries.now c.loop-place.place c.index-entries-place.result c.loop-place-test.true c.index-entries-place.is)
-    ∙ sym c.lacks_length.ensures ∙ c.if-lacks_length.false)
+    first_below_more c.loop-place.place (λ k. has_no_length c.args.key.now (object_at (views c.args.entries.now) k)) c.loop-place.invariant
+    (ap (has_no_length c.args.key.now) (object_is c.args.entries.now c.loop-place.place c.index-entries-place.result c.loop-place-test.true c.index-entries-place.is)
+    ∙ sym c.has_no_length.ensures ∙ c.if-has_no_length.false)
 
 pub returns : goal.returns
 returns c =
     let low = c.loop-place.auto.place-end in
     let high = c.loop-place-test.false in
     let at : c.loop-place.place ≡ length (views c.args.entries.now) = omega (arith, low, high, length-views c.args.entries.now) in
-    sym (subst (λ (m : ℕ). first_below m (λ k. lacks_length c.args.key.now (object_at (views c.args.entries.now) k)) ≡ None) at c.loop-place.invariant)
+    sym (subst (λ (m : ℕ). first_below m (λ k. has_no_length c.args.key.now (object_at (views c.args.entries.now) k)) ≡ None) at c.loop-place.invariant)

@@ -1,7 +1,7 @@
 use Rattle.std.proofs.Common.{◌≡◌, ℕ, length, None, refl, sym, ap, ◌∙◌, subst, arith}
 use Rattle.audit_model.specs.First.{first_below}
 use Rattle.audit_model.proofs.First.{first_below_more, first_below_here}
-use Rattle.dual_json.specs.Lengths.{lacks_value}
+use Rattle.dual_json.specs.Lengths.{has_no_value}
 use Rattle.dual_json.specs.Places.{object_at}
 use Rattle.dual_json.specs.Shape.{views}
 use Rattle.dual_json.proofs.Listed.{object_is, length-views}
@@ -10,22 +10,22 @@ use Rattle.dual_json.proofs.lengths.first_without.Goals as goal
 pub loop-place-init : goal.loop-place-init
 loop-place-init c = refl
 
-pub returns-then-lacks_value : goal.returns-then-lacks_value
-returns-then-lacks_value c =
+pub returns-then-has_no_value : goal.returns-then-has_no_value
+returns-then-has_no_value c =
     let l = c.loop-place-test.true in
-    sym (first_below_here (length (views c.args.entries.now)) c.loop-place.place (λ k. lacks_value c.args.key.now (object_at (views c.args.entries.now) k)) c.loop-place.invariant (omega (arith, l, length-views c.args.entries.now))
-    (ap (lacks_value c.args.key.now) (object_is c.args.entries.now c.loop-place.place c.index-entries-place.result l c.index-entries-place.is)
-    ∙ sym c.lacks_value.ensures ∙ c.if-lacks_value.true))
+    sym (first_below_here (length (views c.args.entries.now)) c.loop-place.place (λ k. has_no_value c.args.key.now (object_at (views c.args.entries.now) k)) c.loop-place.invariant (omega (arith, l, length-views c.args.entries.now))
+    (ap (has_no_value c.args.key.now) (object_is c.args.entries.now c.loop-place.place c.index-entries-place.result l c.index-entries-place.is)
+    ∙ sym c.has_no_value.ensures ∙ c.if-has_no_value.true))
 
 pub loop-place-preserved : goal.loop-place-preserved
 loop-place-preserved c =
-    first_below_more c.loop-place.place (λ k. lacks_value c.args.key.now (object_at (views c.args.entries.now) k)) c.loop-place.invariant
-    (ap (lacks_value c.args.key.now) (object_is c.args.entries.now c.loop-place.place c.index-entries-place.result c.loop-place-test.true c.index-entries-place.is)
-    ∙ sym c.lacks_value.ensures ∙ c.if-lacks_value.false)
+    first_below_more c.loop-place.place (λ k. has_no_value c.args.key.now (object_at (views c.args.entries.now) k)) c.loop-place.invariant
+    (ap (has_no_value c.args.key.now) (object_is c.args.entries.now c.loop-place.place c.index-entries-place.result c.loop-place-test.true c.index-entries-place.is)
+    ∙ sym c.has_no_value.ensures ∙ c.if-has_no_value.false)
 
 pub returns : goal.returns
 returns c =
     let low = c.loop-place.auto.place-end in
     let high = c.loop-place-test.false in
     let at : c.loop-place.place ≡ length (views c.args.entries.now) = omega (arith, low, high, length-views c.args.entries.now) in
-    sym (subst (λ (m : ℕ). first_below m (λ k. lacks_value c.args.key.now (object_at (views c.args.entries.now) k)) ≡ None) at c.loop-place.invariant)
+    sym (subst (λ (m : ℕ). first_below m (λ k. has_no_value c.args.key.now (object_at (views c.args.entries.now) k)) ≡ None) at c.loop-place.invariant)
