@@ -3,8 +3,7 @@
 //! Words of this crate:
 //!
 //! - A *batch* is a list of ids that the workers walk together, such as one round of a run whose tests stop early.
-//!   Names such as `PartCounter` and `walk_part` call a batch *part*. Parts in the sense of `--parts` do not occur
-//!   here.
+//!   This crate does not use the parts that `--parts` makes.
 //! - A *counter* (`Claims`) gives each number below a limit to at most one worker. In a batch the numbers are indices
 //!   of the list of ids.
 //! - A *pass* is the right to draw numbers from one counter. In a batch each worker has a pass. A new counter
@@ -23,7 +22,7 @@
 
 mod claims;
 pub mod laws;
-pub mod parts;
+pub mod batches;
 mod pass;
 pub mod pool;
 mod record;
@@ -37,7 +36,7 @@ pub use laws::{
     count_is_bounded, end_keeps, join_keeps, number_keeps, sole_has_all, split_keeps,
     start_is_counted,
 };
-pub use parts::{PartCounter, PartWorkers, find_hub, make_part_workers, walk_part};
+pub use batches::{BatchCounter, BatchWorkers, find_hub, make_batch_workers, walk_batch};
 pub use pass::Pass;
 pub use pool::{WorkerPool, make_pool};
 pub use record::{PassRecord, Size};

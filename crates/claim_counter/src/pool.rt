@@ -5,7 +5,7 @@ ghost use Rattle.claim_counter.specs.Pools.{HasWalkedNothing, IsPool};
 ghost use Rattle.walker.specs.Judges.{AreJudges};
 ghost use Rattle.audit_model.specs.Limits.{most_trajectories, most_workers};
 
-use crate::parts::{PartCounter, PartWorkers, make_part_workers};
+use crate::batches::{BatchCounter, BatchWorkers, make_batch_workers};
 use audit_model::memory::Memory;
 use flip_guard::judge::Judge;
 use plan_core::job::Job;
@@ -14,8 +14,8 @@ use std::alloc::Global;
 /// The workers, the hub, and the counter of a run that walks all its trajectories in one batch.
 #[derive(Drop)]
 pub struct WorkerPool<J: Judge> {
-    pub(crate) part: PartCounter,
-    pub(crate) part_workers: PartWorkers<J>,
+    pub(crate) batch: BatchCounter,
+    pub(crate) batch_workers: BatchWorkers<J>,
 }
 
 /// Makes one worker with each element of `judges`, and a counter of `count` trajectories. The hub is not computed yet.
@@ -32,7 +32,7 @@ pub fn make_pool<J: Judge>(
     ensures pool { IfOk result (IsPool job.now count (vec_len judges)) }
     ensures no_hub { IfOk result (HasWalkedNothing job.now) }
 {
-    let part = PartCounter::new(alloc, count, judges.len() as u32)?;
-    let part_workers = make_part_workers(alloc, job, judges)?;
-    Ok(WorkerPool { part, part_workers })
+    let batch = BatchCounter::new(alloc, count, judges.len() as u32)?;
+    let batch_workers = make_batch_workers(alloc, job, judges)?;
+    Ok(WorkerPool { batch, batch_workers })
 }

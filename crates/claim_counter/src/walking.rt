@@ -5,11 +5,11 @@ ghost use Rattle.std.specs.Prelude.{◌≡◌, ◌+◌, ◌<◌, ◌≤◌, ◌+
 ghost use Rattle.audit_model.specs.Run.{run_ids, full};
 ghost use Rattle.audit_statement.specs.Draw.{draw};
 ghost use Rattle.claim_counter.specs.Pools.{IsPool};
-ghost use Rattle.claim_counter.specs.Parts.{IsPartWorkers};
+ghost use Rattle.claim_counter.specs.Batches.{IsBatchWorkers};
 ghost use Rattle.claim_counter.specs.Walks.{found, MissesIds, ServesEnds};
 ghost use Rattle.outcome_book.specs.Booked.{IsBook};
 
-use crate::parts::{PartWorkers, find_hub, walk_part};
+use crate::batches::{BatchWorkers, find_hub, walk_batch};
 use crate::pool::WorkerPool;
 use crate::workers::Runtime;
 use audit_io::gate::Gate;
@@ -33,14 +33,14 @@ pub fn has_above(ids: &[u32], bound: u32) -> bool
 }
 
 // Computes the hub if `todo` has an endpoint trajectory. Only endpoint trajectories start from the hub.
-fn walk_hub<J: Judge>(job: &Job, todo: &[u32], part_workers: &mut PartWorkers<J>)
-    requires part_workers { IsPartWorkers job.now (vec_len part_workers.old.idle_workers) part_workers.old }
-    ensures part_workers { IsPartWorkers job.now (vec_len part_workers.old.idle_workers) part_workers.new }
-    ensures hub { ServesEnds job.now todo.now part_workers.new.hub }
-    ensures unneeded { All (λ id. id < job.now.setting.walks) todo.now → part_workers.new.hub ≡ part_workers.old.hub }
+fn walk_hub<J: Judge>(job: &Job, todo: &[u32], batch_workers: &mut BatchWorkers<J>)
+    requires batch_workers { IsBatchWorkers job.now (vec_len batch_workers.old.idle_workers) batch_workers.old }
+    ensures batch_workers { IsBatchWorkers job.now (vec_len batch_workers.old.idle_workers) batch_workers.new }
+    ensures hub { ServesEnds job.now todo.now batch_workers.new.hub }
+    ensures unneeded { All (λ id. id < job.now.setting.walks) todo.now → batch_workers.new.hub ≡ batch_workers.old.hub }
 {
     if has_above(todo, job.setting().walks) {
-        find_hub(job, part_workers);
+        find_hub(job, batch_workers);
     }
 }
 
@@ -59,11 +59,11 @@ fn walk_all<R: Threads + Sync, J: Judge + Send, G: Gate + Sync>(
     ensures sound { IsBook book.new }
 {
     let WorkerPool {
-        part,
-        mut part_workers,
+        batch,
+        mut batch_workers,
     } = pool;
-    walk_hub(job, todo, &mut part_workers);
-    walk_part(rt, job, todo, part, &mut part_workers, book);
+    walk_hub(job, todo, &mut batch_workers);
+    walk_batch(rt, job, todo, batch, &mut batch_workers, book);
 }
 
 /// Walks the trajectories with these ids, adds their outcomes to the book, and fills `out` with all outcomes of the

@@ -19,7 +19,7 @@ pub struct Worker<J: Judge> {
 
 impl<J: Judge> Worker<J> {
     ghost use Rattle.claim_counter.specs.Workers.{IsShared};
-    ghost use Rattle.claim_counter.specs.Parts.{IsBack, IsLent};
+    ghost use Rattle.claim_counter.specs.Batches.{IsBack, IsLent};
 
     /// Draws indices of `todo` until none is left. After each draw, gives the gate the id at this index, walks the
     /// trajectory with this id, and appends the outcome to `share`.

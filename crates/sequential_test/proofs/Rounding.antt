@@ -12,8 +12,8 @@ use Rattle.audit_model.specs.declared.setting.Setting.{Setting}
 use Rattle.audit_model.specs.Job.{Job}
 use Rattle.audit_model.specs.JobOf.{IsJob}
 use Rattle.audit_model.specs.Limits.{IsSettingOf}
-use Rattle.claim_counter.specs.declared.parts.PartCounter.{PartCounter}
-use Rattle.claim_counter.specs.Parts.{IsFreshPart}
+use Rattle.claim_counter.specs.declared.batches.BatchCounter.{BatchCounter}
+use Rattle.claim_counter.specs.Batches.{IsFreshBatch}
 use Rattle.sequential_test.specs.Pools.{AreRounds}
 use Rattle.sequential_test.specs.Rounds.{ends_after, found_below, AreDecided, StopsInTime}
 
@@ -36,52 +36,52 @@ pub few_after : (ends n : ℕ) → ends_after ends n ≤ ends
 few_after ends n = omega arith
 
 -- a list with one more round, which is walked last
-pub rounds_more : (ends seats : ℕ) (rounds : List PartCounter) (p : PartCounter) → AreRounds ends seats 0 rounds
-    → IsFreshPart (ends_after ends (suc (length rounds)) - ends_after ends (length rounds)) seats p → AreRounds ends seats 0 (p ∷ rounds)
+pub rounds_more : (ends seats : ℕ) (rounds : List BatchCounter) (p : BatchCounter) → AreRounds ends seats 0 rounds
+    → IsFreshBatch (ends_after ends (suc (length rounds)) - ends_after ends (length rounds)) seats p → AreRounds ends seats 0 (p ∷ rounds)
 rounds_more ends seats rounds p are is zero d i inside at =
     let e : length rounds ≡ i = omega arith in
-    subst (λ n. IsFreshPart (ends_after ends (suc n) - ends_after ends n) seats p) e is
+    subst (λ n. IsFreshBatch (ends_after ends (suc n) - ends_after ends n) seats p) e is
 rounds_more ends seats rounds p are is (suc k) d i inside at = are k d i (omega arith) (omega arith)
 
 -- the next round of the list
-pub next_round : (ends seats done : ℕ) (all rest : List PartCounter) (p : PartCounter) → AreRounds ends seats done all → all ≡ rest ++ p ∷ []
-    → IsFreshPart (ends_after ends (suc done) - ends_after ends done) seats p
+pub next_round : (ends seats done : ℕ) (all rest : List BatchCounter) (p : BatchCounter) → AreRounds ends seats done all → all ≡ rest ++ p ∷ []
+    → IsFreshBatch (ends_after ends (suc done) - ends_after ends done) seats p
 next_round ends seats done all rest p are is =
     let long : length all ≡ length rest + 1 = ap length is ∙ length-append rest (p ∷ []) in
-    subst (IsFreshPart (ends_after ends (suc done) - ends_after ends done) seats)
+    subst (IsFreshBatch (ends_after ends (suc done) - ends_after ends done) seats)
     (ap (λ xs. get_or xs (length rest) p) is ∙ get_or-append_seam rest p [] p)
     (are (length rest) p done (omega arith) (omega arith))
 
 -- once the last counter of the list is taken, the others are those of the rounds after it
-pub rounds_left : (ends seats done : ℕ) (all rest : List PartCounter) (p : PartCounter) → AreRounds ends seats done all → all ≡ rest ++ p ∷ [] → AreRounds ends seats (suc done) rest
+pub rounds_left : (ends seats done : ℕ) (all rest : List BatchCounter) (p : BatchCounter) → AreRounds ends seats done all → all ≡ rest ++ p ∷ [] → AreRounds ends seats (suc done) rest
 rounds_left ends seats done all rest p are is k d i inside at =
     let long : length all ≡ length rest + 1 = ap length is ∙ length-append rest (p ∷ []) in
-    subst (IsFreshPart (ends_after ends (suc i) - ends_after ends i) seats)
+    subst (IsFreshBatch (ends_after ends (suc i) - ends_after ends i) seats)
     (ap (λ xs. get_or xs k d) is ∙ get_or_append_left rest (p ∷ []) d k inside)
     (are k d i (omega arith) (omega arith))
 
 -- ---- between two rounds
 
 -- `walked` endpoints were walked, and after no round was every ask decided
-pub record IsAtRound (job : Job) (seats all : ℕ) (rounds : List PartCounter) (walked : ℕ) : Type 0 where
+pub record IsAtRound (job : Job) (seats all : ℕ) (rounds : List BatchCounter) (walked : ℕ) : Type 0 where
   pub done : ℕ
   pub counted : done + length rounds ≡ all
   pub rounds_are : AreRounds job.setting.ends seats done rounds
   pub walked_is : walked ≡ ends_after job.setting.ends done
   pub before : (k : ℕ) → 1 ≤ k → k ≤ done → AreDecided job (found_below job (job.setting.walks + ends_after job.setting.ends k)) → ⊥
 
-module _ (job : Job) (seats all : ℕ) (rounds : List PartCounter) (walked : ℕ) (at : IsAtRound job seats all rounds walked) where
+module _ (job : Job) (seats all : ℕ) (rounds : List BatchCounter) (walked : ℕ) (at : IsAtRound job seats all rounds walked) where
   pub next_walked : (next : ℕ) → next ≡ min job.setting.ends (2 * walked + 64) → next ≡ ends_after job.setting.ends (suc at.done)
   next_walked next is = is ∙ ap (λ w. min job.setting.ends (2 * w + 64)) at.walked_is ∙ next_after job.setting.ends at.done
 
-  pub part_is : (rest : List PartCounter) (p : PartCounter) (next from to : ℕ) → rounds ≡ rest ++ p ∷ [] → next ≡ min job.setting.ends (2 * walked + 64)
-      → from ≡ job.setting.walks + walked → to ≡ job.setting.walks + next → IsFreshPart (to - from) seats p
-  part_is rest p next from to popped is at_from at_to =
+  pub batch_is : (rest : List BatchCounter) (p : BatchCounter) (next from to : ℕ) → rounds ≡ rest ++ p ∷ [] → next ≡ min job.setting.ends (2 * walked + 64)
+      → from ≡ job.setting.walks + walked → to ≡ job.setting.walks + next → IsFreshBatch (to - from) seats p
+  batch_is rest p next from to popped is at_from at_to =
       let same : ends_after job.setting.ends (suc at.done) - ends_after job.setting.ends at.done ≡ to - from =
       let a = next_walked next is in let b = at.walked_is in omega (arith, a, b, at_from, at_to) in
-      subst (λ n. IsFreshPart n seats p) same (next_round job.setting.ends seats at.done rounds rest p at.rounds_are popped)
+      subst (λ n. IsFreshBatch n seats p) same (next_round job.setting.ends seats at.done rounds rest p at.rounds_are popped)
 
-  pub round_done : (rest : List PartCounter) (p : PartCounter) (next : ℕ) → rounds ≡ rest ++ p ∷ [] → next ≡ min job.setting.ends (2 * walked + 64)
+  pub round_done : (rest : List BatchCounter) (p : BatchCounter) (next : ℕ) → rounds ≡ rest ++ p ∷ [] → next ≡ min job.setting.ends (2 * walked + 64)
       → (AreDecided job (found_below job (job.setting.walks + next)) → ⊥) → IsAtRound job seats all rest next
   round_done rest p next popped is undecided =
       let next_is = next_walked next is in
@@ -117,7 +117,7 @@ module _ (job : Job) (seats all : ℕ) (rounds : List PartCounter) (walked : ℕ
       ]) (omega arith) (subst (λ n. AreDecided job (found_below job (job.setting.walks + n))) (sym here) decided)
 
 -- an empty list has the counters of no rounds
-pub no_rounds : (ends seats : ℕ) (rounds : List PartCounter) → length rounds ≡ 0 → AreRounds ends seats 0 rounds
+pub no_rounds : (ends seats : ℕ) (rounds : List BatchCounter) → length rounds ≡ 0 → AreRounds ends seats 0 rounds
 no_rounds ends seats rounds none k d i inside at = absurd (omega (arith, inside, none))
 
 -- ---- limits of a job

@@ -7,7 +7,7 @@ ghost use Rattle.walker.specs.Judges.{AreJudges};
 ghost use Rattle.audit_model.specs.Limits.{most_trajectories, most_workers};
 
 use audit_model::memory::Memory;
-use claim_counter::parts::{PartCounter, PartWorkers, make_part_workers};
+use claim_counter::batches::{BatchCounter, BatchWorkers, make_batch_workers};
 use flip_guard::judge::Judge;
 use plan_core::job::Job;
 use std::alloc::Global;
@@ -19,10 +19,10 @@ const FIRST_ROUND: u32 = 64;
 /// the end, so `rounds` has the first round last.
 #[derive(Drop)]
 pub struct StoppingPool<J: Judge> {
-    pub(crate) part_workers: PartWorkers<J>,
+    pub(crate) batch_workers: BatchWorkers<J>,
     pub(crate) seats: u32,
-    pub(crate) walks: PartCounter,
-    pub(crate) rounds: Vec<PartCounter>,
+    pub(crate) walks: BatchCounter,
+    pub(crate) rounds: Vec<BatchCounter>,
 }
 
 /// Returns the number of endpoint trajectories walked after one more round. Each round has twice the number of the
@@ -35,7 +35,7 @@ pub fn after_round(ends: u32, walked: u32) -> u32
 }
 
 // Makes the counter of each round, with the first round last.
-fn make_rounds(alloc: Global, ends: u32, seats: u32) -> Result<Vec<PartCounter>, Memory>
+fn make_rounds(alloc: Global, ends: u32, seats: u32) -> Result<Vec<BatchCounter>, Memory>
     requires ends { ends ≤ most_trajectories }
     requires seats { (1 ≤ seats) × (seats ≤ most_workers) }
     ensures rounds { IfOk result (λ r. AreRounds ends seats 0 r.items) }
@@ -45,8 +45,8 @@ fn make_rounds(alloc: Global, ends: u32, seats: u32) -> Result<Vec<PartCounter>,
     let mut walked = 0;
     while walked < ends {
         let next = after_round(ends, walked);
-        let part = PartCounter::new(alloc, next - walked, seats)?;
-        rounds.insert(0, part)?;
+        let batch = BatchCounter::new(alloc, next - walked, seats)?;
+        rounds.insert(0, batch)?;
         walked = next;
     }
     Ok(rounds)
@@ -65,11 +65,11 @@ pub fn make_pool<J: Judge>(
     ensures no_hub { IfOk result (HasStartedNothing job.now) }
 {
     let seats = judges.len() as u32;
-    let walks = PartCounter::new(alloc, job.setting().walks, seats)?;
+    let walks = BatchCounter::new(alloc, job.setting().walks, seats)?;
     let rounds = make_rounds(alloc, job.setting().ends, seats)?;
-    let part_workers = make_part_workers(alloc, job, judges)?;
+    let batch_workers = make_batch_workers(alloc, job, judges)?;
     Ok(StoppingPool {
-        part_workers,
+        batch_workers,
         seats,
         walks,
         rounds,

@@ -6,7 +6,7 @@ ghost use Rattle.audit_model.specs.Below.{map_below};
 ghost use Rattle.audit_model.specs.Run.{total};
 ghost use Rattle.audit_model.specs.Stopping.{stops_of};
 ghost use Rattle.audit_model.specs.Trajectory.{sequence};
-ghost use Rattle.claim_counter.specs.Parts.{IsFreshPart};
+ghost use Rattle.claim_counter.specs.Batches.{IsFreshBatch};
 ghost use Rattle.audit_statement.specs.Draw.{draw};
 ghost use Rattle.sequential_test.specs.Pools.{AreRounds, HasWalkedTo, IsStoppingPool};
 ghost use Rattle.sequential_test.specs.Rounds.{ends_after, found_below, AreIds, AreParts, AreDecidedBelow, StopsInTime};
@@ -15,7 +15,7 @@ use crate::all_stops::find_stops;
 use crate::pool::{StoppingPool, after_round};
 use audit_io::gate::Gate;
 use audit_model::buffers::OutcomeList;
-use claim_counter::parts::{PartCounter, PartWorkers, find_hub, walk_part};
+use claim_counter::batches::{BatchCounter, BatchWorkers, find_hub, walk_batch};
 use claim_counter::workers::Runtime;
 use flip_guard::judge::Judge;
 use outcome_book::book::Book;
@@ -36,14 +36,14 @@ struct Stretch<'a> {
     ids: &'a [u32],
     from: u32,
     to: u32,
-    part: PartCounter,
+    batch: BatchCounter,
 }
 
 /// All ids of a run, and the counter of each round.
 #[derive(Drop)]
 struct Rounds<'a> {
     todo: &'a [u32],
-    parts: Vec<PartCounter>,
+    batches: Vec<BatchCounter>,
 }
 
 // Walks the trajectories of a range. Those before the range must be walked. Then fills `sorted` with all outcomes so
@@ -52,19 +52,19 @@ fn walk_to<R: Threads + Sync, J: Judge + Send, G: Gate + Sync>(
     rt: &Runtime<R, G>,
     job: &Job,
     stretch: Stretch,
-    part_workers: &mut PartWorkers<J>,
+    batch_workers: &mut BatchWorkers<J>,
     book: &mut Book,
     sorted: &mut OutcomeList,
 )
     requires ids { AreIds stretch.from stretch.to stretch.ids.now }
     requires few { stretch.to ≤ total job.now }
-    requires part { IsFreshPart (stretch.to - stretch.from) (vec_len part_workers.old.idle_workers) stretch.part }
-    requires walked { HasWalkedTo job.now (vec_len part_workers.old.idle_workers) stretch.from part_workers.old book.old sorted.old }
-    ensures walked { HasWalkedTo job.now (vec_len part_workers.old.idle_workers) stretch.entry.to part_workers.new book.new sorted.new }
+    requires batch { IsFreshBatch (stretch.to - stretch.from) (vec_len batch_workers.old.idle_workers) stretch.batch }
+    requires walked { HasWalkedTo job.now (vec_len batch_workers.old.idle_workers) stretch.from batch_workers.old book.old sorted.old }
+    ensures walked { HasWalkedTo job.now (vec_len batch_workers.old.idle_workers) stretch.entry.to batch_workers.new book.new sorted.new }
     ensures sorted { sorted.new.items ≡ found_below job.now stretch.entry.to }
     ensures rising { AllPairs (λ a b. a.id ≡ b.id → ⊥) sorted.new.items }
 {
-    walk_part(rt, job, stretch.ids, stretch.part, part_workers, book);
+    walk_batch(rt, job, stretch.ids, stretch.batch, batch_workers, book);
     book.sorted_into(sorted);
 }
 
@@ -73,16 +73,16 @@ fn walk_rounds<R: Threads + Sync, J: Judge + Send, G: Gate + Sync>(
     rt: &Runtime<R, G>,
     job: &Job,
     rounds: Rounds,
-    part_workers: &mut PartWorkers<J>,
+    batch_workers: &mut BatchWorkers<J>,
     book: &mut Book,
     sorted: &mut OutcomeList,
 ) -> [[u32; 3]; 4]
     requires ids { rounds.todo.now ≡ map_below (total job.now) (λ id. id) }
     requires some { 1 ≤ job.now.setting.stop }
     requires some_ends { 1 ≤ job.now.setting.ends }
-    requires rounds { AreRounds job.now.setting.ends (vec_len part_workers.old.idle_workers) 0 rounds.parts.items }
-    requires all { ends_after job.now.setting.ends (vec_len rounds.parts) ≡ job.now.setting.ends }
-    requires walked { HasWalkedTo job.now (vec_len part_workers.old.idle_workers) job.now.setting.walks part_workers.old book.old sorted.old }
+    requires rounds { AreRounds job.now.setting.ends (vec_len batch_workers.old.idle_workers) 0 rounds.batches.items }
+    requires all { ends_after job.now.setting.ends (vec_len rounds.batches) ≡ job.now.setting.ends }
+    requires walked { HasWalkedTo job.now (vec_len batch_workers.old.idle_workers) job.now.setting.walks batch_workers.old book.old sorted.old }
     ensures in_time { StopsInTime job.now sorted.new.items }
     ensures stops { AreDecidedBelow job.now sorted.new.items (length job.now.setting.asks) result }
     ensures parts { AreParts job.now.setting.ends (length job.now.setting.asks) result }
@@ -90,9 +90,9 @@ fn walk_rounds<R: Threads + Sync, J: Judge + Send, G: Gate + Sync>(
 {
     let walks = job.setting().walks;
     let ends = job.setting().ends;
-    let Rounds { todo, mut parts } = rounds;
+    let Rounds { todo, mut batches } = rounds;
     let mut walked = 0;
-    while let Some(part) = parts.pop() {
+    while let Some(batch) = batches.pop() {
         let next = after_round(ends, walked);
         let from = walks + walked;
         let to = walks + next;
@@ -101,9 +101,9 @@ fn walk_rounds<R: Threads + Sync, J: Judge + Send, G: Gate + Sync>(
             ids,
             from,
             to,
-            part,
+            batch,
         };
-        walk_to(rt, job, stretch, part_workers, book, sorted);
+        walk_to(rt, job, stretch, batch_workers, book, sorted);
         walked = next;
         match find_stops(job, sorted.as_slice()) {
             Some(stops) => return stops,
@@ -139,23 +139,23 @@ pub fn walk_to_stops<R: Threads + Sync, J: Judge + Send, G: Gate + Sync>(
     ensures four { length result ≡ 4 }
 {
     let StoppingPool {
-        mut part_workers,
+        mut batch_workers,
         seats: _,
         walks,
         rounds,
     } = pool;
-    find_hub(job, &mut part_workers);
+    find_hub(job, &mut batch_workers);
     let to = job.setting().walks;
     let stretch = Stretch {
         ids: ids_from(todo, 0, to),
         from: 0,
         to,
-        part: walks,
+        batch: walks,
     };
-    walk_to(rt, job, stretch, &mut part_workers, book, sorted);
+    walk_to(rt, job, stretch, &mut batch_workers, book, sorted);
     let rounds = Rounds {
         todo,
-        parts: rounds,
+        batches: rounds,
     };
-    walk_rounds(rt, job, rounds, &mut part_workers, book, sorted)
+    walk_rounds(rt, job, rounds, &mut batch_workers, book, sorted)
 }

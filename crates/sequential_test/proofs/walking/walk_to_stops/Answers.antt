@@ -22,7 +22,7 @@ walk_to-requires-clause-ids g c κs within = c.ids_from.ensures (whole_ids (tota
 
 pub walk_to-requires-clause-walked : goal.walk_to-requires-clause-walked
 walk_to-requires-clause-walked g c κs within = record {
-  part_workers = own_seats c.args.job.now _ _ c.find_hub.ensures.part_workers;
+  batch_workers = own_seats c.args.job.now _ _ c.find_hub.ensures.batch_workers;
   hub_is = c.find_hub.ensures.hub;
   whole = c.requires.total;
   walked = none_walked c.args.job.now c.args.book.now.outcomes c.requires.empty;
@@ -32,11 +32,11 @@ walk_to-requires-clause-walked g c κs within = record {
 pub walk_rounds-requires-clause-rounds : goal.walk_rounds-requires-clause-rounds
 walk_rounds-requires-clause-rounds g c κs within =
     subst (λ (n : ℕ). AreRounds c.args.job.now.setting.ends n 0 c.args.pool.rounds.items)
-    (sym (c.walk_to.ensures.walked.part_workers.count ∙ c.find_hub.ensures.part_workers.count ∙ c.requires.pool.part_workers.count)) c.requires.pool.rounds
+    (sym (c.walk_to.ensures.walked.batch_workers.count ∙ c.find_hub.ensures.batch_workers.count ∙ c.requires.pool.batch_workers.count)) c.requires.pool.rounds
 
 pub walk_rounds-requires-clause-walked : goal.walk_rounds-requires-clause-walked
 walk_rounds-requires-clause-walked g c κs within =
-    same_walked c.args.job.now _ _ _ _ _ c.walk_to.ensures.walked _ _ c.walk_to.ensures.walked.part_workers.count
+    same_walked c.args.job.now _ _ _ _ _ c.walk_to.ensures.walked _ _ c.walk_to.ensures.walked.batch_workers.count
     (sym (ap (λ (s : Setting). s.walks) c.setting.ensures.value))
 
 pub returns-clause-stops : goal.returns-clause-stops

@@ -2,9 +2,9 @@ use Rattle.std.proofs.Common.{◌≡◌, ◌+◌, ◌++◌, All, map, vec_capaci
 use Rattle.outcome_book.specs.Booked.{IsBook}
 use Rattle.claim_counter.specs.Records.{AreDifferentBelow}
 use Rattle.claim_counter.specs.Passes.{own, size_of, BelongsTo}
-use Rattle.claim_counter.specs.Parts.{IsBack, IsIdleWorker}
+use Rattle.claim_counter.specs.Batches.{IsBack, IsIdleWorker}
 use Rattle.claim_counter.specs.Walks.{found_at}
-use Rattle.claim_counter.proofs.parts.take_all.Given as goal
+use Rattle.claim_counter.proofs.batches.take_all.Given as goal
 
 abbrev pub invariant-loop-worker : goal.invariant-loop-worker
 invariant-loop-worker g l = record {

@@ -1,4 +1,4 @@
--- Predicates on the workers of a run in batches. Names say *part* for a batch.
+-- Predicates on the workers of a run in batches.
 use Rattle.std.specs.Prelude.{◌≡◌, ℕ, ◌+◌, ◌-◌, ◌<◌, ◌≤◌, List, [], length, replicate, vec_capacity, vec_len, Vec}
 use Rattle.std.specs.List.{All}
 use Rattle.audit_model.specs.Job.{Job}
@@ -7,15 +7,15 @@ use Rattle.claim_counter.specs.declared.claims.Claims.{Claims}
 use Rattle.claim_counter.specs.Records.{fresh}
 use Rattle.claim_counter.specs.Passes.{own, size_of, BelongsTo}
 use Rattle.claim_counter.specs.Workers.{IsWorkerDone, IsUnstarted}
-use Rattle.claim_counter.specs.declared.parts.IdleWorker.{IdleWorker}
-use Rattle.claim_counter.specs.declared.parts.PartCounter.{PartCounter}
-use Rattle.claim_counter.specs.declared.parts.PartWorkers.{PartWorkers}
+use Rattle.claim_counter.specs.declared.batches.IdleWorker.{IdleWorker}
+use Rattle.claim_counter.specs.declared.batches.BatchCounter.{BatchCounter}
+use Rattle.claim_counter.specs.declared.batches.BatchWorkers.{BatchWorkers}
 use Rattle.claim_counter.specs.declared.worker.Worker.{Worker}
 use Rattle.audit_model.specs.Room.{RoomyOutcomes}
 use Rattle.flip_kernel.specs.ChainState.{ChainState}
 
 -- a counter of `count` places, none drawn, and a pass that can be split for `workers` workers
-pub record IsFreshPart (count workers : ℕ) (p : PartCounter) : Type 0 where
+pub record IsFreshBatch (count workers : ℕ) (p : BatchCounter) : Type 0 where
   pub limit : (size_of p.claims).limit ≡ count
   pub seats : (size_of p.claims).seats ≡ workers
   pub pass : BelongsTo p.claims p.pass
@@ -64,7 +64,7 @@ module _ {J : Type 0} where
     pub room : vec_len workers ≤ vec_capacity idle_workers
 
   -- `seats` resting workers, and capacity to give each a pass
-  pub record IsPartWorkers (job : Job) (seats : ℕ) (t : PartWorkers J) : Type 0 where
+  pub record IsBatchWorkers (job : Job) (seats : ℕ) (t : BatchWorkers J) : Type 0 where
     pub idle_workers : All (IsIdleWorker job) t.idle_workers.items
     pub count : vec_len t.idle_workers ≡ seats
     pub some : 1 ≤ seats
@@ -74,5 +74,5 @@ module _ {J : Type 0} where
     pub hub : length t.hub ≡ job.graph.units
 
   -- the hub is not computed yet
-  abbrev pub HasNoHub : Job → PartWorkers J → Type 0
+  abbrev pub HasNoHub : Job → BatchWorkers J → Type 0
   HasNoHub job t = t.hub ≡ replicate job.graph.units 0

@@ -6,10 +6,10 @@ use Rattle.claim_counter.specs.declared.pass.Pass.{Pass}
 use Rattle.claim_counter.specs.declared.record.PassRecord.{PassRecord}
 use Rattle.claim_counter.specs.Records.{AreDifferentBelow}
 use Rattle.claim_counter.specs.Passes.{own, size_of, BelongsTo}
-use Rattle.claim_counter.specs.Parts.{IsBack, IsIdleWorker}
+use Rattle.claim_counter.specs.Batches.{IsBack, IsIdleWorker}
 use Rattle.claim_counter.specs.Walks.{found_at}
 use Rattle.claim_counter.proofs.Gathering.{first_share, more_share, holds_more, none_yet}
-use Rattle.claim_counter.proofs.parts.take_all.Goals as goal
+use Rattle.claim_counter.proofs.batches.take_all.Goals as goal
 
 pub take_first-pass-requires-clause-share : goal.take_first-pass-requires-clause-share
 take_first-pass-requires-clause-share g c =

@@ -1,9 +1,9 @@
 use Rattle.std.proofs.Common.{◌∙◌, ap, arith, length}
 use Rattle.std.proofs.lemmas.List.{length-replicate}
-use Rattle.claim_counter.proofs.parts.make_part_workers.Goals as goal
+use Rattle.claim_counter.proofs.batches.make_batch_workers.Goals as goal
 
-pub returns-clause-part_workers : goal.returns-clause-part_workers
-returns-clause-part_workers g c = record {
+pub returns-clause-batch_workers : goal.returns-clause-batch_workers
+returns-clause-batch_workers g c = record {
   idle_workers = c.in_ok-idle_workers.ensures.idle_workers;
   count = c.in_ok-idle_workers.ensures.count ∙ c.in_ok-walkers.ensures.count;
   some = c.requires.workers;

@@ -1,5 +1,5 @@
-//! Walks in batches, one after the other. Names say *part* for a batch. The workers are allocated once for all batches,
-//! and each batch has its own counter.
+//! Walks in batches, one after the other. The workers are allocated once for all batches, and each batch has its own
+//! counter.
 
 ghost use Rattle.std.specs.Prelude.{◌≡◌, true, ◌+◌, ◌-◌, ◌<◌, ◌≤◌, ◌++◌, All, IfOk, IsPermutation, length, map, vec_capacity, vec_len};
 ghost use Rattle.audit_model.specs.Run.{total};
@@ -10,7 +10,7 @@ ghost use Rattle.audit_statement.specs.Draw.{draw};
 ghost use Rattle.outcome_book.specs.Booked.{IsBook, IsShareFor};
 ghost use Rattle.claim_counter.specs.Walkers.{AreWalkers, IsWalker};
 ghost use Rattle.walker.specs.Judges.{AreJudges};
-ghost use Rattle.claim_counter.specs.Parts.{AreBack, AreResting, HasNoHub, HasPlace, IsBack, IsFreshPart, IsIdleWorker, IsLent, IsPartWorkers, MayRest};
+ghost use Rattle.claim_counter.specs.Batches.{AreBack, AreResting, HasNoHub, HasPlace, IsBack, IsFreshBatch, IsIdleWorker, IsLent, IsBatchWorkers, MayRest};
 ghost use Rattle.claim_counter.specs.Workers.{IsShared};
 ghost use Rattle.claim_counter.specs.Walks.{found, found_at, MissesIds, ServesEnds};
 ghost use Rattle.audit_model.specs.Limits.{most_trajectories, most_workers};
@@ -32,20 +32,20 @@ use walker::walker::Walker;
 /// The counter of one batch, and the counter's first pass. One worker gets this pass. The passes of the other workers
 /// are split off it.
 #[derive(Drop)]
-pub struct PartCounter {
+pub struct BatchCounter {
     pub(crate) claims: Claims,
     pub(crate) pass: Pass,
 }
 
-impl PartCounter {
+impl BatchCounter {
     /// Makes the counter of a batch of `count` trajectories, for `workers` workers. Fails if there is no memory.
-    pub fn new(alloc: Global, count: u32, workers: u32) -> Result<PartCounter, Memory>
+    pub fn new(alloc: Global, count: u32, workers: u32) -> Result<BatchCounter, Memory>
         requires count { count ≤ most_trajectories }
         requires workers { (1 ≤ workers) × (workers ≤ most_workers) }
-        ensures { IfOk result (IsFreshPart count workers) }
+        ensures { IfOk result (IsFreshBatch count workers) }
     {
         let (claims, pass) = Claims::new(alloc, count, workers)?;
-        Ok(PartCounter { claims, pass })
+        Ok(BatchCounter { claims, pass })
     }
 }
 
@@ -59,7 +59,7 @@ pub struct IdleWorker<J: Judge> {
 /// The workers of a run and the hub, for any number of batches. Between two batches all workers are in `idle_workers`.
 /// During a batch all workers are in `workers`.
 #[derive(Drop)]
-pub struct PartWorkers<J: Judge> {
+pub struct BatchWorkers<J: Judge> {
     pub(crate) idle_workers: Vec<IdleWorker<J>>,
     pub(crate) workers: Vec<Worker<J>>,
     pub(crate) hub: UnitList,
@@ -98,21 +98,21 @@ fn make_idle_workers<J: Judge>(
 
 /// Makes one idle worker with each element of `judges`. The hub is not computed yet. Fails if there is no memory. Later
 /// walks allocate nothing.
-pub fn make_part_workers<J: Judge>(
+pub fn make_batch_workers<J: Judge>(
     alloc: Global,
     job: &Job,
     judges: Vec<J>,
-) -> Result<PartWorkers<J>, Memory>
+) -> Result<BatchWorkers<J>, Memory>
     requires workers { 1 ≤ vec_len judges }
     requires judges { AreJudges job.now J.judging judges.items }
-    ensures part_workers { IfOk result (IsPartWorkers job.now (vec_len judges)) }
+    ensures batch_workers { IfOk result (IsBatchWorkers job.now (vec_len judges)) }
     ensures no_hub { IfOk result (HasNoHub job.now) }
 {
     let workers = Vec::with_capacity(alloc, judges.len())?;
     let walkers = make_walkers(alloc, job, judges)?;
     let idle_workers = make_idle_workers(alloc, job, walkers)?;
     let hub = UnitList::zeros(alloc, job.units() as usize)?;
-    Ok(PartWorkers {
+    Ok(BatchWorkers {
         idle_workers,
         workers,
         hub,
@@ -156,8 +156,8 @@ fn lend_all<J: Judge>(
         unreachable!()
     };
     while let Some(idle_worker) = idle_workers.pop() {
-        let part = claims.split(&mut pass);
-        workers.push_reserved(lend(job, claims, idle_worker, part));
+        let batch = claims.split(&mut pass);
+        workers.push_reserved(lend(job, claims, idle_worker, batch));
     }
     workers.push_reserved(lend(job, claims, last, pass));
 }
@@ -306,47 +306,47 @@ fn take_all<J: Judge>(
 }
 
 /// Computes the hub, by a walk of the first worker. Allocates nothing.
-pub fn find_hub<J: Judge>(job: &Job, part_workers: &mut PartWorkers<J>)
-    requires part_workers { IsPartWorkers job.now (vec_len part_workers.old.idle_workers) part_workers.old }
-    ensures part_workers { IsPartWorkers job.now (vec_len part_workers.old.idle_workers) part_workers.new }
-    ensures hub { part_workers.new.hub ≡ hub_of job.now (draw job.now.setting.key) }
+pub fn find_hub<J: Judge>(job: &Job, batch_workers: &mut BatchWorkers<J>)
+    requires batch_workers { IsBatchWorkers job.now (vec_len batch_workers.old.idle_workers) batch_workers.old }
+    ensures batch_workers { IsBatchWorkers job.now (vec_len batch_workers.old.idle_workers) batch_workers.new }
+    ensures hub { batch_workers.new.hub ≡ hub_of job.now (draw job.now.setting.key) }
 {
-    let idle_worker = &mut part_workers.idle_workers[0];
+    let idle_worker = &mut batch_workers.idle_workers[0];
     idle_worker
         .walker
-        .hub_into(job, part_workers.hub.as_mut_slice());
+        .hub_into(job, batch_workers.hub.as_mut_slice());
 }
 
 /// Walks the trajectories with these ids and adds their outcomes to the book. Each worker has its own thread, if one
 /// can be started. The next id goes to whichever worker is free first, and the gate receives each id before its walk.
 /// Allocates nothing. Afterwards the workers can walk another batch.
-pub fn walk_part<R: Threads + Sync, J: Judge + Send, G: Gate + Sync>(
+pub fn walk_batch<R: Threads + Sync, J: Judge + Send, G: Gate + Sync>(
     rt: &Runtime<R, G>,
     job: &Job,
     todo: &[u32],
-    part: PartCounter,
-    part_workers: &mut PartWorkers<J>,
+    batch: BatchCounter,
+    batch_workers: &mut BatchWorkers<J>,
     book: &mut Book,
 )
-    requires part_workers { IsPartWorkers job.now (vec_len part_workers.old.idle_workers) part_workers.old }
-    requires part { IsFreshPart (length todo.now) (vec_len part_workers.old.idle_workers) part }
+    requires batch_workers { IsBatchWorkers job.now (vec_len batch_workers.old.idle_workers) batch_workers.old }
+    requires batch { IsFreshBatch (length todo.now) (vec_len batch_workers.old.idle_workers) batch }
     requires todo { MissesIds job.now book.old todo.now }
-    requires hub { ServesEnds job.now todo.now part_workers.old.hub }
-    ensures part_workers { IsPartWorkers job.now (vec_len part_workers.old.idle_workers) part_workers.new }
-    ensures hub { part_workers.new.hub ≡ part_workers.old.hub }
+    requires hub { ServesEnds job.now todo.now batch_workers.old.hub }
+    ensures batch_workers { IsBatchWorkers job.now (vec_len batch_workers.old.idle_workers) batch_workers.new }
+    ensures hub { batch_workers.new.hub ≡ batch_workers.old.hub }
     ensures total { book.new.total ≡ book.old.total }
     ensures outcomes { IsPermutation book.new.outcomes (book.old.outcomes ++ map (found job.now) todo.now) }
     ensures sound { IsBook book.new }
 {
-    let PartCounter { claims, pass } = part;
-    let idle_workers = &mut part_workers.idle_workers;
-    let workers = &mut part_workers.workers;
+    let BatchCounter { claims, pass } = batch;
+    let idle_workers = &mut batch_workers.idle_workers;
+    let workers = &mut batch_workers.workers;
     lend_all(job, &claims, pass, idle_workers, workers);
     run_all(
         rt,
         job,
         todo,
-        part_workers.hub.as_slice(),
+        batch_workers.hub.as_slice(),
         &claims,
         workers.as_mut_slice(),
     );

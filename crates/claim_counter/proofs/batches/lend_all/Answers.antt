@@ -1,9 +1,9 @@
 use Rattle.std.proofs.Common.{◌≡◌, ◌∙◌, refl, sym, ap, subst, ◌-◌, All, arith, vec_len}
 use Rattle.std.proofs.lemmas.List.Elements.{All-push}
 use Rattle.claim_counter.specs.Records.{fresh, with_less_spare}
-use Rattle.claim_counter.specs.Parts.{IsIdleWorker, IsLent}
+use Rattle.claim_counter.specs.Batches.{IsIdleWorker, IsLent}
 use Rattle.claim_counter.proofs.Gathering.{none_yet}
-use Rattle.claim_counter.proofs.parts.lend_all.Goals as goal
+use Rattle.claim_counter.proofs.batches.lend_all.Goals as goal
 use Rattle.audit_model.proofs.ListFacts.{popped_last, popped_rest}
 
 pub lend-requires-clause-idle_worker : goal.lend-requires-clause-idle_worker
@@ -13,7 +13,7 @@ lend-requires-clause-idle_worker g c =
 pub loop-idle_worker-preserved : goal.loop-idle_worker-preserved
 loop-idle_worker-preserved g c =
     let was = c.loop-idle_worker.invariant in
-    let rest = c.split-part.ensures.rest in
+    let rest = c.split-batch.ensures.rest in
     let left = c.in-Some-pop.ensures.len in
     let counted = was.count in
     let longer = c.push_reserved.ensures.len in

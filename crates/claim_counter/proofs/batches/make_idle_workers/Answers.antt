@@ -1,8 +1,8 @@
 use Rattle.std.proofs.Common.{sym, subst, All, arith}
 use Rattle.std.proofs.lemmas.List.Elements.{All-push}
-use Rattle.claim_counter.specs.Parts.{IsIdleWorker}
+use Rattle.claim_counter.specs.Batches.{IsIdleWorker}
 use Rattle.claim_counter.specs.Walkers.{IsWalker}
-use Rattle.claim_counter.proofs.parts.make_idle_workers.Goals as goal
+use Rattle.claim_counter.proofs.batches.make_idle_workers.Goals as goal
 use Rattle.audit_model.proofs.ListFacts.{popped_last, popped_rest}
 
 pub make_idle_worker-requires : goal.make_idle_worker-requires

@@ -1,7 +1,7 @@
 use Rattle.std.proofs.Common.{sym, subst, All, arith}
 use Rattle.std.proofs.lemmas.List.Elements.{All-push}
-use Rattle.claim_counter.specs.Parts.{IsIdleWorker}
-use Rattle.claim_counter.proofs.parts.rest.Goals as goal
+use Rattle.claim_counter.specs.Batches.{IsIdleWorker}
+use Rattle.claim_counter.proofs.batches.rest.Goals as goal
 
 pub returns-clause-idle_workers : goal.returns-clause-idle_workers
 returns-clause-idle_workers g c =

@@ -1,7 +1,7 @@
 use Rattle.std.proofs.Common.{◌≡◌, ◌+◌, ◌≤◌, All, vec_capacity, vec_len}
-use Rattle.claim_counter.specs.Parts.{IsIdleWorker}
+use Rattle.claim_counter.specs.Batches.{IsIdleWorker}
 use Rattle.claim_counter.specs.Walkers.{AreWalkers}
-use Rattle.claim_counter.proofs.parts.make_idle_workers.Given as goal
+use Rattle.claim_counter.proofs.batches.make_idle_workers.Given as goal
 
 abbrev pub invariant-loop-walker : goal.invariant-loop-walker
 invariant-loop-walker g l = record {

@@ -1,8 +1,8 @@
 use Rattle.std.proofs.Common.{◌≡◌, ◌+◌, All, vec_capacity, vec_len}
 use Rattle.claim_counter.specs.Records.{fresh}
 use Rattle.claim_counter.specs.Passes.{own, BelongsTo}
-use Rattle.claim_counter.specs.Parts.{IsIdleWorker, IsLent}
-use Rattle.claim_counter.proofs.parts.lend_all.Given as goal
+use Rattle.claim_counter.specs.Batches.{IsIdleWorker, IsLent}
+use Rattle.claim_counter.proofs.batches.lend_all.Given as goal
 
 abbrev pub invariant-loop-idle_worker : goal.invariant-loop-idle_worker
 invariant-loop-idle_worker g l = record {
