@@ -291,7 +291,7 @@ def shown(number: int, data: bytes | None) -> str:
 def line_of_ids(ids: Sequence[int]) -> str:
     """Returns the line on the ids that a call began: their number, and those below 64, each once.
     """
-    return " ".join([f"told {len(ids)}:", *(str(one) for one in sorted(set(ids)) if one < 64)])
+    return " ".join([f"announced {len(ids)}:", *(str(one) for one in sorted(set(ids)) if one < 64)])
 
 
 def slot_of(folder: pathlib.Path, said: str, before: bytes | None) -> bytes | None:

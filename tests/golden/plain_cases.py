@@ -80,7 +80,7 @@ def plain(folder: pathlib.Path, line: str) -> str:
     end = ended(words, (folder / file).read_bytes(), int(fails), int(room))
     setting = model.Setting(words) if int(wanted) else None
     begun = (
-        f"held, told {setting.total}: {' '.join(map(str, range(setting.total)))}\n"
+        f"waited, announced {setting.total}: {' '.join(map(str, range(setting.total)))}\n"
         if setting
         else ""
     )

@@ -35,7 +35,7 @@ pub fn parse_setup<'a>(parts: &mut SplitWhitespace<'a>, watched: Watched) -> Sai
 pub fn show_crowd(rt: &HostRuntime, status: u8, gate: &CrowdGate) -> io::Result<()> {
     let observed = gate.announced_count();
     let given_up = gate.given_up_count();
-    println!(rt; "status {status} told {observed} given up {given_up}")
+    println!(rt; "status {status} announced {observed} given up {given_up}")
 }
 
 /// Prints the result of a run that saves after each hand-in: its status, the number of announced ids, and the numbers
@@ -47,7 +47,7 @@ pub fn show_counted(
     saves: SaveCounts,
 ) -> io::Result<()> {
     println!(rt;
-        "status {status} told {observed} saves {} early {}",
+        "status {status} announced {observed} saves {} early {}",
         saves.all, saves.early
     )
 }
@@ -57,5 +57,5 @@ pub fn show_counted(
 pub fn show_timed(rt: &HostRuntime, status: u8, gate: &TimedGate) -> io::Result<()> {
     let early = gate.was_observed_early();
     let observed = gate.announced_count();
-    println!(rt; "status {status} told {observed} in the first half {early}")
+    println!(rt; "status {status} announced {observed} in the first half {early}")
 }

@@ -41,7 +41,7 @@ fn saves_of(said: &str) -> Result<Saves, ParseIntError> {
     }
 }
 
-fn parse_held<'a>(parts: &mut SplitWhitespace<'a>) -> Result<SlotContents<'a>, Fail> {
+fn parse_slots<'a>(parts: &mut SplitWhitespace<'a>) -> Result<SlotContents<'a>, Fail> {
     let zero = word(parts);
     let one = word(parts);
     let failing_load = number(parts)?;
@@ -54,7 +54,7 @@ fn parse_held<'a>(parts: &mut SplitWhitespace<'a>) -> Result<SlotContents<'a>, F
 
 /// Parses the part of a line before the arguments.
 pub fn parse_setup<'a>(parts: &mut SplitWhitespace<'a>) -> Result<Said<'a>, Fail> {
-    let slot_contents = parse_held(parts)?;
+    let slot_contents = parse_slots(parts)?;
     let saves = saves_of(word(parts))?;
     let room = number(parts)? as usize;
     let given = Given {

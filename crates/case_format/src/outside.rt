@@ -53,8 +53,8 @@ fn show_saves<C: Keeper>(rt: &HostRuntime, keeper: &mut C) -> io::Result<()>
     requires { (kept : Kept) (slot : ℕ) (bytes : List ℕ) → C.lets kept slot bytes }
 {
     let saved = keeper.save(1, &[7; 9000]).is_ok() && keeper.save(0, b"longer").is_ok();
-    let again = keeper.save(0, b"first").is_ok();
-    println!(rt; "saved {saved} {again}")
+    let saved_twice = keeper.save(0, b"first").is_ok();
+    println!(rt; "saved {saved} {saved_twice}")
 }
 
 // Prints slot 0, saves in both slots, and prints both.

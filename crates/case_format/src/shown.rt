@@ -62,14 +62,14 @@ fn show_texts(rt: &HostRuntime, case: &Case) -> io::Result<()> {
     rt.write_all(case.note.bytes())
 }
 
-// Prints the word `held` if the gate held its first caller until enough trajectories had begun. Then prints the number
+// Prints the word `waited` if the gate held its first caller until enough trajectories had begun. Then prints the number
 // of announced ids, and the ids in rising order.
 fn show_observed(rt: &HostRuntime, gate: &NotingGate) -> io::Result<()> {
     if gate.has_seen() {
-        rt.print("held, ")?;
+        rt.print("waited, ")?;
     }
     let count = gate.announced_count();
-    print!(rt; "told {count}:")?;
+    print!(rt; "announced {count}:")?;
     show_ids(rt, gate)
 }
 

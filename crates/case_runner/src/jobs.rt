@@ -85,7 +85,7 @@ fn two_labels(alloc: Global) -> Result<LabelList, Memory>
 }
 
 // Makes a job of two districts anew by `with_plan`, from a copy of its own start plan.
-fn again(alloc: Global, job: &Job) -> Result<Job, PlanFault> {
+fn remake(alloc: Global, job: &Job) -> Result<Job, PlanFault> {
     let labels = two_labels(alloc)?;
     if job.districts() as usize != labels.len() {
         return Err(PlanFault::Memory);
@@ -98,7 +98,7 @@ fn again(alloc: Global, job: &Job) -> Result<Job, PlanFault> {
 pub fn other_job(alloc: Global, text: &[u8]) -> Result<Job, PlanFault> {
     match plain_job(alloc, text) {
         Ok(job) => {
-            let other = again(alloc, &job);
+            let other = remake(alloc, &job);
             drop(job);
             other
         }
