@@ -15,54 +15,13 @@ import tempfile
 import typing
 
 from tests.checks import Checks, End, run
+from tests.kit import Kit, has_libraries, kit_of, library_of
 from tests.places import TOP
 
 PROGRAM, LIBRARY = "audit_program", "chacha_draws"
 # The files of a library with its checked proofs: whole as `rt check` writes them, or their
 # statements alone as `rt ci` does.
 PROOFS = ("format", "toolchain/checked.a", "toolchain/checked.json")
-
-
-class Kit(typing.NamedTuple):
-    """The toolchain's folder, and the crates of crates.txt with what each uses."""
-
-    folder: pathlib.Path
-    uses: dict[str, list[str]]
-
-    def below(self, crate: str) -> list[str]:
-        """Returns the repository's libraries below a crate, each after those that it uses."""
-        found: list[str] = []
-        for name in filter(self.uses.__contains__, self.uses[crate]):
-            found += [one for one in [*self.below(name), name] if one not in found]
-        return found
-
-    def words(self, crate: str, root: str) -> list[str]:
-        """Returns the words that `rt ci` gives the compiler, for a crate in its folder."""
-        words = ["--crate-name", crate, root]
-        for name in (one for one in self.uses[crate] if one not in self.uses):
-            words += ["--extern", f"{name}={self.folder}/rlibs/{name}.rlib"]
-        words += ["--extern", f"std={self.folder}/rlibs/std.rlib"]
-        words += ["-L", f"dependency={self.folder}/rlibs"]
-        for name in filter(self.uses.__contains__, self.uses[crate]):
-            words += ["--extern", f"{name}=../{name}/out/rlib/{name}.rlib"]
-        for name in self.below(crate):
-            words += ["-L", f"dependency=../{name}/out/rlib"]
-        return [*words, "--antt-project", f"{self.folder}/rattle/logic/antt-project.json"]
-
-    def rattle(self, clone: pathlib.Path, crate: str, words: list[str]) -> End:
-        """Runs the compiler in a crate's folder of a clone."""
-        return run([self.folder / "bin" / "rattle", *words], folder=clone / "crates" / crate)
-
-
-def kit_of(checks: Checks) -> typing.Optional[Kit]:
-    """Returns the toolchain, or None if it is not here."""
-    if not shutil.which("rt"):
-        checks.missing("toolchain", "rt")
-        return None
-    folder = pathlib.Path(run(["rt", "doc"]).out.strip().splitlines()[-1]).parent
-    lines = (line.partition("#")[0] for line in (TOP / "crates.txt").read_text().splitlines())
-    rows = [line.split(":") for line in lines if ":" in line]
-    return Kit(folder, {head.split()[0]: rest.split() for head, rest in rows})
 
 
 def link_or_copy(source: str, target: str) -> None:
@@ -101,10 +60,10 @@ def library_again(
     built = clone / "crates" / LIBRARY / "out" / "rlib" / name
     shutil.rmtree(built)
     words = ["build", *kit.words(LIBRARY, "src/lib.rt")]
-    words += ["--logic-built", str(kit.folder / "logic_built"), "--jobs", "1", "--links"]
-    end = kit.rattle(clone, LIBRARY, [*words, f"{LIBRARY}=", "--statements", "-o", str(built)])
+    words += [*kit.logic(), "--links", f"{LIBRARY}=", "--statements", "-o", str(built)]
+    end = kit.rattle(clone / "crates" / LIBRARY, words)
     checks.ended("library_builds", end)
-    here, there = files_of(TOP / "crates" / LIBRARY / "out" / "rlib" / name), files_of(built)
+    here, there = files_of(library_of(LIBRARY)), files_of(built)
     checks.is_equal("library_files", sorted(there), sorted(here))
     is_alike = here["format"].read_bytes() == there["format"].read_bytes()
     compared = [part for part in here if is_alike or part not in PROOFS]
@@ -120,15 +79,15 @@ def built_program(
 ) -> pathlib.Path:
     """Builds and links the auditor in a clone; the first time it is proved, too."""
     words = [*kit.words(PROGRAM, "src/main.rt"), "--links", f"{PROGRAM}="]
+    folder = clone / "crates" / PROGRAM
     if not checked.exists():
-        logic = ["--logic-built", str(kit.folder / "logic_built"), "--jobs", "1"]
-        end = kit.rattle(clone, PROGRAM, ["check", *words, *logic, "-o", str(checked)])
+        end = kit.rattle(folder, ["check", *words, *kit.logic(), "-o", str(checked)])
         checks.ended("program_is_proved", end)
     tools = ["--toolchain", str(kit.folder / "toolchain")]
-    made = clone / "crates" / PROGRAM / "out" / PROGRAM
+    made = folder / "out" / PROGRAM
     made.parent.mkdir(exist_ok=True)
     words = ["build", *words, "--crate-checked", str(checked), *tools, "--backend", "llvm"]
-    checks.ended("program_builds", kit.rattle(clone, PROGRAM, [*words, "-o", f"{made}.o"]))
+    checks.ended("program_builds", kit.rattle(folder, [*words, "-o", f"{made}.o"]))
     words = ["--target", "x86_64-unknown-linux-gnu", *tools, "-o", str(made), f"{made}.o"]
     words += [str(kit.folder / "c" / name) for name in ("libos_c.a", "liblibc_c.a")]
     checks.ended("program_links", run([kit.folder / "bin" / "rattle-link", *words]))
@@ -165,18 +124,8 @@ def main() -> int:
     kit = kit_of(checks)
     if kit is None:
         return checks.finish()
-    libraries = {
-        name: TOP / "crates" / name / "out" / "rlib" / f"{name}.rlib"
-        for name in kit.below(PROGRAM)
-    }
-    missing = [name for name, path in libraries.items() if not path.is_dir()]
-    if missing:
-        checks.missing("libraries", f"what rt ci builds of {' '.join(missing)}")
-        return checks.finish()
-    # rt ci gives back what rt check had left, which does not fit its own libraries.
-    left = [name for name, path in libraries.items() if (path.parent / "stamp").exists()]
-    if left:
-        checks.skips("libraries", f"those of {' '.join(left)} are of rt check: use a clean clone")
+    below = kit.below(PROGRAM)
+    if not has_libraries(checks, below):
         return checks.finish()
     with tempfile.TemporaryDirectory() as name:
         room, own = pathlib.Path(name), own_program()
@@ -188,8 +137,8 @@ def main() -> int:
             checks.ended(f"clones_{clone.name}", clean_clone(kit, clone))
         named = [
             crate
-            for crate, path in libraries.items()
-            if any(has_text(file, paths) for file in path.rglob("*") if file.is_file())
+            for crate in below
+            if any(has_text(file, paths) for file in files_of(library_of(crate)).values())
         ]
         checks.is_equal("libraries_name_no_path", named, [])
         library_again(checks, kit, clones[0], paths)
