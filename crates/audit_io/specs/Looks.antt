@@ -46,7 +46,7 @@ pub record HasCompared (before after : Option (List Call)) (same : Bool) : Type 
 -- The calls since open the plain file of this name, and end with this error. Anything else is not opened.
 pub data HasOpened (before after : Option (List Call)) (name : List ℕ) (error : Option ErrorKind) : Type 0 where
   open_refused : (kind : ErrorKind) → HasSeen before after name (Err kind) → error ≡ Some kind → HasOpened before after name error
-  open_tried : (between : Option (List Call)) (found : FileEntry) → HasSeen before between name (Ok found) → after ≡ called between (opened name) error → HasOpened before after name error
+  open_attempted : (between : Option (List Call)) (found : FileEntry) → HasSeen before between name (Ok found) → after ≡ called between (opened name) error → HasOpened before after name error
 
 -- the calls since open the file of a slot, unless both slots are one file
 pub data HasOpenedSlot (before after : Option (List Call)) (slot : ℕ) (error : Option ErrorKind) : Type 0 where

@@ -22,7 +22,7 @@ use Rattle.audit_start.specs.declared.reading.ReadEnd.{ReadEnd}
 use Rattle.audit_start.specs.declared.reading.ReadEnd.TheVariants as read
 use Rattle.audit_start.specs.Steps.{ReadsSource}
 use Rattle.audit_statement.specs.Accepted.{columns_in, most_bytes}
-use Rattle.audit_statement.specs.Endings.{AddsLine, TellsWhy}
+use Rattle.audit_statement.specs.Endings.{AddsLine, WritesEnding}
 use Rattle.audit_statement.specs.Several.{ArePlansRefused, PlansEnd, PlansLeave, from_jobs, plans_judged}
 use Rattle.audit_statement.specs.Status.{line_of, status_of}
 use Rattle.audit_model.specs.State.{Kept, Stream}
@@ -177,12 +177,12 @@ reported_run words before after named by out out' keeper _ r = absurd r
 -- ---- the ending of the call
 
 -- the diagnostic with the columns that the code kept is that of the columns of the arguments
-tells_same : (a b : Columns) (n m : Stream) (reason : Option Ending) → line_of a reason ≡ line_of b reason → TellsWhy b n m reason → TellsWhy a n m reason
-tells_same a b n m None e t = t
-tells_same a b n m (Some ending) e t = subst (λ (line : List ℕ). AddsLine n m line) (sym e) t
+ending_same : (a b : Columns) (n m : Stream) (reason : Option Ending) → line_of a reason ≡ line_of b reason → WritesEnding b n m reason → WritesEnding a n m reason
+ending_same a b n m None e t = t
+ending_same a b n m (Some ending) e t = subst (λ (line : List ℕ). AddsLine n m line) (sym e) t
 
 -- a call on several plans that ran to an end and wrote its diagnostic has a correct ending
 pub plans_end : (words : List (List ℕ)) (before after : World) (n m : Stream) (status : ℕ) (why : Ended) → PlansRunTo words before after why → status ≡ status_of (ending_of why)
-    → TellsWhy (columns_kept why) n m (ending_of why) → PlansEnd words before after n m status
+    → WritesEnding (columns_kept why) n m (ending_of why) → PlansEnd words before after n m status
 plans_end words before after n m status why r s t =
-    record { reason = ending_of why; status_is = s; cause = r.cause; untouched = r.untouched; observed = tells_same _ _ n m (ending_of why) r.line_is t }
+    record { reason = ending_of why; status_is = s; cause = r.cause; untouched = r.untouched; observed = ending_same _ _ n m (ending_of why) r.line_is t }

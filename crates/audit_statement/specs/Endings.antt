@@ -455,9 +455,9 @@ pub record AddsLine (before after : Stream) (line : List ℕ) : Type 0 where
       ⊎ (AppendsPart before.bytes after.bytes line × Rose before.faults after.faults)
 
 -- nothing is written if all was done, else the line of the ending
-abbrev pub TellsWhy : Columns → Stream → Stream → Option Ending → Type 0
-TellsWhy columns before after None = after ≡ before
-TellsWhy columns before after (Some ending) = AddsLine before after (note columns ending)
+abbrev pub WritesEnding : Columns → Stream → Stream → Option Ending → Type 0
+WritesEnding columns before after None = after ≡ before
+WritesEnding columns before after (Some ending) = AddsLine before after (note columns ending)
 
 -- ---- the contract of an ending
 
@@ -467,4 +467,4 @@ pub record EndsFor (words : List (List ℕ)) (before after : World) (note_before
   pub status_is : status ≡ status_of reason
   pub cause : Cause words before after reason
   pub untouched : LeavesUntouched words before after (marks_of reason)
-  pub observed : TellsWhy (columns_of words) note_before note_after reason
+  pub observed : WritesEnding (columns_of words) note_before note_after reason

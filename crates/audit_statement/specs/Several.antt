@@ -16,7 +16,7 @@ use Rattle.audit_statement.specs.Jobs.{Jobs, jobs_reading}
 use Rattle.audit_statement.specs.Report.{plans_text}
 use Rattle.audit_statement.specs.Words.{setting_of}
 use Rattle.audit_statement.specs.Accepted.{columns_of, most_bytes}
-use Rattle.audit_statement.specs.Endings.{AppendsPart, SameUnless, TakesTooMany, TellsWhy}
+use Rattle.audit_statement.specs.Endings.{AppendsPart, SameUnless, TakesTooMany, WritesEnding}
 use Rattle.audit_statement.specs.Status.{status_of}
 use Rattle.audit_model.specs.State.{Stream}
 use Rattle.audit_model.specs.Observed.{IfObserved}
@@ -161,7 +161,7 @@ pub record PlansEnd (words : List (List ℕ)) (before after : World) (note_befor
   pub status_is : status ≡ status_of reason
   pub cause : PlansCause words before after reason
   pub untouched : PlansLeave before after (plans_marks reason)
-  pub observed : TellsWhy (columns_of words) note_before note_after reason
+  pub observed : WritesEnding (columns_of words) note_before note_after reason
 
 -- ---- consequences
 

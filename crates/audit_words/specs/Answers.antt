@@ -27,13 +27,13 @@ pub record IsTextCutOff (text : List ℕ) (before after note_before note_after :
   pub observed : AddsLine note_before note_after (note no_columns write_fault)
 
 -- the text was written, or a write failed
-abbrev pub TellsText : List ℕ → Stream → Stream → Stream → Stream → ℕ → Type 0
-TellsText text before after note_before note_after status =
+abbrev pub WritesAnswer : List ℕ → Stream → Stream → Stream → Stream → ℕ → Type 0
+WritesAnswer text before after note_before note_after status =
     IsTextWritten text before after note_before note_after status ⊎ IsTextCutOff text before after note_before note_after status
 
 -- the text was written or a write failed, the source was not read, and the checkpoint slots were left alone
 pub record Answers (text : List ℕ) (before after : World) (note_before note_after : Stream) (status : ℕ) : Type 0 where
-  pub observed : TellsText text before.out after.out note_before note_after status
+  pub observed : WritesAnswer text before.out after.out note_before note_after status
   pub source : after.source ≡ before.source
   pub keeper : after.keeper ≡ before.keeper
 

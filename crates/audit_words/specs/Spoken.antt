@@ -14,5 +14,5 @@ abbrev pub pairs_in : {A : Type 0} → List (String A) → List NameAndValue
 pairs_in words = pairs (spoken words)
 
 -- the answer is the fault, if there is one, or out of memory
-abbrev pub Tells : {A : Type 0} → Result A WordFault → Option WordFault → Type 0
-Tells result fault = MatchResult result (λ _. fault ≡ None) (λ f. (f ≡ Memory) ⊎ (fault ≡ Some f))
+abbrev pub MatchesFault : {A : Type 0} → Result A WordFault → Option WordFault → Type 0
+MatchesFault result fault = MatchResult result (λ _. fault ≡ None) (λ f. (f ≡ Memory) ⊎ (fault ≡ Some f))

@@ -2,7 +2,7 @@
 
 ghost use Rattle.std.specs.Prelude.{◌≡◌, map};
 ghost use Rattle.audit_statement.specs.Report.{line};
-ghost use Rattle.audit_words.specs.Answers.{TellsText};
+ghost use Rattle.audit_words.specs.Answers.{WritesAnswer};
 ghost use Rattle.audit_words.specs.Arguments as definition;
 ghost use Rattle.audit_words.specs.Questions.{answer_to, version_text};
 ghost use Rattle.audit_words.specs.Usage.{command_lines, on_lines};
@@ -85,7 +85,7 @@ pub fn answer<O: Sink, N: Sink>(
     out: &mut O,
     note: &mut N,
 ) -> u8
-    ensures { TellsText (answer_to build.now question) (O.state out.old) (O.state out.new) (N.state note.old) (N.state note.new) result }
+    ensures { WritesAnswer (answer_to build.now question) (O.state out.old) (O.state out.new) (N.state note.old) (N.state note.new) result }
 {
     if write_answer(out, build, question) {
         return 0;

@@ -4,7 +4,7 @@ ghost use Rattle.std.specs.Prelude.{◌≡◌, ◌⊎◌, ◌<◌, length, None,
 ghost use Rattle.audit_model.specs.Limits.{IsSetting};
 ghost use Rattle.audit_model.specs.declared.fault.WordFault.TheVariants as fault;
 ghost use Rattle.audit_words.specs.Judged.{fault_of_pairs, fault_of_names, fault_of_values};
-ghost use Rattle.audit_words.specs.Spoken.{spoken, pairs_in, Tells};
+ghost use Rattle.audit_words.specs.Spoken.{spoken, pairs_in, MatchesFault};
 ghost use Rattle.audit_statement.specs.Words as definition;
 ghost use Rattle.audit_statement.specs.Words.{setting_of};
 
@@ -72,7 +72,7 @@ fn judge_pair(
     place: usize,
 ) -> Result<(), WordFault>
     requires { place < length (pairs_in words.now) }
-    ensures { Tells result (definition.pair_fault command (pairs_in words.now) place) }
+    ensures { MatchesFault result (definition.pair_fault command (pairs_in words.now) place) }
 {
     let word = name_at(words, place);
     let Some(name) = name_of(command, word) else {
@@ -89,7 +89,7 @@ fn judge_pair(
 
 /// Refuses the first faulty pair.
 fn judge_pairs(alloc: Global, command: Command, words: &[String]) -> Result<(), WordFault>
-    ensures { Tells result (fault_of_pairs command (pairs_in words.now)) }
+    ensures { MatchesFault result (fault_of_pairs command (pairs_in words.now)) }
 {
     for k in 0..count(words) {
         judge_pair(alloc, command, words, k)?;
@@ -99,7 +99,7 @@ fn judge_pairs(alloc: Global, command: Command, words: &[String]) -> Result<(), 
 
 /// Refuses the first required name of the command that is missing.
 fn judge_missing(command: Command, words: &[String]) -> Result<(), WordFault>
-    ensures { Tells result (fault_of_names command (pairs_in words.now)) }
+    ensures { MatchesFault result (fault_of_names command (pairs_in words.now)) }
 {
     for name in names_of(command) {
         if value_of(words, *name).is_none() {
@@ -112,7 +112,7 @@ fn judge_missing(command: Command, words: &[String]) -> Result<(), WordFault>
 /// Refuses the first name of the command with an invalid value.
 fn judge_values(command: Command, words: &[String]) -> Result<(), WordFault>
     requires { fault_of_pairs command (pairs_in words.now) ≡ None }
-    ensures { Tells result (fault_of_values command (pairs_in words.now)) }
+    ensures { MatchesFault result (fault_of_values command (pairs_in words.now)) }
 {
     for name in names_of(command) {
         if !is_good(command, words, *name) {

@@ -56,7 +56,7 @@ pub mod table;
 
 pub use counts::FaceCounts;
 pub use face::Face;
-pub use leave::{counting_tells, local_holds, may_leave, search_holds};
+pub use leave::{decide_by_counting, local_holds, may_leave, search_holds};
 pub use links::MOST;
 pub use list::{FaceList, list_faces};
 pub use near::faces_of;

@@ -42,9 +42,9 @@ pub record AreLabels (key : List ℕ) (objects : List Data) (labels : List Label
   pub each : (i : ℕ) → i < length objects → label_at_key key (object_at objects i) ≡ Some (nth labels i)
 
 -- the reason is the first object without a label, or out of memory
-abbrev pub TellsUnnamed : Unnamed → Option ℕ → Type 0
-TellsUnnamed (unnamed.At i) found = found ≡ Some i
-TellsUnnamed unnamed.Memory found = Unit {0}
+abbrev pub MatchesUnnamed : Unnamed → Option ℕ → Type 0
+MatchesUnnamed (unnamed.At i) found = found ≡ Some i
+MatchesUnnamed unnamed.Memory found = Unit {0}
 
 -- the first place of a label
 abbrev pub place_of_label : List Label → Label → Option ℕ

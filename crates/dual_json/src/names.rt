@@ -4,7 +4,7 @@ ghost use Rattle.std.specs.Prelude.{◌≡◌, ◌≤◌, refl, None, Some, leng
 ghost use Rattle.audit_model.specs.Label.{label_cmp, same_label};
 ghost use Rattle.dual_json.specs.Values.{value_data};
 ghost use Rattle.audit_statement.specs.Reading.{label_of};
-ghost use Rattle.dual_json.specs.Places.{label_at_key, labels_from, first_unnamed, AreLabels, TellsUnnamed};
+ghost use Rattle.dual_json.specs.Places.{label_at_key, labels_from, first_unnamed, AreLabels, MatchesUnnamed};
 ghost use Rattle.dual_json.specs.Shape.{views};
 ghost use Rattle.dual_json.specs.Names.{label_from, name_cmp, same_name, name_writes, name_equiv, name_total, name_per, name_po, name_hashes};
 ghost use Rattle.audit_model.specs.Limits.{most_units};
@@ -137,7 +137,7 @@ pub fn names_at<'v>(
 ) -> Result<Vec<NodeName<'v>>, Unnamed>
     requires { length objects.now ≤ most_units }
     ensures { MatchResult result (λ names. (first_unnamed key.now (views objects.now) ≡ None) × AreLabels key.now (views objects.now) (labels_from names.items))
-        (λ why. TellsUnnamed why (first_unnamed key.now (views objects.now))) }
+        (λ why. MatchesUnnamed why (first_unnamed key.now (views objects.now))) }
 {
     let mut names = Vec::new(alloc);
     for i in 0..objects.len() {

@@ -11,7 +11,7 @@ use Rattle.audit_model.specs.Graph.{Graph, IsGraph, has, adjacent}
 use Rattle.audit_model.specs.District.{in_district}
 use Rattle.audit_model.proofs.Bools.{and_true}
 use Rattle.audit_model.proofs.ListFacts.{has_at}
-use Rattle.flip_kernel.specs.OpenPairs.{is_open, flag_of, TellsOpen, HasOpened}
+use Rattle.flip_kernel.specs.OpenPairs.{is_open, flag_of, MarksOpenPairs, HasOpened}
 use Rattle.flip_kernel.proofs.Beside.{not_open, open_other, open_far}
 
 -- ---- one pair
@@ -97,7 +97,7 @@ abbrev pub IsClosed : ℕ → List ℕ → ℕ → ℕ → List Bool → Type 0
 IsClosed units plan districts unit table = (u d : ℕ) → u < units → d < districts → (u ≡ unit → ⊥) → get_or plan u 0 ≡ d → flag_of table districts u d ≡ false
 
 -- before the first update, own districts are closed
-pub closed_none : (g : Graph) (plan : List ℕ) (districts unit home : ℕ) (table : List Bool) → TellsOpen g (set plan unit home) districts table
+pub closed_none : (g : Graph) (plan : List ℕ) (districts unit home : ℕ) (table : List Bool) → MarksOpenPairs g (set plan unit home) districts table
     → IsClosed g.units plan districts unit table
 closed_none g plan districts unit home table before = λ u d lu ld off is.
     before.each u d lu ld ∙ not_open g (set plan unit home) u d (get_or-set_other plan unit u home 0 off ∙ is)
@@ -119,7 +119,7 @@ closed_more units plan districts unit v e flag table inside le own closed = λ u
 
 -- before the first update, only pairs of the two districts near the unit may be wrong
 pub renewing_none : (g : Graph) (plan : List ℕ) (districts : ℕ) (row : List ℕ) (unit home : ℕ) (table : List Bool) → IsGraph g → unit < length plan
-    → row ≡ get_or g.neighbours unit [] → TellsOpen g (set plan unit home) districts table
+    → row ≡ get_or g.neighbours unit [] → MarksOpenPairs g (set plan unit home) districts table
     → IsRenewing g plan districts row unit home (get_or plan unit 0) 0 table
 renewing_none g plan districts row unit home table sound l is_row before = record { width = before.width; each = each }
   where
@@ -218,7 +218,7 @@ module _ (g : Graph) (plan : List ℕ) (districts v district home : ℕ) (one ot
   }
 
   pub renewing_all : (row : List ℕ) (i : ℕ) → length row ≤ i → IsRenewing g plan districts row v home district i table
-      → TellsOpen g plan districts (set (set table (v * districts + district) one) (v * districts + home) other)
+      → MarksOpenPairs g plan districts (set (set table (v * districts + district) one) (v * districts + home) other)
   unfolding after
   renewing_all row i end before = record {
     width = after_width;

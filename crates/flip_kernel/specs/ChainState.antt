@@ -14,8 +14,8 @@ use Rattle.contig.specs.Counts.{Counted, AreCounts}
 use Rattle.contig.specs.Table.{Faced}
 use Rattle.flip_kernel.specs.declared.proposal.Pairs.{Pairs}
 use Rattle.flip_kernel.specs.Blocks.{AreNumbersOf}
-use Rattle.flip_kernel.specs.Nearby.{TellsNear}
-use Rattle.flip_kernel.specs.OpenPairs.{is_open, TellsOpen}
+use Rattle.flip_kernel.specs.Nearby.{CountsNeighbors}
+use Rattle.flip_kernel.specs.OpenPairs.{is_open, MarksOpenPairs}
 
 pub record ChainState : Type 0 where
   pub job : Job
@@ -37,11 +37,11 @@ pub record IsUpToDate (job : Job) (plan : List ℕ) (sums : Following) (marks : 
     (faced : Faced) (counted : Counted) (nearby : List ℕ) : Type 0 where
   pub summed : IsSummed job plan sums
   pub marked : marks ≡ job.graph.units
-  pub opened : TellsOpen job.graph plan job.districts table
+  pub opened : MarksOpenPairs job.graph plan job.districts table
   pub numbers : AreNumbersOf job pairs low high
   pub made : faced.graph ≡ job.graph
   pub counts : AreCounts job.graph faced.faces job.districts plan counted
-  pub near : TellsNear job.graph plan job.districts nearby
+  pub near : CountsNeighbors job.graph plan job.districts nearby
 
 -- the draw proposes the unit for the district, the pair is open, and the job is sound
 pub record ProposesOpen (job : Job) (plan : List ℕ) (draw unit district : ℕ) : Type 0 where

@@ -14,8 +14,8 @@ pub record AreNear (g : Graph) (plan : List ℕ) (districts : ℕ) (table : List
   pub each : (u d : ℕ) → u < g.units → d < districts → near_of table districts u d ≡ count_near g plan u d
 
 -- the table is empty, or has each pair's number of neighbors
-abbrev pub TellsNear : Graph → List ℕ → ℕ → List ℕ → Type 0
-TellsNear g plan districts table = 0 < length table → AreNear g plan districts table
+abbrev pub CountsNeighbors : Graph → List ℕ → ℕ → List ℕ → Type 0
+CountsNeighbors g plan districts table = 0 < length table → AreNear g plan districts table
 
 -- the table is empty, or has a place for each pair
 abbrev pub HasPairs : ℕ → ℕ → List ℕ → Type 0

@@ -13,7 +13,7 @@ abbrev pub flag_of : List Bool → ℕ → ℕ → ℕ → Bool
 flag_of table districts unit district = slice_index_or table (unit * districts + district) false
 
 -- the table says of each pair if it is open
-pub record TellsOpen (g : Graph) (plan : List ℕ) (districts : ℕ) (table : List Bool) : Type 0 where
+pub record MarksOpenPairs (g : Graph) (plan : List ℕ) (districts : ℕ) (table : List Bool) : Type 0 where
   pub width : g.units * districts ≤ length table
   pub each : (u d : ℕ) → u < g.units → d < districts → flag_of table districts u d ≡ is_open g plan u d
 

@@ -12,7 +12,7 @@ ghost use Rattle.audit_model.specs.Step.{next};
 ghost use Rattle.district_sums.specs.Following.{StandsFor, count_near, districts_in};
 ghost use Rattle.flip_kernel.specs.ChainState.{IsMove, IsSummed, KeepsBounds, KeepsBoundsIn, ProposesOpen, allows, sums_in};
 ghost use Rattle.flip_kernel.specs.Judged.{IsSeated};
-ghost use Rattle.flip_kernel.specs.Nearby.{TellsNear};
+ghost use Rattle.flip_kernel.specs.Nearby.{CountsNeighbors};
 ghost use Rattle.flip_kernel.specs.OpenPairs.{is_open};
 
 use crate::moving::Flip;
@@ -24,7 +24,7 @@ use audit_model::memory::Memory;
 use audit_model::outcome::SumsView;
 use audit_model::steps::Steps;
 use contig::counts::FaceCounts;
-use contig::leave::{counting_tells, local_holds, may_leave};
+use contig::leave::{decide_by_counting, local_holds, may_leave};
 use contig::table::FaceTable;
 use district_sums::lengths::length_after;
 use district_sums::sums::Sums;
@@ -233,7 +233,7 @@ impl Board {
 
     /// Decides if the unit may leave its district, by the number of its neighbors there, then by the links and counts
     /// of `contig`. Returns `None` if these tests do not decide.
-    fn counting_tells(&self, job: &Job, unit: u32) -> Option<bool>
+    fn decide_by_counting(&self, job: &Job, unit: u32) -> Option<bool>
         requires made { self.now.job ≡ job.now }
         requires unit { unit < job.now.graph.units }
         ensures observed { MatchOption result ⊤ (λ may. IsTrue may ↔ MayLeave job.now.graph self.now.plan unit) }
@@ -249,12 +249,12 @@ impl Board {
         if self.near.has_one_mate(leaving, self.pairs.districts) {
             return Some(true);
         }
-        counting_tells(leaving, &self.faces, &self.counts)
+        decide_by_counting(leaving, &self.faces, &self.counts)
     }
 
     /// Returns true if the unit may leave its district. The district is searched only if the unit's neighbors in it are
     /// not connected among themselves. `steps` counts the search.
-    fn searching_tells<L: Ledger>(&mut self, job: &Job, unit: u32, steps: &mut Steps<L>) -> bool
+    fn decide_by_search<L: Ledger>(&mut self, job: &Job, unit: u32, steps: &mut Steps<L>) -> bool
         requires made { self.old.job ≡ job.now }
         requires unit { unit < job.now.graph.units }
         ensures leaves { IsTrue result ↔ MayLeave job.now.graph self.old.plan unit }
@@ -285,7 +285,7 @@ impl Board {
             (λ moves. IsTrue moves ↔ IsMove flip.entry.job.now self.old.plan flip.entry.unit flip.entry.district) }
         ensures same { self.new ≡ self.old }
     {
-        match self.counting_tells(flip.job, flip.unit) {
+        match self.decide_by_counting(flip.job, flip.unit) {
             Some(false) => Some(false),
             Some(true) => Some(self.allows(judge, flip)),
             None => {
@@ -337,7 +337,7 @@ impl Board {
     {
         match self.decide_without_search(judge, flip) {
             Some(moves) => moves,
-            None => self.searching_tells(flip.job, flip.unit, steps),
+            None => self.decide_by_search(flip.job, flip.unit, steps),
         }
     }
 
@@ -447,7 +447,7 @@ fn is_permitted<J: Judge>(
     plan: &mut UnitList,
 ) -> bool
     requires summed { IsSummed flip.job.now plan.old sums.old }
-    requires near { TellsNear flip.job.now.graph plan.old flip.job.now.districts near.now }
+    requires near { CountsNeighbors flip.job.now.graph plan.old flip.job.now.districts near.now }
     requires judge { IsSeated flip.job.now plan.old (J.judging judge.now) }
     requires elsewhere { slice_index plan.old flip.unit ≢ flip.district }
     ensures meets { let after = slice_set plan.old flip.entry.unit flip.entry.district in

@@ -4,7 +4,7 @@ ghost use Rattle.std.specs.Prelude.{◌≡◌, ℕ, ◌*◌, ◌<◌, ◌≤◌,
 ghost use Rattle.std.specs.List.{slice_index_or};
 ghost use Rattle.audit_model.specs.Limits.{most_units};
 ghost use Rattle.district_sums.specs.Following.{count_near};
-ghost use Rattle.flip_kernel.specs.Nearby.{AreNear, HasCounted, HasPairs, HasPassed, TellsNear, near_of};
+ghost use Rattle.flip_kernel.specs.Nearby.{AreNear, HasCounted, HasPairs, HasPassed, CountsNeighbors, near_of};
 ghost use Rattle.flip_kernel.specs.OpenPairs.{is_open};
 
 use crate::open_pairs::scan_open;
@@ -58,7 +58,7 @@ impl NeighborCounts {
         requires plan { length plan.now ≡ graph.now.units }
         requires in_range { (u : ℕ) → u < graph.now.units → slice_index plan.now u < districts }
         requires pairs { HasPairs graph.now.units districts self.old }
-        ensures { TellsNear graph.now plan.now districts self.new }
+        ensures { CountsNeighbors graph.now plan.now districts self.new }
     {
         if !self.table.is_empty() {
             count_all(graph, plan, districts, &mut self.table);
@@ -72,8 +72,8 @@ impl NeighborCounts {
     pub fn follow(&mut self, leaving: Member, districts: u32, district: u32)
         requires in_range { (u : ℕ) → u < leaving.graph.now.units → slice_index leaving.plan.now u < districts }
         requires district { district < districts }
-        requires table { TellsNear leaving.graph.now leaving.plan.now districts self.old }
-        ensures { TellsNear leaving.entry.graph.now (slice_set leaving.entry.plan.now leaving.entry.unit district) districts self.new }
+        requires table { CountsNeighbors leaving.graph.now leaving.plan.now districts self.old }
+        ensures { CountsNeighbors leaving.entry.graph.now (slice_set leaving.entry.plan.now leaving.entry.unit district) districts self.new }
     {
         if !self.table.is_empty() {
             pass_neighbor(leaving, districts, district, &mut self.table);
@@ -93,7 +93,7 @@ impl NeighborCounts {
     fn read(&self, member: Member, districts: u32, district: u32) -> u32
         requires stored { 0 < length self.now }
         requires district { district < districts }
-        requires table { TellsNear member.graph.now member.plan.now districts self.now }
+        requires table { CountsNeighbors member.graph.now member.plan.now districts self.now }
         ensures { result ≡ count_near member.entry.graph.now member.entry.plan.now member.entry.unit district }
     {
         self.table[member.unit as usize * districts as usize + district as usize]
@@ -104,7 +104,7 @@ impl NeighborCounts {
     pub fn mates(&self, member: Member, districts: u32, one: u32, other: u32) -> (u64, u64)
         requires one { one < districts }
         requires other { other < districts }
-        requires table { TellsNear member.graph.now member.plan.now districts self.now }
+        requires table { CountsNeighbors member.graph.now member.plan.now districts self.now }
         ensures one { result.0 ≡ count_near member.entry.graph.now member.entry.plan.now member.entry.unit one }
         ensures other { result.1 ≡ count_near member.entry.graph.now member.entry.plan.now member.entry.unit other }
     {
@@ -120,7 +120,7 @@ impl NeighborCounts {
     #[inline]
     pub fn has_one_mate(&self, member: Member, districts: u32) -> bool
         requires home { slice_index member.plan.now member.unit < districts }
-        requires table { TellsNear member.graph.now member.plan.now districts self.now }
+        requires table { CountsNeighbors member.graph.now member.plan.now districts self.now }
         ensures { IsTrue result → count_near member.entry.graph.now member.entry.plan.now member.entry.unit (slice_index member.entry.plan.now member.entry.unit) ≡ 1 }
     {
         if !self.is_stored() {
@@ -134,7 +134,7 @@ impl NeighborCounts {
     #[inline]
     pub fn opens(&self, member: Member, districts: u32, district: u32) -> bool
         requires district { district < districts }
-        requires table { TellsNear member.graph.now member.plan.now districts self.now }
+        requires table { CountsNeighbors member.graph.now member.plan.now districts self.now }
         ensures { result ≡ is_open member.entry.graph.now member.entry.plan.now member.entry.unit district }
     {
         if !self.is_stored() {

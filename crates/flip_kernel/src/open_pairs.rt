@@ -4,8 +4,8 @@ ghost use Rattle.std.specs.Int.{bit_at};
 ghost use Rattle.std.specs.Prelude.{◌≡◌, ◌≢◌, ℕ, ◌+◌, ◌*◌, ◌/◌, ◌<◌, ◌≤◌, cond, false, [], length, slice_index, slice_set, replicate, IfOk, IsTrue};
 ghost use Rattle.std.specs.List.{slice_index_or};
 ghost use Rattle.flip_kernel.specs.Flags.{bit_of, flags_of};
-ghost use Rattle.flip_kernel.specs.Nearby.{TellsNear};
-ghost use Rattle.flip_kernel.specs.OpenPairs.{is_open, flag_of, TellsOpen, HasOpened};
+ghost use Rattle.flip_kernel.specs.Nearby.{CountsNeighbors};
+ghost use Rattle.flip_kernel.specs.OpenPairs.{is_open, flag_of, MarksOpenPairs, HasOpened};
 
 use crate::nearby::NeighborCounts;
 use audit_model::memory::Memory;
@@ -99,7 +99,7 @@ impl OpenPairs {
         requires plan { length plan.now ≡ graph.now.units }
         requires in_range { (u : ℕ) → u < graph.now.units → slice_index plan.now u < districts }
         requires width { graph.now.units * districts ≤ length self.old }
-        ensures { TellsOpen graph.now plan.now districts self.new }
+        ensures { MarksOpenPairs graph.now plan.now districts self.new }
     {
         self.clear();
         for unit in 0..graph.units() {
@@ -115,9 +115,9 @@ impl OpenPairs {
         requires in_range { (u : ℕ) → u < moved.graph.now.units → slice_index moved.plan.now u < districts }
         requires home { home < districts }
         requires beside { IsTrue (is_open moved.graph.now moved.plan.now moved.unit home) }
-        requires near { TellsNear moved.graph.now moved.plan.now districts near.now }
-        requires table { TellsOpen moved.graph.now (slice_set moved.plan.now moved.unit home) districts self.old }
-        ensures { TellsOpen moved.entry.graph.now moved.entry.plan.now districts self.new }
+        requires near { CountsNeighbors moved.graph.now moved.plan.now districts near.now }
+        requires table { MarksOpenPairs moved.graph.now (slice_set moved.plan.now moved.unit home) districts self.old }
+        ensures { MarksOpenPairs moved.entry.graph.now moved.entry.plan.now districts self.new }
     {
         let graph = moved.graph;
         let plan = moved.plan;

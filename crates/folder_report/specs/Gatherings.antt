@@ -59,14 +59,14 @@ pub record IsNoted (before after : Outputs) (lines : List ℕ) : Type 0 where
 
 -- The end of a gathering with findings. They are written if it was only to look, or if it saved. Otherwise the lines
 -- say why it did not save.
-abbrev pub TellsFound : Bool → List (List ℕ) → ℕ → GatherResult → Outputs → Outputs → ℕ → Type 0
-TellsFound true names total observed before after status =
+abbrev pub WritesFindings : Bool → List (List ℕ) → ℕ → GatherResult → Outputs → Outputs → ℕ → Type 0
+WritesFindings true names total observed before after status =
     IsWhole before after (observed_text names observed total) status ⊎ IsCutOff before after (observed_text names observed total) status
-TellsFound false names total observed before after status = (status ≡ refused_status) × IsNoted before after (refusals names observed)
+WritesFindings false names total observed before after status = (status ≡ refused_status) × IsNoted before after (refusals names observed)
 
-abbrev pub TellsGathering : Bool → List (List ℕ) → ℕ → Result GatherResult Ungathered → Outputs → Outputs → ℕ → Type 0
-TellsGathering saves names total (Ok observed) before after status = TellsFound (not saves || observed.saved) names total observed before after status
-TellsGathering saves names total (Err why) before after status =
+abbrev pub WritesGathering : Bool → List (List ℕ) → ℕ → Result GatherResult Ungathered → Outputs → Outputs → ℕ → Type 0
+WritesGathering saves names total (Ok observed) before after status = WritesFindings (not saves || observed.saved) names total observed before after status
+WritesGathering saves names total (Err why) before after status =
     (status ≡ failed_status why) × IsNoted before after (note no_columns (ending_of why))
 
 -- One gathering was made. If it has findings, they, the saves and the slots are those of a gathering. If it failed, it
@@ -76,4 +76,4 @@ pub record EndsGathering (job : Job) (saves : Bool) (names : List (List ℕ)) (b
   pub answer : Result GatherResult Ungathered
   pub gathered : IfOk answer (IsGathering job (job_digest job) saves before after folders folders_now)
   pub cause : IfErr answer (IsUnsaved (HasFailed job (job_digest job) saves before after folders folders_now) before after)
-  pub tells : TellsGathering saves names (total job) answer outputs outputs_now status
+  pub written : WritesGathering saves names (total job) answer outputs outputs_now status

@@ -7,7 +7,7 @@ use Rattle.folder_report.specs.declared.help.FolderProgram.TheVariants.{Slots, G
 use Rattle.audit_words.specs.declared.build.Build.{Build}
 use Rattle.audit_words.specs.declared.question.Question.{Question}
 use Rattle.audit_words.specs.declared.question.Question.TheVariants.{Usage, Version, Arguments}
-use Rattle.audit_words.specs.Answers.{TellsText}
+use Rattle.audit_words.specs.Answers.{WritesAnswer}
 use Rattle.audit_words.specs.Questions.{question_of_word, version_text}
 use Rattle.audit_words.specs.Usage.{on_lines}
 
@@ -43,7 +43,7 @@ folder_usage Slots =
     ∷ codes "       audit_slots --help"
     ∷ codes "       audit_slots --version"
     ∷ []
-    ∷ codes "Tells what the checkpoint files of a folder hold, which is the newest, and how far a"
+    ∷ codes "MatchesFault what the checkpoint files of a folder hold, which is the newest, and how far a"
     ∷ codes "run is. FOLDER is the working folder by default. COMMAND is run or make, with the"
     ∷ codes "arguments of the run, as district-audit takes them; the graph of run is read from"
     ∷ codes "standard input. No file is changed."
@@ -70,4 +70,4 @@ folder_answer program build (Arguments command) = []
 abbrev pub AnswersWords : FolderProgram → Build → Option Question → Stream → Stream → Stream → Stream → Option ℕ → Type 0
 AnswersWords program build None before after note_before note_after status = (status ≡ None) × (after ≡ before) × (note_after ≡ note_before)
 AnswersWords program build (Some question) before after note_before note_after status =
-    (s : ℕ) × (status ≡ Some s) × TellsText (folder_answer program build question) before after note_before note_after s
+    (s : ℕ) × (status ≡ Some s) × WritesAnswer (folder_answer program build question) before after note_before note_after s

@@ -9,7 +9,7 @@ ghost use Rattle.audit_statement.specs.Endings.{AddsLine};
 ghost use Rattle.audit_statement.specs.Note as terms;
 ghost use Rattle.ckpt_store.specs.Whole.{LetsGathering};
 ghost use Rattle.folder_report.specs.FolderLines.{folder_line, folder_refusal, of_each, own_refusal, refusals, observed_text};
-ghost use Rattle.folder_report.specs.Gatherings.{EndsGathering, IsCutOff, IsNoted, IsWhole, Outputs, TellsFound, TellsGathering, ending_of, failed_status, refused_status};
+ghost use Rattle.folder_report.specs.Gatherings.{EndsGathering, IsCutOff, IsNoted, IsWhole, Outputs, WritesFindings, WritesGathering, ending_of, failed_status, refused_status};
 ghost use Rattle.report.specs.Said.{AddsText, IsSaid};
 
 use crate::lines::{add_folder_line, add_own_line};
@@ -81,7 +81,7 @@ fn tell_found<O: Sink, N: Sink>(
     out: &mut O,
     note: &mut N,
 ) -> u8
-    ensures { TellsFound (not request.now.saves || observed.now.saved) (map string_bytes request.now.names.now) (total request.now.job.now) observed.now
+    ensures { WritesFindings (not request.now.saves || observed.now.saved) (map string_bytes request.now.names.now) (total request.now.job.now) observed.now
         (record { out = O.state out.old; note = N.state note.old }) (record { out = O.state out.new; note = N.state note.new }) result }
 {
     if request.saves && !observed.saved {

@@ -2,7 +2,7 @@
 
 ghost use Rattle.std.specs.Prelude.{◌≡◌, map, string_bytes};
 ghost use Rattle.folder_report.specs.Helps as definition;
-ghost use Rattle.audit_words.specs.Answers.{TellsText};
+ghost use Rattle.audit_words.specs.Answers.{WritesAnswer};
 ghost use Rattle.report.specs.Said.{IsSaid};
 
 use audit_io::sink::Sink;
@@ -15,7 +15,7 @@ const SLOTS_USAGE: [&str; 17] = [
     "       audit_slots --help",
     "       audit_slots --version",
     "",
-    "Tells what the checkpoint files of a folder hold, which is the newest, and how far a",
+    "MatchesFault what the checkpoint files of a folder hold, which is the newest, and how far a",
     "run is. FOLDER is the working folder by default. COMMAND is run or make, with the",
     "arguments of the run, as district-audit takes them; the graph of run is read from",
     "standard input. No file is changed.",
@@ -117,7 +117,7 @@ fn tell_answer<O: Sink, N: Sink>(
     out: &mut O,
     note: &mut N,
 ) -> u8
-    ensures { TellsText (definition.folder_answer program build.now question) (O.state out.old) (O.state out.new) (N.state note.old) (N.state note.new) result }
+    ensures { WritesAnswer (definition.folder_answer program build.now question) (O.state out.old) (O.state out.new) (N.state note.old) (N.state note.new) result }
 {
     if write_answer(program, build, question, out) {
         return 0;

@@ -21,14 +21,14 @@ module _ {K : Type 0} (text : K → List ℕ) where
   abbrev is_text : List ℕ → K → Bool
   is_text q k = is_eq (slice_cmp nat_cmp q (text k))
 
-  tells : (q : List ℕ) (k : K) → is_text q k ≡ bytes_eq q (text k)
-  tells q k = sym (texts_ties q (text k))
+  text_decided : (q : List ℕ) (k : K) → is_text q k ≡ bytes_eq q (text k)
+  text_decided q k = sym (texts_ties q (text k))
 
   text_is : (q : List ℕ) (k : K) → is_text q k ≡ true → q ≡ text k
-  text_is q k e = (bytes_decides q (text k)).0 (sym (tells q k) ∙ e)
+  text_is q k e = (bytes_decides q (text k)).0 (sym (text_decided q k) ∙ e)
 
   is_its : (q : List ℕ) (k : K) → q ≡ text k → is_text q k ≡ true
-  is_its q k e = tells q k ∙ (bytes_decides q (text k)).1 e
+  is_its q k e = text_decided q k ∙ (bytes_decides q (text k)).1 e
 
   none_head : (b : Bool) (v : ℕ) (x : Option ℕ) → cond b (Some v) x ≡ None → (b ≡ false) × (x ≡ None)
   none_head true v x e = cc e
@@ -88,7 +88,7 @@ module _ {K : Type 0} (text : K → List ℕ) where
             ∙ cond-true (bytes_eq p (unit_text ids [] [] j)) (Some j) None ((bytes_decides p (unit_text ids [] [] j)).1 (is_q ∙ at)))
         | inr off ↦
             let other : bytes_eq p (unit_text ids [] [] j) ≡ false =
-            ap (bytes_eq p) (sym at ∙ sym key_is) ∙ sym (tells p key) ∙ off in
+            ap (bytes_eq p) (sym at ∙ sym key_is) ∙ sym (text_decided p key) ∙ off in
             cond-false (is_text p key) (Some j) (lookup (is_text p) entries) off ∙ before.leads p
             ∙ sym (ap (λ o. option_or (first_below j (λ u. bytes_eq p (unit_text ids [] [] u))) o) (cond-false (bytes_eq p (unit_text ids [] [] j)) (Some j) None other)
             ∙ or_nothing (first_below j (λ u. bytes_eq p (unit_text ids [] [] u))))

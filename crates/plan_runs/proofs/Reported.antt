@@ -21,7 +21,7 @@ use Rattle.audit_laws.specs.Runs.{AreAll}
 use Rattle.audit_laws.proofs.Running.{leaves_none}
 use Rattle.audit_laws.proofs.Starting.{every_id, none_right}
 use Rattle.plan_runs.specs.declared.found.Found.{Found}
-use Rattle.plan_runs.specs.Found.{HasFound, TellsAll, listed_in, observed_in}
+use Rattle.plan_runs.specs.Found.{HasFound, ReportsAll, listed_in, observed_in}
 use Rattle.plan_runs.proofs.Telling.{length-listed}
 use Rattle.plan_runs.specs.Plans.{RunsAlone}
 
@@ -100,7 +100,7 @@ module _ (job : Job) (by : RunsAlone job) where
       by_order (inr enough) = enough
 
   -- the report on the outcomes is the report of one thread
-  pub thread_observed : (f : Found) → TellsAll job [] f → report job (listed_in f) (observed_in f) (serial_observed job (draw job.setting.key)) ≡ thread_report job (draw job.setting.key)
+  pub thread_observed : (f : Found) → ReportsAll job [] f → report job (listed_in f) (observed_in f) (serial_observed job (draw job.setting.key)) ≡ thread_report job (draw job.setting.key)
   unfolding thread_report
-  thread_observed f tells =
-      tells.same ∙ ap (λ (os : List Outcome). full_report job (draw job.setting.key) os) (all_are_one tells.outcomes tells.all)
+  thread_observed f same_report =
+      same_report.same ∙ ap (λ (os : List Outcome). full_report job (draw job.setting.key) os) (all_are_one same_report.outcomes same_report.all)

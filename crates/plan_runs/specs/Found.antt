@@ -31,7 +31,7 @@ pub record IsTellable (job : Job) (f : Found) : Type 0 where
   pub report_room : HasReportRoom job f.text.spare
 
 -- the report on this part is the report on all outcomes of a run with these initial outcomes
-pub record TellsAll (job : Job) (initial_outcomes : List Outcome) (f : Found) : Type 0 where
+pub record ReportsAll (job : Job) (initial_outcomes : List Outcome) (f : Found) : Type 0 where
   pub outcomes : List Outcome
   pub all : AreAll job initial_outcomes outcomes
   pub whole : total job ≤ length outcomes
@@ -45,5 +45,5 @@ pub record LeavesSome (job : Job) (initial_outcomes : List Outcome) (f : Found) 
 -- the outcomes of a run with these initial outcomes: all that the report covers, or fewer
 pub record HasFound (job : Job) (initial_outcomes : List Outcome) (f : Found) : Type 0 where
   pub tellable : IsTellable job f
-  pub whole : reported job ≤ f.listed → TellsAll job initial_outcomes f
+  pub whole : reported job ≤ f.listed → ReportsAll job initial_outcomes f
   pub short : f.listed < reported job → LeavesSome job initial_outcomes f

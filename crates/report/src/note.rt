@@ -3,7 +3,7 @@
 
 ghost use Rattle.std.specs.Prelude.{◌≡◌, ◌∷◌, codes, decimal, []};
 ghost use Rattle.report.specs.Ended.{ending_of, columns_kept};
-ghost use Rattle.audit_statement.specs.Endings.{AddsLine, TellsWhy};
+ghost use Rattle.audit_statement.specs.Endings.{AddsLine, WritesEnding};
 ghost use Rattle.audit_statement.specs.Status.{status_of};
 ghost use Rattle.audit_statement.specs.Note as terms;
 
@@ -31,14 +31,14 @@ pub use output::add_line;
 /// Writes the diagnostic and returns the exit status.
 pub fn tell<N: Sink>(why: &Ended, note: &mut N) -> u8
     ensures status { result ≡ status_of (ending_of why.now) }
-    ensures observed { TellsWhy (columns_kept why.now) (N.state note.old) (N.state note.new) (ending_of why.now) }
+    ensures observed { WritesEnding (columns_kept why.now) (N.state note.old) (N.state note.new) (ending_of why.now) }
 {
     tell_line(why, note);
     status(why)
 }
 
 fn tell_line<N: Sink>(why: &Ended, note: &mut N)
-    ensures { TellsWhy (columns_kept why.now) (N.state note.old) (N.state note.new) (ending_of why.now) }
+    ensures { WritesEnding (columns_kept why.now) (N.state note.old) (N.state note.new) (ending_of why.now) }
 {
     match why {
         Ended::Done => {}

@@ -19,12 +19,12 @@ same_flag_self true = refl
 same_flag_self false = refl
 
 -- marks that test as equal are equal
-same_flag_tells : (a b : Bool) → same_flag a b ≡ true → a ≡ b
+same_flag_equal : (a b : Bool) → same_flag a b ≡ true → a ≡ b
 unfolding same_flag
-same_flag_tells true true e = refl
-same_flag_tells true false e = cc
-same_flag_tells false true e = cc
-same_flag_tells false false e = refl
+same_flag_equal true true e = refl
+same_flag_equal true false e = cc
+same_flag_equal false true e = cc
+same_flag_equal false false e = refl
 
 -- true if two posts are equal
 same : Entry → Entry → Bool
@@ -36,14 +36,14 @@ unfolding same
 same_self x = and_from _ _ (eq-eqb x.ticket x.ticket refl) (and_from _ _ (eq-eqb x.id x.id refl) (same_flag_self x.saved))
 
 -- posts that test as equal are equal
-same_tells : (x y : Entry) → same x y ≡ true → x ≡ y
+posts_equal : (x y : Entry) → same x y ≡ true → x ≡ y
 unfolding same
-same_tells x y e =
+posts_equal x y e =
     let first = and_parts (x.ticket == y.ticket) ((x.id == y.id) && same_flag x.saved y.saved) e in
     let second = and_parts (x.id == y.id) (same_flag x.saved y.saved) first.1 in
     let tickets = eqb-true x.ticket y.ticket first.0 in
     let ids = eqb-true x.id y.id second.0 in
-    let flags = same_flag_tells x.saved y.saved second.1 in
+    let flags = same_flag_equal x.saved y.saved second.1 in
     λ k. record { ticket = tickets k; id = ids k; saved = flags k }
 
 abbrev one : Entry → Entry → ℕ
@@ -57,7 +57,7 @@ one_self x = ap (λ (b : Bool). cond b 1 0) (same_self x)
 cut_at : (x : Entry) (ys : List Entry) → 0 < sum_by (one x) ys → (a : List Entry) × (b : List Entry) × (ys ≡ a ++ x ∷ b)
 cut_at x [] some_left = absurd (omega arith)
 cut_at x (y ∷ ys) some_left = ⊎_elim
-    (λ here. ([], ys, λ k. sym (same_tells x y here) k ∷ ys))
+    (λ here. ([], ys, λ k. sym (posts_equal x y here) k ∷ ys))
     (λ apart. let none : one x y ≡ 0 = ap (λ (b : Bool). cond b 1 0) apart in let r = cut_at x ys (omega (arith, some_left, none, sum_by-cons (one x) y ys)) in (y ∷ r.0, r.1, λ k. y ∷ r.2 k))
     (cases_Bool (same x y))
 

@@ -18,7 +18,7 @@ use Rattle.claim_counter.specs.Records.{IsSole, with_claim, at_end}
 use Rattle.tally_desk.specs.declared.entry.Entry.{Entry}
 use Rattle.tally_desk.specs.declared.state.RunState.{RunState}
 use Rattle.tally_desk.specs.Counter.{CounterLaws}
-use Rattle.tally_desk.specs.Desks.{BeginsTurn, CanPost, DrawsPlace, FitsDesk, IsInTurn, IsComplete, KeepsTally, IsWaiting, KnowsPosts, LooksForTurn, SeesSeats, Serves, TakesTicket, Tallied, TriesTicket, entry_sum, first_view, claimed_ids, is_in_turn, joined_view, left_view, own_of, right_view, with_entry, with_own, with_turn}
+use Rattle.tally_desk.specs.Desks.{BeginsTurn, CanPost, DrawsPlace, FitsDesk, IsInTurn, IsComplete, KeepsTally, IsWaiting, KnowsPosts, LooksForTurn, SeesSeats, Serves, TakesTicket, Tallied, AttemptsTicket, entry_sum, first_view, claimed_ids, is_in_turn, joined_view, left_view, own_of, right_view, with_entry, with_own, with_turn}
 use Rattle.tally_desk.specs.Entries.{post_of, posted_id, ids_of, is_due, ticket_of}
 use Rattle.tally_desk.specs.Parts.{Parts, IsPlan}
 use Rattle.tally_desk.specs.Passes.{HasPostedAll}
@@ -157,7 +157,7 @@ module _ {C : Type 0} (HomeAs : Parts → RunState C → List Entry → Type 0) 
 
   -- an attempt to take a ticket takes it or changes nothing
   pub try_ticket : (slots id : ℕ) (me : Mine) (o old new : ℕ) → new ≡ (old + 1) % 2 ^ 64 → CanPost parts me.0 o
-      → Allows (Tallied HomeAs parts) slots id me 1 (λ n. either (eqb n old) new n) (TriesTicket o (step slots 1 old new maybe.none) me)
+      → Allows (Tallied HomeAs parts) slots id me 1 (λ n. either (eqb n old) new n) (AttemptsTicket o (step slots 1 old new maybe.none) me)
   try_ticket slots id me o old new next can s k deep at small =
       let n : ℕ = get_or s.words 1 0 in
       dite (ℕ_discrete n old)

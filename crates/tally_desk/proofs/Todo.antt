@@ -26,12 +26,12 @@ filter_once x (suc n) test =
     omega (arith, filter_once x n test, times-append x (filter_below n test) (cond (test n) (n ∷ []) []), times_if x n (test n), once_more x n)
 
 -- a number that counts for x is x
-one_tells : (x y : ℕ) → 0 < one x y → y ≡ x
-one_tells x y some_one = ⊎_elim (λ same. eqb-true y x same) (λ differ. let none : one x y ≡ 0 = ap (λ (b : Bool). cond b 1 0) differ in absurd (omega arith)) (cases_Bool (y == x))
+one_equal : (x y : ℕ) → 0 < one x y → y ≡ x
+one_equal x y some_one = ⊎_elim (λ same. eqb-true y x same) (λ differ. let none : one x y ≡ 0 = ap (λ (b : Bool). cond b 1 0) differ in absurd (omega arith)) (cases_Bool (y == x))
 
 -- a number taken on a condition passes the test
 passes_if : (x n : ℕ) (test : ℕ → Bool) (b : Bool) → test n ≡ b → 0 < times x (cond b (n ∷ []) []) → test x ≡ true
-passes_if x n test true is some_here = ap test (sym (one_tells x n (omega (arith, some_here, times-cons x n [])))) ∙ is
+passes_if x n test true is some_here = ap test (sym (one_equal x n (omega (arith, some_here, times-cons x n [])))) ∙ is
 passes_if x n test false is some_here = absurd (omega arith)
 
 -- each number of a filtered range passes the test

@@ -170,7 +170,7 @@ module _ {C : Type 0} where
 
   -- an attempt to take a ticket: it succeeds if the number of tickets given out is the expected one, and otherwise
   -- changes nothing
-  pub record TriesTicket (id : ℕ) (st : Step (RunState C)) (me : Me (RunState C) PassView) (found : ℕ) (me' : Me (RunState C) PassView) : Type 0 where
+  pub record AttemptsTicket (id : ℕ) (st : Step (RunState C)) (me : Me (RunState C) PassView) (found : ℕ) (me' : Me (RunState C) PassView) : Type 0 where
     pub takes : found ≡ st.first → TakesTicket id st me found me'
     pub misses : found ≢ st.first → me' ≡ me
 

@@ -47,9 +47,9 @@ pub(crate) struct Take<B> {
 }
 
 impl<C, B: Posting> Play<RunState<C>, DeskView> for Take<B> {
-    ghost use Rattle.tally_desk.specs.Desks.{TriesTicket};
+    ghost use Rattle.tally_desk.specs.Desks.{AttemptsTicket};
 
-    ghost then = { TriesTicket B.id };
+    ghost then = { AttemptsTicket B.id };
 }
 
 /// A read of the ticket whose turn it is.

@@ -4,7 +4,7 @@ use Rattle.audit_model.specs.declared.setting.Label.{Label}
 use Rattle.audit_model.proofs.Results.{match_map, ok_from}
 use Rattle.dual_json.specs.Numbered.{first_without}
 use Rattle.audit_statement.specs.Regions.{region_fault}
-use Rattle.dual_json.specs.Places.{labels_from, first_unnamed, AreLabels, TellsUnnamed}
+use Rattle.dual_json.specs.Places.{labels_from, first_unnamed, AreLabels, MatchesUnnamed}
 use Rattle.dual_json.specs.Shape.{views, document_of_parts}
 use Rattle.dual_json.specs.declared.names.NodeName.{NodeName}
 use Rattle.dual_json.specs.declared.names.Unnamed.{Unnamed}
@@ -45,9 +45,9 @@ returns-in-Err-At-clause-read c =
     let column = c.args.column.now in
     let all : first_without column d.nodes ≡ None = sym c.first_missing.ensures ∙ c.in_default.is in
     let bad : first_unnamed column d.nodes ≡ Some c.in-Err-At.node = observed c.in-Err-At.field-0 _ c.in-Err-At.node
-    (subst (λ k. TellsUnnamed c.in-Err-At.field-0 (first_unnamed k d.nodes)) c.as_str.ensures (c.in-Err-At.ensures {u = tt})) c.in-Err-At.field-0-is in
+    (subst (λ k. MatchesUnnamed c.in-Err-At.field-0 (first_unnamed k d.nodes)) c.as_str.ensures (c.in-Err-At.ensures {u = tt})) c.in-Err-At.field-0-is in
     inr (subst (λ n. region_fault d column ≡ Some (BadLabel n)) (sym c.in-Err-At.node-is) (fault_unlabelled d column c.in-Err-At.node all bad))
   where
-    observed : (why : Unnamed) (found : Option ℕ) (node : ℕ) → TellsUnnamed why found → why ≡ At node → found ≡ Some node
-    observed (At i) found node tells is = tells ∙ ap Some (cc is)
-    observed NoMemory found node tells is = cc is
+    observed : (why : Unnamed) (found : Option ℕ) (node : ℕ) → MatchesUnnamed why found → why ≡ At node → found ≡ Some node
+    observed (At i) found node reason is = reason ∙ ap Some (cc is)
+    observed NoMemory found node reason is = cc is

@@ -2,15 +2,15 @@ use Rattle.std.proofs.Common.{◌≡◌, ℕ, Bool, List, get_or, set, sym, ap, 
 use Rattle.audit_model.specs.Graph.{Graph}
 use Rattle.audit_model.specs.Job.{Job}
 use Rattle.flip_kernel.specs.ChainState.{ChainState}
-use Rattle.flip_kernel.specs.OpenPairs.{is_open, TellsOpen}
+use Rattle.flip_kernel.specs.OpenPairs.{is_open, MarksOpenPairs}
 use Rattle.flip_kernel.proofs.Holding.{up_to_date_for, put_back}
 use Rattle.flip_kernel.proofs.Moves.{left_is_open}
 use Rattle.flip_kernel.proofs.board.Board.make_move.Goals as goal
 
 -- equal graphs, plans and numbers of districts share a table
-table_of : (g h : Graph) (p q : List ℕ) (m n : ℕ) (table : List Bool) → g ≡ h → p ≡ q → m ≡ n → TellsOpen g p m table → TellsOpen h q n table
+table_of : (g h : Graph) (p q : List ℕ) (m n : ℕ) (table : List Bool) → g ≡ h → p ≡ q → m ≡ n → MarksOpenPairs g p m table → MarksOpenPairs h q n table
 table_of g h p q m n table eg ep em is =
-    subst (λ (x : Graph). TellsOpen x q n table) eg (subst (λ (x : List ℕ). TellsOpen g x n table) ep (subst (λ (x : ℕ). TellsOpen g p x table) em is))
+    subst (λ (x : Graph). MarksOpenPairs x q n table) eg (subst (λ (x : List ℕ). MarksOpenPairs g x n table) ep (subst (λ (x : ℕ). MarksOpenPairs g p x table) em is))
 
 pub update-requires-clause-table : goal.update-requires-clause-table
 update-requires-clause-table c =

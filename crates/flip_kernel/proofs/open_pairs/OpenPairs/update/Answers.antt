@@ -2,7 +2,7 @@ use Rattle.std.proofs.Common.{◌≡◌, ℕ, ◌+◌, ◌*◌, ◌<◌, Bool, t
 use Rattle.std.proofs.lemmas.List.Elements.{All-get_or}
 use Rattle.audit_model.specs.Graph.{has, adjacent}
 use Rattle.audit_model.proofs.ListFacts.{at_has}
-use Rattle.flip_kernel.specs.OpenPairs.{TellsOpen}
+use Rattle.flip_kernel.specs.OpenPairs.{MarksOpenPairs}
 use Rattle.flip_kernel.proofs.Beside.{not_open, open_to_neighbour}
 use Rattle.flip_kernel.proofs.Tables.{place_within, IsClosed, closed_none, closed_more, IsRenewing, renewing_none, renewing_more, renewing_all}
 use Rattle.flip_kernel.proofs.open_pairs.OpenPairs.update.Goals as goal
@@ -73,7 +73,7 @@ returns c =
     let i : ℕ = c.loop-other.other-index in
     let unit : ℕ = c.args.moved.unit in
     let district : ℕ = get_or plan c.args.moved.unit 0 in
-    subst (λ (t : List Bool). TellsOpen g plan c.args.districts t)
+    subst (λ (t : List Bool). MarksOpenPairs g plan c.args.districts t)
     (twice c.loop-other.self c.put-2.new.self c.put-3.new.self (unit * c.args.districts + district) (unit * c.args.districts + c.args.home) _ _ c.put-2.ensures c.put-3.ensures)
     (renewing_all g plan c.args.districts unit district c.args.home false true c.loop-other.self c.args.moved.within
     (c.requires.in_range c.args.moved.unit c.args.moved.within) c.requires.home c.loop-other.invariant.renewing.width

@@ -2,7 +2,7 @@ use Rattle.std.proofs.Common.{ℕ, List, ap, ◌∙◌}
 use Rattle.flip_kernel.specs.ChainState.{ChainState}
 use Rattle.flip_kernel.proofs.Holding.{up_to_date_for}
 use Rattle.flip_kernel.proofs.Leaving.{home_connected, leaves_of}
-use Rattle.flip_kernel.proofs.board.Board.searching_tells.Goals as goal
+use Rattle.flip_kernel.proofs.board.Board.decide_by_search.Goals as goal
 
 pub returns-clause-leaves : goal.returns-clause-leaves
 returns-clause-leaves g c =

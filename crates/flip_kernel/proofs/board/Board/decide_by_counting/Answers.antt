@@ -4,7 +4,7 @@ use Rattle.flip_kernel.specs.ChainState.{ChainState}
 use Rattle.flip_kernel.proofs.Holding.{up_to_date_for}
 use Rattle.flip_kernel.proofs.Leaving.{home_connected, leaves_of}
 use Rattle.flip_kernel.proofs.OneMate.{one_leaves}
-use Rattle.flip_kernel.proofs.board.Board.counting_tells.Goals as goal
+use Rattle.flip_kernel.proofs.board.Board.decide_by_counting.Goals as goal
 
 pub returns-then-has_one_mate-clause-observed : goal.returns-then-has_one_mate-clause-observed
 returns-then-has_one_mate-clause-observed c =
@@ -21,8 +21,8 @@ returns-then-has_one_mate-clause-observed c =
     let may = one_leaves c.graph-graph.result.now c.as_slice.result.now u simple inside connected (c.has_one_mate.ensures c.if-has_one_mate.true) in
     leaves_of true c.graph-graph.result.now job.graph c.as_slice.result.now plan u c.graph-graph.ensures.value (c.as_slice.ensures ∙ at) ((λ _. may), (λ _. refl))
 
-pub counting_tells-requires-clause-connected : goal.counting_tells-requires-clause-connected
-counting_tells-requires-clause-connected c =
+pub decide_by_counting-requires-clause-connected : goal.decide_by_counting-requires-clause-connected
+decide_by_counting-requires-clause-connected c =
     let s = c.self.inside in
     let job = c.args.job.now in
     let plan : List ℕ = c.args.self.now.plan in
