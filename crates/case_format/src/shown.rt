@@ -62,8 +62,8 @@ fn show_texts(rt: &HostRuntime, case: &Case) -> io::Result<()> {
     rt.write_all(case.note.bytes())
 }
 
-// Prints the word `waited` if the gate held its first caller until enough trajectories had begun. Then prints the number
-// of announced ids, and the ids in rising order.
+// Prints the word `waited` if the gate held its first caller until enough trajectories had begun. Then prints the
+// number of announced ids, and the ids in rising order.
 fn show_observed(rt: &HostRuntime, gate: &NotingGate) -> io::Result<()> {
     if gate.has_seen() {
         rt.print("waited, ")?;
