@@ -75,7 +75,8 @@ def check_refusal(checks: Checks, edit: Edit, end: End) -> None:
     """Checks that this function was refused, and no other."""
     name, text = f"{edit.crate}/{edit.name}", end.out + end.note
     checks.ended(f"{name}_status", end, 1)
-    checks.has_line(f"{name}_refused", text, f"fn {edit.crate}::{edit.only}: not proved")
+    refused = re.search(rf"^fn {edit.crate}::{edit.only}: (not proved$|no proof: )", text, re.M)
+    checks.is_true(f"{name}_refused", refused, f"{edit.only} is not proved", text[-1500:])
     counts = [(int(one), int(proved)) for one, proved in COUNTS.findall(text)]
     is_alone = [one - proved for one, proved in counts] == [1]
     checks.is_true(f"{name}_alone", is_alone, "all others proved", counts)

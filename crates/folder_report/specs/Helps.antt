@@ -43,7 +43,7 @@ folder_usage Slots =
     ∷ codes "       audit_slots --help"
     ∷ codes "       audit_slots --version"
     ∷ []
-    ∷ codes "MatchesFault what the checkpoint files of a folder hold, which is the newest, and how far a"
+    ∷ codes "Tells what the checkpoint files of a folder hold, which is the newest, and how far a"
     ∷ codes "run is. FOLDER is the working folder by default. COMMAND is run or make, with the"
     ∷ codes "arguments of the run, as district-audit takes them; the graph of run is read from"
     ∷ codes "standard input. No file is changed."

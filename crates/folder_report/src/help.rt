@@ -15,7 +15,7 @@ const SLOTS_USAGE: [&str; 17] = [
     "       audit_slots --help",
     "       audit_slots --version",
     "",
-    "MatchesFault what the checkpoint files of a folder hold, which is the newest, and how far a",
+    "Tells what the checkpoint files of a folder hold, which is the newest, and how far a",
     "run is. FOLDER is the working folder by default. COMMAND is run or make, with the",
     "arguments of the run, as district-audit takes them; the graph of run is read from",
     "standard input. No file is changed.",
