@@ -104,7 +104,7 @@ def listed() -> set[ModuleKey]:
 # ---- how much there is to read
 
 PLAIN = ("audit_statement", "Audited", "AuditsPlainly")
-WORDS = [("audit_statement", "Said"), ("audit_statement", "Words")]
+WORDS = [("audit_statement", "PlainArguments"), ("audit_statement", "Words")]
 MOST_DEFINITIONS, MOST_LINES = 130, 600
 RECORDS = [
     ("Promise", "KeepsItsPromise"),

@@ -2,7 +2,7 @@
 
 use audit_io::std_adapters::WriteSink;
 use report::ended::Ended;
-use report::note::tell;
+use report::note::write_diagnostic;
 use std::process::ExitCode;
 
 /// Prints a diagnostic on standard error, and returns the exit code.
@@ -16,7 +16,7 @@ pub fn end_with(rt: &HostRuntime, note: &str, status: u8) -> ExitCode {
 
 // Writes the diagnostic of the reason why the program ends, and returns the exit status.
 fn status_of(rt: &HostRuntime, why: &Ended) -> u8 {
-    tell(why, &mut WriteSink::new(rt.stderr()))
+    write_diagnostic(why, &mut WriteSink::new(rt.stderr()))
 }
 
 /// Writes the diagnostic of the reason why the program ends, and returns the exit code.

@@ -19,7 +19,7 @@ use audit_io::file_keeper::FileKeeper;
 use audit_io::folder_keeper::FolderKeeper;
 use audit_io::std_adapters::WriteSink;
 use audit_words::names::command_of;
-use folder_report::gathering::{GatherRequest, gather_and_tell};
+use folder_report::gathering::{GatherRequest, gather_and_report};
 use plan_core::job::Job;
 use report::ended::Ended;
 use std::alloc::AllocError;
@@ -63,7 +63,7 @@ fn look(rt: &HostRuntime, job: &Job, folders: &[String], keepers: &mut [FolderSl
         names: folders,
         saves: false,
     };
-    gather_and_tell(
+    gather_and_report(
         rt.alloc(),
         &request,
         &mut slots_of(rt, ".", false),
@@ -89,7 +89,7 @@ fn gather_here(
         names: folders,
         saves: true,
     };
-    gather_and_tell(
+    gather_and_report(
         rt.alloc(),
         &request,
         &mut FileKeeper::new(SystemCalls::new(rt)),

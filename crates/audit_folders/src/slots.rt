@@ -10,13 +10,13 @@ use audit_io::file_calls::SystemCalls;
 use audit_io::folder_keeper::FolderKeeper;
 use audit_io::std_adapters::WriteSink;
 use audit_words::names::command_of;
-use folder_report::slots::tell_slots;
+use folder_report::slots::write_slots;
 use plan_core::job::Job;
 use std::process::ExitCode;
 
 /// Reports the slots of the folder, and the progress of the job if there is one.
 pub fn show_folder(rt: &HostRuntime, folder: &str, job: Option<&Job>) -> ExitCode {
-    let status = tell_slots(
+    let status = write_slots(
         rt.alloc(),
         &mut FolderKeeper::new(SystemCalls::new(rt), rt.alloc(), folder, false),
         job,

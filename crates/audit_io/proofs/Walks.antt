@@ -1,4 +1,4 @@
--- A step shared by the proofs for `src/tries.rt`. Assumes `Logic`.
+-- A step shared by the proofs for `src/attempts.rt`. Assumes `Logic`.
 use Rattle.std.proofs.Common.{List, [], ◌∷◌, refl}
 use seplogic.Ra.Ura.{Ura}
 use mir.Val.{Val, vstruct, vnil}

@@ -45,5 +45,5 @@ LoadCause before now (Err load.Memory) = now ≡ before
 -- counts unchanged.
 pub record HasLoadCause (before now : LoadFaults) (result : Result Bool LoadError) : Type 0 where
   pub counts : Counts before.all now.all
-  pub takings : Counts before.taken now.taken
+  pub taken_count : Counts before.taken now.taken
   pub cause : LoadCause before now result

@@ -14,7 +14,7 @@ use crate::folder_lock::Taken;
 use crate::keeper::{Keeper, LoadError};
 use crate::load_count::LoadCount;
 use crate::looks::open_slot;
-use crate::retry_on_eintr::read_again;
+use crate::retry_on_eintr::read_uninterrupted;
 use crate::slot_files::{Known, save_slot};
 use crate::source::Failed;
 use audit_model::buffers::Bytes;
@@ -214,7 +214,7 @@ fn read_within<T: Read>(from: &mut T, limit: u64, room: &mut Bytes) -> Result<()
     'pieces: while room.len() as u64 <= limit {
         let wanted = (limit - room.len() as u64).min(PIECE as u64 - 1) as usize + 1;
         let piece = &mut buffer[..wanted];
-        match read_again(from, piece) {
+        match read_uninterrupted(from, piece) {
             Err(error) => return Err(cause_of(&error)),
             Ok(count) => {
                 if count == 0 {

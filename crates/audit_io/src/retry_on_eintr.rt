@@ -10,7 +10,7 @@ use std::io::{ErrorKind, Read, Write};
 
 /// Reads once. Repeats the call if a signal interrupts it, so that the returned error is never
 /// `Interrupted`.
-pub(crate) fn read_again<T: Read>(from: &mut T, into: &mut [u8]) -> io::Result<usize>
+pub(crate) fn read_uninterrupted<T: Read>(from: &mut T, into: &mut [u8]) -> io::Result<usize>
     ensures amount { ReadsAtMost result into.new }
     ensures bytes { ReadConsumes (T.remaining from.old) (T.remaining from.new) result into.new }
     ensures uninterrupted { IfErr result (λ e. error_kind e ≢ ErrorKind.Interrupted) }
@@ -30,7 +30,7 @@ pub(crate) fn read_again<T: Read>(from: &mut T, into: &mut [u8]) -> io::Result<u
 
 /// Writes once. Repeats the call if a signal interrupts it, so that the returned error is never
 /// `Interrupted`.
-pub(crate) fn write_again<T: Write>(to: &mut T, bytes: &[u8]) -> io::Result<usize>
+pub(crate) fn write_uninterrupted<T: Write>(to: &mut T, bytes: &[u8]) -> io::Result<usize>
     ensures amount { WritesAtMost result bytes.now }
     ensures bytes { WriteAppends (T.contents to.old) (T.contents to.new) result bytes.now }
     ensures uninterrupted { IfErr result (λ e. error_kind e ≢ ErrorKind.Interrupted) }

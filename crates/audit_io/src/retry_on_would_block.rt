@@ -46,7 +46,7 @@ impl<T: Read + Drop, C: Clock + Drop> Read for RetryOnWouldBlock<T, C> {
     ghost remaining = { λ p. T.remaining p.inner };
 
     fn read(&mut self, into: &mut [u8]) -> io::Result<usize> {
-        read_patiently(&mut self.inner, &self.clock, into)
+        read_until_ready(&mut self.inner, &self.clock, into)
     }
 }
 
@@ -54,7 +54,7 @@ impl<T: Write + Drop, C: Clock + Drop> Write for RetryOnWouldBlock<T, C> {
     ghost contents = { λ p. T.contents p.inner };
 
     fn write(&mut self, bytes: &[u8]) -> io::Result<usize> {
-        write_patiently(&mut self.inner, &self.clock, bytes)
+        write_until_ready(&mut self.inner, &self.clock, bytes)
     }
 
     fn flush(&mut self) -> io::Result<()> {
@@ -63,7 +63,7 @@ impl<T: Write + Drop, C: Clock + Drop> Write for RetryOnWouldBlock<T, C> {
 }
 
 // Reads once. Repeats the call while it would block, so that the returned error is never `WouldBlock`.
-fn read_patiently<T: Read, C: Clock>(from: &mut T, clock: &C, into: &mut [u8]) -> io::Result<usize>
+fn read_until_ready<T: Read, C: Clock>(from: &mut T, clock: &C, into: &mut [u8]) -> io::Result<usize>
     ensures amount { ReadsAtMost result into.new }
     ensures bytes { ReadConsumes (T.remaining from.old) (T.remaining from.new) result into.new }
     ensures waits { IfErr result (λ e. error_kind e ≢ ErrorKind.WouldBlock) }
@@ -83,7 +83,7 @@ fn read_patiently<T: Read, C: Clock>(from: &mut T, clock: &C, into: &mut [u8]) -
 }
 
 // Writes once. Repeats the call while it would block, so that the returned error is never `WouldBlock`.
-fn write_patiently<T: Write, C: Clock>(to: &mut T, clock: &C, bytes: &[u8]) -> io::Result<usize>
+fn write_until_ready<T: Write, C: Clock>(to: &mut T, clock: &C, bytes: &[u8]) -> io::Result<usize>
     ensures amount { WritesAtMost result bytes.now }
     ensures bytes { WriteAppends (T.contents to.old) (T.contents to.new) result bytes.now }
     ensures waits { IfErr result (λ e. error_kind e ≢ ErrorKind.WouldBlock) }

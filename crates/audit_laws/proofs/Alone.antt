@@ -10,7 +10,7 @@ use Rattle.audit_statement.specs.Endings.{Cause, EndsFor, IsLoadFault, LeavesUnt
 use Rattle.audit_statement.specs.Left.{LeavesAlone}
 use Rattle.audit_model.specs.State.{Stream}
 use Rattle.audit_statement.specs.World.{World}
-use Rattle.audit_laws.proofs.Telling.{same_setting}
+use Rattle.audit_laws.proofs.Reporting.{same_setting}
 
 -- a value that changes only if a test passes is unchanged if it fails
 same_at : {A : Type 0} (b : Bool) (x y : A) → b ≡ false → SameUnless b x y → y ≡ x

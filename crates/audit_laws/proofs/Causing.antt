@@ -10,7 +10,7 @@ use Rattle.audit_statement.specs.Status.{status_of}
 use Rattle.audit_statement.specs.Endings.{Cause, EndsFor, ObservesInitialOutcomes, leaves_work, is_walking, IsStopped, IsSlotsFault}
 use Rattle.audit_model.specs.State.{Stream}
 use Rattle.audit_statement.specs.World.{World}
-use Rattle.audit_laws.proofs.Telling.{known_at, same_setting}
+use Rattle.audit_laws.proofs.Reporting.{known_at, same_setting}
 use Rattle.audit_laws.proofs.Starting.{initial_outcomes_known, undefined_known}
 use Rattle.audit_model.specs.Pair.{Pair}
 

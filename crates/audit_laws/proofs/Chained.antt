@@ -141,7 +141,7 @@ some_save posts every = by (posts / every) refl
         omega (arith, one)
     by (suc k) some_groups = omega (arith, some_groups)
 
-module _ (honestly : RightIsConsistent) (job : Job) (p q : Pair) (consistent : AreConsistentOf job p) where
+module _ (resumes_right : RightIsConsistent) (job : Job) (p q : Pair) (consistent : AreConsistentOf job p) where
   abbrev IsConsistentHere : Option (List ℕ) → Type 0
   IsConsistentHere s = IsConsistentSlot job (draw job.setting.key) (slot_of job (job_digest job) s)
 
@@ -161,7 +161,7 @@ module _ (honestly : RightIsConsistent) (job : Job) (p q : Pair) (consistent : A
   part_all initial_outcomes P all found o (inr is) = found o is.1 is.3
 
   part_right : (initial_outcomes : List Outcome) (count generation : ℕ) (s : Option (List ℕ)) → IsRight job (draw job.setting.key) initial_outcomes → IsPartly job initial_outcomes count generation s → IsConsistentHere s
-  part_right initial_outcomes count generation s right part = subst (IsConsistentSlot job (draw job.setting.key)) (sym part.slot_is) (honestly job (draw job.setting.key) part.saved (record {
+  part_right initial_outcomes count generation s right part = subst (IsConsistentSlot job (draw job.setting.key)) (sym part.slot_is) (resumes_right job (draw job.setting.key) part.saved (record {
     apart = rising_apart part.saved part.sound.rising;
     below = λ k d inside. part_all initial_outcomes (λ (o : Outcome). o.id < total job) right.below (λ o less is. less) _ (part.holds.each k d inside);
     found = λ k d inside. part_all initial_outcomes (λ (o : Outcome). o ≡ outcome job (draw job.setting.key) o.id) right.found (λ o less is. is) _ (part.holds.each k d inside);
@@ -175,16 +175,16 @@ module _ (honestly : RightIsConsistent) (job : Job) (p q : Pair) (consistent : A
 
   pub turns_stay : (initial_outcomes : List Outcome) → IsRight job (draw job.setting.key) initial_outcomes → SavesInTurn job initial_outcomes p q → AreConsistentOf job q
   turns_stay initial_outcomes right s =
-      both_consistent (last_place job initial_outcomes p).slot (subst (IsConsistentSlot job (draw job.setting.key)) (sym s.last_is) (honestly job (draw job.setting.key) (full_of job initial_outcomes) (full_right job initial_outcomes right)))
+      both_consistent (last_place job initial_outcomes p).slot (subst (IsConsistentSlot job (draw job.setting.key)) (sym s.last_is) (resumes_right job (draw job.setting.key) (full_of job initial_outcomes) (full_right job initial_outcomes right)))
       (beside_consistent initial_outcomes (last_place job initial_outcomes p) (count_of_saves job initial_outcomes) (some_save (length (run_ids job initial_outcomes job.setting.budget)) job.setting.save_every) right s)
 
-module _ (law : ConsistentSlotsOpenRight) (honestly : RightIsConsistent) (words : List (List ℕ)) (before after : World) (p q : Pair) (was : before.keeper.slots ≡ Some p) (is : after.keeper.slots ≡ Some q) where
+module _ (law : ConsistentSlotsOpenRight) (resumes_right : RightIsConsistent) (words : List (List ℕ)) (before after : World) (p q : Pair) (was : before.keeper.slots ≡ Some p) (is : after.keeper.slots ≡ Some q) where
   -- the claim to show for a job
   abbrev Stays : Job → Type 0
   Stays job = AreConsistentOf job p → NoSaveFailed before after → AreConsistentOf job q
 
   unchanged : (job : Job) → after.keeper.slots ≡ before.keeper.slots → Stays job
-  unchanged job same consistent calm =
+  unchanged job same consistent no_save_failed =
       let e : Some p ≡ Some q = sym was ∙ sym same ∙ is in
       let eq : p ≡ q = cc in
       subst (AreConsistentOf job) eq consistent
@@ -193,8 +193,8 @@ module _ (law : ConsistentSlotsOpenRight) (honestly : RightIsConsistent) (words 
   observed_initial_outcomes_right job outcomes opened consistent = initial_outcomes_right law job p outcomes (subst (λ (s : Option Pair). AreInitialOutcomes job s outcomes) was opened) consistent
 
   all_stays : (made : Type 0) (job : Job) → (NoSaveFailed before after → made) → SavesAll made job before after → Stays job
-  all_stays made job m s consistent calm =
-      turns_stay honestly job p q consistent s.outcomes (observed_initial_outcomes_right job s.outcomes s.opened consistent) (both_known _ _ p q (SavesInTurn job s.outcomes) was is (s.in_turn (m calm)))
+  all_stays made job m s consistent no_save_failed =
+      turns_stay resumes_right job p q consistent s.outcomes (observed_initial_outcomes_right job s.outcomes s.opened consistent) (both_known _ _ p q (SavesInTurn job s.outcomes) was is (s.in_turn (m no_save_failed)))
 
   where_stays : (b : Bool) (made : Type 0) (job : Job) → (NoSaveFailed before after → made) → SavesWhere b made job before after → Stays job
   where_stays false made job m s = unchanged job s
@@ -203,18 +203,18 @@ module _ (law : ConsistentSlotsOpenRight) (honestly : RightIsConsistent) (words 
   pub stays_at : (job : Job) → IsTheJob words before job → (r : Option Ending) → Cause words before after r → LeavesUntouched words before after (marks_of r) → Stays job
   stays_at job t None c u = subst Stays (job_is words before after job c.job t c.prepared) (where_stays (saves c.job.setting) ⊤ c.job (λ _. tt) c.saved)
   stays_at job t (Some write_fault) c u =
-      subst Stays (job_is words before after job c.job t c.prepared) (where_stays (saves c.job.setting) (NoSaveFailed before after) c.job (λ calm. calm) c.saved)
+      subst Stays (job_is words before after job c.job t c.prepared) (where_stays (saves c.job.setting) (NoSaveFailed before after) c.job (λ no_save_failed. no_save_failed) c.saved)
   stays_at job t (Some (stopped done all)) c u = subst Stays (job_is words before after job c.job t c.prepared) (all_stays ⊤ c.job (λ _. tt) c.saved)
-  stays_at job t (Some save_fault) c u = λ consistent calm. absurd (calm c.rose)
+  stays_at job t (Some save_fault) c u = λ consistent no_save_failed. absurd (no_save_failed c.rose)
   stays_at job t r c u = unchanged job u.slots
 
 -- a call with a correct ending leaves consistent slots if it starts from consistent ones
 pub stays_consistent : ConsistentSlotsOpenRight → RightIsConsistent → (words : List (List ℕ)) (before after : World) (n m : Stream) (status : ℕ) → EndsFor words before after n m status
     → WritesWhole words before after status → StaysConsistent words before after status
-stays_consistent law honestly words before after n m status e w = record {
+stays_consistent law resumes_right words before after n m status e w = record {
   opens_right = λ job outcomes s consistent. start_right law job before.keeper.slots outcomes s.opened consistent;
   one_thread = λ job outcomes s consistent z. w.one_thread job outcomes s (start_right law job before.keeper.slots outcomes s.opened consistent) z;
-  stays = λ job p q t was is consistent calm. stays_at law honestly words before after p q was is job t e.reason e.cause e.untouched consistent calm;
+  stays = λ job p q t was is consistent no_save_failed. stays_at law resumes_right words before after p q was is job t e.reason e.cause e.untouched consistent no_save_failed;
 }
 
 -- ---- the save attempts
@@ -225,7 +225,7 @@ module _ (law : ConsistentSlotsOpenRight) (words : List (List ℕ)) (before afte
 
   -- no save was attempted
   attempted_none : (job : Job) → (saves job.setting && has_walked status) ≡ false → after.keeper.attempted ≡ before.keeper.attempted → after.keeper.save_faults ≡ before.keeper.save_faults → Attempted job
-  attempted_none job idle same calm = subst (λ (x : Option (List Try)). IfBothObserved before.keeper.attempted x (AttemptsOver job before after p status)) (sym same) (by before.keeper.attempted)
+  attempted_none job idle same no_save_failed = subst (λ (x : Option (List Try)). IfBothObserved before.keeper.attempted x (AttemptsOver job before after p status)) (sym same) (by before.keeper.attempted)
     where
       by : (a : Option (List Try)) → IfBothObserved a a (AttemptsOver job before after p status)
       by None = tt
@@ -237,7 +237,7 @@ module _ (law : ConsistentSlotsOpenRight) (words : List (List ℕ)) (before afte
         each = λ outcomes opened. All-nil (IsTryOf job outcomes);
         growing = λ i j d less inside. absurd (omega arith);
         counted = λ outcomes opened walks all. absurd (true≢false (sym walks ∙ idle));
-        covered = omega (arith, calm);
+        covered = omega (arith, no_save_failed);
         right = λ consistent. All-nil (λ (t : Try). IsRightSave job (draw job.setting.key) (job_digest job) t.bytes);
       }
 
@@ -296,7 +296,7 @@ module _ (law : ConsistentSlotsOpenRight) (words : List (List ℕ)) (before afte
   no_attempt_both : (job : Job) → IsPrepared words before.source after.source job → SameUnless (passes saves (setting_of words)) before.keeper.attempted after.keeper.attempted
       → SameUnless (passes saves (setting_of words)) before.keeper.save_faults after.keeper.save_faults → saves job.setting ≡ false
       → (after.keeper.attempted ≡ before.keeper.attempted) × (after.keeper.save_faults ≡ before.keeper.save_faults)
-  no_attempt_both job prepared same calm off = (no_attempt_where job before.keeper.attempted after.keeper.attempted prepared same off, no_attempt_where job before.keeper.save_faults after.keeper.save_faults prepared calm off)
+  no_attempt_both job prepared same no_save_failed off = (no_attempt_where job before.keeper.attempted after.keeper.attempted prepared same off, no_attempt_where job before.keeper.save_faults after.keeper.save_faults prepared no_save_failed off)
 
   idle_at : (b : Bool) → has_walked status ≡ false → (b && has_walked status) ≡ false
   idle_at true is = is

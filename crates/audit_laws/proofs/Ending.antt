@@ -74,9 +74,9 @@ plain_ends words before after n m status k rest bytes run silent observed fit no
     let setting = fit.job.setting in
     let words_run : setting_of (codes "run" ∷ rest) ≡ Ok setting = subst (λ (ws : List (List ℕ)). setting_of ws ≡ Ok setting) run fit.words_are in
     let said_so = run_words rest setting words_run in
-    let spoken = silent_is_plain rest said_so.0 silent in
-    let plain = subst IsPlain said_so.1 spoken in
-    let whole = subst (λ (s : Setting). (s.parts ≡ 1) × (s.part ≡ 0)) said_so.1 (one_part rest said_so.0 spoken.no_saves) in
+    let argument_bytes = silent_is_plain rest said_so.0 silent in
+    let plain = subst IsPlain said_so.1 argument_bytes in
+    let whole = subst (λ (s : Setting). (s.parts ≡ 1) × (s.part ≡ 0)) said_so.1 (one_part rest said_so.0 argument_bytes.no_saves) in
     let taken = given_jobs_are_taken bytes fit.root fit.job fit.is_text fit.is_json fit.given fit.start fit.allowed
     (record { no_group = plain.no_group; none_due = plain.none_due; no_frozen = plain.no_frozen; no_lengths = plain.no_lengths; any_cut = plain.any_cut }) in
     let made = job_from taken.parsed setting [] in

@@ -2,7 +2,7 @@
 use Rattle.std.proofs.Common.{◌≡◌, ◌∙◌, ℕ, zero, suc, ◌<◌, Bool, true, false, List, [], ◌∷◌, Option, Some, None, refl, sym, subst, arith}
 use Rattle.std.proofs.lemmas.List.Elements.{All-head, All-tail}
 use Rattle.audit_model.specs.Pair.{HoldsBytes, KeepsOther, Pair, other_stored, stored}
-use Rattle.audit_model.specs.State.{Kept}
+use Rattle.audit_model.specs.State.{KeeperState}
 use Rattle.audit_model.specs.Observed.{IfBothObserved, IfObserved}
 use Rattle.audit_model.specs.declared.outcome.Outcome.{Outcome}
 use Rattle.audit_model.specs.Job.{Job}
@@ -12,7 +12,7 @@ use Rattle.ckpt_store.specs.declared.finding.Finding.{Finding}
 use Rattle.ckpt_store.specs.declared.finding.Finding.TheVariants as finding
 use Rattle.audit_model.specs.Run.{total}
 use Rattle.ckpt_store.specs.Collected.{Collected, no_collected, passed_over}
-use Rattle.ckpt_store.specs.Findings.{AreFound, Finds, HasSeen, IsFound}
+use Rattle.ckpt_store.specs.Findings.{AreFound, Finds, HasLoadedSlots, IsFound}
 use Rattle.ckpt_store.specs.Gives.{Gives, damaged, gives, has_broken, nothing, other_job, outcomes, slot_gives, slots_give}
 use Rattle.ckpt_store.specs.Whole.{HasBegun, IsSavedIf, IsSavedUnion}
 use Rattle.audit_laws.specs.Gathered.{AreAllReached, AreGathered, AreReached, CutGatheringsReach, GatheringsReach, Hold, IsSavedOver, after_gathering, begun, kept_outcomes, united}
@@ -75,11 +75,11 @@ module _ (job : Job) where
   seen_is (Some x) p seen e same = (let is : x ≡ p = cc in same ∙ is)
 
   from_seen : (observed : Option Pair) (p : Pair) (what : Finding) (before after : Collected) → observed ≡ Some p → AreReached job p → AreGathered job before.outcomes
-      → HasSeen job digest observed before what after → AreGathered job after.outcomes
+      → HasLoadedSlots job digest observed before what after → AreGathered job after.outcomes
   from_seen observed p what before after is reached b s =
       seen_so s.pair (has_broken job digest s.pair) what before after (subst (AreReached job) (sym (seen_is observed p s.pair is s.same)) reached) b s.finds
 
-  from_found : (folder folder_now : Kept) (p : Pair) (what : Finding) (before after : Collected) → folder.slots ≡ Some p → AreReached job p → AreGathered job before.outcomes
+  from_found : (folder folder_now : KeeperState) (p : Pair) (what : Finding) (before after : Collected) → folder.slots ≡ Some p → AreReached job p → AreGathered job before.outcomes
       → IsFound job digest folder folder_now before what after → AreGathered job after.outcomes
   from_found folder folder_now p finding.Unread before after is reached b f = same_gathered before after b f.0
   from_found folder folder_now p finding.Taken before after is reached b f = same_gathered before after b f.0
@@ -87,12 +87,12 @@ module _ (job : Job) where
 
   -- ---- the findings in all folders
 
-  from_all : (folders folders_now : List Kept) (found : List Finding) (before after : Collected) → AreAllReached job folders → AreGathered job before.outcomes
+  from_all : (folders folders_now : List KeeperState) (found : List Finding) (before after : Collected) → AreAllReached job folders → AreGathered job before.outcomes
       → AreFound job digest folders folders_now before found after → AreGathered job after.outcomes
   from_all [] [] [] before after all b f = subst (λ (c : Collected). AreGathered job c.outcomes) (sym f) b
   from_all (folder ∷ folders) (folder_now ∷ folders_now) (what ∷ found) before after all b f =
-      let first = All-head (λ (k : Kept). (p : Pair) × (k.slots ≡ Some p) × AreReached job p) folder folders all in
-      from_all folders folders_now found f.0 after (All-tail (λ (k : Kept). (p : Pair) × (k.slots ≡ Some p) × AreReached job p) folder folders all)
+      let first = All-head (λ (k : KeeperState). (p : Pair) × (k.slots ≡ Some p) × AreReached job p) folder folders all in
+      from_all folders folders_now found f.0 after (All-tail (λ (k : KeeperState). (p : Pair) × (k.slots ≡ Some p) × AreReached job p) folder folders all)
       (from_found folder folder_now first.0 what before f.0 first.1 first.2 b f.1) f.2
   from_all folders folders_now found before after all b f = absurd f
 
@@ -120,7 +120,7 @@ module _ (job : Job) where
   beside_so zero p q e = e
   beside_so (suc n) p q e = e
 
-  saved_over : (place : ℕ × ℕ) (os : List Outcome) (before after : Kept) (p q : Pair) → place.0 < 2 → before.slots ≡ Some p → after.slots ≡ Some q
+  saved_over : (place : ℕ × ℕ) (os : List Outcome) (before after : KeeperState) (p q : Pair) → place.0 < 2 → before.slots ≡ Some p → after.slots ≡ Some q
       → IsSavedUnion digest place os before after → IsSavedOver job os p q
   saved_over place os before after p q below was is s = record {
     save = record { slot = place.0; bytes = checkpoint 2 digest place.1 os; succeeded = true };
@@ -133,7 +133,7 @@ module _ (job : Job) where
     };
   }
 
-  saved_if : (b : Bool) (place : ℕ × ℕ) (os : List Outcome) (before after : Kept) (p q : Pair) → place.0 < 2 → before.slots ≡ Some p → after.slots ≡ Some q
+  saved_if : (b : Bool) (place : ℕ × ℕ) (os : List Outcome) (before after : KeeperState) (p q : Pair) → place.0 < 2 → before.slots ≡ Some p → after.slots ≡ Some q
       → AreReached job p → AreGathered job os → IsSavedIf b digest place os before after → AreReached job q
   saved_if true place os before after p q below was is reached gathered s = after_gathering p q os reached gathered (saved_over place os before after p q below was is s)
   saved_if false place os before after p q below was is reached gathered s =

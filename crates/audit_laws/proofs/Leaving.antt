@@ -7,7 +7,7 @@ use Rattle.audit_statement.specs.Words.{setting_of}
 use Rattle.report.specs.declared.ended.Ended.TheVariants as ended
 use Rattle.audit_statement.specs.Endings.{IsPrepared, IsReadBy, LeavesUntouched, EndingMarks, SameUnless, is_reading, passes, saves}
 use Rattle.audit_laws.specs.Calls.{Finishes}
-use Rattle.audit_model.specs.State.{Kept, Stream}
+use Rattle.audit_model.specs.State.{KeeperState, Stream}
 use Rattle.audit_statement.specs.World.{world}
 
 -- ---- the effect of reading
@@ -38,7 +38,7 @@ module _ (words : List (List ℕ)) (before after : Stream) (job : Job) (p : IsPr
   saved_left x y same = subst (λ (r : Result Setting WordFault). SameUnless (passes saves r) x y) (sym p.accepted.words_are) same
 
   -- the rest of the call changed only the marked parts
-  pub left : (out out' : Stream) (k l : Kept) (marks : EndingMarks) → SameUnless marks.wrote out.bytes out'.bytes
+  pub left : (out out' : Stream) (k l : KeeperState) (marks : EndingMarks) → SameUnless marks.wrote out.bytes out'.bytes
       → SameUnless (marks.saved && passes saves (setting_of words)) k.slots l.slots
       → SameUnless (marks.saved && passes saves (setting_of words)) k.attempted l.attempted → marks.read_failed ≡ false → SameUnless marks.write_failed out.faults out'.faults
       → SameUnless marks.load_failed k.load_faults l.load_faults → SameUnless (marks.save_failed && passes saves (setting_of words)) k.save_faults l.save_faults
@@ -57,7 +57,7 @@ module _ (words : List (List ℕ)) (before after : Stream) (job : Job) (p : IsPr
 -- ---- runs that do not start
 
 -- out of memory without any change is an ending of the call
-pub no_memory_ends : (job : Job) (out : Stream) (k l : Kept) → l.slots ≡ k.slots → l.attempted ≡ k.attempted → l.save_faults ≡ k.save_faults → l.load_faults ≡ k.load_faults
+pub no_memory_ends : (job : Job) (out : Stream) (k l : KeeperState) → l.slots ≡ k.slots → l.attempted ≡ k.attempted → l.save_faults ≡ k.save_faults → l.load_faults ≡ k.load_faults
     → Finishes job out out k l ended.NoMemory
 no_memory_ends job out k l slots attempted saved loaded = λ words before after p. record {
   cause = tt;

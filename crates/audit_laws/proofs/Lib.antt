@@ -33,5 +33,5 @@ pub mod Running
 pub mod Sound
 pub mod Starting
 pub mod Taking
-pub mod Telling
+pub mod Reporting
 pub mod Words

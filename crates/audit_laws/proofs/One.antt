@@ -32,7 +32,7 @@ use Rattle.audit_laws.specs.Determined.{AreOfOneGraph, ReadAlike}
 use Rattle.audit_statement.specs.Valid.{IsValid}
 use Rattle.audit_laws.specs.One.{IsSuch, ReportsAreOne}
 use Rattle.audit_statement.specs.Plain.{each_below, plain_report, plan_after, after_step}
-use Rattle.audit_statement.specs.Said.{AreSaid, IsSilent, IsSpelled}
+use Rattle.audit_statement.specs.PlainArguments.{SettingMatches, IsNotGiven, IsSpelled}
 use Rattle.audit_statement.specs.Names.{score_name, tail_name}
 use Rattle.audit_statement.specs.Report.{billionths, fraction, line}
 use Rattle.audit_statement.specs.Words.{ask_of, ask_text}
@@ -65,7 +65,7 @@ ask_back ask = spelled_back ask.score ask.tail
 same_key : {E : Type 0} (r : Result (List ℕ) E) (a b : List ℕ) → r ≡ Ok a → r ≡ Ok b → a ≡ b
 same_key r a b p q = cc
 
-module _ (words : List (List ℕ)) (a b : Setting) (s : AreSaid words a) (t : AreSaid words b) (silent : IsSilent words (codes "--length")) where
+module _ (words : List (List ℕ)) (a b : Setting) (s : SettingMatches words a) (t : SettingMatches words b) (silent : IsNotGiven words (codes "--length")) where
   same_columns : ReadAlike a.columns b.columns
   same_columns = record {
     population = s.population ∙ sym t.population;

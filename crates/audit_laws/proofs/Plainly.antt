@@ -23,11 +23,11 @@ use Rattle.audit_statement.specs.Promise.{KeepsItsPromise}
 use Rattle.audit_statement.specs.Several.{names_plans}
 use Rattle.audit_statement.specs.World.{World}
 use Rattle.audit_laws.proofs.Starting.{none_right}
-use Rattle.audit_laws.proofs.Telling.{known_at, same_setting}
+use Rattle.audit_laws.proofs.Reporting.{known_at, same_setting}
 use Rattle.audit_statement.specs.Audited.{AuditsPlainly}
 use Rattle.audit_laws.specs.Promised.{PromisedCallsAuditPlainly}
 use Rattle.audit_statement.specs.Given.{IsGiven}
-use Rattle.audit_statement.specs.Said.{AreSaid}
+use Rattle.audit_statement.specs.PlainArguments.{SettingMatches}
 use Rattle.audit_laws.proofs.Saying.{IsPlain, run_words, silent_is_plain, words_say}
 use Rattle.audit_laws.proofs.Read.{no_frozen_read, no_group_read, no_lengths_read, read_jobs_are_given}
 use Rattle.audit_statement.specs.Valid.{IsValid}
@@ -161,7 +161,7 @@ plain_calls words before after n m status k rest bytes old run silent observed k
       is_text = gives.is_text;
       is_json = gives.is_json;
       job = j;
-      set = subst (AreSaid rest) said_so.1 (words_say rest said_so.0);
+      set = subst (SettingMatches rest) said_so.1 (words_say rest said_so.0);
       given = subst (IsGiven gives.root) is.made gives.given;
       start = legal_is_valid j j.start done.prepared.sound.legal;
       valid = is_legal j;

@@ -15,7 +15,7 @@ use Rattle.audit_statement.specs.Left.{LeavesAlone}
 use Rattle.audit_laws.specs.Runs.{StopsAlone}
 use Rattle.audit_model.specs.State.{Stream}
 use Rattle.audit_statement.specs.World.{World}
-use Rattle.audit_laws.proofs.Telling.{same_setting}
+use Rattle.audit_laws.proofs.Reporting.{same_setting}
 use Rattle.audit_laws.proofs.Starting.{none_right, same_kept}
 use Rattle.audit_laws.proofs.Words.{accepted_words_stop_alone}
 

@@ -292,11 +292,11 @@ module _ (setting : Setting) (root : Data) (shape : bad_part root ≡ None) (sou
   known : (u place : ℕ) → u < node_count d → place < length (entries d u)
       → (v : ℕ) × (v < node_count d) × (id_of (entry d u place) ≡ Some (slice_index_or (map_below (node_count d) id_at) v (Word [])))
   known u place l m =
-      let stranger : Data → Bool = λ x. not (any_below (node_count d) (λ j. same_id (id_of x) (id_of (node d j)))) in
-      let none = first_some_below_none (node_count d) (λ i. option_map (fault.UnknownNeighbour i) (first_below (length (entries d i)) (λ k. stranger (entry d i k))))
+      let unknown_neighbor : Data → Bool = λ x. not (any_below (node_count d) (λ j. same_id (id_of x) (id_of (node d j)))) in
+      let none = first_some_below_none (node_count d) (λ i. option_map (fault.UnknownNeighbour i) (first_below (length (entries d i)) (λ k. unknown_neighbor (entry d i k))))
       u (none_at refusals sound 6) l in
-      let here : stranger (entry d u place) ≡ false = first_below_none (length (entries d u)) (λ k. stranger (entry d u k))
-      place (option_map_none (fault.UnknownNeighbour u) (first_below (length (entries d u)) (λ k. stranger (entry d u k))) none) m in
+      let here : unknown_neighbor (entry d u place) ≡ false = first_below_none (length (entries d u)) (λ k. unknown_neighbor (entry d u k))
+      place (option_map_none (fault.UnknownNeighbour u) (first_below (length (entries d u)) (λ k. unknown_neighbor (entry d u k))) none) m in
       let some = any_below_some (node_count d) (λ j. same_id (id_of (entry d u place)) (id_of (node d j)))
       (not-false (any_below (node_count d) (λ j. same_id (id_of (entry d u place)) (id_of (node d j)))) here) in (
         some.0,

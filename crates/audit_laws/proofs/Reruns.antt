@@ -1,4 +1,4 @@
--- The manner of a run does not change the outcomes, and the chains of a job's runs.
+-- The options of a run do not change the outcomes, and the chains of a job's runs.
 use Rattle.std.proofs.Common.{◌≡◌, ℕ, zero, suc, ◌+◌, ◌-◌, ◌*◌, ◌==◌, ◌⊎◌, inl, inr, ◌&&◌, ◌||◌, not, Bool, true, false, List, [], ◌∷◌, ◌++◌, length, map, drop, take, replicate, get_or, Option, Some, None, refl, sym, ap, ◌∙◌, subst}
 use Rattle.std.specs.Prelude.{bytes_eq, codes, int_le, nat_le, nat_lt, pos, slice_range}
 use Rattle.std.specs.List.{list_all}
@@ -29,11 +29,11 @@ use Rattle.ckpt_store.specs.Laws.{ConsistentSlotsOpenRight, RightIsConsistent, S
 use Rattle.audit_statement.specs.Draw.{draw}
 use Rattle.hex.specs.Hex.{encode_lower}
 use Rattle.audit_statement.specs.Report.{ends_lines, graph_line, line, origin_lines, population_line, report, rule_lines, serial_lines, setting_line, shift_line, stop_line, test_lines, thread_report, title_line, walk_lines}
-use Rattle.audit_statement.specs.Chain.{AreConsistentOf, ResumesHonestly, AttemptsOver}
+use Rattle.audit_statement.specs.Chain.{AreConsistentOf, ResumesFromConsistent, AttemptsOver}
 use Rattle.audit_model.specs.Observed.{IfBothObserved, IfObserved}
 use Rattle.audit_statement.specs.Endings.{WritesReport}
 use Rattle.audit_statement.specs.Headline.{StartsWith, WritesOneThreads}
-use Rattle.audit_statement.specs.Rerun.{FindTheSame, ChainsWriteOneReport, Event, HasWritten, IsEvent, IsLink, IsRunOver, Link, Manner, RerunsAreAlike, WroteOneThreads, asking, job_in, ran, rerun, slots_after, stopped}
+use Rattle.audit_statement.specs.Rerun.{FindTheSame, ChainsWriteOneReport, Event, HasWritten, IsEvent, IsLink, IsRunOver, Link, RunOptions, RerunsAreAlike, WroteOneThreads, asking, job_in, ran, rerun, slots_after, stopped}
 use Rattle.audit_laws.proofs.Halted.{stop_stays}
 use Rattle.audit_laws.proofs.Starting.{initial_outcomes_observed}
 use Rattle.audit_laws.proofs.Chained.{rises_or_not}
@@ -108,9 +108,9 @@ fits_by steps binned job o =
     || all_below (length job.setting.asks) (λ k. int_le (pos 1) (value_at o k) && int_le (value_at o k) (pos (job.setting.steps + 1))))
     && binned
 
-module _ (job : Job) (manner : Manner) where
+module _ (job : Job) (options : RunOptions) where
   abbrev again : Job
-  again = rerun job manner
+  again = rerun job options
 
   next_same : (plan : List ℕ) (d : ℕ) → next again plan d ≡ next job plan d
   unfolding next is_legal
@@ -129,13 +129,13 @@ module _ (job : Job) (manner : Manner) where
   by_same true false draws id = ap (λ (v : Visits). walk_by v job draws id) visit_same
   by_same false bins draws id = ap (λ (v : Visits). end_by v job draws id) visit_same
 
-  outcome_same : manner.shift ≡ job.setting.shift → (draws : Draws) (id : ℕ) → outcome again draws id ≡ outcome job draws id
-  outcome_same same draws id = by_same (nat_lt id job.setting.walks) manner.shift draws id ∙ ap (λ (b : Bool). outcome_with b job draws id) same
+  outcome_same : options.shift ≡ job.setting.shift → (draws : Draws) (id : ℕ) → outcome again draws id ≡ outcome job draws id
+  outcome_same same draws id = by_same (nat_lt id job.setting.walks) options.shift draws id ∙ ap (λ (b : Bool). outcome_with b job draws id) same
 
   whole_same : (draws : Draws) (id : ℕ) → whole again draws id ≡ whole job draws id
   whole_same draws id = by_same (nat_lt id job.setting.walks) true draws id
 
-  sequence_same : manner.shift ≡ job.setting.shift → (draws : Draws) → sequence again draws ≡ sequence job draws
+  sequence_same : options.shift ≡ job.setting.shift → (draws : Draws) → sequence again draws ≡ sequence job draws
   unfolding sequence
   sequence_same same draws = ap (λ (f : ℕ → Outcome). map_below (job.setting.walks + job.setting.ends) f) (fun_ext (λ id. outcome_same same draws id))
 
@@ -159,15 +159,15 @@ module _ (job : Job) (manner : Manner) where
   origin_same None = refl
   origin_same (Some origin) = refl
 
-  report_same : manner.shift ≡ job.setting.shift → manner.origin ≡ job.origin → (outcomes : List Outcome) (stops : List (List ℕ)) (serial : Option (ℕ × List ℕ))
+  report_same : options.shift ≡ job.setting.shift → options.origin ≡ job.origin → (outcomes : List Outcome) (stops : List (List ℕ)) (serial : Option (ℕ × List ℕ))
       → report again outcomes stops serial ≡ report job outcomes stops serial
   unfolding report
   report_same same from outcomes stops serial =
-      ap (λ (tests : List ℕ). with_lines manner.shift (origin_lines again manner.origin) tests (serial_lines again serial)) (tests_same job.setting.stop outcomes stops)
-      ∙ ap (λ (rest : List ℕ). with_lines manner.shift (origin_lines again manner.origin) (test_lines job.setting.stop job outcomes stops) rest) (serial_same serial)
-      ∙ ap (λ (b : Bool). with_lines b (origin_lines again manner.origin) (test_lines job.setting.stop job outcomes stops) (serial_lines job serial)) same
+      ap (λ (tests : List ℕ). with_lines options.shift (origin_lines again options.origin) tests (serial_lines again serial)) (tests_same job.setting.stop outcomes stops)
+      ∙ ap (λ (rest : List ℕ). with_lines options.shift (origin_lines again options.origin) (test_lines job.setting.stop job outcomes stops) rest) (serial_same serial)
+      ∙ ap (λ (b : Bool). with_lines b (origin_lines again options.origin) (test_lines job.setting.stop job outcomes stops) (serial_lines job serial)) same
       ∙ ap (λ (head : List ℕ). with_lines job.setting.shift head (test_lines job.setting.stop job outcomes stops) (serial_lines job serial))
-      (origin_same manner.origin ∙ ap (origin_lines job) from)
+      (origin_same options.origin ∙ ap (origin_lines job) from)
     where
       with_lines : Bool → List ℕ → List ℕ → List ℕ → List ℕ
       with_lines binned head tests rest =
@@ -207,14 +207,14 @@ module _ (job : Job) (manner : Manner) where
   stops_same outcomes = stops_by_same job.setting.stop outcomes
 
   -- the whole report, with the lines of the serial test exactly if this run requests them
-  thread_report_is : manner.shift ≡ job.setting.shift → manner.origin ≡ job.origin → (draws : Draws)
-      → thread_report again draws ≡ report job (sequence job draws) (stops_of job (sequence job draws)) (serial_by manner.serial job draws)
+  thread_report_is : options.shift ≡ job.setting.shift → options.origin ≡ job.origin → (draws : Draws)
+      → thread_report again draws ≡ report job (sequence job draws) (stops_of job (sequence job draws)) (serial_by options.serial job draws)
   unfolding thread_report
   thread_report_is same from draws =
-      ap (λ (stops : List (List ℕ)). report again (sequence again draws) stops (serial_by manner.serial again draws)) (stops_same (sequence again draws))
-      ∙ report_same same from (sequence again draws) (stops_of job (sequence again draws)) (serial_by manner.serial again draws)
-      ∙ ap (λ (os : List Outcome). report job os (stops_of job os) (serial_by manner.serial again draws)) (sequence_same same draws)
-      ∙ ap (λ (found : Option (ℕ × List ℕ)). report job (sequence job draws) (stops_of job (sequence job draws)) found) (observed_same manner.serial draws)
+      ap (λ (stops : List (List ℕ)). report again (sequence again draws) stops (serial_by options.serial again draws)) (stops_same (sequence again draws))
+      ∙ report_same same from (sequence again draws) (stops_of job (sequence again draws)) (serial_by options.serial again draws)
+      ∙ ap (λ (os : List Outcome). report job os (stops_of job os) (serial_by options.serial again draws)) (sequence_same same draws)
+      ∙ ap (λ (found : Option (ℕ × List ℕ)). report job (sequence job draws) (stops_of job (sequence job draws)) found) (observed_same options.serial draws)
 
   steps_same : (b : Bool) → steps_of b again ≡ steps_of b job
   steps_same true = refl
@@ -273,22 +273,22 @@ module _ (job : Job) (manner : Manner) where
     one_slot = subst (IsConsistentSlot again (draw job.setting.key)) (sym (slot_same p.one_slot)) (consistent_slot (draw job.setting.key) _ h.one_slot);
   }
 
--- the law that the manner of a run does not change the outcomes
+-- the law that the options of a run do not change the outcomes
 pub reruns_are_alike : RerunsAreAlike
-reruns_are_alike job manner = record {
-  same_digest = digest_same job manner;
-  same_whole = whole_same job manner;
-  same_fits = fits_same job manner;
-  same_serial = serially_same job manner;
-  same_consistent = consistent_same job manner;
-  same_outcome = outcome_same job manner;
-  same_sequence = sequence_same job manner;
-  same_stops = stops_same job manner;
-  same_report = report_same job manner;
+reruns_are_alike job options = record {
+  same_digest = digest_same job options;
+  same_whole = whole_same job options;
+  same_fits = fits_same job options;
+  same_serial = serially_same job options;
+  same_consistent = consistent_same job options;
+  same_outcome = outcome_same job options;
+  same_sequence = sequence_same job options;
+  same_stops = stops_same job options;
+  same_report = report_same job options;
 }
 
--- the job's own manner, with these choices of histogram, serial test and origin
-abbrev own : Job → Bool → Bool → Option Origin → Manner
+-- the job's own options, with these choices of histogram, serial test and origin
+abbrev own : Job → Bool → Bool → Option Origin → RunOptions
 own job shift serial origin = record {
   command = job.setting.command;
   workers = job.setting.workers;
@@ -306,17 +306,17 @@ own job shift serial origin = record {
   origin = origin;
 }
 
--- the manner of a run does not change the report
-thread_report_same : (job : Job) (manner : Manner) → manner.shift ≡ job.setting.shift → manner.origin ≡ job.origin → (draws : Draws)
-    → thread_report (rerun job manner) draws ≡ thread_report (asking job manner.shift manner.serial manner.origin) draws
-thread_report_same job manner same from draws =
-    thread_report_is job manner same from draws ∙ sym (thread_report_is job (own job manner.shift manner.serial manner.origin) same from draws)
+-- the options of a run do not change the report
+thread_report_same : (job : Job) (options : RunOptions) → options.shift ≡ job.setting.shift → options.origin ≡ job.origin → (draws : Draws)
+    → thread_report (rerun job options) draws ≡ thread_report (asking job options.shift options.serial options.origin) draws
+thread_report_same job options same from draws =
+    thread_report_is job options same from draws ∙ sym (thread_report_is job (own job options.shift options.serial options.origin) same from draws)
 
 -- ---- chains
 
 -- the job is a rerun of its rerun
-back_from : (job : Job) (manner : Manner) → FindTheSame (rerun job manner) job
-back_from job manner = reruns_are_alike (rerun job manner) (own job job.setting.shift job.setting.serial job.origin)
+back_from : (job : Job) (options : RunOptions) → FindTheSame (rerun job options) job
+back_from job options = reruns_are_alike (rerun job options) (own job job.setting.shift job.setting.serial job.origin)
 
 back_again : (job : Job) (l : Link) → FindTheSame (job_in job l) job
 back_again job l = reruns_are_alike (job_in job l) (own job job.setting.shift job.setting.serial job.origin)
@@ -328,9 +328,9 @@ stopped_after (t ∷ attempts) = ap (λ (ts : List Try). t ∷ ts) (stopped_afte
 
 module _ (law : SavesLeaveConsistentSlots) (job : Job) (p : Pair) (l : Link) (consistent : AreConsistentOf job p) where
   consistent_here : AreConsistentOf (job_in job l) p
-  consistent_here = consistent_same job l.manner p consistent
+  consistent_here = consistent_same job l.options p consistent
 
-  resumes : (o : IsRunOver job p l) → ResumesHonestly (job_in job l) l.before
+  resumes : (o : IsRunOver job p l) → ResumesFromConsistent (job_in job l) l.before
   resumes o = λ _. subst (λ (s : Option Pair). IfObserved s (AreConsistentOf (job_in job l))) (sym o.found) consistent_here
 
   attempts_of : (o : IsRunOver job p l) → AttemptsOver (job_in job l) l.before l.after p l.status o.observed o.now
@@ -353,8 +353,8 @@ module _ (law : SavesLeaveConsistentSlots) (job : Job) (p : Pair) (l : Link) (co
           let t = attempts_of link.over in
           stays_where link.over (length t.attempts) l.slots
           (subst (λ (ts : List Try). AreCarriedOut IsNotOurs (job_in job l) (job_digest (job_in job l)) p ts l.slots) (sym (stopped_after t.attempts)) (link.carried rose t))
-      by (inr calm) =
-          (back_again job l).same_consistent l.slots (link.promised.chain.stays (job_in job l) p l.slots link.over.the_job link.over.found link.left consistent_here calm)
+      by (inr no_save_failed) =
+          (back_again job l).same_consistent l.slots (link.promised.chain.stays (job_in job l) p l.slots link.over.the_job link.over.found link.left consistent_here no_save_failed)
 
   -- a link with status 0 has known initial outcomes
   link_started : IsLink job p l → l.status ≡ 0 → (outcomes : List Outcome) × StartsWith l.words l.before (job_in job l) outcomes
@@ -373,7 +373,7 @@ module _ (law : SavesLeaveConsistentSlots) (job : Job) (p : Pair) (l : Link) (co
   asked_alike : IsLink job p l → WritesOneThreads (job_in job l) l.before l.after → WroteOneThreads job l
   asked_alike link wrote =
       subst (λ (text : List ℕ). Appends l.before.out.bytes l.after.out.bytes text)
-      (thread_report_same (asking job l.manner.shift l.manner.serial l.manner.origin) l.manner refl refl (draw job.setting.key))
+      (thread_report_same (asking job l.options.shift l.options.serial l.options.origin) l.options refl refl (draw job.setting.key))
       wrote
 
   link_wrote : IsLink job p l → HasWritten job (ran l)
@@ -387,13 +387,13 @@ module _ (law : SavesLeaveConsistentSlots) (job : Job) (p : Pair) (l : Link) (co
 pub event_stays : ConsistentSlotsOpenRight → RightIsConsistent → StopsLeaveConsistentSlots → SavesLeaveConsistentSlots → (job : Job) (p : Pair) (e : Event) → AreConsistentOf job p → IsEvent job p e
     → AreConsistentOf job (slots_after e)
 event_stays opens rights stops law job p (ran l) consistent is = link_stays law job p l consistent is
-event_stays opens rights stops law job p (stopped manner attempts q) consistent is =
-    (back_from job manner).same_consistent q (stop_stays opens rights stops (rerun job manner) p q attempts is.so_far is.carried (consistent_same job manner p consistent))
+event_stays opens rights stops law job p (stopped options attempts q) consistent is =
+    (back_from job options).same_consistent q (stop_stays opens rights stops (rerun job options) p q attempts is.so_far is.carried (consistent_same job options p consistent))
 
 -- a run from consistent slots that ends well has written one thread's report
 pub event_wrote : SavesLeaveConsistentSlots → (job : Job) (p : Pair) (e : Event) → AreConsistentOf job p → IsEvent job p e → HasWritten job e
 event_wrote law job p (ran l) consistent is = link_wrote law job p l consistent is
-event_wrote law job p (stopped manner attempts q) consistent is = tt
+event_wrote law job p (stopped options attempts q) consistent is = tt
 
 -- each run of any chain has written one thread's report
 pub chains_write_one_report : ConsistentSlotsOpenRight → RightIsConsistent → StopsLeaveConsistentSlots → SavesLeaveConsistentSlots → ChainsWriteOneReport

@@ -17,7 +17,7 @@ use Rattle.audit_model.specs.Limits.{most_edges, most_length}
 use Rattle.audit_model.specs.Names.{name_text}
 use Rattle.audit_statement.specs.Words.{NameAndValue, all_asks, as_run, ask_of, ask_text, asks_of, default_of, digits_value, fault_of, has_length, has_majority_group, is_empty, is_number, number_named, number_of, pairs, parts_between, saves_parts, setting_of, setting_or, text_of, with_ask}
 use Rattle.audit_laws.proofs.Words.{good}
-use Rattle.audit_statement.specs.Said.{ArePlain, AreSaid, IsSilent, IsSpelled, said}
+use Rattle.audit_statement.specs.PlainArguments.{ArePlain, SettingMatches, IsNotGiven, IsSpelled, given_or}
 
 -- ---- the arguments
 
@@ -35,7 +35,7 @@ run_words rest setting e = run_or (pairs rest) (fault_of Run (pairs rest)) setti
 -- the value of a named argument, or a default
 value_or : (name : List ℕ) (other : Option (List ℕ)) (words : List (List ℕ))
     → unwrap_or (option_or (option_and_then (λ (pair : NameAndValue). pair.1) (find (λ (pair : NameAndValue). bytes_eq pair.0 name) (pairs words))) other) []
-    ≡ said words name (unwrap_or other [])
+    ≡ given_or words name (unwrap_or other [])
 value_or name other [] = refl
 value_or name other (word ∷ []) = by (bytes_eq word name)
   where
@@ -45,10 +45,10 @@ value_or name other (word ∷ []) = by (bytes_eq word name)
 value_or name other (word ∷ value ∷ rest) = by (bytes_eq word name) (value_or name other rest)
   where
     by : (b : Bool) → unwrap_or (option_or (option_and_then (λ (pair : NameAndValue). pair.1)
-        (find (λ (pair : NameAndValue). bytes_eq pair.0 name) (pairs rest))) other) [] ≡ said rest name (unwrap_or other [])
+        (find (λ (pair : NameAndValue). bytes_eq pair.0 name) (pairs rest))) other) [] ≡ given_or rest name (unwrap_or other [])
         → unwrap_or (option_or (option_and_then (λ (pair : NameAndValue). pair.1)
         (cond b (Some (word, Some value)) (find (λ (pair : NameAndValue). bytes_eq pair.0 name) (pairs rest)))) other) []
-        ≡ cond b value (said rest name (unwrap_or other []))
+        ≡ cond b value (given_or rest name (unwrap_or other []))
     by true later = refl
     by false later = later
 
@@ -124,15 +124,15 @@ module _ (rest : List (List ℕ)) (faultless : fault_of Run (pairs rest) ≡ Non
   abbrev words : List NameAndValue
   words = pairs rest
 
-  text : (name : Name) → text_of Run words name ≡ said rest (name_text name) (unwrap_or (default_of name) [])
+  text : (name : Name) → text_of Run words name ≡ given_or rest (name_text name) (unwrap_or (default_of name) [])
   text name = value_or (name_text name) (default_of name) rest
 
   number : (name : Name) (low high : ℕ) → high < 2 ^ 64 → is_number low high (text_of Run words name) ≡ true
-      → IsSpelled (said rest (name_text name) (unwrap_or (default_of name) [])) (number_named Run words name)
+      → IsSpelled (given_or rest (name_text name) (unwrap_or (default_of name) [])) (number_named Run words name)
   number name low high small h =
       subst (λ (t : List ℕ). IsSpelled t (number_named Run words name)) (text name) (printed (text_of Run words name) low high small h)
 
-  pub words_say : AreSaid rest (as_run Run words)
+  pub words_say : SettingMatches rest (as_run Run words)
   words_say = record {
     population = text Pop;
     first = text First;
@@ -166,7 +166,7 @@ one_part rest faultless none =
     (one, omega (arith, one, ltb-true (number_named Run words Part) (number_named Run words Parts) below))
 
 -- an argument that is not given has its default
-silent_text : (rest : List (List ℕ)) (name : Name) → IsSilent rest (name_text name) → text_of Run (pairs rest) name ≡ unwrap_or (default_of name) []
+silent_text : (rest : List (List ℕ)) (name : Name) → IsNotGiven rest (name_text name) → text_of Run (pairs rest) name ≡ unwrap_or (default_of name) []
 silent_text rest name silent = value_or (name_text name) (default_of name) rest ∙ silent (unwrap_or (default_of name) [])
 
 -- if no group is named, no majorities are required

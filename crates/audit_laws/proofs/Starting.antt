@@ -8,7 +8,7 @@ use Rattle.audit_model.specs.Job.{Job}
 use Rattle.ckpt_store.specs.Fitting.{AreFit}
 use Rattle.audit_statement.specs.Endings.{AreInitialOutcomes, StartsFrom, ObservesInitialOutcomes, saves, leaves_work, pending, to_walk, Saw, initial_outcomes_from}
 use Rattle.audit_laws.specs.Runs.{IsRunJob}
-use Rattle.audit_model.specs.State.{Kept}
+use Rattle.audit_model.specs.State.{KeeperState}
 use Rattle.audit_model.specs.Graph.{has}
 use Rattle.audit_model.specs.Run.{total, has_id, run_ids, IsRight}
 use Rattle.audit_laws.proofs.Counting.{walks_each}
@@ -102,5 +102,5 @@ every_id job outcomes none id below =
     (walks_each job outcomes job.setting.budget (ltb-false (to_walk job outcomes) (pending job outcomes) none) id below)
 
 -- keepers with four equal parts are equal
-pub same_kept : (k l : Kept) → l.slots ≡ k.slots → l.attempted ≡ k.attempted → l.load_faults ≡ k.load_faults → l.save_faults ≡ k.save_faults → l ≡ k
+pub same_kept : (k l : KeeperState) → l.slots ≡ k.slots → l.attempted ≡ k.attempted → l.load_faults ≡ k.load_faults → l.save_faults ≡ k.save_faults → l ≡ k
 same_kept k l slots attempted loads saves i = record { slots = slots i; attempted = attempted i; load_faults = loads i; save_faults = saves i }

@@ -15,7 +15,7 @@ use Rattle.audit_model.proofs.Options.{option_or_none, option_map_none}
 use Rattle.audit_statement.specs.Words.{NameAndValue, pairs, text_of, number_of, number_named, is_number, as_run, covers_walks, divides_draws, stops_alone, is_good, is_yes, is_yes_or_no, names_of, command_of, of_command, fault_of, setting_for, setting_or, setting_of}
 use Rattle.std.specs.Fmt.{digits}
 use Rattle.audit_words.specs.Judged.{fault_of_pairs}
-use Rattle.audit_words.proofs.Unnamed.{good_budget, good_save, plans_lack, serial_is, stop_is, trace_misses_tests}
+use Rattle.audit_words.proofs.Unnamed.{good_budget, good_save, plans_miss, serial_is, stop_is, trace_misses_tests}
 use Rattle.audit_statement.specs.Endings.{is_walking}
 use Rattle.audit_laws.specs.Runs.{StopsAlone}
 
@@ -130,7 +130,7 @@ covers_by Run words setting built faultless same walking none =
 covers_by Plans words setting built faultless same walking none =
     let pairs = (option_or_none _ _ faultless).0 in
     subst (λ (s : Setting). s.walks + s.ends ≤ s.budget) same
-    (covers_all Plans words (good_budget Plans words pairs (plans_lack words) (good Plans words 8 Ends faultless refl)) (good_save Plans words pairs (plans_lack words)) (ap (λ (s : Setting). s.save_every) same ∙ none))
+    (covers_all Plans words (good_budget Plans words pairs (plans_miss words) (good Plans words 8 Ends faultless refl)) (good_save Plans words pairs (plans_miss words)) (ap (λ (s : Setting). s.save_every) same ∙ none))
 covers_by Make words setting built faultless same walking none =
     subst (λ (s : Setting). s.walks + s.ends ≤ s.budget) same
     (covers_all Make words (good Make words 9 Budget faultless refl) (good Make words 10 Save faultless refl) (ap (λ (s : Setting). s.save_every) same ∙ none))

@@ -3,7 +3,7 @@
 use Rattle.std.specs.Prelude.{◌≡◌, ℕ, Bool, false, List, Option, Some}
 use Rattle.std.specs.List.{All}
 use Rattle.audit_model.specs.Pair.{Pair}
-use Rattle.audit_model.specs.State.{Kept}
+use Rattle.audit_model.specs.State.{KeeperState}
 use Rattle.audit_model.specs.Attempts.{Try, try_of}
 use Rattle.audit_model.specs.declared.outcome.Outcome.{Outcome}
 use Rattle.audit_model.specs.Job.{Job}
@@ -51,18 +51,18 @@ GatheredRunsWriteOneReport = (job : Job) (p : Pair) → AreReached job p
     → AreConsistentOf job p × ((events : List Event) → IsChain job p events → AllHaveWritten job events)
 
 -- the slots of each folder are known, and were reached
-abbrev pub AreAllReached : Job → List Kept → Type 0
-AreAllReached job folders = All (λ (k : Kept). (p : Pair) × (k.slots ≡ Some p) × AreReached job p) folders
+abbrev pub AreAllReached : Job → List KeeperState → Type 0
+AreAllReached job folders = All (λ (k : KeeperState). (p : Pair) × (k.slots ≡ Some p) × AreReached job p) folders
 
 -- The slots after one gathering of reached folders into reached slots are reached, whatever its findings.
 abbrev pub GatheringsReach : Type 0
-GatheringsReach = (job : Job) (saves : Bool) (before after : Kept) (folders folders_now : List Kept) (observed : GatherResult) (p q : Pair)
+GatheringsReach = (job : Job) (saves : Bool) (before after : KeeperState) (folders folders_now : List KeeperState) (observed : GatherResult) (p q : Pair)
     → IsGathering job (job_digest job) saves before after folders folders_now observed → before.slots ≡ Some p → after.slots ≡ Some q
     → AreReached job p → AreAllReached job folders → AreReached job q
 
 -- The slots after a gathering whose save failed or was cut off are reached. The only save that a gathering may attempt
 -- is that of the union at its place.
 abbrev pub CutGatheringsReach : Type 0
-CutGatheringsReach = (job : Job) (observed : Option Pair) (folders folders_now : List Kept) (place : ℕ × ℕ) (all : List Outcome) (p q : Pair)
+CutGatheringsReach = (job : Job) (observed : Option Pair) (folders folders_now : List KeeperState) (place : ℕ × ℕ) (all : List Outcome) (p q : Pair)
     → MayBeSaved job (job_digest job) observed folders folders_now place all → IsCheckpoint (checkpoint 2 (job_digest job) place.1 all) 2 (job_digest job) place.1 all → observed ≡ Some p
     → IsCarriedOut IsNotOurs job (job_digest job) p q (try_of place.0 (checkpoint 2 (job_digest job) place.1 all) false) → AreReached job p → AreAllReached job folders → AreReached job q

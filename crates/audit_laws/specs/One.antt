@@ -6,13 +6,13 @@ use Rattle.audit_statement.specs.Draw.{draw}
 use Rattle.audit_statement.specs.Given.{IsGiven}
 use Rattle.audit_statement.specs.Valid.{IsValid}
 use Rattle.audit_statement.specs.Plain.{Decides, plain_report}
-use Rattle.audit_statement.specs.Said.{AreSaid, IsSilent}
+use Rattle.audit_statement.specs.PlainArguments.{SettingMatches, IsNotGiven}
 
 -- the arguments say the job's setting and name no lengths, the JSON gives the job, its start plan is valid, and the test
 -- passes exactly its valid plans
 pub record IsSuch (words : List (List ℕ)) (root : Data) (job : Job) (valid : List ℕ → Bool) : Type 0 where
-  pub set : AreSaid words job.setting
-  pub no_lengths : IsSilent words (codes "--length")
+  pub set : SettingMatches words job.setting
+  pub no_lengths : IsNotGiven words (codes "--length")
   pub given : IsGiven root job
   pub start : IsValid job job.start
   pub decides : Decides job valid

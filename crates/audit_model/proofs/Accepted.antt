@@ -8,7 +8,7 @@ use Rattle.std.proofs.lemmas.Nat.{mul-le, div-add-mod', le-div}
 use Rattle.audit_model.specs.Below.{above_all}
 use Rattle.audit_model.specs.First.{first_some, first_below}
 use Rattle.audit_model.specs.Job.{Job, total_population}
-use Rattle.audit_model.specs.JobOf.{has_no_votes, is_unbalanced, is_parted, cuts_too_many, is_oversplit, votes_fault, bounds_fault, path_fault, cut_fault, split_fault, splits_fault, split_regions_fault, group_fault, length_fault, out_of_bounds, disconnected, oversplit, plan_fault}
+use Rattle.audit_model.specs.JobOf.{has_no_votes, is_unbalanced, is_disconnected, cuts_too_many, is_oversplit, votes_fault, bounds_fault, path_fault, cut_fault, split_fault, splits_fault, split_regions_fault, group_fault, length_fault, out_of_bounds, disconnected, oversplit, plan_fault}
 use Rattle.audit_model.specs.declared.fault.PlanFault.{PlanFault}
 use Rattle.audit_model.specs.declared.fault.PlanFault.TheVariants.{NoVotes, TooManyCut, TooManySplits, TooManySplitRegions, TooFewMajorities, TooLong}
 use Rattle.audit_model.specs.Length.{cut_length}
@@ -100,7 +100,7 @@ accepted_is_legal job complete in_range h =
         in_range = in_range;
         connected = λ d l. passes_connected job.graph (in_district job.start d)
             (not-false (is_connected job.graph (in_district job.start d))
-            (first_below_none job.districts (is_parted job) d (option_map_none (disconnected job) (first_below job.districts (is_parted job)) parts.2) l));
+            (first_below_none job.districts (is_disconnected job) d (option_map_none (disconnected job) (first_below job.districts (is_disconnected job)) parts.2) l));
         balanced = λ d l. passes_balanced job (district_sum job.counts.population job.start d)
             (not-false (is_balanced job (district_sum job.counts.population job.start d))
             (first_below_none job.districts (is_unbalanced job) d (option_map_none (out_of_bounds job) (first_below job.districts (is_unbalanced job)) parts.1) l));
@@ -138,7 +138,7 @@ legal_is_accepted job votes legal =
     (none_first_below job.districts (is_unbalanced job) (λ d l. not_from_true (is_balanced job (district_sum job.counts.population job.start d))
     (balanced_passes job (district_sum job.counts.population job.start d) (legal.balanced d l))))
     ∙ ap (λ o. option_or (option_map (disconnected job) o) (first_some (cut_fault job ∷ after_cut job)))
-    (none_first_below job.districts (is_parted job) (λ d l. not_from_true (is_connected job.graph (in_district job.start d))
+    (none_first_below job.districts (is_disconnected job) (λ d l. not_from_true (is_connected job.graph (in_district job.start d))
     (connected_passes job.graph (in_district job.start d) (legal.connected d l))))
     ∙ ap (λ o. option_or o (first_some (after_cut job)))
     (cond-false (cuts_too_many job) (Some (TooManyCut (cut_edges job.graph job.start) job.setting.max_cut)) None

@@ -45,8 +45,8 @@ abbrev pub is_unbalanced : Job → ℕ → Bool
 is_unbalanced job d = not (is_balanced job (district_sum job.counts.population job.start d))
 
 -- a district is not connected
-abbrev pub is_parted : Job → ℕ → Bool
-is_parted job d = not (is_connected job.graph (in_district job.start d))
+abbrev pub is_disconnected : Job → ℕ → Bool
+is_disconnected job d = not (is_connected job.graph (in_district job.start d))
 
 -- the start plan cuts too many edges
 abbrev pub cuts_too_many : Job → Bool
@@ -70,7 +70,7 @@ abbrev pub disconnected : Job → ℕ → PlanFault
 disconnected job d = Disconnected d (least_unit job d) (parted_unit job d)
 
 abbrev pub path_fault : Job → Option PlanFault
-path_fault job = option_map (disconnected job) (first_below job.districts (is_parted job))
+path_fault job = option_map (disconnected job) (first_below job.districts (is_disconnected job))
 
 abbrev pub cut_fault : Job → Option PlanFault
 cut_fault job = cond (cuts_too_many job) (Some (TooManyCut (cut_edges job.graph job.start) job.setting.max_cut)) None

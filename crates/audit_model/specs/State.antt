@@ -14,7 +14,7 @@ pub record LoadFaults : Type 0 where
   pub taken : ℕ
 
 -- the slots of a keeper and all save attempts, if it is observable, and the numbers of failed loads and saves
-pub record Kept : Type 0 where
+pub record KeeperState : Type 0 where
   pub slots : Option Pair
   pub attempted : Option (List Try)
   pub load_faults : LoadFaults

@@ -15,7 +15,7 @@ use Rattle.audit_statement.specs.Status.{status_of}
 use Rattle.audit_model.specs.State.{Stream}
 use Rattle.audit_model.specs.Observed.{IfObserved}
 use Rattle.audit_statement.specs.World.{World}
-use Rattle.audit_laws.proofs.Telling.{known_at, same_setting}
+use Rattle.audit_laws.proofs.Reporting.{known_at, same_setting}
 
 -- an accepted input is no error
 is_no_error : {A E : Type 0} (r : Result A E) (x : A) → r ≡ Ok x → IsErr r → ⊥

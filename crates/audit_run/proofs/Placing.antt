@@ -11,7 +11,7 @@ use Rattle.audit_start.specs.declared.resume_state.ResumeState.{ResumeState}
 use Rattle.audit_start.specs.ResumeState.{IsOpened, IsTargetFor, IsTarget}
 use Rattle.plan_runs.specs.RunBuffers.{IsStartOf}
 use Rattle.audit_laws.specs.Calls.{Finishes}
-use Rattle.audit_model.specs.State.{Kept, Stream}
+use Rattle.audit_model.specs.State.{KeeperState, Stream}
 
 -- without a place to save, the run saves nothing
 pub no_target_observed : (b : Bool) (job : Job) (slots : Option Pair) (o : Option Target) → o ≡ None → IsTarget b job slots o → b ≡ false
@@ -26,8 +26,8 @@ target_observed false job slots (Some x) t e is = absurd is
 target_observed true job slots (Some x) t e is = let same : x ≡ t = cc in (refl, subst (λ (y : Target). IsTargetFor job slots y) same is)
 
 -- a run from the keeper before a look is one from the keeper after it, if the look changed nothing
-pub goes_on : (job : Job) (out later : Stream) (k l m : Kept) (why : Ended) → l ≡ k → Finishes job out later l m why → Finishes job out later k m why
-goes_on job out later k l m why same f = subst (λ (x : Kept). Finishes job out later x m why) same f
+pub goes_on : (job : Job) (out later : Stream) (k l m : KeeperState) (why : Ended) → l ≡ k → Finishes job out later l m why → Finishes job out later k m why
+goes_on job out later k l m why same f = subst (λ (x : KeeperState). Finishes job out later x m why) same f
 
 -- a run whose tests stop early does not resume, so it starts without outcomes
 opens_with_none : (job : Job) → IsRunJob job → 1 ≤ job.setting.stop → (slots : Option Pair) (outcomes : List Outcome) → AreInitialOutcomes job slots outcomes → outcomes ≡ []

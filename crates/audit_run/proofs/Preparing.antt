@@ -25,7 +25,7 @@ use Rattle.audit_statement.specs.Accepted.{columns_in, most_bytes}
 use Rattle.audit_statement.specs.Endings.{AddsLine, WritesEnding}
 use Rattle.audit_statement.specs.Several.{ArePlansRefused, PlansEnd, PlansLeave, from_jobs, plans_judged}
 use Rattle.audit_statement.specs.Status.{line_of, status_of}
-use Rattle.audit_model.specs.State.{Kept, Stream}
+use Rattle.audit_model.specs.State.{KeeperState, Stream}
 use Rattle.audit_model.specs.Observed.{IfObserved}
 use Rattle.audit_statement.specs.World.{World, world}
 use Rattle.audit_run.specs.Stages.{ArePreparedFor, ArePlansPrepared, IsRefusedSo, PlansRefused, PlansRunTo, plans_ended, read_ended}
@@ -87,7 +87,7 @@ at_its_end setting before after (Err why) ended h = h
 -- ---- the next step of the call
 
 -- refused arguments, or out of memory
-pub words_run : (words : List (List ℕ)) (source : Stream) (f : WordFault) (out : Stream) (keeper : Kept) → (f ≡ word.Memory) ⊎ (setting_of words ≡ Err f)
+pub words_run : (words : List (List ℕ)) (source : Stream) (f : WordFault) (out : Stream) (keeper : KeeperState) → (f ≡ word.Memory) ⊎ (setting_of words ≡ Err f)
     → PlansRunTo words (world source out keeper) (world source out keeper) (word_ended f)
 words_run words source word.Memory out keeper e = record {
   cause = tt;
@@ -118,7 +118,7 @@ module _ (words : List (List ℕ)) (setting : Setting) (accepted : setting_of wo
   are_refused : (ending : Ending) → IsRefusedSo setting before after ending → ArePlansRefused words before.bytes ending
   are_refused ending r = record { setting = setting; bytes = r.bytes; input = record { words_are = accepted; given = r.given }; judged_so = r.judged_so }
 
-  module _ (out : Stream) (keeper : Kept) where
+  module _ (out : Stream) (keeper : KeeperState) where
     only_read : after.faults ≡ before.faults → PlansLeave (world before out keeper) (world after out keeper) (record { read = true; read_failed = false; wrote = false; write_failed = false })
     only_read faults = record { source = tt; read_faults = faults; out = refl; write_faults = refl; keeper = refl }
 
@@ -150,12 +150,12 @@ module _ (words : List (List ℕ)) (setting : Setting) (accepted : setting_of wo
 
   -- the call goes on or ends
   pub prepared : {A : Type 0} (r : Result (Vec Named A) Ended) → MatchResult r (λ plans. ArePreparedFor setting before after plans.items) (λ why. PlansRefused setting before after why)
-      → MatchResult r (λ plans. ArePlansPrepared words before after plans.items) (λ why. (out : Stream) (keeper : Kept) → PlansRunTo words (world before out keeper) (world after out keeper) why)
+      → MatchResult r (λ plans. ArePlansPrepared words before after plans.items) (λ why. (out : Stream) (keeper : KeeperState) → PlansRunTo words (world before out keeper) (world after out keeper) why)
   prepared (Ok plans) h = plans_prepared plans.items h
   prepared (Err why) h = λ out keeper. refused_run out keeper why h
 
 -- the reports were written, in full or in part, or memory ran out
-pub reported_run : (words : List (List ℕ)) (before after : Stream) (named : List Named) (by : ArePlansPrepared words before after named) (out out' : Stream) (keeper : Kept) (why : Ended)
+pub reported_run : (words : List (List ℕ)) (before after : Stream) (named : List Named) (by : ArePlansPrepared words before after named) (out out' : Stream) (keeper : KeeperState) (why : Ended)
     → ReportsPlans by.setting.key (jobs_of named) out out' why → PlansRunTo words (world before out keeper) (world after out' keeper) why
 reported_run words before after named by out out' keeper ended.Done r = record {
   cause = record { setting = by.setting; jobs = jobs_of named; prepared = by.prepared; written = r.0; legal = visit_legally by.setting by.shared.regions by.shared.group by.shared.frozen named by.shared.each };

@@ -6,7 +6,7 @@ use Rattle.audit_model.specs.Faults.{Rose}
 use Rattle.audit_model.specs.Job.{Job}
 use Rattle.audit_model.specs.JobOf.{IsJob}
 use Rattle.audit_model.specs.Limits.{IsSettingOf, IsTraceSetting}
-use Rattle.audit_model.specs.State.{Kept, Stream}
+use Rattle.audit_model.specs.State.{KeeperState, Stream}
 use Rattle.audit_model.specs.declared.setting.Command.{Command}
 use Rattle.audit_model.specs.declared.setting.Command.TheVariants.{Trace}
 use Rattle.audit_statement.specs.Draw.{draw}
@@ -29,14 +29,14 @@ same_always false x = refl
 abbrev pub text_of : Job → List ℕ
 text_of job = trace_text job (draw job.setting.key) job.setting.first_id job.setting.last_id job.setting.thin
 
-module _ (job : Job) (trace : job.setting.command ≡ Trace) (out out' : Stream) (k : Kept) where
+module _ (job : Job) (trace : job.setting.command ≡ Trace) (out out' : Stream) (k : KeeperState) where
   -- a trace saves nothing
   unsaved : saves job.setting ≡ false
   unsaved = ap (λ (c : Command). is_walking c && not (job.setting.save_every == 0)) trace
 
   -- the slots are unchanged, since a trace saves nothing
   left_alone : (made : Type 0) (before after : World) → after.keeper ≡ before.keeper → SavesWhere (saves job.setting) made job before after
-  left_alone made before after same = subst (λ (b : Bool). SavesWhere b made job before after) (sym unsaved) (ap (λ (kept : Kept). kept.slots) same)
+  left_alone made before after same = subst (λ (b : Bool). SavesWhere b made job before after) (sym unsaved) (ap (λ (kept : KeeperState). kept.slots) same)
 
   -- the text that is written
   written : (whole : Bool) (before after : World) → WritesText Trace whole job before after → WritesText job.setting.command whole job before after
@@ -75,7 +75,7 @@ module _ (job : Job) (trace : job.setting.command ≡ Trace) (out out' : Stream)
   }
 
 -- the ending if memory ran out
-pub no_memory_ends : (job : Job) (out : Stream) (k : Kept) → Finishes job out out k k ended.NoMemory
+pub no_memory_ends : (job : Job) (out : Stream) (k : KeeperState) → Finishes job out out k k ended.NoMemory
 no_memory_ends job out k = λ words before after p. record { cause = tt; untouched = left words before after job p out out k k _ refl refl refl refl refl refl refl; line_is = refl }
 
 -- the range that the arguments name
@@ -84,7 +84,7 @@ range_of job = record { first = job.setting.first_id; last = job.setting.last_id
 
 -- the ending of a trace in all cases
 pub traced_ends : (job : Job) → job.setting.command ≡ Trace → (range : TraceRange) → range ≡ range_of job
-    → (out out' : Stream) (k : Kept) (why : Ended) → TracesJob job range out out' why → Finishes job out out' k k why
+    → (out out' : Stream) (k : KeeperState) (why : Ended) → TracesJob job range out out' why → Finishes job out out' k k why
 traced_ends job trace range is out out' k why how = by why (subst (λ (r : TraceRange). TracesJob job r out out' why) is how)
   where
     by : (why : Ended) → TracesJob job (range_of job) out out' why → Finishes job out out' k k why

@@ -13,7 +13,7 @@ use Rattle.audit_statement.specs.Words.{NameAndValue, command_of, fault_of, numb
 use Rattle.audit_statement.specs.Endings.{is_walking}
 use Rattle.audit_statement.specs.Several.{names_plans}
 use Rattle.audit_model.specs.State.{Stream}
-use Rattle.audit_words.proofs.Unnamed.{plans_lack, resume_is, save_is}
+use Rattle.audit_words.proofs.Unnamed.{plans_miss, resume_is, save_is}
 use Rattle.audit_laws.specs.Runs.{AcceptedJobsAreRuns}
 use Rattle.audit_run.specs.Stages.{ArePlansPrepared}
 use Rattle.plan_runs.specs.Plans.{RunsAlone}
@@ -37,8 +37,8 @@ with_fault words None setting faultless e =
     let pairs = first_none _ _ faultless in
     subst IsPlansSetting same (record {
       command = refl;
-      unsaved = ap (λ t. unwrap_or (number_of t) 0) (save_is Plans words pairs (plans_lack words));
-      fresh = ap (λ t. bytes_eq t (codes "yes")) (resume_is Plans words pairs (plans_lack words));
+      unsaved = ap (λ t. unwrap_or (number_of t) 0) (save_is Plans words pairs (plans_miss words));
+      fresh = ap (λ t. bytes_eq t (codes "yes")) (resume_is Plans words pairs (plans_miss words));
     })
 with_fault words (Some f) setting faultless e = cc
 
@@ -54,9 +54,9 @@ plans_setting (word ∷ rest) setting named e =
 -- each of the jobs is a run that saves nothing and does not resume
 pub run_alone : AcceptedJobsAreRuns → (words : List (List ℕ)) (before after : Stream) (named : List Named) → names_plans words ≡ true → ArePlansPrepared words before after named
     → All (λ (n : Named). RunsAlone n.job) named
-run_alone accepted_jobs_are_runs words before after named spoken by = λ k d inside.
+run_alone accepted_jobs_are_runs words before after named argument_bytes by = λ k d inside.
     let accepted = by.prepared.input.words_are in
-    let is = plans_setting words by.setting spoken accepted in
+    let is = plans_setting words by.setting argument_bytes accepted in
     let one = by.shared.each k d inside in
     let accepted_here = accepted ∙ ap Ok (sym one.set) in
     let walking = ap (λ (s : Setting). is_walking s.command) one.set ∙ ap is_walking is.command in

@@ -6,7 +6,7 @@ ghost use Rattle.audit_statement.specs.Several.{names_plans as are_of_plans};
 ghost use Rattle.audit_statement.specs.Whole.{KeepsEachPromise};
 ghost use Rattle.audit_words.specs.Answers.{AnswersOrAudits};
 ghost use Rattle.audit_statement.specs.World.{world};
-ghost use Rattle.audit_words.specs.Spoken.{spoken};
+ghost use Rattle.audit_words.specs.ArgumentBytes.{argument_bytes};
 
 use crate::several::audit_plans;
 use crate::single::audit_single;
@@ -21,7 +21,7 @@ use std::thread::Threads;
 
 // Returns true if the arguments begin with the command `plans`.
 fn names_plans(words: &[String]) -> bool
-    ensures { result ≡ are_of_plans (spoken words.now) }
+    ensures { result ≡ are_of_plans (argument_bytes words.now) }
 {
     let Some((word, _)) = words.split_first() else {
         return false;
@@ -45,10 +45,10 @@ fn audit_asked<
     note: &mut N,
     keeper: C,
 ) -> (u8, C)
-    requires lets { LetsDueSaves C.lets (spoken words.now) (world (S.state graph.old) (K.state out.old) (C.state keeper)) }
+    requires lets { LetsDueSaves C.lets (argument_bytes words.now) (world (S.state graph.old) (K.state out.old) (C.state keeper)) }
     ensures { let before = world (S.state graph.old) (K.state out.old) (C.state keeper) in
         let after = world (S.state graph.new) (K.state out.new) (C.state result.1) in
-        KeepsEachPromise (spoken words.now) before after (N.state note.old) (N.state note.new) result.0 }
+        KeepsEachPromise (argument_bytes words.now) before after (N.state note.old) (N.state note.new) result.0 }
 {
     if names_plans(words) {
         let status = audit_plans(rt, words, graph, out, note);
@@ -95,10 +95,10 @@ pub fn audit<
     note: &mut N,
     keeper: C,
 ) -> (u8, C)
-    requires lets { LetsDueSaves C.lets (spoken words.now) (world (S.state graph.old) (K.state out.old) (C.state keeper)) }
+    requires lets { LetsDueSaves C.lets (argument_bytes words.now) (world (S.state graph.old) (K.state out.old) (C.state keeper)) }
     ensures { let before = world (S.state graph.old) (K.state out.old) (C.state keeper) in
         let after = world (S.state graph.new) (K.state out.new) (C.state result.1) in
-        AnswersOrAudits build.now (spoken words.now) before after (N.state note.old) (N.state note.new) result.0 }
+        AnswersOrAudits build.now (argument_bytes words.now) before after (N.state note.old) (N.state note.new) result.0 }
 {
     match question_of(words) {
         Some(question) => (answer(build, question, out, note), keeper),

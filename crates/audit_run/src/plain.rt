@@ -2,7 +2,7 @@
 
 ghost use Rattle.audit_statement.specs.Due.{LetsDueSaves};
 ghost use Rattle.audit_statement.specs.World.{world};
-ghost use Rattle.audit_words.specs.Spoken.{spoken};
+ghost use Rattle.audit_words.specs.ArgumentBytes.{argument_bytes};
 ghost use Rattle.audit_statement.specs.Audited.{AuditsPlainly};
 ghost use Rattle.audit_statement.specs.PlainlyEnded.{EndsPlainly};
 ghost use Rattle.audit_words.specs.Answers.{AnswersOrAudits};
@@ -40,14 +40,14 @@ pub fn audit_plainly<
     note: &mut N,
     keeper: C,
 ) -> (u8, C)
-    requires lets { LetsDueSaves C.lets (spoken words.now) (world (S.state graph.old) (K.state out.old) (C.state keeper)) }
-    ensures plain { spoken words.now ≢ codes "run" ∷ codes "--help" ∷ [] → AuditsPlainly (spoken words.now) (S.state graph.old).bytes (K.state out.old).bytes (K.state out.new).bytes result.0 }
+    requires lets { LetsDueSaves C.lets (argument_bytes words.now) (world (S.state graph.old) (K.state out.old) (C.state keeper)) }
+    ensures plain { argument_bytes words.now ≢ codes "run" ∷ codes "--help" ∷ [] → AuditsPlainly (argument_bytes words.now) (S.state graph.old).bytes (K.state out.old).bytes (K.state out.new).bytes result.0 }
     ensures ends { let before = world (S.state graph.old) (K.state out.old) (C.state keeper) in
         let after = world (S.state graph.new) (K.state out.new) (C.state result.1) in
-        EndsPlainly (spoken words.now) before after result.0 }
+        EndsPlainly (argument_bytes words.now) before after result.0 }
     ensures kept { let before = world (S.state graph.old) (K.state out.old) (C.state keeper) in
         let after = world (S.state graph.new) (K.state out.new) (C.state result.1) in
-        AnswersOrAudits build.now (spoken words.now) before after (N.state note.old) (N.state note.new) result.0 }
+        AnswersOrAudits build.now (argument_bytes words.now) before after (N.state note.old) (N.state note.new) result.0 }
 {
     promised_calls_audit_plainly();
     promised_calls_end_plainly();

@@ -5,10 +5,10 @@ ghost use Rattle.std.specs.Io.KnownBytes.{IsAtEnd};
 ghost use Rattle.audit_model.specs.Limits.{IsSetting};
 ghost use Rattle.audit_run.specs.Stages.{ArePreparedFor, ArePlansPrepared, PlansRefused, PlansRunTo, plans_ended, read_ended};
 ghost use Rattle.audit_statement.specs.Accepted.{most_bytes};
-ghost use Rattle.audit_model.specs.State.{Kept, Stream};
+ghost use Rattle.audit_model.specs.State.{KeeperState, Stream};
 ghost use Rattle.audit_model.specs.Observed.{IfObserved};
 ghost use Rattle.audit_statement.specs.World.{world};
-ghost use Rattle.audit_words.specs.Spoken.{spoken};
+ghost use Rattle.audit_words.specs.ArgumentBytes.{argument_bytes};
 
 use audit_io::source::Source;
 use audit_model::fault::PlansFault;
@@ -111,8 +111,8 @@ pub fn prepare_plans<S: Source>(
     words: &[String],
     source: &mut S,
 ) -> Result<Vec<Named>, Ended>
-    ensures { MatchResult result (λ plans. ArePlansPrepared (spoken words.now) (S.state source.old) (S.state source.new) plans.items)
-        (λ why. (out : Stream) (keeper : Kept) → PlansRunTo (spoken words.now) (world (S.state source.old) out keeper) (world (S.state source.new) out keeper) why) }
+    ensures { MatchResult result (λ plans. ArePlansPrepared (argument_bytes words.now) (S.state source.old) (S.state source.new) plans.items)
+        (λ why. (out : Stream) (keeper : KeeperState) → PlansRunTo (argument_bytes words.now) (world (S.state source.old) out keeper) (world (S.state source.new) out keeper) why) }
 {
     match read(alloc, words) {
         Ok(setting) => prepare_jobs(alloc, setting, source),

@@ -1,7 +1,7 @@
 //! A run of one plan: its start, its constraints, and its saves.
 
 ghost use Rattle.std.specs.Prelude.{◌≡◌, [], false};
-ghost use Rattle.audit_model.specs.State.{Kept};
+ghost use Rattle.audit_model.specs.State.{KeeperState};
 ghost use Rattle.audit_statement.specs.Endings.{AreInitialOutcomes, saves};
 ghost use Rattle.audit_statement.specs.Due.{LetsSavesOf};
 ghost use Rattle.audit_laws.specs.Calls.{Finishes};
@@ -38,7 +38,7 @@ fn run_without_saves<R: Threads + Sync, K: Sink, J: Judge + Send, G: Gate + Sync
     requires start { IsStartOf job.now outcomes.now }
     requires unsaved { saves job.now.setting ≡ false }
     requires judges { IsJudgeSet J.judging job.now judges }
-    ensures { (k : Kept) → AreInitialOutcomes job.now k.slots outcomes.now → Finishes job.now (K.state out.old) (K.state out.new) k k result }
+    ensures { (k : KeeperState) → AreInitialOutcomes job.now k.slots outcomes.now → Finishes job.now (K.state out.old) (K.state out.new) k k result }
 {
     match make_resources(rt.alloc, job, outcomes, judges) {
         Ok(resources) => run_unsaved(rt, job, resources, out).ended(),

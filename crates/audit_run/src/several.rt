@@ -3,9 +3,9 @@
 ghost use Rattle.std.specs.Prelude.{◌≡◌, true};
 ghost use Rattle.audit_run.specs.Stages.{PlansRunTo};
 ghost use Rattle.audit_statement.specs.Several.{KeepsPlansPromise, names_plans};
-ghost use Rattle.audit_model.specs.State.{Kept};
+ghost use Rattle.audit_model.specs.State.{KeeperState};
 ghost use Rattle.audit_statement.specs.World.{world};
-ghost use Rattle.audit_words.specs.Spoken.{spoken};
+ghost use Rattle.audit_words.specs.ArgumentBytes.{argument_bytes};
 
 use crate::plan_jobs::prepare_plans;
 use crate::plan_reports::report_all;
@@ -14,7 +14,7 @@ use audit_io::sink::Sink;
 use audit_io::source::Source;
 use claim_counter::workers::Runtime;
 use report::ended::Ended;
-use report::note::tell;
+use report::note::write_diagnostic;
 use std::thread::Threads;
 
 // Runs the command `plans`, but writes no diagnostic.
@@ -24,8 +24,8 @@ fn run_plans<R: Threads + Sync, S: Source, K: Sink, G: Gate + Sync>(
     graph: &mut S,
     out: &mut K,
 ) -> Ended
-    requires { names_plans (spoken words.now) ≡ true }
-    ensures { (keeper : Kept) → PlansRunTo (spoken words.now)
+    requires { names_plans (argument_bytes words.now) ≡ true }
+    ensures { (keeper : KeeperState) → PlansRunTo (argument_bytes words.now)
         (world (S.state graph.old) (K.state out.old) keeper)
         (world (S.state graph.new) (K.state out.new) keeper) result }
 {
@@ -52,14 +52,14 @@ pub fn audit_plans<R: Threads + Sync, S: Source, K: Sink, N: Sink, G: Gate + Syn
     out: &mut K,
     note: &mut N,
 ) -> u8
-    requires { names_plans (spoken words.now) ≡ true }
-    ensures { (keeper : Kept) → KeepsPlansPromise (spoken words.now)
+    requires { names_plans (argument_bytes words.now) ≡ true }
+    ensures { (keeper : KeeperState) → KeepsPlansPromise (argument_bytes words.now)
         (world (S.state graph.old) (K.state out.old) keeper)
         (world (S.state graph.new) (K.state out.new) keeper)
         (N.state note.old) (N.state note.new) result }
 {
     let why = run_plans(rt, words, graph, out);
-    let status = tell(&why, note);
+    let status = write_diagnostic(&why, note);
     drop(why);
     status
 }

@@ -7,9 +7,9 @@ ghost use Rattle.audit_statement.specs.Promise.{KeepsItsPromise};
 ghost use Rattle.audit_statement.specs.Due.{LetsDueSaves, LetsSavesOf};
 ghost use Rattle.audit_laws.specs.Calls.{Finishes};
 ghost use Rattle.audit_laws.specs.Runs.{IsRunJob};
-ghost use Rattle.audit_model.specs.State.{Kept};
+ghost use Rattle.audit_model.specs.State.{KeeperState};
 ghost use Rattle.audit_statement.specs.World.{world};
-ghost use Rattle.audit_words.specs.Spoken.{spoken};
+ghost use Rattle.audit_words.specs.ArgumentBytes.{argument_bytes};
 
 use crate::run::run_job;
 use crate::trace::trace_job;
@@ -25,7 +25,7 @@ use claim_counter::workers::Runtime;
 use plan_core::job::Job;
 use report::check::check_text;
 use report::ended::Ended;
-use report::note::tell;
+use report::note::write_diagnostic;
 use report::writing::write_all;
 use std::alloc::Global;
 use std::sync::Wait;
@@ -33,7 +33,7 @@ use std::thread::Threads;
 
 fn write_check<K: Sink>(alloc: Global, job: &Job, out: &mut K) -> Ended
     requires { job.now.setting.command ≡ Check }
-    ensures { (keeper : Kept) → Finishes job.now (K.state out.old) (K.state out.new) keeper keeper result }
+    ensures { (keeper : KeeperState) → Finishes job.now (K.state out.old) (K.state out.new) keeper keeper result }
 {
     let mut text = Bytes::new(alloc);
     match check_text(alloc, job, &mut text) {
@@ -93,10 +93,10 @@ pub fn audit_single<
     note: &mut N,
     keeper: C,
 ) -> (u8, C)
-    requires lets { LetsDueSaves C.lets (spoken words.now) (world (S.state graph.old) (K.state out.old) (C.state keeper)) }
+    requires lets { LetsDueSaves C.lets (argument_bytes words.now) (world (S.state graph.old) (K.state out.old) (C.state keeper)) }
     ensures { let before = world (S.state graph.old) (K.state out.old) (C.state keeper) in
         let after = world (S.state graph.new) (K.state out.new) (C.state result.1) in
-        KeepsItsPromise (spoken words.now) before after (N.state note.old) (N.state note.new) result.0 }
+        KeepsItsPromise (argument_bytes words.now) before after (N.state note.old) (N.state note.new) result.0 }
 {
     // This call only tells the proof that a call with a correct ending meets the top contract.
     ended_calls_keep_their_promise();
@@ -104,12 +104,12 @@ pub fn audit_single<
         Ok(job) => {
             let (why, keeper) = run_command(rt, &job, out, keeper);
             drop(job);
-            let status = tell(&why, note);
+            let status = write_diagnostic(&why, note);
             drop(why);
             (status, keeper)
         }
         Err(why) => {
-            let status = tell(&why, note);
+            let status = write_diagnostic(&why, note);
             drop(why);
             (status, keeper)
         }

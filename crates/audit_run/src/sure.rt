@@ -1,7 +1,7 @@
 //! The audit over a source, an output and a keeper that never fail.
 
 ghost use Rattle.audit_statement.specs.Sure.{EachEndsSurely, sure_world};
-ghost use Rattle.audit_words.specs.Spoken.{spoken};
+ghost use Rattle.audit_words.specs.ArgumentBytes.{argument_bytes};
 ghost use Rattle.audit_words.specs.Answers.{AnswersOrAudits};
 
 use crate::audit::audit;
@@ -33,8 +33,8 @@ pub fn audit_surely<R: Threads + Wait + Sync, N: Sink, G: Gate + Sync>(
     note: &mut N,
     keeper: SureKeeper,
 ) -> (u8, SureKeeper)
-    ensures complete { EachEndsSurely (spoken words.now) (sure_world graph.old keeper) result.0 }
-    ensures kept { AnswersOrAudits build.now (spoken words.now) (sure_world graph.old keeper) (sure_world graph.new result.1)
+    ensures complete { EachEndsSurely (argument_bytes words.now) (sure_world graph.old keeper) result.0 }
+    ensures kept { AnswersOrAudits build.now (argument_bytes words.now) (sure_world graph.old keeper) (sure_world graph.new result.1)
         (N.state note.old) (N.state note.new) result.0 }
 {
     questions_were_refused();

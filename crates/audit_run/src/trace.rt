@@ -4,7 +4,7 @@ ghost use Rattle.std.specs.Prelude.{◌≡◌, ◌<◌, ◌≤◌, []};
 ghost use Rattle.audit_laws.specs.Calls.{Finishes};
 ghost use Rattle.audit_model.specs.JobOf.{IsJob};
 ghost use Rattle.audit_model.specs.Limits.{most_trajectories};
-ghost use Rattle.audit_model.specs.State.{Kept};
+ghost use Rattle.audit_model.specs.State.{KeeperState};
 ghost use Rattle.audit_model.specs.declared.setting.Command.TheVariants.{Trace};
 ghost use Rattle.plan_runs.specs.Tracers.{TracesJob};
 
@@ -91,7 +91,7 @@ fn trace_range<K: Sink>(alloc: Global, job: &Job, range: TraceRange, out: &mut K
 /// Allocates all memory of a trace, then walks the range that the arguments name and writes its plans while walking.
 pub fn trace_job<K: Sink>(alloc: Global, job: &Job, out: &mut K) -> Ended
     requires { job.now.setting.command ≡ Trace }
-    ensures { (keeper : Kept) → Finishes job.now (K.state out.old) (K.state out.new) keeper keeper result }
+    ensures { (keeper : KeeperState) → Finishes job.now (K.state out.old) (K.state out.new) keeper keeper result }
 {
     trace_range(alloc, job, range_of(job), out)
 }

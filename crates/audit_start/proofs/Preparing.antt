@@ -10,7 +10,7 @@ use Rattle.audit_statement.specs.Accepted.{input_by}
 use Rattle.audit_statement.specs.Endings.{LeavesUntouched, SameUnless, TakesTooMany, no_marks, passes, is_reading}
 use Rattle.audit_start.specs.Steps.{ReadsTooMany}
 use Rattle.audit_laws.specs.Calls.{RunsTo}
-use Rattle.audit_model.specs.State.{Kept, Stream}
+use Rattle.audit_model.specs.State.{KeeperState, Stream}
 use Rattle.audit_model.specs.Observed.{IfObserved}
 use Rattle.audit_statement.specs.World.{world}
 use Rattle.audit_start.proofs.Judging.{judged_many}
@@ -34,7 +34,7 @@ reads_source Make setting left bytes reads given = cc
 reads_source Plans setting left bytes reads given = given
 reads_source Trace setting left bytes reads given = given
 
-module _ (words : List (List ℕ)) (setting : Setting) (before after : Stream) (accepted : setting_of words ≡ Ok setting) (out : Stream) (keeper : Kept) where
+module _ (words : List (List ℕ)) (setting : Setting) (before after : Stream) (accepted : setting_of words ≡ Ok setting) (out : Stream) (keeper : KeeperState) where
   -- only the source was changed
   pub only_source : SameUnless (is_reading setting.command) before after → after.faults ≡ before.faults
       → LeavesUntouched words (world before out keeper) (world after out keeper) no_marks

@@ -11,7 +11,7 @@ use Rattle.report.specs.declared.ended.Ended.TheVariants as ended
 use Rattle.audit_statement.specs.Endings.{AreDamaged, IsOtherJob, is_walking, initial_outcomes_from}
 use Rattle.audit_start.specs.ResumeState.{IsOtherSeen, RefusesSlots}
 use Rattle.audit_laws.specs.Calls.{Finishes}
-use Rattle.audit_model.specs.State.{Kept, Stream}
+use Rattle.audit_model.specs.State.{KeeperState, Stream}
 use Rattle.audit_start.proofs.Started.{newest_observed, one_observed, initial_outcomes_seen, initial_outcomes_observed, saw_pair, slot_observed, zero_observed}
 use Rattle.audit_laws.proofs.Leaving.{left}
 
@@ -35,7 +35,7 @@ module _ (job : Job) (digest : List ℕ) (slots : Slots) (is : digest ≡ job_di
     found_is = sym (slot_observed job digest p slots is seen o.number) ∙ o.other_is;
   }
 
-  damaged_ends : (out : Stream) (k : Kept) → is_walking job.setting.command ≡ true → SawSlots job digest k.slots slots → newest_seen slots ≡ None → initial_outcomes_seen job.setting slots ≡ None
+  damaged_ends : (out : Stream) (k : KeeperState) → is_walking job.setting.command ≡ true → SawSlots job digest k.slots slots → newest_seen slots ≡ None → initial_outcomes_seen job.setting slots ≡ None
       → Finishes job out out k k (ended.Damaged slots)
   damaged_ends out k walking seen none none_initial = λ words before after p. record {
     cause = record {
@@ -49,7 +49,7 @@ module _ (job : Job) (digest : List ℕ) (slots : Slots) (is : digest ≡ job_di
     line_is = refl;
   }
 
-  other_ends : (out : Stream) (k : Kept) (found : List ℕ) → is_walking job.setting.command ≡ true → SawSlots job digest k.slots slots → IsOtherSeen slots found → initial_outcomes_seen job.setting slots ≡ None
+  other_ends : (out : Stream) (k : KeeperState) (found : List ℕ) → is_walking job.setting.command ≡ true → SawSlots job digest k.slots slots → IsOtherSeen slots found → initial_outcomes_seen job.setting slots ≡ None
       → Finishes job out out k k (ended.OtherJob found digest)
   other_ends out k found walking seen o none_initial = λ words before after p. record {
     cause = record {
@@ -63,7 +63,7 @@ module _ (job : Job) (digest : List ℕ) (slots : Slots) (is : digest ≡ job_di
     line_is = refl;
   }
 
-  pub refused_ends : (out : Stream) (k : Kept) (why : Ended) → is_walking job.setting.command ≡ true → SawSlots job digest k.slots slots → initial_outcomes_seen job.setting slots ≡ None
+  pub refused_ends : (out : Stream) (k : KeeperState) (why : Ended) → is_walking job.setting.command ≡ true → SawSlots job digest k.slots slots → initial_outcomes_seen job.setting slots ≡ None
       → RefusesSlots slots digest why → Finishes job out out k k why
   refused_ends out k (ended.Damaged found) walking seen none_initial r =
       subst (λ (s : Slots). Finishes job out out k k (ended.Damaged s)) (sym r.0) (damaged_ends out k walking seen r.1 none_initial)

@@ -5,7 +5,7 @@ use Rattle.std.specs.List.{All}
 use Rattle.std.proofs.lemmas.List.{length-map}
 use Rattle.std.proofs.lemmas.List.Elements.{All-cons, All-filter, All-head, All-map, All-tail}
 use Rattle.std.proofs.lemmas.List.Sums.{count_by-le-length, length-filter}
-use Rattle.audit_model.specs.State.{Kept}
+use Rattle.audit_model.specs.State.{KeeperState}
 use Rattle.audit_model.specs.Observed.{IfObserved}
 use Rattle.audit_model.specs.Pair.{Pair}
 use Rattle.audit_model.specs.declared.outcome.Outcome.{Outcome}
@@ -152,7 +152,7 @@ taken_fit job outcomes fit = by job.setting.shift
     by false = fit_without_histogram job outcomes fit
 
 -- the run starts with the part of the newest slot's outcomes that it resumes from
-pub opens_taken : (job : Job) → IsRunJob job → (digest : List ℕ) (k : Kept) (slots : Slots) (saved_outcomes outcomes : List Outcome) (target : Option Target)
+pub opens_taken : (job : Job) → IsRunJob job → (digest : List ℕ) (k : KeeperState) (slots : Slots) (saved_outcomes outcomes : List Outcome) (target : Option Target)
     → digest ≡ job_digest job → job.setting.resume ≡ true → SawSlots job digest k.slots slots → newest_outcomes_seen slots ≡ Some saved_outcomes → AreFit job saved_outcomes
     → outcomes ≡ taken_up job.setting.shift job.setting.walks saved_outcomes → (o : ResumeState) → o.outcomes.items ≡ outcomes → o.target ≡ target
     → IsTarget (saves job.setting) job k.slots target → OpensWith job k k o
@@ -232,5 +232,5 @@ refused_seen slots wanted (OtherJob found digest) e = other_seen slots wanted fo
 -- ---- the keeper is unchanged
 
 -- after a look that changed nothing, the run starts or ends as from the keeper before
-pub opens_later : (job : Job) (k l : Kept) (result : Result ResumeState Ended) → l ≡ k → Opens job k k result → Opens job k l result
-opens_later job k l result same o = subst (λ (x : Kept). Opens job k x result) (sym same) o
+pub opens_later : (job : Job) (k l : KeeperState) (result : Result ResumeState Ended) → l ≡ k → Opens job k k result → Opens job k l result
+opens_later job k l result same o = subst (λ (x : KeeperState). Opens job k x result) (sym same) o

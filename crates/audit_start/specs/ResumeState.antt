@@ -16,7 +16,7 @@ use Rattle.audit_start.specs.declared.resume_state.Target.{Target}
 use Rattle.audit_statement.specs.Endings.{AreInitialOutcomes, place_of, saves}
 use Rattle.audit_laws.specs.Calls.{Finishes}
 use Rattle.audit_laws.specs.Runs.{IsRunJob}
-use Rattle.audit_model.specs.State.{Kept, Stream}
+use Rattle.audit_model.specs.State.{KeeperState, Stream}
 use Rattle.audit_model.specs.Observed.{IfObserved}
 
 -- the place of the job's first save, by the known slots
@@ -59,11 +59,11 @@ RefusesSlots slots wanted (ended.OtherJob found digest) = (digest ≡ wanted) ×
 RefusesSlots slots wanted why = ⊥
 
 -- the keeper is unchanged, and the run may start
-pub record OpensWith (job : Job) (before after : Kept) (o : ResumeState) : Type 0 where
+pub record OpensWith (job : Job) (before after : KeeperState) (o : ResumeState) : Type 0 where
   pub same : after ≡ before
   pub opened : IsOpened job before.slots o
 
 -- the run may start, or it ends
-abbrev pub Opens : Job → Kept → Kept → Result ResumeState Ended → Type 0
+abbrev pub Opens : Job → KeeperState → KeeperState → Result ResumeState Ended → Type 0
 Opens job before after (Ok o) = OpensWith job before after o
 Opens job before after (Err why) = (out : Stream) → Finishes job out out before after why

@@ -16,7 +16,7 @@ use Rattle.audit_model.specs.declared.setting.Setting.{Setting}
 use Rattle.audit_statement.specs.Accepted.{most_bytes, judged}
 use Rattle.audit_statement.specs.Endings.{IsPrepared, TakesTooMany}
 use Rattle.audit_laws.specs.Calls.{RunsTo}
-use Rattle.audit_model.specs.State.{Kept, Stream}
+use Rattle.audit_model.specs.State.{KeeperState, Stream}
 use Rattle.audit_model.specs.Observed.{IfObserved}
 use Rattle.audit_statement.specs.World.{world}
 
@@ -44,7 +44,7 @@ ReadsSource before after (Err read.Memory) = after.faults ≡ before.faults
 -- the job was prepared, or the call ends, whatever the rest of the state
 abbrev pub Prepares : List (List ℕ) → Stream → Stream → Result Job Ended → Type 0
 Prepares words before after (Ok job) = IsPrepared words before after job
-Prepares words before after (Err why) = (out : Stream) (keeper : Kept) → RunsTo words (world before out keeper) (world after out keeper) why
+Prepares words before after (Err why) = (out : Stream) (keeper : KeeperState) → RunsTo words (world before out keeper) (world after out keeper) why
 
 -- the reason why these bytes have no job
 abbrev pub JudgedSo : Setting → List ℕ → Ended → Type 0

@@ -17,7 +17,7 @@ ghost use Rattle.report.specs.Ended.{word_ended, graph_ended, region_ended, plan
 ghost use Rattle.audit_statement.specs.Endings.{is_reading};
 ghost use Rattle.audit_start.specs.Steps.{IsMaking, Prepares, PreparesFor, Judges};
 ghost use Rattle.audit_model.specs.State.{Stream};
-ghost use Rattle.audit_words.specs.Spoken.{spoken};
+ghost use Rattle.audit_words.specs.ArgumentBytes.{argument_bytes};
 ghost use Rattle.audit_statement.specs.Grid.{grid};
 
 use crate::reading::{ReadEnd, read_source};
@@ -177,7 +177,7 @@ fn prepare_read<S: Source>(alloc: Global, setting: Setting, source: &mut S) -> R
 /// Makes the job of the arguments and the source, or returns the reason why there is none. The graph of `make` is a
 /// grid, and the source is not read.
 pub fn prepare<S: Source>(alloc: Global, words: &[String], source: &mut S) -> Result<Job, Ended>
-    ensures { Prepares (spoken words.now) (S.state source.old) (S.state source.new) result }
+    ensures { Prepares (argument_bytes words.now) (S.state source.old) (S.state source.new) result }
 {
     match read(alloc, words) {
         Ok(setting) => match setting.command {

@@ -1,7 +1,7 @@
 //! The start of a run: its initial outcomes, and the place (slot and generation) of its first save.
 
 ghost use Rattle.std.specs.Prelude.{◌≡◌, ◌∷◌, [], ◌++◌, map, true, IfErr, IfOk, IsTrue, MatchResult, None, OnOk, Option, Some};
-ghost use Rattle.audit_model.specs.State.{Kept};
+ghost use Rattle.audit_model.specs.State.{KeeperState};
 ghost use Rattle.audit_model.specs.Observed.{IfObserved};
 ghost use Rattle.audit_model.specs.Pair.{Pair};
 ghost use Rattle.audit_model.specs.Job as model;
@@ -147,7 +147,7 @@ fn open_found(
     requires run { IsRunJob job.now }
     requires digest { digest ≡ definition.job_digest job.now }
     requires fit { HasFitOutcomes job.now slots.zero × HasFitOutcomes job.now slots.one }
-    ensures { (k : Kept) → SawSlots job.now digest k.slots slots → Opens job.now k k result }
+    ensures { (k : KeeperState) → SawSlots job.now digest k.slots slots → Opens job.now k k result }
 {
     let target = target_of(job, &slots, digest);
     if !job.setting().resume {

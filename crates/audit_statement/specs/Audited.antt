@@ -9,14 +9,14 @@ use Rattle.audit_statement.specs.Draw.{draw}
 use Rattle.audit_statement.specs.Given.{IsGiven}
 use Rattle.audit_statement.specs.Valid.{IsValid}
 use Rattle.audit_statement.specs.Plain.{Decides, hub, plan_after, plain_report}
-use Rattle.audit_statement.specs.Said.{ArePlain, AreSaid}
+use Rattle.audit_statement.specs.PlainArguments.{ArePlain, SettingMatches}
 
 -- The arguments give the job's setting, and the bytes are JSON that gives the job. The start plan is valid, and so is
 -- each plan visited on any stream after any number of steps. `valid` is a test that passes exactly the valid plans. The
 -- output is what it was before, followed by the plain report for this test.
 pub record IsAudited (words : List (List ℕ)) (bytes old : List ℕ) (out_after : Option (List ℕ)) : Type 0 where
   pub job : Job
-  pub set : AreSaid words job.setting
+  pub set : SettingMatches words job.setting
   pub root : Data
   pub is_text : IsTrue (is_utf8 bytes)
   pub is_json : read bytes ≡ Some root

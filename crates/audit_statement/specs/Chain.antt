@@ -22,8 +22,8 @@ abbrev pub AreConsistentOf : Job → Pair → Type 0
 AreConsistentOf job p = AreConsistent job (draw job.setting.key) (job_digest job) p
 
 -- a run that resumes finds consistent slots; for other runs nothing is required
-abbrev pub ResumesHonestly : Job → World → Type 0
-ResumesHonestly job before = IsTrue job.setting.resume → IfObserved before.keeper.slots (AreConsistentOf job)
+abbrev pub ResumesFromConsistent : Job → World → Type 0
+ResumesFromConsistent job before = IsTrue job.setting.resume → IfObserved before.keeper.slots (AreConsistentOf job)
 
 -- the later save holds each outcome of the earlier one, and more if that one succeeded
 pub record IsContainedIn (job : Job) (earlier later : Try) : Type 0 where
@@ -61,7 +61,7 @@ pub record AttemptsOver (job : Job) (before after : World) (p : Pair) (status : 
   pub counted : (outcomes : List Outcome) → ObservesInitialOutcomes job before.keeper.slots (Some outcomes) → IsTrue (saves job.setting && has_walked status)
       → All (λ t. t.succeeded ≡ true) attempts → length attempts ≡ count_of_saves job outcomes
   pub covered : min (before.keeper.save_faults + failed_of attempts) (2 ^ 64 - 1) ≤ after.keeper.save_faults
-  pub right : ResumesHonestly job before → All (λ t. IsRightSave job (draw job.setting.key) (job_digest job) t.bytes) attempts
+  pub right : ResumesFromConsistent job before → All (λ t. IsRightSave job (draw job.setting.key) (job_digest job) t.bytes) attempts
 
 -- the save attempts, if the keeper is observable
 abbrev pub AttemptedRightly : List (List ℕ) → World → World → ℕ → Type 0
@@ -71,9 +71,9 @@ AttemptedRightly words before after status = (job : Job) (p : Pair) → IsTheJob
 -- from consistent slots, a run starts with right outcomes, writes the report of one thread and, if no save failed,
 -- leaves consistent slots for the next run
 pub record StaysConsistent (words : List (List ℕ)) (before after : World) (status : ℕ) : Type 0 where
-  pub opens_right : (job : Job) (outcomes : List Outcome) → StartsWith words before job outcomes → ResumesHonestly job before
+  pub opens_right : (job : Job) (outcomes : List Outcome) → StartsWith words before job outcomes → ResumesFromConsistent job before
       → IsRight job (draw job.setting.key) outcomes
-  pub one_thread : (job : Job) (outcomes : List Outcome) → StartsWith words before job outcomes → ResumesHonestly job before → status ≡ 0
+  pub one_thread : (job : Job) (outcomes : List Outcome) → StartsWith words before job outcomes → ResumesFromConsistent job before → status ≡ 0
       → WritesOneThreads job before after
   pub stays : (job : Job) (p q : Pair) → IsTheJob words before job → before.keeper.slots ≡ Some p → after.keeper.slots ≡ Some q → AreConsistentOf job p
       → NoSaveFailed before after → AreConsistentOf job q

@@ -3,7 +3,7 @@
 -- due saves. Some keepers permit no others, so the top call can never ask for a save that is not due.
 use Rattle.std.specs.Prelude.{◌≡◌, ℕ, ◌<◌, IsTrue, List, [], ◌∷◌, ◌++◌, Option}
 use Rattle.audit_model.specs.Pair.{Pair}
-use Rattle.audit_model.specs.State.{Kept}
+use Rattle.audit_model.specs.State.{KeeperState}
 use Rattle.audit_model.specs.Observed.{IfObserved}
 use Rattle.audit_model.specs.Attempts.{Try, attempted_all}
 use Rattle.audit_model.specs.declared.outcome.Outcome.{Outcome}
@@ -18,18 +18,18 @@ use Rattle.audit_statement.specs.World.{World}
 
 -- the saves that a keeper permits: in a state, the bytes that a slot may be asked to take
 abbrev pub Lets : Type 1
-Lets = Kept → ℕ → List ℕ → Type 0
+Lets = KeeperState → ℕ → List ℕ → Type 0
 
 -- in this state, the keeper permits the save of this checkpoint to this slot
-abbrev pub LetsCheckpoint : Lets → Kept → List ℕ → ℕ → ℕ → List Outcome → Type 0
+abbrev pub LetsCheckpoint : Lets → KeeperState → List ℕ → ℕ → ℕ → List Outcome → Type 0
 LetsCheckpoint lets k digest slot generation outcomes =
     IsCheckpoint (checkpoint 2 digest generation outcomes) 2 digest generation outcomes → lets k slot (checkpoint 2 digest generation outcomes)
 
--- In a run over these ids, the keeper permits each save that is due next. `told` are the save attempts before the run.
+-- In a run over these ids, the keeper permits each save that is due next. `observed` are the save attempts before the run.
 -- A save is due next if the attempts since, followed by it, are saves so far.
 abbrev pub LetsRun : Lets → Option (List Try) → Job → List Outcome → ℕ → Place → List ℕ → Type 0
 LetsRun lets observed job initial_outcomes every place ids =
-    (k : Kept) (attempts : List Try) (t : Try) → k.attempted ≡ attempted_all observed attempts → AreSavesSoFar job initial_outcomes every place ids (attempts ++ t ∷ []) → lets k t.slot t.bytes
+    (k : KeeperState) (attempts : List Try) (t : Try) → k.attempted ≡ attempted_all observed attempts → AreSavesSoFar job initial_outcomes every place ids (attempts ++ t ∷ []) → lets k t.slot t.bytes
 
 -- the place of a run's first save, if the slots that it finds are observable
 pub record IsFirstPlace (job : Job) (slots : Option Pair) (place : Place) : Type 0 where
@@ -38,7 +38,7 @@ pub record IsFirstPlace (job : Job) (slots : Option Pair) (place : Place) : Type
   pub observed : IfObserved slots (λ p. place ≡ first_place job p)
 
 -- for a run of the job that finds the keeper in this state, it permits the run's saves
-abbrev pub LetsSavesOf : Lets → Job → Kept → Type 0
+abbrev pub LetsSavesOf : Lets → Job → KeeperState → Type 0
 LetsSavesOf lets job before = (initial_outcomes : List Outcome) (place : Place) → IsTrue (saves job.setting) → AreInitialOutcomes job before.slots initial_outcomes → IsFirstPlace job before.slots place
     → LetsRun lets before.attempted job initial_outcomes job.setting.save_every place (run_ids job initial_outcomes job.setting.budget)
 

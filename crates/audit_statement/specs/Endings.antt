@@ -28,7 +28,7 @@ use Rattle.audit_model.specs.Pair.{Pair, stored}
 use Rattle.audit_model.specs.Attempts.{Try}
 use Rattle.audit_statement.specs.Accepted.{IsAccepted, IsRefused, columns_of, most_bytes}
 use Rattle.audit_statement.specs.Status.{status_of}
-use Rattle.audit_model.specs.State.{Kept, Stream}
+use Rattle.audit_model.specs.State.{KeeperState, Stream}
 use Rattle.audit_model.specs.Observed.{IfObserved, IfBothObserved}
 use Rattle.audit_statement.specs.World.{World}
 
@@ -252,7 +252,7 @@ pub record AttemptsOf (job : Job) (outcomes : List Outcome) (p : Pair) (faults f
   pub right : IsRight job (draw job.setting.key) outcomes → All (λ t. IsRightSave job (draw job.setting.key) (job_digest job) t.bytes) attempts
 
 -- the save attempts of a run that saves, if its keeper is observable
-abbrev pub AttemptsObserved : Job → List Outcome → Kept → Kept → Type 0
+abbrev pub AttemptsObserved : Job → List Outcome → KeeperState → KeeperState → Type 0
 AttemptsObserved job outcomes before after = IfObserved before.slots (λ p. IfBothObserved before.attempted after.attempted (AttemptsOf job outcomes p before.save_faults after.save_faults))
 
 -- The slots after a run that saves, and its save attempts. If every save was made, they were made in turn, and the

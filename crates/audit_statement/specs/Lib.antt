@@ -25,7 +25,7 @@ pub mod Reading
 pub mod Regions
 pub mod Report
 pub mod Rerun
-pub mod Said
+pub mod PlainArguments
 pub mod Several
 pub mod Slots
 pub mod Status

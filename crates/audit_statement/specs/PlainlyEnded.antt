@@ -10,7 +10,7 @@ use Rattle.audit_statement.specs.Accepted.{most_bytes}
 use Rattle.audit_statement.specs.World.{World}
 use Rattle.audit_statement.specs.Given.{IsGiven}
 use Rattle.audit_statement.specs.Valid.{IsValid}
-use Rattle.audit_statement.specs.Said.{ArePlain}
+use Rattle.audit_statement.specs.PlainArguments.{ArePlain}
 use Rattle.audit_statement.specs.Words.{setting_of}
 use Rattle.std.specs.List.{All}
 use Rattle.serde_json.specs.Find.{get}

@@ -1,7 +1,7 @@
 -- The promise of the top call for one call, from its arguments and the outside before and after it; the headline comes
 -- first. `ends` says everything about how a call ended, for each reason. `written`, `early`, `causes`, `complete` and
 -- `left_alone` follow from it: they restate it by statuses and observable facts, without the reason. `chain` and
--- `tried` follow from it and from the laws on slots. `legal` follows from what is accepted.
+-- `attempted` follow from it and from the laws on slots. `legal` follows from what is accepted.
 use Rattle.std.specs.Prelude.{ℕ, List}
 use Rattle.audit_statement.specs.Causes.{HasCauses, IsComplete}
 use Rattle.audit_statement.specs.Chain.{StaysConsistent, AttemptedRightly}

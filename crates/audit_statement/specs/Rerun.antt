@@ -31,7 +31,7 @@ abbrev pub asking : Job → Bool → Bool → Option Origin → Job
 asking job shift serial origin = record job { setting = record job.setting { shift = shift; serial = serial }; origin = origin }
 
 -- The parts of a setting that may differ between runs of one job, and the origin.
-pub record Manner : Type 0 where
+pub record RunOptions : Type 0 where
   pub command : Command
   pub workers : ℕ
   pub budget : ℕ
@@ -48,24 +48,24 @@ pub record Manner : Type 0 where
   pub origin : Option Origin
 
 -- the job in another run
-abbrev pub rerun : Job → Manner → Job
-rerun job manner = record job {
+abbrev pub rerun : Job → RunOptions → Job
+rerun job options = record job {
   setting = record job.setting {
-    command = manner.command;
-    workers = manner.workers;
-    budget = manner.budget;
-    save_every = manner.save_every;
-    resume = manner.resume;
-    shift = manner.shift;
-    serial = manner.serial;
-    parts = manner.parts;
-    part = manner.part;
-    source = manner.source;
-    first_id = manner.first_id;
-    last_id = manner.last_id;
-    thin = manner.thin;
+    command = options.command;
+    workers = options.workers;
+    budget = options.budget;
+    save_every = options.save_every;
+    resume = options.resume;
+    shift = options.shift;
+    serial = options.serial;
+    parts = options.parts;
+    part = options.part;
+    source = options.source;
+    first_id = options.first_id;
+    last_id = options.last_id;
+    thin = options.thin;
   };
-  origin = manner.origin;
+  origin = options.origin;
 }
 
 -- Both jobs have one digest, the same outcomes with histograms, the same plausible outcomes, serial test, consistent
@@ -83,14 +83,14 @@ pub record FindTheSame (job other : Job) : Type 0 where
   pub same_report : other.setting.shift ≡ job.setting.shift → other.origin ≡ job.origin → (outcomes : List Outcome) (stops : List (List ℕ)) (serial : Option (ℕ × List ℕ))
       → report other outcomes stops serial ≡ report job outcomes stops serial
 
--- the manner of a run does not change what its job finds
+-- the options of a run do not change what its job finds
 abbrev pub RerunsAreAlike : Type 0
-RerunsAreAlike = (job : Job) (manner : Manner) → FindTheSame job (rerun job manner)
+RerunsAreAlike = (job : Job) (options : RunOptions) → FindTheSame job (rerun job options)
 
 -- ---- chains
 
 -- a run that ended, or would have: its arguments, the outside and the diagnostic before and after it, its status, its
--- manner, and the slots that it left
+-- options, and the slots that it left
 pub record Link : Type 0 where
   pub words : List (List ℕ)
   pub before : World
@@ -98,12 +98,12 @@ pub record Link : Type 0 where
   pub note_before : Stream
   pub note_after : Stream
   pub status : ℕ
-  pub manner : Manner
+  pub options : RunOptions
   pub slots : Pair
 
 -- the job as this run had it
 abbrev pub job_in : Job → Link → Job
-job_in job l = rerun job l.manner
+job_in job l = rerun job l.options
 
 -- a run of the job over these slots with an observable keeper, whose save attempts are as the top call promises
 pub record IsRunOver (job : Job) (p : Pair) (l : Link) : Type 0 where
@@ -121,7 +121,7 @@ pub record IsRunOver (job : Job) (p : Pair) (l : Link) : Type 0 where
 pub record IsLink (job : Job) (p : Pair) (l : Link) : Type 0 where
   pub over : IsRunOver job p l
   pub promised : KeepsItsPromise l.words l.before l.after l.note_before l.note_after l.status
-  pub walking : IsTrue (is_walking l.manner.command)
+  pub walking : IsTrue (is_walking l.options.command)
   pub left : l.after.keeper.slots ≡ Some l.slots
   pub carried : Rose l.before.keeper.save_faults l.after.keeper.save_faults → (t : AttemptsOver (job_in job l) l.before l.after p l.status over.observed over.now)
       → AreCarriedOut IsNotOurs (job_in job l) (job_digest (job_in job l)) p t.attempts l.slots
@@ -135,24 +135,24 @@ AreAttemptsSoFar job p attempts =
 
 -- The run was stopped, or never ended. It had attempted these saves, the last of them perhaps interrupted, and they
 -- left these slots. This is required of the keeper alone; the run need not be one that ends.
-pub record IsStop (job : Job) (p : Pair) (manner : Manner) (attempts : List Try) (q : Pair) : Type 0 where
-  pub so_far : AreAttemptsSoFar (rerun job manner) p attempts
-  pub carried : AreCarriedOut IsNotOurs (rerun job manner) (job_digest (rerun job manner)) p attempts q
+pub record IsStop (job : Job) (p : Pair) (options : RunOptions) (attempts : List Try) (q : Pair) : Type 0 where
+  pub so_far : AreAttemptsSoFar (rerun job options) p attempts
+  pub carried : AreCarriedOut IsNotOurs (rerun job options) (job_digest (rerun job options)) p attempts q
 
 -- a run that ended, or one that was stopped after these save attempts and left these slots
 pub data Event : Type 0 where
   ran : Link → Event
-  stopped : Manner → List Try → Pair → Event
+  stopped : RunOptions → List Try → Pair → Event
 
 -- the slots that it left
 abbrev pub slots_after : Event → Pair
 slots_after (ran l) = l.slots
-slots_after (stopped manner attempts q) = q
+slots_after (stopped options attempts q) = q
 
 -- it is a run of the job over these slots, ended or not
 abbrev pub IsEvent : Job → Pair → Event → Type 0
 IsEvent job p (ran l) = IsLink job p l
-IsEvent job p (stopped manner attempts q) = IsStop job p manner attempts q
+IsEvent job p (stopped options attempts q) = IsStop job p options attempts q
 
 -- runs of the job, of any of its parts, one after another, each over the slots that the one before left
 abbrev pub IsChain : Job → Pair → List Event → Type 0
@@ -162,7 +162,7 @@ IsChain job p (e ∷ events) = IsEvent job p e × IsChain job (slots_after e) ev
 -- The run wrote the report of one thread, with a histogram, the serial test and the origin exactly as it asked. Its
 -- command, workers, budget, parts, saves and initial outcomes change nothing, nor do other runs of the chain.
 abbrev pub WroteOneThreads : Job → Link → Type 0
-WroteOneThreads job l = Appends l.before.out.bytes l.after.out.bytes (thread_report (asking job l.manner.shift l.manner.serial l.manner.origin) (draw job.setting.key))
+WroteOneThreads job l = Appends l.before.out.bytes l.after.out.bytes (thread_report (asking job l.options.shift l.options.serial l.options.origin) (draw job.setting.key))
 
 -- it did so with status 0, and with status 9 after a failed save if no work was left
 pub record WroteWhereDue (job : Job) (l : Link) : Type 0 where
@@ -173,7 +173,7 @@ pub record WroteWhereDue (job : Job) (l : Link) : Type 0 where
 -- an ended run has written its report, if it was due
 abbrev pub HasWritten : Job → Event → Type 0
 HasWritten job (ran l) = WroteWhereDue job l
-HasWritten job (stopped manner attempts q) = ⊤
+HasWritten job (stopped options attempts q) = ⊤
 
 -- all have
 abbrev pub AllHaveWritten : Job → List Event → Type 0

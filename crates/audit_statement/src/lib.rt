@@ -17,7 +17,7 @@
 //!   `Sure` if no call of the outside fails, `Rerun` and `Chain` for runs of one job one after the
 //!   other.
 //! - Plain runs, stated without the optional features: `Given` and `Valid` (a graph and its plans),
-//!   `Said` (the arguments), `Plain` (the report), `Audited` and `PlainlyEnded` (the claim).
+//!   `PlainArguments` (the arguments), `Plain` (the report), `Audited` and `PlainlyEnded` (the claim).
 #![tactic(auto)]
 
 pub mod laws;

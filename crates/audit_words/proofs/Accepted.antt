@@ -14,7 +14,7 @@ use Rattle.audit_model.specs.declared.setting.Command.TheVariants.{Check, Run, M
 use Rattle.audit_statement.specs.Words.{NameAndValue, are_asks, as_run, asks_of, has_asked_length, has_walks, is_number, number_named, parts_between, saves_parts, setting_for, text_of}
 use Rattle.audit_words.specs.Judged.{AreGood, AreReadable}
 use Rattle.audit_words.proofs.Asking.{length-asks_of, AllPairs-asks_of}
-use Rattle.audit_words.proofs.Goodness.{AreBounded, AreBounded-good, asks_of-some, number-bounds}
+use Rattle.audit_words.proofs.ValidValues.{AreBounded, AreBounded-good, asks_of-some, number-bounds}
 use Rattle.audit_words.proofs.Parting.{parts_between-some}
 use Rattle.audit_words.proofs.Ranges.{good_range}
 

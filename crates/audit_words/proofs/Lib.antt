@@ -1,7 +1,7 @@
 pub mod Accepted
 pub mod Asking
 pub mod Finding
-pub mod Goodness
+pub mod ValidValues
 pub mod Numbers
 pub mod Order
 pub mod Pairing

@@ -3,7 +3,7 @@ use Rattle.std.proofs.Common.{◌≡◌, ◌∙◌, ℕ, zero, suc, ◌+◌, ◌
 use Rattle.std.proofs.KnownBytes.{Appends-nil}
 use Rattle.audit_model.specs.State.{Stream}
 use Rattle.audit_words.specs.Usage.{on_lines}
-use Rattle.report.specs.Said.{AddsText, IsSaid}
+use Rattle.report.specs.AddedText.{AddsText, HasAdded}
 
 module _ {before after : Stream} {going result : Bool} where
   -- an equal text is appended likewise
@@ -12,16 +12,16 @@ module _ {before after : Stream} {going result : Bool} where
 
 -- the empty text is appended by doing nothing
 pub adds_none : {s : Stream} {going : Bool} → AddsText s s going [] going
-adds_none {s = s} {going = going} = record { adds = λ start said h. subst (λ (t : List ℕ). IsSaid start s t going) (sym (append-nil said)) h }
+adds_none {s = s} {going = going} = record { adds = λ start text_so_far h. subst (λ (t : List ℕ). HasAdded start s t going) (sym (append-nil text_so_far)) h }
 
 -- two texts are appended one after the other
 pub adds_both : {a b c : Stream} {first then last : Bool} {one other : List ℕ} → AddsText a b first one then → AddsText b c then other last → AddsText a c first (one ++ other) last
 adds_both {c = c} {last = last} {one = one} {other = other} x y = record {
-  adds = λ start said s. subst (λ (t : List ℕ). IsSaid start c t last) (append_assoc said one other) (y.adds start (said ++ one) (x.adds start said s));
+  adds = λ start text_so_far s. subst (λ (t : List ℕ). HasAdded start c t last) (append_assoc text_so_far one other) (y.adds start (text_so_far ++ one) (x.adds start text_so_far s));
 }
 
 -- a text that is appended to nothing is all that was written
-pub said_of : {a b : Stream} {text : List ℕ} {result : Bool} → AddsText a b true text result → IsSaid a b text result
+pub said_of : {a b : Stream} {text : List ℕ} {result : Bool} → AddsText a b true text result → HasAdded a b text result
 said_of {a = a} x = x.adds a [] (Appends-nil a.bytes, refl)
 
 module _ {X : Type 0} (say : X → List ℕ) where

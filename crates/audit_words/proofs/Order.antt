@@ -7,8 +7,8 @@ use Rattle.audit_model.specs.declared.fault.Name.TheVariants.{Pop, Walks, Steps,
 use Rattle.audit_model.specs.declared.setting.Command.{Command}
 use Rattle.audit_model.specs.declared.setting.Command.TheVariants.{Check, Run, Make, Plans, Trace}
 use Rattle.audit_statement.specs.Words.{NameAndValue, is_good, names_of}
-use Rattle.audit_words.specs.Judged.{RestsOnGood, fault_of_pairs}
-use Rattle.audit_words.proofs.Unnamed.{good_save, plans_lack, trace_misses}
+use Rattle.audit_words.specs.Judged.{DependenciesAreValid, fault_of_pairs}
+use Rattle.audit_words.proofs.Unnamed.{good_save, plans_miss, trace_misses}
 
 -- no name of the second kind stands before one of the first
 abbrev leads : (Name → Bool) → (Name → Bool) → List Name → Bool
@@ -128,7 +128,7 @@ module _ (command : Command) (words : List NameAndValue) (names : List Name) (k 
   saved_before : leads is_save on_save names ≡ true → on_save (get_or names k Pop) ≡ true → is_good Check words Save ≡ true
   saved_before led rests = good_leader is_save on_save Save led is_save-Save rests
 
-  rests : (on_save (get_or names k Pop) ≡ true → is_good Check words Save ≡ true) → (name : Name) → get_or names k Pop ≡ name → RestsOnGood words name
+  rests : (on_save (get_or names k Pop) ≡ true → is_good Check words Save ≡ true) → (name : Name) → get_or names k Pop ≡ name → DependenciesAreValid words name
   rests saved Ends is = good_walks (ap on_walks is)
   rests saved Budget is = (good_walks (ap on_walks is), good_ends (ap on_ends is))
   rests saved Stop is = (good_ends (ap on_ends is), saved (ap on_save is))
@@ -152,11 +152,11 @@ saved_by : (command : Command) (words : List NameAndValue) (k : ℕ) → k < len
 saved_by Check words k inside faultless below on = saved_before Check words (names_of Check) k inside below (is_ordered Check) refl on
 saved_by Run words k inside faultless below on = saved_before Run words (names_of Run) k inside below (is_ordered Run) refl on
 saved_by Make words k inside faultless below on = saved_before Make words (names_of Make) k inside below (is_ordered Make) refl on
-saved_by Plans words k inside faultless below on = good_save Plans words faultless (plans_lack words)
+saved_by Plans words k inside faultless below on = good_save Plans words faultless (plans_miss words)
 saved_by Trace words k inside faultless below on = good_save Trace words faultless (trace_misses words)
 
 -- after valid values, a name depends on valid ones
-pub RestsOnGood-behind : (command : Command) (words : List NameAndValue) (k : ℕ) → k < length (names_of command) → fault_of_pairs command words ≡ None
-    → ((j : ℕ) → j < k → is_good command words (get_or (names_of command) j Pop) ≡ true) → RestsOnGood words (get_or (names_of command) k Pop)
-RestsOnGood-behind command words k inside faultless below =
+pub DependenciesAreValid-behind : (command : Command) (words : List NameAndValue) (k : ℕ) → k < length (names_of command) → fault_of_pairs command words ≡ None
+    → ((j : ℕ) → j < k → is_good command words (get_or (names_of command) j Pop) ≡ true) → DependenciesAreValid words (get_or (names_of command) k Pop)
+DependenciesAreValid-behind command words k inside faultless below =
     rests command words (names_of command) k inside below (is_ordered command) (saved_by command words k inside faultless below) (get_or (names_of command) k Pop) refl

@@ -7,7 +7,7 @@ use Rattle.audit_model.specs.Graph.{has}
 use Rattle.audit_model.specs.declared.fault.Name.TheVariants.{Walks, Ends, Ids}
 use Rattle.audit_model.specs.declared.setting.Command.TheVariants.{Check}
 use Rattle.audit_statement.specs.Words.{NameAndValue, first_id, first_of_range, is_good, is_number, last_id, last_of_range, number_named, text_of}
-use Rattle.audit_words.proofs.Goodness.{number-bounds}
+use Rattle.audit_words.proofs.ValidValues.{number-bounds}
 
 outside_by : (b found : Bool) (place more : ℕ) → (place ≡ more → found ≡ false) → cond (not b) (1 + place) 0 ≡ suc more → (b || found) ≡ false
 outside_by true found place more h l = absurd (omega (arith, l))

@@ -5,7 +5,7 @@ use Rattle.audit_model.specs.declared.fault.WordFault.{WordFault}
 use Rattle.audit_model.specs.declared.fault.WordFault.TheVariants.{NoCommand, UnknownCommand}
 use Rattle.audit_model.specs.declared.setting.Command.{Command}
 use Rattle.audit_words.specs.Judged.{fault_of_pairs, fault_of_names, fault_of_values}
-use Rattle.audit_words.specs.Spoken.{spoken}
+use Rattle.audit_words.specs.ArgumentBytes.{argument_bytes}
 use Rattle.audit_statement.specs.Words.{NameAndValue, pairs, command_of, fault_of, of_command, setting_for, setting_or, setting_of}
 
 -- the first of three options has a value
@@ -22,9 +22,9 @@ third_of a b c None none nor h = rw (none, nor, h) refl
 third_of a b c (Some x) none nor h = rw (none, nor, h) refl
 
 -- without words there are no bytes
-pub spoken-empty : {A : Type 0} (words : List (String A)) → length words ≡ 0 → spoken words ≡ []
-spoken-empty [] h = refl
-spoken-empty (word ∷ words) h = absurd (omega arith)
+pub argument_bytes-empty : {A : Type 0} (words : List (String A)) → length words ≡ 0 → argument_bytes words ≡ []
+argument_bytes-empty [] h = refl
+argument_bytes-empty (word ∷ words) h = absurd (omega arith)
 
 -- without words there is no command
 pub setting_of-no_words : (words : List (List ℕ)) → words ≡ [] → setting_of words ≡ Err NoCommand

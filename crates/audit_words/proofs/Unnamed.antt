@@ -45,13 +45,13 @@ of_tests _ = false
 abbrev pub Misses : Command → List NameAndValue → (Name → Bool) → Type 0
 Misses command words kind = (name : Name) → kind name ≡ true → name_of command words (name_text name) ≡ None
 
-pub plans_lack : (words : List NameAndValue) → Misses Plans words of_saving
-plans_lack words Save h = refl
-plans_lack words Resume h = refl
-plans_lack words Budget h = refl
-plans_lack words Parts h = refl
-plans_lack words Part h = refl
-plans_lack words _ h = absurd (false≢true h)
+pub plans_miss : (words : List NameAndValue) → Misses Plans words of_saving
+plans_miss words Save h = refl
+plans_miss words Resume h = refl
+plans_miss words Budget h = refl
+plans_miss words Parts h = refl
+plans_miss words Part h = refl
+plans_miss words _ h = absurd (false≢true h)
 
 pub trace_misses : (words : List NameAndValue) → Misses Trace words of_saving
 trace_misses words Save h = refl

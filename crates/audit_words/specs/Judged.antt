@@ -22,15 +22,15 @@ abbrev pub fault_of_values : Command → List NameAndValue → Option WordFault
 fault_of_values command words = option_map BadValue (find (λ name. not (is_good command words name)) (names_of command))
 
 -- The values that the validity of this name depends on are valid. After an invalid one, the name is not tested.
-abbrev pub RestsOnGood : List NameAndValue → Name → Type 0
-RestsOnGood words Ends = is_good Check words Walks ≡ true
-RestsOnGood words Budget = (is_good Check words Walks ≡ true) × (is_good Check words Ends ≡ true)
-RestsOnGood words Stop = (is_good Check words Ends ≡ true) × (is_good Check words Save ≡ true)
-RestsOnGood words Serial = is_good Check words Steps ≡ true
-RestsOnGood words Parts = is_good Check words Save ≡ true
-RestsOnGood words Part = is_good Check words Parts ≡ true
-RestsOnGood words Ids = (is_good Check words Walks ≡ true) × (is_good Check words Ends ≡ true)
-RestsOnGood words _ = Unit {0}
+abbrev pub DependenciesAreValid : List NameAndValue → Name → Type 0
+DependenciesAreValid words Ends = is_good Check words Walks ≡ true
+DependenciesAreValid words Budget = (is_good Check words Walks ≡ true) × (is_good Check words Ends ≡ true)
+DependenciesAreValid words Stop = (is_good Check words Ends ≡ true) × (is_good Check words Save ≡ true)
+DependenciesAreValid words Serial = is_good Check words Steps ≡ true
+DependenciesAreValid words Parts = is_good Check words Save ≡ true
+DependenciesAreValid words Part = is_good Check words Parts ≡ true
+DependenciesAreValid words Ids = (is_good Check words Walks ≡ true) × (is_good Check words Ends ≡ true)
+DependenciesAreValid words _ = Unit {0}
 
 -- each value of a run on any graph, without the columns, is valid
 pub record AreGood (words : List NameAndValue) : Type 0 where

@@ -3,5 +3,5 @@ pub mod Arguments
 pub mod Judged
 pub mod Laws
 pub mod Questions
-pub mod Spoken
+pub mod ArgumentBytes
 pub mod Usage

@@ -15,16 +15,16 @@ command_text Plans = codes "plans"
 command_text Trace = codes "trace"
 
 -- the description of a command
-abbrev pub deed_of : Command → List ℕ
-deed_of Check = codes "checks that the plan of a graph is legal, and walks nothing"
-deed_of Run = codes "walks from the plan of a graph, and reports the outlier tests"
-deed_of Make = codes "does what run does on a grid that it makes; reads nothing"
-deed_of Plans = codes "reports on the plan of a graph and on those of a table behind it"
-deed_of Trace = codes "writes the plans of a run's trajectories at every N-th step"
+abbrev pub description_of : Command → List ℕ
+description_of Check = codes "checks that the plan of a graph is legal, and walks nothing"
+description_of Run = codes "walks from the plan of a graph, and reports the outlier tests"
+description_of Make = codes "does what run does on a grid that it makes; reads nothing"
+description_of Plans = codes "reports on the plan of a graph and on those of a table behind it"
+description_of Trace = codes "writes the plans of a run's trajectories at every N-th step"
 
 -- the line of a command: its spelling and its description
 abbrev pub command_line : Command → List ℕ
-command_line command = codes "  " ++ padded 7 (command_text command) ++ deed_of command
+command_line command = codes "  " ++ padded 7 (command_text command) ++ description_of command
 
 -- the usage of the program, line by line
 abbrev pub usage_lines : List (List ℕ)
@@ -61,7 +61,7 @@ test_lines = [] ∷ codes "SCORE is seats, mean-median, gap, cut-edges or, with 
 
 -- the lines before the arguments of a command
 abbrev pub head_of : Command → List (List ℕ)
-head_of command = (codes "usage: district-audit " ++ command_text command ++ codes " NAME VALUE ..") ∷ deed_of command ∷ [] ∷ []
+head_of command = (codes "usage: district-audit " ++ command_text command ++ codes " NAME VALUE ..") ∷ description_of command ∷ [] ∷ []
 
 -- the lines after the arguments of a command: the syntax of a test
 abbrev pub foot_of : Command → List (List ℕ)

@@ -6,7 +6,7 @@ ghost use Rattle.audit_words.specs.Answers.{WritesAnswer};
 ghost use Rattle.audit_words.specs.Arguments as definition;
 ghost use Rattle.audit_words.specs.Questions.{answer_to, version_text};
 ghost use Rattle.audit_words.specs.Usage.{command_lines, on_lines};
-ghost use Rattle.report.specs.Said.{AddsText, IsSaid};
+ghost use Rattle.report.specs.AddedText.{AddsText, HasAdded};
 
 use crate::arguments::argument_text;
 use crate::build::Build;
@@ -17,7 +17,7 @@ use audit_io::sink::Sink;
 use audit_model::fault::Name;
 use audit_model::setting::Command;
 use report::ended::Ended;
-use report::note::{add_line, tell};
+use report::note::{add_line, write_diagnostic};
 use report::piece::Piece::Text;
 
 /// Writes the lines if `going` is true, which means that no earlier write failed. Returns true if
@@ -45,7 +45,7 @@ fn add_arguments<O: Sink>(out: &mut O, going: bool, names: &[Name]) -> bool
 
 // Writes the usage of a command. Returns true if no write failed.
 fn add_command<O: Sink>(out: &mut O, command: Command) -> bool
-    ensures { IsSaid (O.state out.old) (O.state out.new) (on_lines (command_lines command)) result }
+    ensures { HasAdded (O.state out.old) (O.state out.new) (on_lines (command_lines command)) result }
 {
     let going = add_lines(out, true, head_of(command));
     let going = add_arguments(out, going, names_of(command));
@@ -54,7 +54,7 @@ fn add_command<O: Sink>(out: &mut O, command: Command) -> bool
 
 /// Writes the version of a program. Returns true if no write failed.
 pub fn add_version<'x, O: Sink>(out: &mut O, program: &'x str, build: &Build<'x>) -> bool
-    ensures { IsSaid (O.state out.old) (O.state out.new) (version_text program.now build.now) result }
+    ensures { HasAdded (O.state out.old) (O.state out.new) (version_text program.now build.now) result }
 {
     let going = add_line(
         out,
@@ -68,7 +68,7 @@ pub fn add_version<'x, O: Sink>(out: &mut O, program: &'x str, build: &Build<'x>
 
 // Writes the answer to a question. Returns true if no write failed.
 fn write_answer<O: Sink>(out: &mut O, build: &Build<'_>, question: Question) -> bool
-    ensures { IsSaid (O.state out.old) (O.state out.new) (answer_to build.now question) result }
+    ensures { HasAdded (O.state out.old) (O.state out.new) (answer_to build.now question) result }
 {
     match question {
         Question::Usage => add_lines(out, true, usage_lines()),
@@ -90,5 +90,5 @@ pub fn answer<O: Sink, N: Sink>(
     if write_answer(out, build, question) {
         return 0;
     }
-    tell(&Ended::WriteFault, note)
+    write_diagnostic(&Ended::WriteFault, note)
 }

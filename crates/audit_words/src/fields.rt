@@ -5,8 +5,8 @@ ghost use Rattle.audit_model.specs.Limits.{most_trajectories};
 ghost use Rattle.audit_model.specs.Power.{is_power_of_two};
 ghost use Rattle.audit_model.specs.declared.fault.Name.TheVariants as name;
 ghost use Rattle.audit_model.specs.declared.setting.Command.TheVariants as command;
-ghost use Rattle.audit_words.specs.Judged.{RestsOnGood};
-ghost use Rattle.audit_words.specs.Spoken.{pairs_in};
+ghost use Rattle.audit_words.specs.Judged.{DependenciesAreValid};
+ghost use Rattle.audit_words.specs.ArgumentBytes.{pairs_in};
 ghost use Rattle.audit_statement.specs.Words as definition;
 
 use crate::asks::{are_asks, asks_for_length};
@@ -126,7 +126,7 @@ fn is_range(text: &str, walks: u32, ends: u32) -> bool
 
 /// Returns true if the number of endpoint trajectories is valid.
 fn is_end_count(words: &[String]) -> bool
-    requires { RestsOnGood (pairs_in words.now) name.Ends }
+    requires { DependenciesAreValid (pairs_in words.now) name.Ends }
     ensures { result ≡ definition.is_good command.Check (pairs_in words.now) name.Ends }
 {
     is_number(0, 100_000, text_of(words, Name::Ends))
@@ -135,7 +135,7 @@ fn is_end_count(words: &[String]) -> bool
 
 /// Returns true if the budget is valid.
 fn is_budget(words: &[String]) -> bool
-    requires { RestsOnGood (pairs_in words.now) name.Budget }
+    requires { DependenciesAreValid (pairs_in words.now) name.Budget }
     ensures { result ≡ definition.is_good command.Check (pairs_in words.now) name.Budget }
 {
     is_number(0, 100_000, text_of(words, Name::Budget))
@@ -149,7 +149,7 @@ fn is_budget(words: &[String]) -> bool
 
 /// Returns true if the number of endpoints in the tail that stops a test is valid.
 fn is_stop(words: &[String]) -> bool
-    requires { RestsOnGood (pairs_in words.now) name.Stop }
+    requires { DependenciesAreValid (pairs_in words.now) name.Stop }
     ensures { result ≡ definition.is_good command.Check (pairs_in words.now) name.Stop }
 {
     is_number(0, 100_000, text_of(words, Name::Stop))
@@ -163,7 +163,7 @@ fn is_stop(words: &[String]) -> bool
 
 /// Returns true if the value of `--serial` is valid.
 fn is_serial(words: &[String]) -> bool
-    requires { RestsOnGood (pairs_in words.now) name.Serial }
+    requires { DependenciesAreValid (pairs_in words.now) name.Serial }
     ensures { result ≡ definition.is_good command.Check (pairs_in words.now) name.Serial }
 {
     is_answer(text_of(words, Name::Serial)) && divides_draws(words, number_at(words, Name::Steps))
@@ -171,7 +171,7 @@ fn is_serial(words: &[String]) -> bool
 
 /// Returns true if the number of parts is valid.
 fn is_part_count(words: &[String]) -> bool
-    requires { RestsOnGood (pairs_in words.now) name.Parts }
+    requires { DependenciesAreValid (pairs_in words.now) name.Parts }
     ensures { result ≡ definition.is_good command.Check (pairs_in words.now) name.Parts }
 {
     is_number(1, 100_000, text_of(words, Name::Parts))
@@ -180,7 +180,7 @@ fn is_part_count(words: &[String]) -> bool
 
 /// Returns true if the number of this run's part is valid.
 fn is_part(words: &[String]) -> bool
-    requires { RestsOnGood (pairs_in words.now) name.Part }
+    requires { DependenciesAreValid (pairs_in words.now) name.Part }
     ensures { result ≡ definition.is_good command.Check (pairs_in words.now) name.Part }
 {
     is_number(0, 100_000, text_of(words, Name::Part))
@@ -189,7 +189,7 @@ fn is_part(words: &[String]) -> bool
 
 /// Returns true if the ids to trace are valid.
 fn are_traced_ids(words: &[String]) -> bool
-    requires { RestsOnGood (pairs_in words.now) name.Ids }
+    requires { DependenciesAreValid (pairs_in words.now) name.Ids }
     ensures { result ≡ definition.is_good command.Check (pairs_in words.now) name.Ids }
 {
     let text = text_of(words, Name::Ids);
@@ -203,7 +203,7 @@ fn are_traced_ids(words: &[String]) -> bool
 /// Returns true if the value of a name, given or default, is valid. The precondition holds once the values of earlier
 /// names are valid.
 pub fn is_good(command: Command, words: &[String], name: Name) -> bool
-    requires { RestsOnGood (pairs_in words.now) name }
+    requires { DependenciesAreValid (pairs_in words.now) name }
     ensures { result ≡ definition.is_good command (pairs_in words.now) name }
 {
     let text = text_of(words, name);

@@ -4,7 +4,7 @@ ghost use Rattle.std.specs.Prelude.{◌≡◌, ◌<◌, [], None, length, option
 ghost use Rattle.std.specs.List.{slice_index_or};
 ghost use Rattle.audit_model.specs.Below.{any_below};
 ghost use Rattle.audit_model.specs.declared.setting.Command.TheVariants as command;
-ghost use Rattle.audit_words.specs.Spoken.{pairs_in};
+ghost use Rattle.audit_words.specs.ArgumentBytes.{pairs_in};
 ghost use Rattle.audit_statement.specs.Words as definition;
 
 use crate::names::default_of;

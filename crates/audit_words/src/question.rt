@@ -1,7 +1,7 @@
 //! The arguments that ask for help or the version.
 
 ghost use Rattle.std.specs.Prelude.{◌≡◌};
-ghost use Rattle.audit_words.specs.Spoken.{spoken};
+ghost use Rattle.audit_words.specs.ArgumentBytes.{argument_bytes};
 ghost use Rattle.audit_words.specs.Questions as definition;
 
 use crate::command_of;
@@ -47,7 +47,7 @@ fn question_of_two(word: &str, next: &str) -> Option<Question>
 /// Returns the question of the auditor's arguments: exactly `--help`, exactly `--version`, or
 /// exactly a command and `--help`.
 pub fn question_of(words: &[String]) -> Option<Question>
-    ensures { result ≡ definition.question_of (spoken words.now) }
+    ensures { result ≡ definition.question_of (argument_bytes words.now) }
 {
     match words {
         [word] => question_of_word(word.as_str()),

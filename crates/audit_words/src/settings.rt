@@ -4,7 +4,7 @@ ghost use Rattle.std.specs.Prelude.{◌≡◌, [], true, IfOk, codes};
 ghost use Rattle.audit_model.specs.declared.fault.Name.TheVariants as name;
 ghost use Rattle.audit_model.specs.declared.setting.Command.TheVariants as command;
 ghost use Rattle.audit_words.specs.Judged.{AreGood, AreGoodLimits, AreReadable};
-ghost use Rattle.audit_words.specs.Spoken.{pairs_in};
+ghost use Rattle.audit_words.specs.ArgumentBytes.{pairs_in};
 ghost use Rattle.audit_statement.specs.Words as definition;
 
 use crate::asks::asks_of;
@@ -147,7 +147,7 @@ fn check_setting(alloc: Global, words: &[String]) -> Result<Setting, Memory>
 /// The fields of a setting that depend on the source of the graph. A graph that is read may have columns, regions,
 /// limits and a request for its origin. A generated grid has a size, and defaults in the other fields.
 #[derive(Drop)]
-struct Ground {
+struct GraphFields {
     columns: Columns,
     size: u32,
     region: Text,
@@ -159,7 +159,7 @@ fn run_setting(
     alloc: Global,
     command: Command,
     words: &[String],
-    ground: Ground,
+    ground: GraphFields,
 ) -> Result<Setting, Memory>
     requires { AreGood (pairs_in words.now) }
     ensures { IfOk result (λ setting. setting ≡ record (definition.as_run command (pairs_in words.now)) { columns = ground.columns; size = ground.size; region = ground.region; max_split = ground.limits.max_split; max_splits = ground.limits.max_splits; max_split_regions = ground.limits.max_split_regions; group_districts = ground.limits.group_districts; group_share = ground.limits.group_share; source = ground.source; max_length = ground.limits.max_length }) }
@@ -204,7 +204,7 @@ fn read_setting(alloc: Global, command: Command, words: &[String]) -> Result<Set
     requires limits { AreGoodLimits (pairs_in words.now) }
     ensures { IfOk result (λ setting. setting ≡ definition.as_run command (pairs_in words.now)) }
 {
-    let ground = Ground {
+    let ground = GraphFields {
         columns: columns_of(alloc, words)?,
         size: 0,
         region: copy_text(alloc, text_of(words, Name::Region))?,
@@ -241,7 +241,7 @@ fn made_setting(alloc: Global, words: &[String]) -> Result<Setting, Memory>
     requires size { definition.is_good command.Make (pairs_in words.now) name.Size ≡ true }
     ensures { IfOk result (λ setting. setting ≡ definition.setting_for command.Make (pairs_in words.now)) }
 {
-    let ground = Ground {
+    let ground = GraphFields {
         columns: columns_of_grid(alloc)?,
         size: number_at(words, Name::Size),
         region: Text::new(alloc),

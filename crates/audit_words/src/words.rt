@@ -4,7 +4,7 @@ ghost use Rattle.std.specs.Prelude.{◌≡◌, ◌⊎◌, ◌<◌, length, None,
 ghost use Rattle.audit_model.specs.Limits.{IsSetting};
 ghost use Rattle.audit_model.specs.declared.fault.WordFault.TheVariants as fault;
 ghost use Rattle.audit_words.specs.Judged.{fault_of_pairs, fault_of_names, fault_of_values};
-ghost use Rattle.audit_words.specs.Spoken.{spoken, pairs_in, MatchesFault};
+ghost use Rattle.audit_words.specs.ArgumentBytes.{argument_bytes, pairs_in, MatchesFault};
 ghost use Rattle.audit_statement.specs.Words as definition;
 ghost use Rattle.audit_statement.specs.Words.{setting_of};
 
@@ -25,7 +25,7 @@ use std::alloc::Global;
 /// missing name and the first name with an invalid value. Names are tested in the order of `names_of`. `Memory` may
 /// come at any point.
 pub fn read(alloc: Global, words: &[String]) -> Result<Setting, WordFault>
-    ensures exact { MatchResult result (λ setting. setting_of (spoken words.now) ≡ Ok setting) (λ f. (f ≡ fault.Memory) ⊎ (setting_of (spoken words.now) ≡ Err f)) }
+    ensures exact { MatchResult result (λ setting. setting_of (argument_bytes words.now) ≡ Ok setting) (λ f. (f ≡ fault.Memory) ⊎ (setting_of (argument_bytes words.now) ≡ Err f)) }
     ensures within { IfOk result (λ setting. IsSetting setting) }
 {
     let Some((word, rest)) = words.split_first() else {

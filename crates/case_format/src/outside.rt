@@ -1,7 +1,7 @@
 //! Sources and sinks that never fail, and slots in real files.
 
 ghost use Rattle.std.specs.Prelude.{ℕ, List, ◌<◌, length};
-ghost use Rattle.audit_model.specs.State.{Kept};
+ghost use Rattle.audit_model.specs.State.{KeeperState};
 
 use crate::names::begin_case;
 use audit_io::file_calls::SystemCalls;
@@ -50,7 +50,7 @@ fn show_slot<C: Keeper>(
 
 // Saves in slots 1 and 0 of a keeper that accepts each save, and in slot 0 once more.
 fn show_saves<C: Keeper>(rt: &HostRuntime, keeper: &mut C) -> io::Result<()>
-    requires { (kept : Kept) (slot : ℕ) (bytes : List ℕ) → C.lets kept slot bytes }
+    requires { (kept : KeeperState) (slot : ℕ) (bytes : List ℕ) → C.lets kept slot bytes }
 {
     let saved = keeper.save(1, &[7; 9000]).is_ok() && keeper.save(0, b"longer").is_ok();
     let saved_twice = keeper.save(0, b"first").is_ok();
@@ -59,7 +59,7 @@ fn show_saves<C: Keeper>(rt: &HostRuntime, keeper: &mut C) -> io::Result<()>
 
 // Prints slot 0, saves in both slots, and prints both.
 fn show_keeper<C: Keeper>(rt: &HostRuntime, keeper: &mut C, room: &mut Bytes) -> io::Result<()>
-    requires { (kept : Kept) (slot : ℕ) (bytes : List ℕ) → C.lets kept slot bytes }
+    requires { (kept : KeeperState) (slot : ℕ) (bytes : List ℕ) → C.lets kept slot bytes }
 {
     show_slot(rt, keeper, 0, room)?;
     show_saves(rt, keeper)?;

@@ -37,7 +37,7 @@ fn copy_of_stored(alloc: Global, before: Option<&[u8]>) -> Result<Option<Bytes>,
 
 fn stored_spoilt(alloc: Global, before: Option<&[u8]>) -> Result<Option<Bytes>, Fail> {
     match before {
-        Some(bytes) => Ok(Some(spoil(alloc, bytes)?)),
+        Some(bytes) => Ok(Some(corrupt(alloc, bytes)?)),
         None => Ok(None),
     }
 }
@@ -67,7 +67,7 @@ fn zeros(alloc: Global, count: usize) -> Result<Bytes, Memory> {
 }
 
 // Copies the bytes with each bit of the last one flipped.
-fn spoil(alloc: Global, bytes: &[u8]) -> Result<Bytes, Memory> {
+fn corrupt(alloc: Global, bytes: &[u8]) -> Result<Bytes, Memory> {
     let mut copy = Bytes::new(alloc);
     if let Some((last, front)) = bytes.split_last() {
         copy.append(front)?;

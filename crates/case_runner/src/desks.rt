@@ -5,14 +5,14 @@ ghost use Rattle.std.specs.Prelude.{◌≡◌, ℕ, ◌+◌, ◌≤◌, List, []
 ghost use Rattle.case_runner.specs.Passes.{OwesNothing};
 ghost use Rattle.audit_model.specs.Job.{rules};
 ghost use Rattle.audit_model.specs.Run.{run_ids, total};
-ghost use Rattle.audit_model.specs.State.{Kept as KeeperState};
+ghost use Rattle.audit_model.specs.State.{KeeperState};
 ghost use Rattle.ckpt_store.specs.Places.{IsPlace};
 ghost use Rattle.claim_counter.specs.Walks.{IsWithin};
 ghost use Rattle.audit_statement.specs.Checkpoint as definition;
 ghost use Rattle.flip_kernel.specs.Judged.{IsJudgeFor};
 ghost use Rattle.claim_counter.specs.Walkers.{IsWalker};
 ghost use Rattle.tally_desk.specs.Pools.{WalksAtDesk};
-ghost use Rattle.tally_desk.specs.Parts.{IsPlaceFor, MayFound};
+ghost use Rattle.tally_desk.specs.Parts.{IsPlaceFor, CanOpenDesk};
 ghost use Rattle.tally_desk.specs.Passes.{IsFirstPass};
 
 use crate::test_stops::job_with;
@@ -157,7 +157,7 @@ fn state_of<C: Keeper + Drop>(
     every: u32,
 ) -> Option<(RunState<C>, UnitList)>
     requires every { 1 ≤ every }
-    ensures found { IfSome result (λ o. MayFound job.now (C.state o.0.keeper).slots o.0 o.1) }
+    ensures found { IfSome result (λ o. CanOpenDesk job.now (C.state o.0.keeper).slots o.0 o.1) }
     ensures within { IfSome result (λ o. IsWithin job.now o.1) }
 {
     let Some(plan) = plan_of(alloc, job, &mut keeper, every) else {
@@ -182,7 +182,7 @@ fn open<C: Keeper + Drop>(
     todo: UnitList,
 ) -> Option<(Desk<C>, DeskPass)>
     requires lets { (kept : KeeperState) (slot : ℕ) (bytes : List ℕ) → C.lets kept slot bytes }
-    requires found { MayFound job.now (C.state state.keeper).slots state todo }
+    requires found { CanOpenDesk job.now (C.state state.keeper).slots state todo }
     requires within { IsWithin job.now todo }
     requires no_ends { job.now.setting.ends ≡ 0 }
     ensures shared { IfSome result (λ d. WalksAtDesk job.now d.0.parts []) }

@@ -2,14 +2,14 @@
 use Rattle.std.proofs.Common.{◌≡◌, ℕ, suc, ◌+◌, ◌<◌, List, [], ◌∷◌, ◌++◌, length, map, take, drop, get_or, set, refl, sym, ap, ◌∙◌, subst, arith, take-suc}
 use Rattle.std.proofs.Math.Seq.{drop-cons}
 use Rattle.std.proofs.lemmas.List.{drop-set-lt, map-append, take_more_set}
-use Rattle.audit_model.specs.State.{Kept}
+use Rattle.audit_model.specs.State.{KeeperState}
 use Rattle.ckpt_store.specs.Collected.{Collected}
 use Rattle.audit_model.specs.Job.{Job}
 use Rattle.ckpt_store.specs.declared.finding.Finding.{Finding}
 use Rattle.ckpt_store.specs.Findings.{AreFound, IsFound}
 
 -- the findings with one more folder
-pub found_more : (job : Job) (digest : List ℕ) (folders folders_now : List Kept) (folder folder_now : Kept) (before between after : Collected) (findings : List Finding) (what : Finding)
+pub found_more : (job : Job) (digest : List ℕ) (folders folders_now : List KeeperState) (folder folder_now : KeeperState) (before between after : Collected) (findings : List Finding) (what : Finding)
     → AreFound job digest folders folders_now before findings between → IsFound job digest folder folder_now between what after
     → AreFound job digest (folders ++ folder ∷ []) (folders_now ++ folder_now ∷ []) before (findings ++ what ∷ []) after
 found_more job digest [] [] folder folder_now before between after [] what e found = (after, subst (λ (os : Collected). IsFound job digest folder folder_now os what after) e found, refl)
@@ -22,7 +22,7 @@ found_more job digest (k ∷ folders) (l ∷ folders_now) folder folder_now befo
 
 -- ---- folders not looked at yet are unchanged
 
-module _ {F : Type 0} (observed : F → Kept) (now first : List F) (place : ℕ) (long : length now ≡ length first) (l : place < length now) (rest : drop place now ≡ drop place first) (d : F) where
+module _ {F : Type 0} (observed : F → KeeperState) (now first : List F) (place : ℕ) (long : length now ≡ length first) (l : place < length now) (rest : drop place now ≡ drop place first) (d : F) where
   both : get_or now place d ∷ drop (suc place) now ≡ get_or first place d ∷ drop (suc place) first
   both = sym (drop-cons now place d l) ∙ rest ∙ drop-cons first place d (omega (arith, long, l))
 

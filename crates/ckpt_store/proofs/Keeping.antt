@@ -94,17 +94,17 @@ module _ (job : Job) (digest : List ℕ) where
   -- ---- the effect of a write at the place on the newest slot
 
   -- the newest slot after a write that is not valid
-  spoiled : (base p : Pair) (number generation : ℕ) → number < 2 → place_for job digest base ≡ (number, generation)
+  corrupted : (base p : Pair) (number generation : ℕ) → number < 2 → place_for job digest base ≡ (number, generation)
       → stored p (1 - number) ≡ stored base (1 - number) → gen (stored p number) ≡ None → newest p ≡ newest base
-  spoiled base p zero generation below at beside none =
+  corrupted base p zero generation below at beside none =
       let of_base = newest_is base 0 generation at in
       let of_p : newest_for job digest p ≡ number_if 1 (gen base.one_slot) = ap₂ newest_of none (ap gen beside) ∙ alone_first (gen base.one_slot) in
       ap (bytes_at p) of_p ∙ bytes_where p base 1 (gen base.one_slot) beside ∙ ap (bytes_at base) (sym of_base)
-  spoiled base p (suc zero) generation below at beside none =
+  corrupted base p (suc zero) generation below at beside none =
       let of_base = newest_is base 1 generation at in
       let of_p : newest_for job digest p ≡ number_if 0 (gen base.zero_slot) = ap₂ newest_of (ap gen beside) none ∙ alone_second (gen base.zero_slot) in
       ap (bytes_at p) of_p ∙ bytes_where p base 0 (gen base.zero_slot) beside ∙ ap (bytes_at base) (sym of_base)
-  spoiled base p (suc (suc n)) generation below at beside none = absurd (omega (arith, below))
+  corrupted base p (suc (suc n)) generation below at beside none = absurd (omega (arith, below))
 
   -- both slots are unchanged
   both_same : (p q : Pair) (number : ℕ) → number < 2 → stored q (1 - number) ≡ stored p (1 - number) → stored q number ≡ stored p number → q ≡ p
@@ -171,7 +171,7 @@ module _ (job : Job) (digest : List ℕ) where
     whole_step whole = written base m number generation s.at (beside ∙ s.beside) save.version save.outcomes save.sound save.fit whole
 
     spoiled_step : gen (stored m number) ≡ None → newest m ≡ newest base
-    spoiled_step none = spoiled base m number generation below s.at (beside ∙ s.beside) none
+    spoiled_step none = corrupted base m number generation below s.at (beside ∙ s.beside) none
 
     first_step : (n : ℕ) → stored m number ≡ Some (take n bytes) → Steps base p m bytes
     first_step n is = elim (cases_lt n (length bytes)) [

@@ -4,7 +4,7 @@ use Rattle.std.specs.Prelude.{◌≡◌, ℕ, Bool, true, false, not, ◌&&◌, 
 use Rattle.std.specs.List.{list_all}
 use Rattle.audit_model.specs.Faults.{Rose}
 use Rattle.audit_model.specs.Pair.{Pair}
-use Rattle.audit_model.specs.State.{Kept}
+use Rattle.audit_model.specs.State.{KeeperState}
 use Rattle.audit_model.specs.Observed.{IfObserved}
 use Rattle.audit_model.specs.declared.outcome.Outcome.{Outcome}
 use Rattle.audit_model.specs.Job.{Job}
@@ -39,22 +39,22 @@ Finds before damaged bad finding.Damaged after = after ≡ passed_over before
 Finds before given bad what after = ⊥
 
 -- two slots were seen, the known ones if the keeper is observable, and this is the finding in them
-pub record HasSeen (job : Job) (digest : List ℕ) (observed : Option Pair) (before : Collected) (what : Finding) (after : Collected) : Type 0 where
+pub record HasLoadedSlots (job : Job) (digest : List ℕ) (observed : Option Pair) (before : Collected) (what : Finding) (after : Collected) : Type 0 where
   pub pair : Pair
   pub same : IfObserved observed (λ p. pair ≡ p)
   pub finds : Finds before (gives job digest pair) (has_broken job digest pair) what after
 
 -- A folder is unread only if a load of its keeper failed, whose count rose. It is taken exactly if the keeper reports a
 -- lock. Otherwise its slots were seen.
-abbrev pub IsFound : Job → List ℕ → Kept → Kept → Collected → Finding → Collected → Type 0
+abbrev pub IsFound : Job → List ℕ → KeeperState → KeeperState → Collected → Finding → Collected → Type 0
 IsFound job digest folder folder_now before finding.Unread after =
     (after ≡ passed_over before) × Rose folder.load_faults.all folder_now.load_faults.all × (folder_now.load_faults.taken ≡ folder.load_faults.taken)
 IsFound job digest folder folder_now before finding.Taken after =
     (after ≡ passed_over before) × Rose folder.load_faults.all folder_now.load_faults.all × Rose folder.load_faults.taken folder_now.load_faults.taken
-IsFound job digest folder folder_now before what after = HasSeen job digest folder.slots before what after
+IsFound job digest folder folder_now before what after = HasLoadedSlots job digest folder.slots before what after
 
 -- the findings in several folders, one after the other, by the states of their keepers before and after
-abbrev pub AreFound : Job → List ℕ → List Kept → List Kept → Collected → List Finding → Collected → Type 0
+abbrev pub AreFound : Job → List ℕ → List KeeperState → List KeeperState → Collected → List Finding → Collected → Type 0
 AreFound job digest [] [] before [] after = after ≡ before
 AreFound job digest (folder ∷ folders) (folder_now ∷ folders_now) before (what ∷ findings) after =
     (between : Collected) × IsFound job digest folder folder_now before what between × AreFound job digest folders folders_now between findings after

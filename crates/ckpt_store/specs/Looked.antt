@@ -56,7 +56,7 @@ LookCause before now (Err fault) = FaultCause before now fault
 -- leaves both counts unchanged.
 pub record HasLookCause {T : Type 0} (before now : LoadFaults) (result : Result T LookFault) : Type 0 where
   pub counts : Counts before.all now.all
-  pub takings : Counts before.taken now.taken
+  pub taken_count : Counts before.taken now.taken
   pub cause : LookCause before now result
 
 -- the state of a slot after a failed load, or the error

@@ -9,7 +9,7 @@ ghost use Rattle.audit_statement.specs.Due.{LetsCheckpoint};
 ghost use Rattle.ckpt_store.specs.Whole.{IsSavedUnion, IsUnsaved, IsUnsavedUnion};
 ghost use Rattle.outcome_book.specs.Union.{AreAgreed, AreById, IsFirstDifference, IsUnion};
 
-use crate::gather_result::Ungathered;
+use crate::gather_result::GatherError;
 use crate::save::save;
 use audit_io::keeper::Keeper;
 use audit_model::buffers::Bytes;
@@ -49,7 +49,7 @@ pub fn save_list<C: Keeper>(
     place: Place,
     digest: &[u8; 32],
     outcomes: &[Outcome],
-) -> Result<(), Ungathered>
+) -> Result<(), GatherError>
     requires place { IsPlace place }
     requires few { length outcomes.now ≤ most_trajectories }
     requires rising { AreById outcomes.now }
@@ -62,8 +62,8 @@ pub fn save_list<C: Keeper>(
     match Bytes::with_room(alloc, 84 + 80 * outcomes.len()) {
         Ok(mut room) => match save(keeper, &mut place, digest, outcomes, &mut room) {
             Ok(()) => Ok(()),
-            Err(_) => Err(Ungathered::Unsaved),
+            Err(_) => Err(GatherError::Unsaved),
         },
-        Err(_) => Err(Ungathered::Memory),
+        Err(_) => Err(GatherError::Memory),
     }
 }

@@ -1,7 +1,7 @@
 //! The result of a gathering.
 
 ghost use Rattle.std.specs.Prelude.{◌≡◌};
-ghost use Rattle.ckpt_store.specs.declared.gather_result.Ungathered.TheVariants as ungathered;
+ghost use Rattle.ckpt_store.specs.declared.gather_result.GatherError.TheVariants as ungathered;
 
 use crate::finding::Finding;
 use audit_model::lists::PlainList;
@@ -22,7 +22,7 @@ pub struct GatherResult {
 
 /// The reason why a gathering failed.
 #[derive(Clone, Copy, Debug, PartialEq, Eq)]
-pub enum Ungathered {
+pub enum GatherError {
     /// Out of memory. No save was attempted.
     Memory,
     /// A slot of the working folder could not be loaded. No save was attempted.
@@ -34,10 +34,10 @@ pub enum Ungathered {
     Unsaved,
 }
 
-impl From<Memory> for Ungathered {
+impl From<Memory> for GatherError {
     ghost from_gives = { λ _ u. u ≡ ungathered.Memory };
 
-    fn from(_: Memory) -> Ungathered {
-        Ungathered::Memory
+    fn from(_: Memory) -> GatherError {
+        GatherError::Memory
     }
 }

@@ -12,13 +12,13 @@ ghost use Rattle.ckpt_store.specs.Gives.{is_broken, slots_give};
 ghost use Rattle.ckpt_store.specs.View.{newest_seen, place_seen, slot_view};
 ghost use Rattle.ckpt_store.specs.Places.{IsPlace};
 ghost use Rattle.audit_statement.specs.Due.{LetsCheckpoint};
-ghost use Rattle.ckpt_store.specs.Whole.{HasBegun, HasFailed, IsGathering, IsSavedIf, IsUnsaved, IsUnsavedUnion, IsUntouched, LetsGathering};
+ghost use Rattle.ckpt_store.specs.Whole.{HasBegun, HasGatherFailed, IsGathering, IsSavedIf, IsUnsaved, IsUnsavedUnion, IsUntouched, LetsGathering};
 
 use crate::collection::Collection;
 use crate::finding::{Finding, find_in};
 use crate::folder_content::{has_broken, newest_content};
 use crate::gather::save_list;
-use crate::gather_result::{FindingList, GatherResult, Ungathered};
+use crate::gather_result::{FindingList, GatherResult, GatherError};
 use crate::look::{LookFault, look};
 use crate::slots::Slots;
 use audit_io::keeper::Keeper;
@@ -32,7 +32,7 @@ use std::alloc::Global;
 /// The state of a gathering after the look at the working folder: the place of the working folder's next checkpoint,
 /// the finding in the working folder, and the collection with the working folder's outcomes.
 #[derive(Drop)]
-struct Begun {
+struct GatherState {
     place: Place,
     own: Finding,
     collection: Collection,
@@ -57,11 +57,11 @@ pub fn gather<C: Keeper, F: Keeper>(
     folders: &mut [F],
     job: &Job,
     saves: bool,
-) -> Result<GatherResult, Ungathered>
+) -> Result<GatherResult, GatherError>
     requires few { total job.now ≤ most_trajectories }
     requires lets { LetsGathering C.lets job.now (job_digest job.now) saves (C.state keeper.old).slots (C.state keeper.old).attempted (map (λ k. F.state k) folders.old) }
     ensures gathered { IfOk result (IsGathering job.now (job_digest job.now) saves (C.state keeper.old) (C.state keeper.new) (map (λ k. F.state k) folders.old) (map (λ k. F.state k) folders.new)) }
-    ensures cause { IfErr result (IsUnsaved (HasFailed job.now (job_digest job.now) saves (C.state keeper.old) (C.state keeper.new) (map (λ k. F.state k) folders.old) (map (λ k. F.state k) folders.new))
+    ensures cause { IfErr result (IsUnsaved (HasGatherFailed job.now (job_digest job.now) saves (C.state keeper.old) (C.state keeper.new) (map (λ k. F.state k) folders.old) (map (λ k. F.state k) folders.new))
         (C.state keeper.old) (C.state keeper.new)) }
 {
     let digest = job_digest(job);
@@ -77,20 +77,20 @@ fn gather_from<C: Keeper, F: Keeper>(
     keeper: &mut C,
     folders: &mut [F],
     job: &Job,
-    begun: Begun,
+    begun: GatherState,
     saves: bool,
-) -> Result<GatherResult, Ungathered>
+) -> Result<GatherResult, GatherError>
     requires total { begun.collection.total ≡ total job.now }
     requires covered { IsCovered begun.collection }
     requires place { IsPlace begun.place }
     requires begun { HasBegun job.now (job_digest job.now) (C.state keeper.old).slots (begun.place.slot, begun.place.generation) begun.own begun.collection }
     requires lets { LetsGathering C.lets job.now (job_digest job.now) saves (C.state keeper.old).slots (C.state keeper.old).attempted (map (λ k. F.state k) folders.old) }
     ensures gathered { IfOk result (IsGathering job.now (job_digest job.now) saves (C.state keeper.old) (C.state keeper.new) (map (λ k. F.state k) folders.old) (map (λ k. F.state k) folders.new)) }
-    ensures cause { IfErr result (IsUnsaved (HasFailed job.now (job_digest job.now) saves (C.state keeper.old) (C.state keeper.new) (map (λ k. F.state k) folders.old) (map (λ k. F.state k) folders.new))
+    ensures cause { IfErr result (IsUnsaved (HasGatherFailed job.now (job_digest job.now) saves (C.state keeper.old) (C.state keeper.new) (map (λ k. F.state k) folders.old) (map (λ k. F.state k) folders.new))
         (C.state keeper.old) (C.state keeper.new)) }
 {
     let digest = job_digest(job);
-    let Begun {
+    let GatherState {
         place,
         own,
         mut collection,
@@ -108,7 +108,7 @@ fn gather_from<C: Keeper, F: Keeper>(
                 Err(why) => Err(why),
             }
         }
-        Err(_) => Err(Ungathered::Memory),
+        Err(_) => Err(GatherError::Memory),
     }
 }
 
@@ -118,7 +118,7 @@ fn begin<C: Keeper>(
     keeper: &mut C,
     job: &Job,
     digest: &[u8; 32],
-) -> Result<Begun, Ungathered>
+) -> Result<GatherState, GatherError>
     requires few { total job.now ≤ most_trajectories }
     ensures total { IfOk result (λ b. b.collection.total ≡ total job.now) }
     ensures covered { IfOk result (λ b. IsCovered b.collection) }
@@ -131,9 +131,9 @@ fn begin<C: Keeper>(
     let mut room = Bytes::new(alloc);
     match look(alloc, keeper, job, digest, &mut room) {
         Ok(slots) => begin_with(alloc, job, digest, slots),
-        Err(LookFault::Failed) => Err(Ungathered::Unread),
-        Err(LookFault::Taken) => Err(Ungathered::Taken),
-        Err(LookFault::Memory) => Err(Ungathered::Memory),
+        Err(LookFault::Failed) => Err(GatherError::Unread),
+        Err(LookFault::Taken) => Err(GatherError::Taken),
+        Err(LookFault::Memory) => Err(GatherError::Memory),
     }
 }
 
@@ -143,7 +143,7 @@ fn begin_with(
     job: &Job,
     digest: &[u8; 32],
     slots: Slots,
-) -> Result<Begun, Ungathered>
+) -> Result<GatherState, GatherError>
     requires few { total job.now ≤ most_trajectories }
     requires zero { HasFitOutcomes job.now slots.zero }
     requires one { HasFitOutcomes job.now slots.one }
@@ -153,14 +153,14 @@ fn begin_with(
     ensures place_is { IfOk result (λ b. (b.place.slot, b.place.generation) ≡ place_seen slots) }
     ensures finds { IfOk result (λ b. Finds (no_collected (total job.now)) (slots_give (slot_view slots.zero) (slot_view slots.one) (newest_seen slots))
         (is_broken (slot_view slots.zero) || is_broken (slot_view slots.one)) b.own b.collection) }
-    ensures cause { IfErr result (λ e. e ≡ Ungathered.Memory) }
+    ensures cause { IfErr result (λ e. e ≡ GatherError.Memory) }
 {
     let mut collection = Collection::with_room(alloc, job.total())?;
     let place = slots.place();
     let beside = has_broken(&slots);
     let given = newest_content(job, digest, slots);
     let own = collection.add(alloc, job, given, beside)?;
-    Ok(Begun {
+    Ok(GatherState {
         place,
         own,
         collection,
@@ -222,7 +222,7 @@ fn finish<C: Keeper>(
     digest: &[u8; 32],
     collection: &Collection,
     saved: bool,
-) -> Result<u32, Ungathered>
+) -> Result<u32, GatherError>
     requires place { IsPlace place }
     requires lets { saved ≡ true → LetsCheckpoint C.lets (C.state keeper.old) digest.now place.slot place.generation collection.now.outcomes }
     ensures done { IfOk result (λ n. n ≡ length collection.now.outcomes) }
@@ -241,6 +241,6 @@ fn finish<C: Keeper>(
                 Err(why) => Err(why),
             }
         }
-        Err(_) => Err(Ungathered::Memory),
+        Err(_) => Err(GatherError::Memory),
     }
 }

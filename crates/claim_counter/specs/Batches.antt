@@ -22,7 +22,7 @@ pub record IsFreshBatch (count workers : ℕ) (p : BatchCounter) : Type 0 where
   pub fresh : own p.pass ≡ fresh (workers - 1)
 
 -- a worker that can rest after a batch: its list has capacity for the outcomes of all trajectories
-pub record MayRest (job : Job) (walker : ChainState) (share : RoomyOutcomes) : Type 0 where
+pub record CanBeIdle (job : Job) (walker : ChainState) (share : RoomyOutcomes) : Type 0 where
   pub made : walker.job ≡ job
   pub share_room : total job ≤ length share.items + share.spare
 
@@ -34,7 +34,7 @@ module _ {J : Type 0} where
     pub room : total job ≤ h.share.spare
 
   -- a worker before a batch
-  pub record IsLent (job : Job) (c : Claims) (w : Worker J) : Type 0 where
+  pub record IsStarted (job : Job) (c : Claims) (w : Worker J) : Type 0 where
     pub unstarted : IsUnstarted job c w
     pub room : total job ≤ w.share.spare
 
@@ -50,7 +50,7 @@ module _ {J : Type 0} where
     pub room : vec_len idle_workers < vec_capacity idle_workers
 
   -- all workers rest, and there is capacity to give each a pass
-  pub record AreResting {A B : Type 0} (job : Job) (idle_workers : Vec (IdleWorker J) A) (workers : Vec (Worker J) B) : Type 0 where
+  pub record AreIdle {A B : Type 0} (job : Job) (idle_workers : Vec (IdleWorker J) A) (workers : Vec (Worker J) B) : Type 0 where
     pub some : 0 < vec_len idle_workers
     pub hands_are : All (IsIdleWorker job) idle_workers.items
     pub none : vec_len workers ≡ 0

@@ -10,7 +10,7 @@ ghost use Rattle.audit_statement.specs.Draw.{draw};
 ghost use Rattle.outcome_book.specs.Booked.{IsBook, IsShareFor};
 ghost use Rattle.claim_counter.specs.Walkers.{AreWalkers, IsWalker};
 ghost use Rattle.walker.specs.Judges.{AreJudges};
-ghost use Rattle.claim_counter.specs.Batches.{AreBack, AreResting, HasNoHub, HasPlace, IsBack, IsFreshBatch, IsIdleWorker, IsLent, IsBatchWorkers, MayRest};
+ghost use Rattle.claim_counter.specs.Batches.{AreBack, AreIdle, HasNoHub, HasPlace, IsBack, IsFreshBatch, IsIdleWorker, IsStarted, IsBatchWorkers, CanBeIdle};
 ghost use Rattle.claim_counter.specs.Workers.{IsShared};
 ghost use Rattle.claim_counter.specs.Walks.{found, found_at, MissesIds, ServesEnds};
 ghost use Rattle.audit_model.specs.Limits.{most_trajectories, most_workers};
@@ -120,11 +120,11 @@ pub fn make_batch_workers<J: Judge>(
 }
 
 // Makes an idle worker ready for the next batch by giving it a pass.
-fn lend<J: Judge>(job: &Job, claims: &Claims, idle_worker: IdleWorker<J>, pass: Pass) -> Worker<J>
+fn start_worker<J: Judge>(job: &Job, claims: &Claims, idle_worker: IdleWorker<J>, pass: Pass) -> Worker<J>
     requires limit { (size_of claims.now).limit ≤ total job.now }
     requires pass { BelongsTo claims.now pass × (own pass ≡ fresh 0) }
     requires idle_worker { IsIdleWorker job.now idle_worker }
-    ensures { IsLent job.now claims.now result }
+    ensures { IsStarted job.now claims.now result }
 {
     let IdleWorker { walker, share } = idle_worker;
     Worker {
@@ -136,7 +136,7 @@ fn lend<J: Judge>(job: &Job, claims: &Claims, idle_worker: IdleWorker<J>, pass: 
 
 // Makes all idle workers ready for the next batch. The passes are split off `pass`, and the last worker takes `pass`
 // itself.
-fn lend_all<J: Judge>(
+fn start_workers<J: Judge>(
     job: &Job,
     claims: &Claims,
     mut pass: Pass,
@@ -145,8 +145,8 @@ fn lend_all<J: Judge>(
 )
     requires limit { (size_of claims.now).limit ≤ total job.now }
     requires pass { BelongsTo claims.now pass × (own pass ≡ fresh (vec_len idle_workers.old - 1)) }
-    requires resting { AreResting job.now idle_workers.old workers.old }
-    ensures lent { All (IsLent job.now claims.now) workers.new.items }
+    requires idle { AreIdle job.now idle_workers.old workers.old }
+    ensures started { All (IsStarted job.now claims.now) workers.new.items }
     ensures count { vec_len workers.new ≡ vec_len idle_workers.old }
     ensures none { vec_len idle_workers.new ≡ 0 }
     ensures hands_room { vec_capacity idle_workers.new ≡ vec_capacity idle_workers.old }
@@ -157,9 +157,9 @@ fn lend_all<J: Judge>(
     };
     while let Some(idle_worker) = idle_workers.pop() {
         let batch = claims.split(&mut pass);
-        workers.push_reserved(lend(job, claims, idle_worker, batch));
+        workers.push_reserved(start_worker(job, claims, idle_worker, batch));
     }
-    workers.push_reserved(lend(job, claims, last, pass));
+    workers.push_reserved(start_worker(job, claims, last, pass));
 }
 
 // Runs all workers until no trajectory of the batch is left. Each worker has its own thread, if one can be started.
@@ -171,7 +171,7 @@ fn run_all<R: Threads + Sync, J: Judge + Send, G: Gate + Sync>(
     claims: &Claims,
     workers: &mut [Worker<J>],
 )
-    requires lent { All (IsLent job.now claims.now) workers.old }
+    requires started { All (IsStarted job.now claims.now) workers.old }
     requires shared { IsShared job.now todo.now hub.now claims.now }
     ensures { All (IsBack job.now todo.now claims.now) workers.new }
 {
@@ -180,7 +180,7 @@ fn run_all<R: Threads + Sync, J: Judge + Send, G: Gate + Sync>(
         rt.threads,
         workers,
         &|_, worker: &mut Worker<J>|
-            requires lent { IsLent job.now claims.now worker.now }
+            requires started { IsStarted job.now claims.now worker.now }
             requires shared { IsShared job.now todo.now hub.now claims.now }
             ensures { IsBack job.entry.now todo.entry.now claims.entry.now worker.new }
         { worker.run(job, todo, hub, gate, claims) },
@@ -194,7 +194,7 @@ fn rest<J: Judge>(
     mut share: OutcomeList,
     idle_workers: &mut Vec<IdleWorker<J>>,
 )
-    requires idle_worker { MayRest job.now walker share }
+    requires idle_worker { CanBeIdle job.now walker share }
     requires idle_workers { HasPlace job.now idle_workers.old }
     ensures idle_workers { All (IsIdleWorker job.now) idle_workers.new.items }
     ensures count { vec_len idle_workers.new ≡ vec_len idle_workers.old + 1 }
@@ -213,7 +213,7 @@ fn take_first<J: Judge>(
     book: &mut Book,
 ) -> Pass
     requires share { IsShareFor book.old worker.share.items }
-    requires idle_worker { MayRest job.now worker.walker worker.share }
+    requires idle_worker { CanBeIdle job.now worker.walker worker.share }
     requires idle_workers { HasPlace job.now idle_workers.old }
     ensures pass { result ≡ worker.pass }
     ensures total { book.new.total ≡ book.old.total }
@@ -246,7 +246,7 @@ fn take_next<J: Judge>(
     requires worker { BelongsTo claims.now worker.pass }
     requires share { AreDifferentBelow (size_of claims.now).limit ((own pass).claims ++ (own worker.pass).claims)
         → IsShareFor book.old worker.share.items }
-    requires idle_worker { MayRest job.now worker.walker worker.share }
+    requires idle_worker { CanBeIdle job.now worker.walker worker.share }
     requires idle_workers { HasPlace job.now idle_workers.old }
     ensures pass { BelongsTo claims.now result }
     ensures both { own result ≡ joined_passes (own pass) (own worker.pass) }
@@ -341,7 +341,7 @@ pub fn walk_batch<R: Threads + Sync, J: Judge + Send, G: Gate + Sync>(
     let BatchCounter { claims, pass } = batch;
     let idle_workers = &mut batch_workers.idle_workers;
     let workers = &mut batch_workers.workers;
-    lend_all(job, &claims, pass, idle_workers, workers);
+    start_workers(job, &claims, pass, idle_workers, workers);
     run_all(
         rt,
         job,

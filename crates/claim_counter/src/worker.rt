@@ -19,12 +19,12 @@ pub struct Worker<J: Judge> {
 
 impl<J: Judge> Worker<J> {
     ghost use Rattle.claim_counter.specs.Workers.{IsShared};
-    ghost use Rattle.claim_counter.specs.Batches.{IsBack, IsLent};
+    ghost use Rattle.claim_counter.specs.Batches.{IsBack, IsStarted};
 
     /// Draws indices of `todo` until none is left. After each draw, gives the gate the id at this index, walks the
     /// trajectory with this id, and appends the outcome to `share`.
     pub fn run<G: Gate>(&mut self, job: &Job, todo: &[u32], hub: &[u32], gate: &G, claims: &Claims)
-        requires lent { IsLent job.now claims.now self.old }
+        requires started { IsStarted job.now claims.now self.old }
         requires shared { IsShared job.now todo.now hub.now claims.now }
         ensures { IsBack job.now todo.now claims.now self.new }
     {
@@ -33,7 +33,7 @@ impl<J: Judge> Worker<J> {
         let share = &mut self.share;
         while let Some(place) = claims.claim(pass) {
             let id = todo[place as usize];
-            let token = StartToken::tell(gate, id);
+            let token = StartToken::announce(gate, id);
             append(share, walker.walk(job, hub, token));
         }
     }

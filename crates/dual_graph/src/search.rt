@@ -7,7 +7,7 @@ ghost use Rattle.audit_model.specs.Graph.{has, IsGraph, IsIn};
 ghost use Rattle.audit_model.specs.Path.{HasPath, IsConnected};
 ghost use Rattle.dual_graph.specs.Marked.{IsMarked};
 ghost use Rattle.audit_model.specs.Search.{AddsFrom};
-ghost use Rattle.dual_graph.specs.Parting.{parting_of};
+ghost use Rattle.dual_graph.specs.DisconnectedPair.{disconnected_pair_of};
 
 use crate::graph::Graph;
 use crate::inside::Inside;
@@ -85,11 +85,11 @@ fn first_unmarked<I: Inside>(within: &Within<I>, marks: &Marks) -> Option<u32>
 ///
 /// The first is the least unit of the set, and the second the least unit that no such path connects
 /// to the first. For an empty set, which does not count as connected, the result is `(0, 0)`.
-pub fn parting<I: Inside>(graph: &Graph, set: &I, marks: &mut Marks) -> Option<(u32, u32)>
+pub fn find_disconnected_pair<I: Inside>(graph: &Graph, set: &I, marks: &mut Marks) -> Option<(u32, u32)>
     requires set { I.units set.now ≡ graph.now.units }
     requires units { marks.old.units ≡ graph.now.units }
     ensures units { marks.new.units ≡ graph.now.units }
-    ensures parting { result ≡ parting_of graph.now (I.inside set.now) }
+    ensures find_disconnected_pair { result ≡ disconnected_pair_of graph.now (I.inside set.now) }
 {
     let within = Within { graph, set };
     match first_unit(&within) {
@@ -109,5 +109,5 @@ pub fn is_whole<I: Inside>(graph: &Graph, set: &I, marks: &mut Marks) -> bool
     ensures units { marks.new.units ≡ graph.now.units }
     ensures whole { IsTrue result ↔ IsConnected graph.now (I.inside set.now) }
 {
-    parting(graph, set, marks).is_none()
+    find_disconnected_pair(graph, set, marks).is_none()
 }

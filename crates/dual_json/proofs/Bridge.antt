@@ -28,7 +28,7 @@ use Rattle.dual_json.specs.Columns.{count_from, count_in, flag_in, flags_in, fro
 use Rattle.dual_json.specs.Districts.{AreDistricts, district_count_fault, is_new, different_count}
 use Rattle.dual_json.specs.Edges.{entries_at, first_in, first_entry_in, is_unknown, is_unnamed, joined_in, graph_in, edges_fault, names_node}
 use Rattle.dual_json.specs.Places.{object_at, nth, first_unnamed, AreLabels, place_of_label, repeated_label}
-use Rattle.dual_json.specs.Stages.{repeated_in, entry_fault, is_stranger, edge_count, graph_fault, labels_fault, AreRows}
+use Rattle.dual_json.specs.Stages.{repeated_in, entry_fault, is_unknown_neighbor, edge_count, graph_fault, labels_fault, AreRows}
 use Rattle.dual_json.proofs.Counted.{label_count_is, district_is, labels_are, start_is}
 
 -- mapping functions that agree on the item there gives equal options
@@ -72,7 +72,7 @@ module _ (nodes : List Data) (ids : List Label) (are : AreLabels (codes "id") no
       ∙ ap (λ m. not (any_below m (λ j. same_label l (nth ids j)))) (sym are.count)
       ∙ none_or_any (length ids) (λ j. same_label l (nth ids j)) (place_of_label ids l) refl
 
-  pub stranger_same : (e : Data) → is_stranger nodes e ≡ is_unknown ids e
+  pub stranger_same : (e : Data) → is_unknown_neighbor nodes e ≡ is_unknown ids e
   stranger_same e = stranger_by (id_of e)
 
 -- ---- the graph
@@ -102,9 +102,9 @@ module _ (d : Document) (ids : List Label) (are : AreLabels (codes "id") d.nodes
       ∙ ap (λ m. first_some_below m (λ i. option_map (f i) (first_in other (entries_at d.adjacency i)))) long
 
   pub edges_same : length d.nodes ≡ length d.adjacency
-      → option_or (entry_fault d (is_stranger d.nodes) fault.UnknownNeighbour) (refused_if (nat_lt 400000 (edge_count d)) (fault.TooManyEdges (edge_count d))) ≡ edges_fault ids d.adjacency
+      → option_or (entry_fault d (is_unknown_neighbor d.nodes) fault.UnknownNeighbour) (refused_if (nat_lt 400000 (edge_count d)) (fault.TooManyEdges (edge_count d))) ≡ edges_fault ids d.adjacency
   edges_same long =
-      ap (λ o. option_or o (refused_if (nat_lt 400000 (edge_count d)) (fault.TooManyEdges (edge_count d)))) (entry_same (is_stranger d.nodes) (is_unknown ids) fault.UnknownNeighbour long (stranger_same d.nodes ids are))
+      ap (λ o. option_or o (refused_if (nat_lt 400000 (edge_count d)) (fault.TooManyEdges (edge_count d)))) (entry_same (is_unknown_neighbor d.nodes) (is_unknown ids) fault.UnknownNeighbour long (stranger_same d.nodes ids are))
       ∙ ap (λ (g : Graph). option_or (first_entry_in (is_unknown ids) fault.UnknownNeighbour d.adjacency) (refused_if (nat_lt 400000 (count_edges g (λ u v. true))) (fault.TooManyEdges (count_edges g (λ u v. true))))) graph_same
 
 -- ---- all faults
@@ -134,7 +134,7 @@ pub refusal_is : (d : Document) (columns : Columns)
 refusal_is d columns = regroup
     (refused_if d.directed fault.Directed) (refused_if (not (length d.nodes == length d.adjacency)) (fault.LengthsDiffer (length d.nodes) (length d.adjacency)))
     (refused_if (nat_lt 100000 (length d.nodes)) (fault.TooManyUnits (length d.nodes))) (option_map fault.BadId (first_unnamed (codes "id") d.nodes)) (repeated_in d.nodes)
-    (entry_fault d is_unnamed fault.BadNeighbour) (entry_fault d (is_stranger d.nodes) fault.UnknownNeighbour) (refused_if (nat_lt 400000 (edge_count d)) (fault.TooManyEdges (edge_count d)))
+    (entry_fault d is_unnamed fault.BadNeighbour) (entry_fault d (is_unknown_neighbor d.nodes) fault.UnknownNeighbour) (refused_if (nat_lt 400000 (edge_count d)) (fault.TooManyEdges (edge_count d)))
     (missing columns d.nodes) (bad columns d.nodes) (option_map fault.BadLabel (first_unnamed columns.district d.nodes)) (district_count_fault (label_count d columns))
     (length_fault d columns)
 

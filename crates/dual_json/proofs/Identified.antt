@@ -20,13 +20,13 @@ use Rattle.dual_json.specs.Districts.{district_count_fault}
 use Rattle.dual_json.specs.Edges.{is_unnamed}
 use Rattle.dual_json.specs.Places.{first_unnamed, AreLabels}
 use Rattle.dual_json.specs.Shape.{frame_fault}
-use Rattle.dual_json.specs.Stages.{edge_count, entry_fault, graph_fault, ids_fault, is_stranger, labels_fault, repeated_in}
+use Rattle.dual_json.specs.Stages.{edge_count, entry_fault, graph_fault, ids_fault, is_unknown_neighbor, labels_fault, repeated_in}
 use Rattle.dual_json.proofs.Bridge.{refusal_is}
 use Rattle.dual_json.proofs.Regioned.{document_is_of}
 
 -- the faults after those of the ids
 later : Document → Option GraphFault
-later d = option_or (entry_fault d is_unnamed fault.BadNeighbour) (option_or (entry_fault d (is_stranger d.nodes) fault.UnknownNeighbour)
+later d = option_or (entry_fault d is_unnamed fault.BadNeighbour) (option_or (entry_fault d (is_unknown_neighbor d.nodes) fault.UnknownNeighbour)
     (refused_if (nat_lt 400000 (edge_count d)) (fault.TooManyEdges (edge_count d))))
 
 -- without a fault, each node has an id

@@ -34,8 +34,8 @@ abbrev pub entry_fault : Document → (Data → Bool) → (ℕ → ℕ → Graph
 entry_fault d test f = first_some_below (length d.nodes) (λ i. option_map (f i) (first_in test (entries_at d.adjacency i)))
 
 -- an entry with the id of no node
-abbrev pub is_stranger : List Data → Data → Bool
-is_stranger nodes e = not (any_below (length nodes) (λ j. same_id (id_of e) (id_of (object_at nodes j))))
+abbrev pub is_unknown_neighbor : List Data → Data → Bool
+is_unknown_neighbor nodes e = not (any_below (length nodes) (λ j. same_id (id_of e) (id_of (object_at nodes j))))
 
 abbrev pub edge_count : Document → ℕ
 edge_count d = count_edges (graph d) (λ u v. true)
@@ -43,7 +43,7 @@ edge_count d = count_edges (graph d) (λ u v. true)
 -- the first fault of the graph
 abbrev pub graph_fault : Document → Option GraphFault
 graph_fault d = option_or (frame_fault d.directed (length d.nodes) (length d.adjacency)) (option_or (ids_fault d.nodes)
-    (option_or (entry_fault d is_unnamed fault.BadNeighbour) (option_or (entry_fault d (is_stranger d.nodes) fault.UnknownNeighbour)
+    (option_or (entry_fault d is_unnamed fault.BadNeighbour) (option_or (entry_fault d (is_unknown_neighbor d.nodes) fault.UnknownNeighbour)
     (refused_if (nat_lt most_edges (edge_count d)) (fault.TooManyEdges (edge_count d))))))
 
 -- the first fault of the columns, up to the labels

@@ -8,7 +8,7 @@ use Rattle.audit_model.specs.Job.{Job}
 use Rattle.audit_model.specs.Plan.{IsLegal}
 use Rattle.audit_model.proofs.ListFacts.{above_all_most}
 use Rattle.flip_guard.specs.Judging.{IsAfterMove, IsTaken, Judging}
-use Rattle.flip_kernel.specs.Judged.{IsJudgeFor, IsSeated}
+use Rattle.flip_kernel.specs.Judged.{IsJudgeFor, HasConstraintAt}
 use Rattle.flip_kernel.proofs.Holding.{put_back}
 
 -- a plan of the job is accepted
@@ -18,7 +18,7 @@ plan_taken job by judge plan complete in_range = subst (λ (n : ℕ). IsTrue (by
     (judge.taken (above_all plan) (above_all_most plan job.districts (λ u l. in_range u (omega (arith, l, complete)))))
 
 -- the plan after a move is accepted
-pub judged_after : (job : Job) (by : Judging) (plan : List ℕ) → IsSeated job plan by → IsLegal job plan → (after : List ℕ) (unit district home : ℕ)
+pub judged_after : (job : Job) (by : Judging) (plan : List ℕ) → HasConstraintAt job plan by → IsLegal job plan → (after : List ℕ) (unit district home : ℕ)
     → unit < job.graph.units → district < job.districts → after ≡ set plan unit district → home ≡ get_or plan unit 0 → IsAfterMove by after unit home
 judged_after job by plan judge legal after unit district home inside within is was =
     let back : set after unit home ≡ plan = put_back plan after unit district home is was in

@@ -13,7 +13,7 @@ use Rattle.audit_model.proofs.Rows.{row_counted, counted_more}
 use Rattle.district_sums.proofs.Moving.{count_below_but_one}
 use Rattle.district_sums.proofs.Walking.{has_last, has_others}
 use Rattle.district_sums.specs.Following.{count_near}
-use Rattle.flip_kernel.specs.Nearby.{near_of, AreNear, HasCounted, HasMoved, HasPassed}
+use Rattle.flip_kernel.specs.Nearby.{near_of, AreNear, HasCounted, HasMoved, HasMovedNeighbor}
 
 -- ---- one pair
 
@@ -155,7 +155,7 @@ not_moved districts from to v e row old new moved out le =
 
 -- one more neighbor is passed
 pub moved_more : (districts from to v : ℕ) (row old new later : List ℕ) → from < districts → to < districts → HasMoved districts from to row old new → has row v ≡ false
-    → HasPassed (v * districts + from) (v * districts + to) new later → HasMoved districts from to (row ++ v ∷ []) old later
+    → HasMovedNeighbor (v * districts + from) (v * districts + to) new later → HasMoved districts from to (row ++ v ∷ []) old later
 moved_more districts from to v row old new later lf lt moved out passed = record { width = passed.width ∙ moved.width; each = each }
   where
     each : (u d : ℕ) → d < districts → near_of later districts u d + cond {A = ℕ} (has (row ++ v ∷ []) u && (from == d)) 1 0

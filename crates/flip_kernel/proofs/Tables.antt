@@ -11,7 +11,7 @@ use Rattle.audit_model.specs.Graph.{Graph, IsGraph, has, adjacent}
 use Rattle.audit_model.specs.District.{in_district}
 use Rattle.audit_model.proofs.Bools.{and_true}
 use Rattle.audit_model.proofs.ListFacts.{has_at}
-use Rattle.flip_kernel.specs.OpenPairs.{is_open, flag_of, MarksOpenPairs, HasOpened}
+use Rattle.flip_kernel.specs.OpenPairs.{is_open, flag_of, MarksOpenPairs, HasOpenedPairs}
 use Rattle.flip_kernel.proofs.Beside.{not_open, open_other, open_far}
 
 -- ---- one pair
@@ -40,8 +40,8 @@ or_without false c h = h
 
 -- opening one more neighbor's district
 pub opens_more : (plan : List ℕ) (districts unit : ℕ) (row : List ℕ) (i : ℕ) (old new : List Bool) → i < length row → get_or plan (get_or row i 0) 0 < districts
-    → unit * districts + get_or plan (get_or row i 0) 0 < length new → HasOpened plan districts unit (take i row) old new
-    → HasOpened plan districts unit (take (i + 1) row) old
+    → unit * districts + get_or plan (get_or row i 0) 0 < length new → HasOpenedPairs plan districts unit (take i row) old new
+    → HasOpenedPairs plan districts unit (take (i + 1) row) old
     (set new (unit * districts + get_or plan (get_or row i 0) 0) (not (get_or plan unit 0 == get_or plan (get_or row i 0) 0)))
 opens_more plan districts unit row i old new l there inside before = record {
   width = length-set new (unit * districts + e) flag ∙ before.width;
@@ -88,7 +88,7 @@ IsStale row unit home district i u d =
     ((d ≡ home) ⊎ (d ≡ district)) × ((u ≡ unit) ⊎ ((k : ℕ) × (i ≤ k) × (k < length row) × (get_or row k 0 ≡ u)))
 
 -- all other pairs are as after the move
-pub record IsRenewing (g : Graph) (plan : List ℕ) (districts : ℕ) (row : List ℕ) (unit home district i : ℕ) (table : List Bool) : Type 0 where
+pub record IsUpdating (g : Graph) (plan : List ℕ) (districts : ℕ) (row : List ℕ) (unit home district i : ℕ) (table : List Bool) : Type 0 where
   pub width : g.units * districts ≤ length table
   pub each : (u d : ℕ) → u < g.units → d < districts → (flag_of table districts u d ≡ is_open g plan u d) ⊎ IsStale row unit home district i u d
 
@@ -120,7 +120,7 @@ closed_more units plan districts unit v e flag table inside le own closed = λ u
 -- before the first update, only pairs of the two districts near the unit may be wrong
 pub renewing_none : (g : Graph) (plan : List ℕ) (districts : ℕ) (row : List ℕ) (unit home : ℕ) (table : List Bool) → IsGraph g → unit < length plan
     → row ≡ get_or g.neighbours unit [] → MarksOpenPairs g (set plan unit home) districts table
-    → IsRenewing g plan districts row unit home (get_or plan unit 0) 0 table
+    → IsUpdating g plan districts row unit home (get_or plan unit 0) 0 table
 renewing_none g plan districts row unit home table sound l is_row before = record { width = before.width; each = each }
   where
     near : (u d : ℕ) → u < g.units → d < districts → ((d ≡ home) ⊎ (d ≡ get_or plan unit 0))
@@ -200,8 +200,8 @@ module _ (g : Graph) (plan : List ℕ) (districts v district home : ℕ) (one ot
         ∙ ap (λ (x : ℕ). is_open g plan v x) (sym at) ∙ ap (λ (x : ℕ). is_open g plan x d) (sym same)
   ]
 
-  pub renewing_more : (row : List ℕ) (unit i : ℕ) → v ≡ get_or row i 0 → IsRenewing g plan districts row unit home district i table
-      → IsRenewing g plan districts row unit home district (i + 1) (set (set table (v * districts + district) one) (v * districts + home) other)
+  pub renewing_more : (row : List ℕ) (unit i : ℕ) → v ≡ get_or row i 0 → IsUpdating g plan districts row unit home district i table
+      → IsUpdating g plan districts row unit home district (i + 1) (set (set table (v * districts + district) one) (v * districts + home) other)
   unfolding after
   renewing_more row unit i is_v before = record {
     width = after_width;
@@ -217,7 +217,7 @@ module _ (g : Graph) (plan : List ℕ) (districts v district home : ℕ) (one ot
     ];
   }
 
-  pub renewing_all : (row : List ℕ) (i : ℕ) → length row ≤ i → IsRenewing g plan districts row v home district i table
+  pub renewing_all : (row : List ℕ) (i : ℕ) → length row ≤ i → IsUpdating g plan districts row v home district i table
       → MarksOpenPairs g plan districts (set (set table (v * districts + district) one) (v * districts + home) other)
   unfolding after
   renewing_all row i end before = record {

@@ -14,6 +14,6 @@ pub record IsJudgeFor (job : Job) (by : Judging) : Type 0 where
   pub taken : TakesPlansOf job by.takes
 
 -- a constraint for the job describes the plan
-pub record IsSeated (job : Job) (plan : List ℕ) (by : Judging) : Type 0 where
+pub record HasConstraintAt (job : Job) (plan : List ℕ) (by : Judging) : Type 0 where
   pub fit : IsJudgeFor job by
   pub stood : by.stands plan

@@ -34,6 +34,6 @@ pub record HasMoved (districts from to : ℕ) (row : List ℕ) (old new : List �
       ≡ near_of old districts u d + cond {A = ℕ} (has row u && (to == d)) 1 0
 
 -- one is taken from the number at one place, and one added to the number at another
-pub record HasPassed (from to : ℕ) (old new : List ℕ) : Type 0 where
+pub record HasMovedNeighbor (from to : ℕ) (old new : List ℕ) : Type 0 where
   pub width : length new ≡ length old
   pub each : (k : ℕ) → slice_index new k + cond {A = ℕ} (from == k) 1 0 ≡ slice_index old k + cond {A = ℕ} (to == k) 1 0

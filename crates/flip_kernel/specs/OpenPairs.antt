@@ -18,7 +18,7 @@ pub record MarksOpenPairs (g : Graph) (plan : List ℕ) (districts : ℕ) (table
   pub each : (u d : ℕ) → u < g.units → d < districts → flag_of table districts u d ≡ is_open g plan u d
 
 -- the districts of these neighbors are open to the unit, and the pairs of other units are unchanged
-pub record HasOpened (plan : List ℕ) (districts unit : ℕ) (row : List ℕ) (old new : List Bool) : Type 0 where
+pub record HasOpenedPairs (plan : List ℕ) (districts unit : ℕ) (row : List ℕ) (old new : List Bool) : Type 0 where
   pub width : length new ≡ length old
   pub own : (d : ℕ) → d < districts → flag_of new districts unit d ≡ (not (in_district plan d unit) && list_any (in_district plan d) row)
   pub others : (u d : ℕ) → (u ≡ unit → ⊥) → d < districts → flag_of new districts u d ≡ flag_of old districts u d

@@ -11,7 +11,7 @@ ghost use Rattle.audit_model.specs.Plan.{IsLegal, cut_edges, least_population, g
 ghost use Rattle.audit_model.specs.Step.{next};
 ghost use Rattle.district_sums.specs.Following.{StandsFor, count_near, districts_in};
 ghost use Rattle.flip_kernel.specs.ChainState.{IsMove, IsSummed, KeepsBounds, KeepsBoundsIn, ProposesOpen, allows, sums_in};
-ghost use Rattle.flip_kernel.specs.Judged.{IsSeated};
+ghost use Rattle.flip_kernel.specs.Judged.{HasConstraintAt};
 ghost use Rattle.flip_kernel.specs.Nearby.{CountsNeighbors};
 ghost use Rattle.flip_kernel.specs.OpenPairs.{is_open};
 
@@ -192,7 +192,7 @@ impl Board {
     #[inline]
     fn permits<J: Judge>(&mut self, judge: &J, flip: Flip) -> bool
         requires made { self.old.job ≡ flip.job.now }
-        requires judge { IsSeated flip.job.now self.old.plan (J.judging judge.now) }
+        requires judge { HasConstraintAt flip.job.now self.old.plan (J.judging judge.now) }
         requires elsewhere { slice_index self.old.plan flip.unit ≢ flip.district }
         ensures meets { let after = slice_set self.old.plan flip.entry.unit flip.entry.district in
             result ≡ meets_rules (rules flip.entry.job.now) (cut_edges flip.entry.job.now.graph after) after }
@@ -220,7 +220,7 @@ impl Board {
     #[inline]
     fn allows<J: Judge>(&mut self, judge: &J, flip: Flip) -> bool
         requires made { self.old.job ≡ flip.job.now }
-        requires judge { IsSeated flip.job.now self.old.plan (J.judging judge.now) }
+        requires judge { HasConstraintAt flip.job.now self.old.plan (J.judging judge.now) }
         requires elsewhere { slice_index self.old.plan flip.unit ≢ flip.district }
         ensures allows { result ≡ allows flip.entry.job.now (slice_set self.old.plan flip.entry.unit flip.entry.district) }
         ensures same { self.new ≡ self.old }
@@ -277,7 +277,7 @@ impl Board {
     /// flip is a move exactly if the unit may leave its district.
     fn decide_without_search<J: Judge>(&mut self, judge: &J, flip: Flip) -> Option<bool>
         requires made { self.old.job ≡ flip.job.now }
-        requires judge { IsSeated flip.job.now self.old.plan (J.judging judge.now) }
+        requires judge { HasConstraintAt flip.job.now self.old.plan (J.judging judge.now) }
         requires beside { IsTrue (is_open flip.job.now.graph self.old.plan flip.unit flip.district) }
         requires kept { KeepsBoundsIn flip.job.now self.old.plan flip.unit flip.district }
         ensures decided { MatchOption result
@@ -306,7 +306,7 @@ impl Board {
         steps: &mut Steps<L>,
     ) -> bool
         requires made { self.old.job ≡ flip.job.now }
-        requires judge { IsSeated flip.job.now self.old.plan (J.judging judge.now) }
+        requires judge { HasConstraintAt flip.job.now self.old.plan (J.judging judge.now) }
         requires beside { IsTrue (is_open flip.job.now.graph self.old.plan flip.unit flip.district) }
         ensures moves { IsTrue result ↔ IsMove flip.entry.job.now self.old.plan flip.entry.unit flip.entry.district }
         ensures same { self.new ≡ self.old }
@@ -327,7 +327,7 @@ impl Board {
         steps: &mut Steps<L>,
     ) -> bool
         requires made { self.old.job ≡ flip.job.now }
-        requires judge { IsSeated flip.job.now self.old.plan (J.judging judge.now) }
+        requires judge { HasConstraintAt flip.job.now self.old.plan (J.judging judge.now) }
         requires beside { IsTrue (is_open flip.job.now.graph self.old.plan flip.unit flip.district) }
         requires kept { KeepsBoundsIn flip.job.now self.old.plan flip.unit flip.district }
         ensures moves { IsTrue result ↔ IsMove flip.entry.job.now self.old.plan flip.entry.unit flip.entry.district }
@@ -345,7 +345,7 @@ impl Board {
     /// is proved of the result.
     pub(crate) fn asks_search<J: Judge>(&mut self, judge: &J, flip: Flip) -> bool
         requires made { self.old.job ≡ flip.job.now }
-        requires judge { IsSeated flip.job.now self.old.plan (J.judging judge.now) }
+        requires judge { HasConstraintAt flip.job.now self.old.plan (J.judging judge.now) }
         requires beside { IsTrue (is_open flip.job.now.graph self.old.plan flip.unit flip.district) }
         ensures same { self.new ≡ self.old }
     {
@@ -448,7 +448,7 @@ fn is_permitted<J: Judge>(
 ) -> bool
     requires summed { IsSummed flip.job.now plan.old sums.old }
     requires near { CountsNeighbors flip.job.now.graph plan.old flip.job.now.districts near.now }
-    requires judge { IsSeated flip.job.now plan.old (J.judging judge.now) }
+    requires judge { HasConstraintAt flip.job.now plan.old (J.judging judge.now) }
     requires elsewhere { slice_index plan.old flip.unit ≢ flip.district }
     ensures meets { let after = slice_set plan.old flip.entry.unit flip.entry.district in
         result ≡ meets_rules (rules flip.entry.job.now) (cut_edges flip.entry.job.now.graph after) after }

@@ -4,7 +4,7 @@ ghost use Rattle.std.specs.Prelude.{◌≡◌, ℕ, ◌*◌, ◌<◌, ◌≤◌,
 ghost use Rattle.std.specs.List.{slice_index_or};
 ghost use Rattle.audit_model.specs.Limits.{most_units};
 ghost use Rattle.district_sums.specs.Following.{count_near};
-ghost use Rattle.flip_kernel.specs.Nearby.{AreNear, HasCounted, HasPairs, HasPassed, CountsNeighbors, near_of};
+ghost use Rattle.flip_kernel.specs.Nearby.{AreNear, HasCounted, HasPairs, HasMovedNeighbor, CountsNeighbors, near_of};
 ghost use Rattle.flip_kernel.specs.OpenPairs.{is_open};
 
 use crate::open_pairs::scan_open;
@@ -194,7 +194,7 @@ fn pass_one(table: &mut [u32], from: usize, to: usize)
     requires places { (from < length table.old) × (to < length table.old) }
     requires some { 0 < slice_index table.old from }
     requires few { slice_index table.old to ≤ most_units }
-    ensures { HasPassed from to table.old table.new }
+    ensures { HasMovedNeighbor from to table.old table.new }
 {
     table[from] -= 1;
     table[to] += 1;

@@ -5,7 +5,7 @@ ghost use Rattle.std.specs.Prelude.{◌≡◌, ◌≢◌, ℕ, ◌+◌, ◌*◌,
 ghost use Rattle.std.specs.List.{slice_index_or};
 ghost use Rattle.flip_kernel.specs.Flags.{bit_of, flags_of};
 ghost use Rattle.flip_kernel.specs.Nearby.{CountsNeighbors};
-ghost use Rattle.flip_kernel.specs.OpenPairs.{is_open, flag_of, MarksOpenPairs, HasOpened};
+ghost use Rattle.flip_kernel.specs.OpenPairs.{is_open, flag_of, MarksOpenPairs, HasOpenedPairs};
 
 use crate::nearby::NeighborCounts;
 use audit_model::memory::Memory;
@@ -85,7 +85,7 @@ impl OpenPairs {
         requires unit { unit < graph.now.units }
         requires width { graph.now.units * districts ≤ length self.old }
         requires closed { (d : ℕ) → d < districts → flag_of self.old districts unit d ≡ false }
-        ensures { HasOpened plan.now districts unit (slice_index_or graph.now.neighbours unit []) self.old self.new }
+        ensures { HasOpenedPairs plan.now districts unit (slice_index_or graph.now.neighbours unit []) self.old self.new }
     {
         let home = plan[unit as usize];
         for other in graph.neighbours(unit) {

@@ -30,13 +30,13 @@ pub struct State<J: Judge> {
 
 impl<J: Judge> Model for State<J> {
     ghost use Rattle.flip_kernel.specs.ChainState.{ChainState};
-    ghost use Rattle.flip_kernel.specs.Judged.{IsSeated};
+    ghost use Rattle.flip_kernel.specs.Judged.{HasConstraintAt};
 
     ghost Value = { ChainState };
 
     ghost view = { λ s. s.board };
 
-    ghost invariant = { λ s. IsSeated s.board.job s.board.plan (J.judging s.judge) };
+    ghost invariant = { λ s. HasConstraintAt s.board.job s.board.plan (J.judging s.judge) };
 }
 
 impl<J: Judge> State<J> {

@@ -6,7 +6,7 @@ use Rattle.audit_model.specs.State.{Stream}
 use Rattle.audit_statement.specs.Endings.{AddsLine}
 use Rattle.ckpt_store.specs.declared.finding.Finding.{Finding}
 use Rattle.folder_report.specs.FolderLines.{name_of, of_each}
-use Rattle.report.specs.Said.{AddsText, IsSaid}
+use Rattle.report.specs.AddedText.{AddsText, HasAdded}
 
 -- the name of a folder other than the working folder
 pub name_behind : (names : List (List ℕ)) (n : ℕ) → (n ≡ 0 → ⊥) → name_of names n ≡ get_or names (n - 1) []
@@ -22,20 +22,20 @@ module _ {before after : Stream} {going result : Bool} where
 
 -- nothing was appended
 pub adds_none : {s : Stream} {going : Bool} → AddsText s s going [] going
-adds_none {s = s} {going = going} = record { adds = λ start said h. subst (λ (t : List ℕ). IsSaid start s t going) (sym (append-nil said)) h }
+adds_none {s = s} {going = going} = record { adds = λ start text_so_far h. subst (λ (t : List ℕ). HasAdded start s t going) (sym (append-nil text_so_far)) h }
 
 -- one text was appended after another
 pub adds_both : {a b c : Stream} {first then last : Bool} {one other : List ℕ} → AddsText a b first one then → AddsText b c then other last → AddsText a c first (one ++ other) last
 adds_both {c = c} {last = last} {one = one} {other = other} x y = record {
-  adds = λ start said s. subst (λ (t : List ℕ). IsSaid start c t last) (append_assoc said one other) (y.adds start (said ++ one) (x.adds start said s));
+  adds = λ start text_so_far s. subst (λ (t : List ℕ). HasAdded start c t last) (append_assoc text_so_far one other) (y.adds start (text_so_far ++ one) (x.adds start text_so_far s));
 }
 
 -- a text appended to nothing was written
-pub said_of : {a b : Stream} {text : List ℕ} {result : Bool} → AddsText a b true text result → IsSaid a b text result
+pub said_of : {a b : Stream} {text : List ℕ} {result : Bool} → AddsText a b true text result → HasAdded a b text result
 said_of {a = a} x = x.adds a [] (Appends-nil a.bytes, refl)
 
 -- a text written in full or in part was appended
-pub added_line : {a b : Stream} {text : List ℕ} (result : Bool) → IsSaid a b text result → AddsLine a b text
+pub added_line : {a b : Stream} {text : List ℕ} (result : Bool) → HasAdded a b text result → AddsLine a b text
 added_line true s = record { added = inl s }
 added_line false s = record { added = inr s }
 

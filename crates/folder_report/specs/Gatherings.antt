@@ -6,25 +6,25 @@ use Rattle.std.specs.Io.KnownBytes.{Appends}
 use Rattle.audit_model.specs.Faults.{Rose}
 use Rattle.audit_model.specs.Job.{Job}
 use Rattle.audit_model.specs.Run.{total}
-use Rattle.audit_model.specs.State.{Kept, Stream}
+use Rattle.audit_model.specs.State.{KeeperState, Stream}
 use Rattle.audit_statement.specs.Accepted.{no_columns}
 use Rattle.audit_statement.specs.Checkpoint.{job_digest}
 use Rattle.audit_statement.specs.Endings.{AddsLine, AppendsPart}
 use Rattle.audit_statement.specs.Note.{Ending, folder_taken, load_fault, no_memory, note, save_fault, write_fault}
 use Rattle.ckpt_store.specs.declared.gather_result.GatherResult.{GatherResult}
-use Rattle.ckpt_store.specs.declared.gather_result.Ungathered.{Ungathered}
-use Rattle.ckpt_store.specs.declared.gather_result.Ungathered.TheVariants as ungathered
-use Rattle.ckpt_store.specs.Whole.{HasFailed, IsGathering, IsUnsaved}
+use Rattle.ckpt_store.specs.declared.gather_result.GatherError.{GatherError}
+use Rattle.ckpt_store.specs.declared.gather_result.GatherError.TheVariants as ungathered
+use Rattle.ckpt_store.specs.Whole.{HasGatherFailed, IsGathering, IsUnsaved}
 use Rattle.folder_report.specs.FolderLines.{refusals, observed_text}
 
 -- the ending of a run that fails for the same reason as this gathering
-abbrev pub ending_of : Ungathered → Ending
+abbrev pub ending_of : GatherError → Ending
 ending_of ungathered.Memory = no_memory
 ending_of ungathered.Unread = load_fault
 ending_of ungathered.Taken = folder_taken
 ending_of ungathered.Unsaved = save_fault
 
-abbrev pub failed_status : Ungathered → ℕ
+abbrev pub failed_status : GatherError → ℕ
 failed_status ungathered.Memory = 3
 failed_status ungathered.Unread = 6
 failed_status ungathered.Taken = 6
@@ -64,16 +64,16 @@ WritesFindings true names total observed before after status =
     IsWhole before after (observed_text names observed total) status ⊎ IsCutOff before after (observed_text names observed total) status
 WritesFindings false names total observed before after status = (status ≡ refused_status) × IsNoted before after (refusals names observed)
 
-abbrev pub WritesGathering : Bool → List (List ℕ) → ℕ → Result GatherResult Ungathered → Outputs → Outputs → ℕ → Type 0
+abbrev pub WritesGathering : Bool → List (List ℕ) → ℕ → Result GatherResult GatherError → Outputs → Outputs → ℕ → Type 0
 WritesGathering saves names total (Ok observed) before after status = WritesFindings (not saves || observed.saved) names total observed before after status
 WritesGathering saves names total (Err why) before after status =
     (status ≡ failed_status why) × IsNoted before after (note no_columns (ending_of why))
 
 -- One gathering was made. If it has findings, they, the saves and the slots are those of a gathering. If it failed, it
 -- left the slots of such a failure. The status and both outputs report it.
-pub record EndsGathering (job : Job) (saves : Bool) (names : List (List ℕ)) (before after : Kept) (folders folders_now : List Kept) (outputs outputs_now : Outputs) (status : ℕ)
+pub record EndsGathering (job : Job) (saves : Bool) (names : List (List ℕ)) (before after : KeeperState) (folders folders_now : List KeeperState) (outputs outputs_now : Outputs) (status : ℕ)
     : Type 0 where
-  pub answer : Result GatherResult Ungathered
+  pub answer : Result GatherResult GatherError
   pub gathered : IfOk answer (IsGathering job (job_digest job) saves before after folders folders_now)
-  pub cause : IfErr answer (IsUnsaved (HasFailed job (job_digest job) saves before after folders folders_now) before after)
+  pub cause : IfErr answer (IsUnsaved (HasGatherFailed job (job_digest job) saves before after folders folders_now) before after)
   pub written : WritesGathering saves names (total job) answer outputs outputs_now status

@@ -5,7 +5,7 @@ use Rattle.audit_model.specs.Faults.{Rose}
 use Rattle.audit_model.specs.Job.{Job}
 use Rattle.audit_model.specs.Pair.{Pair}
 use Rattle.audit_model.specs.Run.{total}
-use Rattle.audit_model.specs.State.{Kept}
+use Rattle.audit_model.specs.State.{KeeperState}
 use Rattle.audit_model.specs.Observed.{IfObserved}
 use Rattle.audit_statement.specs.Accepted.{no_columns}
 use Rattle.audit_statement.specs.Note.{as_line, fault_name, folder_taken, load_fault, no_memory, note}
@@ -66,14 +66,14 @@ pub record HasShown (job : Option Job) (observed : Option Pair) (before after : 
   pub written : IsWhole before after (slots_text job pair first second) status ⊎ IsCutOff before after (slots_text job pair first second) status
 
 -- Only the reason for a failure was written: memory ran out, a load failed, or another process has locked the slots.
-abbrev pub HasFailedToShow : Kept → Kept → Outputs → Outputs → ℕ → Type 0
+abbrev pub HasFailedToShow : KeeperState → KeeperState → Outputs → Outputs → ℕ → Type 0
 HasFailedToShow before after outputs outputs_now status =
     ((status ≡ 3) × IsNoted outputs outputs_now (note no_columns no_memory))
     ⊎ (((status ≡ 6) × Rose before.load_faults.all after.load_faults.all × IsNoted outputs outputs_now (note no_columns load_fault))
     ⊎ ((status ≡ 6) × Rose before.load_faults.taken after.load_faults.taken × IsNoted outputs outputs_now (note no_columns folder_taken)))
 
 -- the end of a call that reports two slots, which saves nothing
-pub record EndsShowing (job : Option Job) (before after : Kept) (outputs outputs_now : Outputs) (status : ℕ) : Type 0 where
+pub record EndsShowing (job : Option Job) (before after : KeeperState) (outputs outputs_now : Outputs) (status : ℕ) : Type 0 where
   pub slots : after.slots ≡ before.slots
   pub attempted : after.attempted ≡ before.attempted
   pub shown : HasShown job before.slots outputs outputs_now status ⊎ HasFailedToShow before after outputs outputs_now status

@@ -10,17 +10,17 @@ ghost use Rattle.audit_statement.specs.Note as terms;
 ghost use Rattle.ckpt_store.specs.Whole.{LetsGathering};
 ghost use Rattle.folder_report.specs.FolderLines.{folder_line, folder_refusal, of_each, own_refusal, refusals, observed_text};
 ghost use Rattle.folder_report.specs.Gatherings.{EndsGathering, IsCutOff, IsNoted, IsWhole, Outputs, WritesFindings, WritesGathering, ending_of, failed_status, refused_status};
-ghost use Rattle.report.specs.Said.{AddsText, IsSaid};
+ghost use Rattle.report.specs.AddedText.{AddsText, HasAdded};
 
 use crate::lines::{add_folder_line, add_own_line};
 use audit_io::keeper::Keeper;
 use audit_io::sink::Sink;
 use ckpt_store::finding::Finding;
-use ckpt_store::gather_result::{GatherResult, Ungathered};
+use ckpt_store::gather_result::{GatherResult, GatherError};
 use ckpt_store::whole::gather;
 use plan_core::job::Job;
 use report::ended::Ended;
-use report::note::{add_line, tell};
+use report::note::{add_line, write_diagnostic};
 use report::piece::Piece::{Number, Text};
 use std::alloc::Global;
 
@@ -41,7 +41,7 @@ pub struct GatherRequest<'a> {
 /// The findings go to `out` if the union is saved, or if the request does not save. If the request saves but a folder
 /// is refused, a line on `note` gives the reason for each refused folder, and the status is `REFUSED`. If the gathering
 /// fails or a write to `out` fails, the diagnostic and the status are those of an audit that fails for the same reason.
-pub fn gather_and_tell<C: Keeper, F: Keeper, O: Sink, N: Sink>(
+pub fn gather_and_report<C: Keeper, F: Keeper, O: Sink, N: Sink>(
     alloc: Global,
     request: &GatherRequest<'_>,
     keeper: &mut C,
@@ -56,26 +56,26 @@ pub fn gather_and_tell<C: Keeper, F: Keeper, O: Sink, N: Sink>(
         (record { out = O.state out.old; note = N.state note.old }) (record { out = O.state out.new; note = N.state note.new }) result }
 {
     match gather(alloc, keeper, folders, request.job, request.saves) {
-        Ok(observed) => tell_found(request, &observed, out, note),
-        Err(why) => tell_failed(why, note),
+        Ok(observed) => write_findings(request, &observed, out, note),
+        Err(why) => write_failure(why, note),
     }
 }
 
 // Writes the diagnostic of a failed gathering and returns its status.
-fn tell_failed<N: Sink>(why: Ungathered, note: &mut N) -> u8
+fn write_failure<N: Sink>(why: GatherError, note: &mut N) -> u8
     ensures status { result ≡ failed_status why }
     ensures observed { AddsLine (N.state note.old) (N.state note.new) (terms.note no_columns (ending_of why)) }
 {
     match why {
-        Ungathered::Memory => tell(&Ended::NoMemory, note),
-        Ungathered::Unread => tell(&Ended::LoadFault, note),
-        Ungathered::Taken => tell(&Ended::FolderTaken, note),
-        Ungathered::Unsaved => tell(&Ended::SaveFault, note),
+        GatherError::Memory => write_diagnostic(&Ended::NoMemory, note),
+        GatherError::Unread => write_diagnostic(&Ended::LoadFault, note),
+        GatherError::Taken => write_diagnostic(&Ended::FolderTaken, note),
+        GatherError::Unsaved => write_diagnostic(&Ended::SaveFault, note),
     }
 }
 
 // Writes the findings, or the reasons why nothing was saved. Returns the status.
-fn tell_found<O: Sink, N: Sink>(
+fn write_findings<O: Sink, N: Sink>(
     request: &GatherRequest<'_>,
     observed: &GatherResult,
     out: &mut O,
@@ -91,7 +91,7 @@ fn tell_found<O: Sink, N: Sink>(
     if write_observed(request.job.total(), request.names, observed, out) {
         return 0;
     }
-    tell(&Ended::WriteFault, note)
+    write_diagnostic(&Ended::WriteFault, note)
 }
 
 // Writes the findings. Returns true if no write failed.
@@ -101,7 +101,7 @@ fn write_observed<O: Sink>(
     observed: &GatherResult,
     out: &mut O,
 ) -> bool
-    ensures { IsSaid (O.state out.old) (O.state out.new) (observed_text (map string_bytes names.now) observed.now total) result }
+    ensures { HasAdded (O.state out.old) (O.state out.new) (observed_text (map string_bytes names.now) observed.now total) result }
 {
     let going = add_own_line(out, true, &[], &observed.own);
     let going = add_folders(names, observed.folders.as_slice(), going, out);

@@ -3,12 +3,12 @@
 ghost use Rattle.std.specs.Prelude.{◌≡◌, map, string_bytes};
 ghost use Rattle.folder_report.specs.Helps as definition;
 ghost use Rattle.audit_words.specs.Answers.{WritesAnswer};
-ghost use Rattle.report.specs.Said.{IsSaid};
+ghost use Rattle.report.specs.AddedText.{HasAdded};
 
 use audit_io::sink::Sink;
 use audit_words::{Build, Question, add_lines, add_version, question_of_word};
 use report::ended::Ended;
-use report::note::tell;
+use report::note::write_diagnostic;
 
 const SLOTS_USAGE: [&str; 17] = [
     "usage: audit_slots [FOLDER] [COMMAND NAME VALUE ..]",
@@ -98,7 +98,7 @@ fn write_answer<O: Sink>(
     question: Question,
     out: &mut O,
 ) -> bool
-    ensures { IsSaid (O.state out.old) (O.state out.new) (definition.folder_answer program build.now question) result }
+    ensures { HasAdded (O.state out.old) (O.state out.new) (definition.folder_answer program build.now question) result }
 {
     match question {
         Question::Usage => add_lines(out, true, usage_of(program)),
@@ -110,7 +110,7 @@ fn write_answer<O: Sink>(
 }
 
 // Writes the answer to a question. Returns the exit status: 0, or 5 if a write failed.
-fn tell_answer<O: Sink, N: Sink>(
+fn answer_question<O: Sink, N: Sink>(
     program: FolderProgram,
     build: &Build<'_>,
     question: Question,
@@ -122,7 +122,7 @@ fn tell_answer<O: Sink, N: Sink>(
     if write_answer(program, build, question, out) {
         return 0;
     }
-    tell(&Ended::WriteFault, note)
+    write_diagnostic(&Ended::WriteFault, note)
 }
 
 /// Answers arguments that ask for help or the version. Returns the exit status: 0, or 5 if a write
@@ -140,6 +140,6 @@ pub fn answer_words<O: Sink, N: Sink>(
 {
     match folder_question(words) {
         None => None,
-        Some(question) => Some(tell_answer(program, build, question, out, note)),
+        Some(question) => Some(answer_question(program, build, question, out, note)),
     }
 }

@@ -7,6 +7,6 @@ mod lines;
 mod slot_lines;
 pub mod slots;
 
-pub use gathering::{GatherRequest, gather_and_tell};
+pub use gathering::{GatherRequest, gather_and_report};
 pub use help::{FolderProgram, answer_words};
-pub use slots::tell_slots;
+pub use slots::write_slots;

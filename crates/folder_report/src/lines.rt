@@ -5,7 +5,7 @@ ghost use Rattle.ckpt_store.specs.declared.finding.Finding.TheVariants as what;
 ghost use Rattle.audit_statement.specs.Note.{as_line};
 ghost use Rattle.folder_report.specs.FolderLines.{beside_text, folder_texts, name_of, own_texts};
 ghost use Rattle.report.specs.Pieces.{piece_text};
-ghost use Rattle.report.specs.Said.{AddsText};
+ghost use Rattle.report.specs.AddedText.{AddsText};
 
 use audit_io::sink::Sink;
 use ckpt_store::finding::Finding;

@@ -4,7 +4,7 @@ ghost use Rattle.std.specs.Prelude.{◌≡◌, ◌++◌, ◌∷◌, [], List, �
 ghost use Rattle.audit_statement.specs.Note.{as_line};
 ghost use Rattle.ckpt_store.specs.declared.slot_content.SlotContent.TheVariants as what;
 ghost use Rattle.folder_report.specs.SlotLines.{newest_texts, progress_texts, slot_line};
-ghost use Rattle.report.specs.Said.{AddsText};
+ghost use Rattle.report.specs.AddedText.{AddsText};
 
 use audit_io::sink::Sink;
 use ckpt_format::decode::Checkpoint;

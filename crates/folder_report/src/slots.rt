@@ -8,7 +8,7 @@ ghost use Rattle.ckpt_store.specs.Progress as definition;
 ghost use Rattle.folder_report.specs.Gatherings.{IsCutOff, IsWhole, Outputs};
 ghost use Rattle.folder_report.specs.Shown.{HasLoadedBoth, IsShownOf, shown_text};
 ghost use Rattle.folder_report.specs.SlotLines.{EndsShowing, job_text};
-ghost use Rattle.report.specs.Said.{AddsText, IsSaid};
+ghost use Rattle.report.specs.AddedText.{AddsText, HasAdded};
 
 use crate::slot_lines::{add_newest_line, add_progress_line, add_slot_line};
 use audit_io::keeper::Keeper;
@@ -19,7 +19,7 @@ use ckpt_store::progress::{Progress, progress_of};
 use ckpt_store::slot_content::{Loaded, SlotContent, content_of, load_slot, newest};
 use plan_core::job::Job;
 use report::ended::Ended;
-use report::note::tell;
+use report::note::write_diagnostic;
 use std::alloc::Global;
 
 /// Both slots as they were loaded.
@@ -42,7 +42,7 @@ struct SlotsReport {
 /// job's progress. Saves nothing. Returns the exit status.
 ///
 /// If a slot cannot be loaded or memory runs out, nothing is written to `out`, and a line on `note` gives the reason.
-pub fn tell_slots<C: Keeper, O: Sink, N: Sink>(
+pub fn write_slots<C: Keeper, O: Sink, N: Sink>(
     alloc: Global,
     keeper: &mut C,
     job: Option<&Job>,
@@ -55,11 +55,11 @@ pub fn tell_slots<C: Keeper, O: Sink, N: Sink>(
     match load_both(alloc, keeper) {
         Ok(both) => match report_on(alloc, job, &both) {
             Ok(shown) => show(&shown, out, note),
-            Err(_) => tell(&Ended::NoMemory, note),
+            Err(_) => write_diagnostic(&Ended::NoMemory, note),
         },
-        Err(LookFault::Failed) => tell(&Ended::LoadFault, note),
-        Err(LookFault::Taken) => tell(&Ended::FolderTaken, note),
-        Err(LookFault::Memory) => tell(&Ended::NoMemory, note),
+        Err(LookFault::Failed) => write_diagnostic(&Ended::LoadFault, note),
+        Err(LookFault::Taken) => write_diagnostic(&Ended::FolderTaken, note),
+        Err(LookFault::Memory) => write_diagnostic(&Ended::NoMemory, note),
     }
 }
 
@@ -107,12 +107,12 @@ fn show<O: Sink, N: Sink>(shown: &SlotsReport, out: &mut O, note: &mut N) -> u8
     if write_shown(shown, out) {
         return 0;
     }
-    tell(&Ended::WriteFault, note)
+    write_diagnostic(&Ended::WriteFault, note)
 }
 
 // Writes the lines. Returns true if no write failed.
 fn write_shown<O: Sink>(shown: &SlotsReport, out: &mut O) -> bool
-    ensures { IsSaid (O.state out.old) (O.state out.new) (shown_text shown.now) result }
+    ensures { HasAdded (O.state out.old) (O.state out.new) (shown_text shown.now) result }
 {
     let going = add_slot_line(out, true, 0, &shown.first);
     let going = add_slot_line(out, going, 1, &shown.second);

@@ -10,7 +10,7 @@ use Rattle.audit_model.specs.Below.{above_all}
 use Rattle.audit_model.specs.First.{first_some, first_below}
 use Rattle.audit_model.specs.Graph.{Graph}
 use Rattle.audit_model.specs.Job.{Job, home_of}
-use Rattle.audit_model.specs.JobOf.{IsJob, job_from, job_of, job_or, job_with, restarted, is_unbalanced, is_parted, cuts_too_many, is_oversplit, out_of_bounds, disconnected, oversplit, bounds_fault, path_fault, cut_fault, split_fault, splits_fault, split_regions_fault, group_fault, length_fault, plan_fault}
+use Rattle.audit_model.specs.JobOf.{IsJob, job_from, job_of, job_or, job_with, restarted, is_unbalanced, is_disconnected, cuts_too_many, is_oversplit, out_of_bounds, disconnected, oversplit, bounds_fault, path_fault, cut_fault, split_fault, splits_fault, split_regions_fault, group_fault, length_fault, plan_fault}
 use Rattle.audit_model.specs.Length.{cut_length}
 use Rattle.audit_model.specs.Limits.{IsWithinLimits}
 use Rattle.audit_model.specs.Meets.{KeepsFrozen, keeps_frozen, majorities, split_of, split_regions, splits_in_all}
@@ -26,28 +26,28 @@ use Rattle.audit_model.proofs.Bools.{same_bool}
 use Rattle.audit_model.proofs.Options.{none_or, option_or_none, cond_some_none, some_is_not_none, option_map_none}
 use Rattle.audit_model.proofs.First.{first_below_here, first_below_none, none_first_below}
 use Rattle.plan_core.specs.Input.{with_start, shape_fault}
-use Rattle.dual_graph.specs.Parting.{least_in, parted_in, parting_of}
+use Rattle.dual_graph.specs.DisconnectedPair.{least_in, disconnected_unit_in, disconnected_pair_of}
 
 -- ---- the fault of a disconnected district
 
 -- the two units show that the set is not connected: its least unit, and the least one not connected to it
-pub parting_parts : (g : Graph) (inside : ℕ → Bool) (one other : ℕ) → Some (one, other) ≡ parting_of g inside
-    → (is_connected g inside ≡ false) × (one ≡ least_in g inside) × (other ≡ parted_in g inside)
+pub parting_parts : (g : Graph) (inside : ℕ → Bool) (one other : ℕ) → Some (one, other) ≡ disconnected_pair_of g inside
+    → (is_connected g inside ≡ false) × (one ≡ least_in g inside) × (other ≡ disconnected_unit_in g inside)
 parting_parts g inside one other h = elim (cases_Bool (is_connected g inside)) [
-  | inl yes-connected ↦ absurd (some_is_not_none (one, other) (h ∙ cond-true (is_connected g inside) None (Some (least_in g inside, parted_in g inside)) yes-connected))
+  | inl yes-connected ↦ absurd (some_is_not_none (one, other) (h ∙ cond-true (is_connected g inside) None (Some (least_in g inside, disconnected_unit_in g inside)) yes-connected))
   | inr off ↦
-      let same : Some (one, other) ≡ Some (least_in g inside, parted_in g inside) =
-      h ∙ cond-false (is_connected g inside) None (Some (least_in g inside, parted_in g inside)) off in
+      let same : Some (one, other) ≡ Some (least_in g inside, disconnected_unit_in g inside) =
+      h ∙ cond-false (is_connected g inside) None (Some (least_in g inside, disconnected_unit_in g inside)) off in
       (off, ap (λ (o : Option (ℕ × ℕ)). (unwrap_or o (0, 0)).0) same, ap (λ (o : Option (ℕ × ℕ)). (unwrap_or o (0, 0)).1) same)
 ]
 
 -- the least disconnected district is the one that the fault names
-pub parted_is_fault : (job : Job) (d one other : ℕ) → first_below d (is_parted job) ≡ None → d < job.districts
-    → Some (one, other) ≡ parting_of job.graph (in_district job.start d) → Some (Disconnected d one other) ≡ path_fault job
+pub parted_is_fault : (job : Job) (d one other : ℕ) → first_below d (is_disconnected job) ≡ None → d < job.districts
+    → Some (one, other) ≡ disconnected_pair_of job.graph (in_district job.start d) → Some (Disconnected d one other) ≡ path_fault job
 parted_is_fault job d one other none l h =
     let parts = parting_parts job.graph (in_district job.start d) one other h in
-    let here : first_below job.districts (is_parted job) ≡ Some d =
-    first_below_here job.districts d (is_parted job) none l (not_from_false (is_connected job.graph (in_district job.start d)) parts.0) in
+    let here : first_below job.districts (is_disconnected job) ≡ Some d =
+    first_below_here job.districts d (is_disconnected job) none l (not_from_false (is_connected job.graph (in_district job.start d)) parts.0) in
     ap (λ (k : ℕ). Some (Disconnected d k other)) parts.1
     ∙ ap (λ (k : ℕ). Some (Disconnected d (least_in job.graph (in_district job.start d)) k)) parts.2
     ∙ ap (option_map (disconnected job)) (sym here)
@@ -140,8 +140,8 @@ module _ (job : Job) (plan : List ℕ) (complete : length plan ≡ job.graph.uni
         in_range = in_range;
         connected = λ d l. passes_connected job.graph (in_district plan d)
             (not-false (is_connected job.graph (in_district plan d))
-            (first_below_none job.districts (is_parted (with_start job plan)) d
-            (option_map_none (disconnected (with_start job plan)) (first_below job.districts (is_parted (with_start job plan))) parts.0) l));
+            (first_below_none job.districts (is_disconnected (with_start job plan)) d
+            (option_map_none (disconnected (with_start job plan)) (first_below job.districts (is_disconnected (with_start job plan))) parts.0) l));
         balanced = λ d l. passes_balanced job (district_sum job.counts.population plan d)
             (not-false (is_balanced job (district_sum job.counts.population plan d))
             (first_below_none job.districts (is_unbalanced (with_start job plan)) d
@@ -176,7 +176,7 @@ module _ (job : Job) (plan : List ℕ) (complete : length plan ≡ job.graph.uni
         (balanced_passes job (district_sum job.counts.population plan d) (legal.balanced d l)))),
     parts_shape (with_start job plan)
         (ap (option_map (disconnected (with_start job plan)))
-        (none_first_below job.districts (is_parted (with_start job plan)) (λ d l. not_from_true (is_connected job.graph (in_district plan d))
+        (none_first_below job.districts (is_disconnected (with_start job plan)) (λ d l. not_from_true (is_connected job.graph (in_district plan d))
         (connected_passes job.graph (in_district plan d) (legal.connected d l)))))
         (cond-false (cuts_too_many (with_start job plan)) (Some (TooManyCut (cut_edges job.graph plan) job.setting.max_cut)) None
         (le-ltb job.setting.max_cut (cut_edges job.graph plan) legal.meeting.few_cuts))

@@ -12,7 +12,7 @@ ghost use Rattle.dual_graph.specs.Read.{parsed_of};
 
 use crate::bounds::{first_outside, limits_of};
 use crate::group::count_majorities;
-use crate::search::parting;
+use crate::search::find_disconnected_pair;
 use crate::splits::count_splits;
 use crate::sums::{district_sums, sum_of};
 use audit_model::fault::PlanFault;
@@ -327,7 +327,7 @@ impl Input {
         ensures fault { result ≡ path_fault (with_start self.now plan.now) }
     {
         for district in 0..self.districts {
-            if let Some((one, other)) = parting(&self.graph, plan, district, marks) {
+            if let Some((one, other)) = find_disconnected_pair(&self.graph, plan, district, marks) {
                 return Some(PlanFault::Disconnected {
                     district,
                     one,

@@ -2,7 +2,7 @@
 
 ghost use Rattle.std.specs.Prelude.{◌≡◌, length};
 ghost use Rattle.audit_model.specs.District.{in_district};
-ghost use Rattle.dual_graph.specs.Parting.{parting_of};
+ghost use Rattle.dual_graph.specs.DisconnectedPair.{disconnected_pair_of};
 
 use dual_graph::graph::Graph;
 use dual_graph::inside::Inside;
@@ -34,11 +34,11 @@ impl Inside for District<'_> {
 ///
 /// The first is the district's least unit, and the second the least unit that no such path connects
 /// to the first. For an empty district, which does not count as connected, the result is `(0, 0)`.
-pub fn parting(graph: &Graph, plan: &[u32], district: u32, marks: &mut Marks) -> Option<(u32, u32)>
+pub fn find_disconnected_pair(graph: &Graph, plan: &[u32], district: u32, marks: &mut Marks) -> Option<(u32, u32)>
     requires plan { length plan.now ≡ graph.now.units }
     requires units { marks.old.units ≡ graph.now.units }
     ensures units { marks.new.units ≡ graph.now.units }
-    ensures parting { result ≡ parting_of graph.now (in_district plan.now district) }
+    ensures find_disconnected_pair { result ≡ disconnected_pair_of graph.now (in_district plan.now district) }
 {
-    dual_graph::search::parting(graph, &District { plan, district }, marks)
+    dual_graph::search::find_disconnected_pair(graph, &District { plan, district }, marks)
 }

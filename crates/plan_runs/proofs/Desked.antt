@@ -7,7 +7,7 @@ use Rattle.std.proofs.lemmas.List.Elements.{Contains-append_right, Contains-get_
 use Rattle.std.proofs.lemmas.List.Sorted.{IsPermutation-append_right, IsPermutation-map, IsPermutation-sym, IsPermutation-trans, length_permutation, sum_by-IsPermutation}
 use Rattle.audit_io.specs.declared.source.Failed.{Failed}
 use Rattle.audit_model.specs.Pair.{Pair, Stored, stored}
-use Rattle.audit_model.specs.State.{Kept, LoadFaults}
+use Rattle.audit_model.specs.State.{KeeperState, LoadFaults}
 use Rattle.audit_model.specs.Attempts.{Try, attempted_all}
 use Rattle.audit_model.specs.declared.outcome.Outcome.{Outcome}
 use Rattle.audit_model.specs.Job.{Job}
@@ -33,7 +33,7 @@ use Rattle.tally_desk.specs.InTurn.{IsPartSave}
 use Rattle.tally_desk.specs.InTurn as desk
 use Rattle.tally_desk.specs.Parts.{IsPlan, Parts}
 use Rattle.tally_desk.proofs.Booking.{booked_fit, by_id_fit}
-use Rattle.tally_desk.proofs.Todo.{todo_lacked, todo_within}
+use Rattle.tally_desk.proofs.Todo.{todo_missing, todo_within}
 use Rattle.tally_desk.proofs.Slotting.{moved_generation}
 use Rattle.audit_statement.specs.Endings.{HoldsPart, IsNewest, IsInitialOrFound, IsPartly, IsTryOf, KeepsASlot, SavesInTurn, SavesInTurnAt, AttemptsOf, AttemptsObserved, count_of_saves, first_place, full_of, last_place, place_of}
 use Rattle.audit_laws.specs.Runs.{AreAll, IsRunJob}
@@ -85,7 +85,7 @@ module _ (parts : Parts) (plan : IsPlan parts) (todo_is : parts.todo ≡ run_ids
   of_desk : (o : Outcome) → Contains initial_outcomes o ⊎ ((0 < times o.id parts.todo) × (o ≡ found job o.id)) → IsInitialOrFound job initial_outcomes o
   of_desk o (inl has) = inl has
   of_desk o (inr (to_do, is)) = inr (
-    todo_lacked parts plan o.id to_do,
+    todo_missing parts plan o.id to_do,
     todo_within parts plan o.id to_do,
     subst (λ (ids : List ℕ). Contains ids o.id) todo_is (contains_at o.id parts.todo to_do),
     is_found o is,
@@ -215,7 +215,7 @@ module _ (parts : Parts) (plan : IsPlan parts) (todo_is : parts.todo ≡ run_ids
 
 -- ---- the whole result
 
-module _ (parts : Parts) (keeper_now : Kept) (sorted : List Outcome) (result : Result (Unit {0}) Failed)
+module _ (parts : Parts) (keeper_now : KeeperState) (sorted : List Outcome) (result : Result (Unit {0}) Failed)
     (h : HasRun parts keeper_now sorted result) (todo_is : parts.todo ≡ run_ids parts.job parts.initial_outcomes parts.job.setting.budget) where
   abbrev the_job : Job
   the_job = parts.job

@@ -103,10 +103,10 @@ module _ (job : Job) (draws : Draws) where
   tests_alike (suc h) some os ps stops = refl
 
   -- the report on the outlier walks alone is the report on all outcomes
-  pub walks_tell_all : 1 ≤ job.setting.stop → (stops : List (List ℕ)) (serial : Option (ℕ × List ℕ))
+  pub walks_determine_all : 1 ≤ job.setting.stop → (stops : List (List ℕ)) (serial : Option (ℕ × List ℕ))
       → report job (map_below job.setting.walks f) stops serial ≡ report job (sequence job draws) stops serial
   unfolding report sequence
-  walks_tell_all some stops serial =
+  walks_determine_all some stops serial =
       ap (λ (walks : List ℕ). with_lines walks (shift_line job.setting.shift alone) (test_lines job.setting.stop job alone stops))
       (ap (λ (os : List Outcome). flat_map (λ found. flat_map (walk_line job found) (placed_asks job)) os) (walks_kept job.setting.walks (omega arith) ∙ sym (walks_kept (job.setting.walks + job.setting.ends) (omega arith))))
       ∙ ap (λ (shift : List ℕ). with_lines (walk_lines job all) shift (test_lines job.setting.stop job alone stops)) (sym (shift_of_walks job.setting.shift job.setting.ends))

@@ -16,8 +16,8 @@ use Rattle.audit_statement.specs.Endings.{AppendsPart, AreInitialOutcomes, SameU
 use Rattle.audit_laws.specs.Runs.{AreAll, IsRunJob}
 use Rattle.plan_runs.specs.Ending.{SavedBy, SavesLast, ended_as, ended_by, stopped_by}
 use Rattle.audit_laws.specs.Calls.{Finishes}
-use Rattle.report.specs.Said.{WritesAllOf}
-use Rattle.audit_model.specs.State.{Kept, Stream}
+use Rattle.report.specs.AddedText.{WritesAllOf}
+use Rattle.audit_model.specs.State.{KeeperState, Stream}
 use Rattle.audit_statement.specs.World.{World, world}
 use Rattle.audit_laws.proofs.Running.{leaves_none, short_leaves, whole_leaves}
 use Rattle.audit_laws.proofs.Starting.{saves_some}
@@ -34,7 +34,7 @@ walking_text Make whole job before after w r = r
 walking_text Plans whole job before after w r = r
 walking_text Trace whole job before after w r = cc
 
-module _ (job : Job) (run : IsRunJob job) (initial_outcomes outcomes : List Outcome) (all : AreAll job initial_outcomes outcomes) (out out' : Stream) (k l : Kept) (opened : AreInitialOutcomes job k.slots initial_outcomes) where
+module _ (job : Job) (run : IsRunJob job) (initial_outcomes outcomes : List Outcome) (all : AreAll job initial_outcomes outcomes) (out out' : Stream) (k l : KeeperState) (opened : AreInitialOutcomes job k.slots initial_outcomes) where
   report_written : (whole : Bool) (before after : Stream) → total job ≤ length outcomes → Writes whole out.bytes out'.bytes (full_report job (draw job.setting.key) outcomes)
       → WritesReport whole job (world before out k) (world after out' l)
   report_written whole before after none w = record {
@@ -67,34 +67,34 @@ module _ (job : Job) (run : IsRunJob job) (initial_outcomes outcomes : List Outc
 
   saves_where : (before after : Stream) (made : Type 0) (b : Bool) (result : Result (Unit {0}) Failed) → (made → result ≡ Ok tt) → SavedBy b job initial_outcomes k l result
       → SavesWhere b made job (world before out k) (world after out' l)
-  saves_where before after made false result e s = ap (λ (x : Kept). x.slots) s.0
+  saves_where before after made false result e s = ap (λ (x : KeeperState). x.slots) s.0
   saves_where before after made true result e s = saves_all before after made result e s
 
   -- the counts and the slots that a run leaves unchanged
   slots_left : (b : Bool) (result : Result (Unit {0}) Failed) → SavedBy b job initial_outcomes k l result → SameUnless b k.slots l.slots
-  slots_left false result s = ap (λ (x : Kept). x.slots) s.0
+  slots_left false result s = ap (λ (x : KeeperState). x.slots) s.0
   slots_left true result s = tt
 
   attempted_left : (b : Bool) (result : Result (Unit {0}) Failed) → SavedBy b job initial_outcomes k l result → SameUnless b k.attempted l.attempted
-  attempted_left false result s = ap (λ (x : Kept). x.attempted) s.0
+  attempted_left false result s = ap (λ (x : KeeperState). x.attempted) s.0
   attempted_left true result s = tt
 
   loads_left : (b : Bool) (result : Result (Unit {0}) Failed) → SavedBy b job initial_outcomes k l result → l.load_faults ≡ k.load_faults
-  loads_left false result s = ap (λ (x : Kept). x.load_faults) s.0
+  loads_left false result s = ap (λ (x : KeeperState). x.load_faults) s.0
   loads_left true result s = s.loads
 
   count_left : (b : Bool) (result : Result (Unit {0}) Failed) → SavedBy b job initial_outcomes k l result → SameUnless b k.save_faults l.save_faults
-  count_left false result s = ap (λ (x : Kept). x.save_faults) s.0
+  count_left false result s = ap (λ (x : KeeperState). x.save_faults) s.0
   count_left true result s = tt
 
   passed_count : (b : Bool) → SavedBy b job initial_outcomes k l (Ok tt) → l.save_faults ≡ k.save_faults
-  passed_count false s = ap (λ (x : Kept). x.save_faults) s.0
+  passed_count false s = ap (λ (x : KeeperState). x.save_faults) s.0
   passed_count true s = s.cause.passed
 
   made_by : (b : Bool) (result : Result (Unit {0}) Failed) → SavedBy b job initial_outcomes k l result → (Rose k.save_faults l.save_faults → ⊥) → result ≡ Ok tt
-  made_by false result s calm = s.1
-  made_by true (Ok done) s calm = refl
-  made_by true (Err failed) s calm = absurd (calm s.cause.failed)
+  made_by false result s no_save_failed = s.1
+  made_by true (Ok done) s no_save_failed = refl
+  made_by true (Err failed) s no_save_failed = absurd (no_save_failed s.cause.failed)
 
   -- a save can only fail in a run that saves
   failed_saves : (b : Bool) (f : Failed) → SavedBy b job initial_outcomes k l (Err f) → b ≡ true
@@ -171,7 +171,7 @@ module _ (job : Job) (run : IsRunJob job) (initial_outcomes outcomes : List Outc
 
 -- ---- runs that leave trajectories pending
 
-module _ (job : Job) (run : IsRunJob job) (initial_outcomes outcomes : List Outcome) (all : AreAll job initial_outcomes outcomes) (out : Stream) (k l : Kept) (opened : AreInitialOutcomes job k.slots initial_outcomes) (short : length outcomes < total job) where
+module _ (job : Job) (run : IsRunJob job) (initial_outcomes outcomes : List Outcome) (all : AreAll job initial_outcomes outcomes) (out : Stream) (k l : KeeperState) (opened : AreInitialOutcomes job k.slots initial_outcomes) (short : length outcomes < total job) where
   -- only a run that saves leaves trajectories pending
   saving : saves job.setting ≡ true
   saving = saves_some job run (λ e. true_false (sym (short_leaves job initial_outcomes outcomes all short) ∙ leaves_none job initial_outcomes run e))

@@ -3,7 +3,7 @@ pub mod EarlyStops
 pub mod Plain
 pub mod Splitting
 pub mod Strides
-pub mod Telling
+pub mod Reporting
 mod Desked
 mod Finished
 mod Placing

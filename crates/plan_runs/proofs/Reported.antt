@@ -14,7 +14,7 @@ use Rattle.audit_model.proofs.Resumed.{full_is_sequence}
 use Rattle.audit_statement.specs.Draw.{draw}
 use Rattle.audit_statement.specs.Report.{full_report, plan_text, plans_text, report, thread_report}
 use Rattle.report.specs.Outcomes.{reported}
-use Rattle.report.specs.Said.{WritesAllOf}
+use Rattle.report.specs.AddedText.{WritesAllOf}
 use Rattle.report.proofs.Appended.{appends_more, appends_nothing, part_after, part_of_more}
 use Rattle.audit_statement.specs.Endings.{full_of}
 use Rattle.audit_laws.specs.Runs.{AreAll}
@@ -22,7 +22,7 @@ use Rattle.audit_laws.proofs.Running.{leaves_none}
 use Rattle.audit_laws.proofs.Starting.{every_id, none_right}
 use Rattle.plan_runs.specs.declared.found.Found.{Found}
 use Rattle.plan_runs.specs.Found.{HasFound, ReportsAll, listed_in, observed_in}
-use Rattle.plan_runs.proofs.Telling.{length-listed}
+use Rattle.plan_runs.proofs.Reporting.{length-listed}
 use Rattle.plan_runs.specs.Plans.{RunsAlone}
 
 -- ---- one text after another
@@ -96,7 +96,7 @@ module _ (job : Job) (by : RunsAlone job) where
       by_order : (f.listed < reported job) ⊎ (reported job ≤ f.listed) → reported job ≤ f.listed
       by_order (inl less) =
           let left = has.short less in
-          absurd (omega (arith, less, left.due, length-listed f has.tellable.enough, all_observed (listed_in f) left.all))
+          absurd (omega (arith, less, left.due, length-listed f has.reportable.enough, all_observed (listed_in f) left.all))
       by_order (inr enough) = enough
 
   -- the report on the outcomes is the report of one thread

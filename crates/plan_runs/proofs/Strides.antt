@@ -8,7 +8,7 @@ use Rattle.audit_model.specs.Trajectory.{Draws, four_values}
 use Rattle.audit_statement.specs.Along.{own_steps, plan_after}
 use Rattle.audit_statement.specs.Report.{line}
 use Rattle.audit_statement.specs.Trace.{count_shown, first_lines, line_at, shown, range_lines, trace_head, trace_id_line, trace_line, trace_text, trajectory_lines}
-use Rattle.report.specs.Said.{WritesAllOf}
+use Rattle.report.specs.AddedText.{WritesAllOf}
 use Rattle.report.proofs.Appended.{appends_more, appends_nothing, part_after, part_of_more}
 
 -- ---- one text after another

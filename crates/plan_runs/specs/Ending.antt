@@ -9,7 +9,7 @@ use Rattle.report.specs.declared.ended.Ended.{Ended}
 use Rattle.report.specs.declared.ended.Ended.TheVariants as ended
 use Rattle.plan_runs.specs.declared.ending.Finished.{Finished}
 use Rattle.plan_runs.specs.declared.ending.Finished.TheVariants as finished
-use Rattle.audit_model.specs.State.{Kept}
+use Rattle.audit_model.specs.State.{KeeperState}
 use Rattle.audit_model.specs.Observed.{IfBothObserved}
 use Rattle.audit_statement.specs.Endings.{IsNewest, KeepsASlot, SavesInTurn, AttemptsObserved, full_of}
 
@@ -32,7 +32,7 @@ ended_as (finished.Stopped done total) = ended.Stopped done total
 ended_as finished.SaveFault = ended.SaveFault
 
 -- checkpoints were saved in turn, the last of all outcomes, unless a save failed
-pub record SavesLast (job : Job) (initial_outcomes : List Outcome) (before after : Kept) (result : Result (Unit {0}) Failed) : Type 0 where
+pub record SavesLast (job : Job) (initial_outcomes : List Outcome) (before after : KeeperState) (result : Result (Unit {0}) Failed) : Type 0 where
   pub kept : IfBothObserved before.slots after.slots (KeepsASlot job initial_outcomes)
   pub in_turn : OnOk result (IfBothObserved before.slots after.slots (SavesInTurn job initial_outcomes))
   pub newest_is : OnOk result (IfBothObserved before.slots after.slots (λ p q. IsNewest job (full_of job initial_outcomes) q))
@@ -41,6 +41,6 @@ pub record SavesLast (job : Job) (initial_outcomes : List Outcome) (before after
   pub attempted : AttemptsObserved job initial_outcomes before after
 
 -- the run saves nothing, or it saved everything that was due
-abbrev pub SavedBy : Bool → Job → List Outcome → Kept → Kept → Result (Unit {0}) Failed → Type 0
+abbrev pub SavedBy : Bool → Job → List Outcome → KeeperState → KeeperState → Result (Unit {0}) Failed → Type 0
 SavedBy false job initial_outcomes before after result = (after ≡ before) × (result ≡ Ok tt)
 SavedBy true job initial_outcomes before after result = SavesLast job initial_outcomes before after result

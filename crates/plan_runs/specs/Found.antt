@@ -21,7 +21,7 @@ observed_in f = take f.observed f.stops
 
 -- The report can be made. The covered outcomes and stops exist, and the buffer is empty and large enough. The outcomes
 -- are those of the job as soon as none is missing.
-pub record IsTellable (job : Job) (f : Found) : Type 0 where
+pub record IsReportable (job : Job) (f : Found) : Type 0 where
   pub run : IsRunJob job
   pub enough : f.listed ≤ length f.sorted.items
   pub enough_stops : f.observed ≤ length f.stops
@@ -44,6 +44,6 @@ pub record LeavesSome (job : Job) (initial_outcomes : List Outcome) (f : Found) 
 
 -- the outcomes of a run with these initial outcomes: all that the report covers, or fewer
 pub record HasFound (job : Job) (initial_outcomes : List Outcome) (f : Found) : Type 0 where
-  pub tellable : IsTellable job f
+  pub reportable : IsReportable job f
   pub whole : reported job ≤ f.listed → ReportsAll job initial_outcomes f
   pub short : f.listed < reported job → LeavesSome job initial_outcomes f

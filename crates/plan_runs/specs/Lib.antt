@@ -2,7 +2,7 @@ pub mod Ending
 pub mod Found
 pub mod Guards
 pub mod Paired
-pub mod Pens
+pub mod LineBuffers
 pub mod Plans
 pub mod Resources
 pub mod RunBuffers

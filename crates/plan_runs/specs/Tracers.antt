@@ -14,14 +14,14 @@ use Rattle.plan_runs.specs.declared.tracing.TraceBuffers.{TraceBuffers}
 use Rattle.plan_runs.specs.declared.tracing.Traced.{Traced}
 use Rattle.plan_runs.specs.declared.tracing.TraceRange.{TraceRange}
 use Rattle.plan_runs.specs.declared.tracing.Tracer.{Tracer}
-use Rattle.plan_runs.specs.Pens.{IsPen}
+use Rattle.plan_runs.specs.LineBuffers.{IsLineBuffer}
 use Rattle.report.specs.declared.ended.Ended.{Ended}
 use Rattle.report.specs.declared.ended.Ended.TheVariants as ended
 
 -- a walker of the job, and a pen
 pub record IsTracer {J : Type 0} (job : Job) (t : Tracer J) : Type 0 where
   pub made : t.walker.job ≡ job
-  pub pen : IsPen job t.pen
+  pub line_buffer : IsLineBuffer job t.line_buffer
 
 -- a tracer, the hub's memory, and the lines before the first trajectory
 pub record AreTraceBuffersFor {J : Type 0} (job : Job) (r : TraceBuffers J) : Type 0 where

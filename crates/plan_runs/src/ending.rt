@@ -8,10 +8,10 @@ ghost use Rattle.audit_statement.specs.Report.{report};
 ghost use Rattle.report.specs.Outcomes.{reported};
 ghost use Rattle.audit_statement.specs.Endings.{AreInitialOutcomes, saves};
 ghost use Rattle.plan_runs.specs.Ending.{SavedBy, ended_as, ended_by, stopped_by};
-ghost use Rattle.plan_runs.specs.Found.{HasFound, IsTellable, listed_in, observed_in};
+ghost use Rattle.plan_runs.specs.Found.{HasFound, IsReportable, listed_in, observed_in};
 ghost use Rattle.plan_runs.specs.Serially.{IsTester};
 ghost use Rattle.audit_laws.specs.Calls.{Finishes};
-ghost use Rattle.audit_model.specs.State.{Kept};
+ghost use Rattle.audit_model.specs.State.{KeeperState};
 
 use crate::found::{Found, first_outcomes, first_stops};
 use crate::serially::test_serially;
@@ -87,7 +87,7 @@ fn due(job: &Job) -> u32
 
 /// Makes the serial test if it was requested, and the report on the outcomes. Allocates nothing.
 pub fn text_of<J: Judge>(job: &Job, found: Found, tester: Option<Walker<J>>) -> Bytes
-    requires tellable { IsTellable job.now found }
+    requires reportable { IsReportable job.now found }
     requires whole { reported job.now ≤ found.listed }
     requires tester { IsTester job.now tester }
     ensures { result.items ≡ report job.now (listed_in found) (observed_in found) (serial_observed job.now (draw job.now.setting.key)) }
@@ -115,9 +115,9 @@ pub fn end_run<K: Sink, J: Judge>(
     saved: Result<(), Failed>,
     out: &mut K,
 ) -> Finished
-    requires tellable { IsTellable job.now found }
+    requires reportable { IsReportable job.now found }
     requires tester { IsTester job.now tester }
-    ensures { (initial_outcomes : List model.Outcome) (before after : Kept) → AreInitialOutcomes job.now before.slots initial_outcomes → HasFound job.now initial_outcomes found
+    ensures { (initial_outcomes : List model.Outcome) (before after : KeeperState) → AreInitialOutcomes job.now before.slots initial_outcomes → HasFound job.now initial_outcomes found
         → SavedBy (saves job.now.setting) job.now initial_outcomes before after saved
         → Finishes job.now (K.state out.old) (K.state out.new) before after (ended_as result) }
 {

@@ -12,7 +12,7 @@ pub mod buffers;
 pub mod ending;
 pub mod found;
 pub mod judges;
-pub mod pen;
+pub mod line_buffer;
 pub mod plans;
 pub mod resources;
 pub mod saving;

@@ -1,7 +1,7 @@
 //! Several plans: their memory, allocated before the first walk, and their reports, one after the other.
 
 ghost use Rattle.std.specs.Prelude.{◌≡◌, ◌++◌, ℕ, [], List, All, IfOk, map};
-ghost use Rattle.report.specs.Said.{WritesAllOf};
+ghost use Rattle.report.specs.AddedText.{WritesAllOf};
 ghost use Rattle.audit_statement.specs.Draw.{draw};
 ghost use Rattle.plan_csv.specs.Named.{jobs_of, pair_of};
 ghost use Rattle.audit_statement.specs.Report.{plan_text, plans_text, thread_report};

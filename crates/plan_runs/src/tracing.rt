@@ -8,12 +8,12 @@ ghost use Rattle.audit_model.specs.Trajectory.{hub as hub_of};
 ghost use Rattle.audit_statement.specs.Draw.{draw};
 ghost use Rattle.audit_statement.specs.Trace as definition;
 ghost use Rattle.flip_kernel.specs.Judged.{IsJudgeFor};
-ghost use Rattle.plan_runs.specs.Pens.{IsPen};
+ghost use Rattle.plan_runs.specs.LineBuffers.{IsLineBuffer};
 ghost use Rattle.plan_runs.specs.Tracers.{IsCurrentAt, AreTraceBuffersFor, IsTracer, TracesJob, all_lines, end_line, lines_of_range};
-ghost use Rattle.report.specs.Said.{WritesAllOf};
+ghost use Rattle.report.specs.AddedText.{WritesAllOf};
 ghost use Rattle.walker.specs.Walked.{IsUnderWay};
 
-use crate::pen::{Pen, make_pen, put_plan, start_trajectory};
+use crate::line_buffer::{LineBuffer, make_line_buffer, put_plan, start_trajectory};
 use audit_io::sink::Sink;
 use audit_io::source::Failed;
 use audit_model::buffers::Bytes;
@@ -47,7 +47,7 @@ pub struct Traced {
 #[derive(Drop)]
 pub struct Tracer<J: Judge> {
     pub walker: Walker<J>,
-    pub pen: Pen,
+    pub line_buffer: LineBuffer,
 }
 
 /// All memory of a trace, allocated before its first write.
@@ -72,8 +72,8 @@ fn make_tracer<J: Judge>(alloc: Global, job: &Job, judge: J) -> Result<Tracer<J>
     ensures { IfOk result (λ t. IsTracer job.now t) }
 {
     let walker = Walker::new(alloc, job, judge)?;
-    let pen = make_pen(alloc, job)?;
-    Ok(Tracer { walker, pen })
+    let line_buffer = make_line_buffer(alloc, job)?;
+    Ok(Tracer { walker, line_buffer })
 }
 
 fn make_hub(job: &Job) -> Result<UnitList, Memory>
@@ -98,19 +98,19 @@ fn write_line<J: Judge, K: Sink>(
     walker: &mut Walker<J>,
     step: u32,
     moved: u32,
-    pen: &mut Pen,
+    line_buffer: &mut LineBuffer,
     out: &mut K,
 ) -> Result<(), Failed>
     requires made { walker.old.job ≡ job.now }
-    requires pen { IsPen job.now pen.old }
-    ensures pen { IsPen job.now pen.new }
-    ensures before { pen.new.before ≡ walker.old.plan }
+    requires line_buffer { IsLineBuffer job.now line_buffer.old }
+    ensures line_buffer { IsLineBuffer job.now line_buffer.new }
+    ensures before { line_buffer.new.before ≡ walker.old.plan }
     ensures same { walker.new ≡ walker.old }
     ensures written { (id : ℕ) → IsCurrentAt job.now id step walker.old moved
-        → WritesAllOf (K.state out.old) (K.state out.new) (definition.line_at job.now (draw job.now.setting.key) id pen.old.before step) result }
+        → WritesAllOf (K.state out.old) (K.state out.new) (definition.line_at job.now (draw job.now.setting.key) id line_buffer.old.before step) result }
 {
-    put_plan(job, walker, step, moved, pen);
-    write_all(out, pen.line.as_slice())
+    put_plan(job, walker, step, moved, line_buffer);
+    write_all(out, line_buffer.line.as_slice())
 }
 
 /// Returns the number of strides of `thin` steps that make `steps` steps. The last stride may be shorter.
@@ -131,9 +131,9 @@ fn write_strides<J: Judge, K: Sink>(
     out: &mut K,
 ) -> Result<(), Failed>
     requires thin { 0 < traced.thin }
-    requires pen { IsPen job.now tracer.old.pen }
+    requires line_buffer { IsLineBuffer job.now tracer.old.line_buffer }
     requires way { IsUnderWay job.now traced.id 0 tracer.old.walker way.old }
-    requires before { tracer.old.pen.before ≡ tracer.old.walker.plan }
+    requires before { tracer.old.line_buffer.before ≡ tracer.old.walker.plan }
     ensures tracer { IsTracer job.now tracer.new }
     ensures written { (before : Stream) → WritesAllOf before (K.state out.old) (definition.first_lines job.now (draw job.now.setting.key) traced.id traced.thin 1) (Ok tt)
         → WritesAllOf before (K.state out.new) (all_lines job.now traced) result }
@@ -151,7 +151,7 @@ fn write_strides<J: Judge, K: Sink>(
             &mut tracer.walker,
             step,
             way.move_count(),
-            &mut tracer.pen,
+            &mut tracer.line_buffer,
             out,
         ) {
             Ok(()) => {}
@@ -170,9 +170,9 @@ fn write_lines<J: Judge, K: Sink>(
     out: &mut K,
 ) -> Result<(), Failed>
     requires thin { 0 < traced.thin }
-    requires pen { IsPen job.now tracer.old.pen }
+    requires line_buffer { IsLineBuffer job.now tracer.old.line_buffer }
     requires way { IsUnderWay job.now traced.id 0 tracer.old.walker way.old }
-    requires before { tracer.old.pen.before ≡ job.now.start }
+    requires before { tracer.old.line_buffer.before ≡ job.now.start }
     ensures tracer { IsTracer job.now tracer.new }
     ensures written { WritesAllOf (K.state out.old) (K.state out.new) (all_lines job.now traced) result }
 {
@@ -181,7 +181,7 @@ fn write_lines<J: Judge, K: Sink>(
         &mut tracer.walker,
         0,
         way.move_count(),
-        &mut tracer.pen,
+        &mut tracer.line_buffer,
         out,
     ) {
         Err(_) => Err(Failed),
@@ -203,8 +203,8 @@ fn write_trajectory<J: Judge, K: Sink>(
     ensures written { WritesAllOf (K.state out.old) (K.state out.new) (definition.trajectory_lines job.now (draw job.now.setting.key) traced.thin traced.id) result }
 {
     let mut way = tracer.walker.set_out(job, hub, traced.id);
-    start_trajectory(job, traced.id, traced.thin, &mut tracer.pen);
-    match write_all(out, tracer.pen.line.as_slice()) {
+    start_trajectory(job, traced.id, traced.thin, &mut tracer.line_buffer);
+    match write_all(out, tracer.line_buffer.line.as_slice()) {
         Err(_) => Err(Failed),
         Ok(()) => write_lines(job, traced, tracer, &mut way, out),
     }

@@ -6,7 +6,7 @@ use Rattle.audit_model.specs.Faults.{Rose}
 use Rattle.audit_statement.specs.Endings.{AddsLine, AppendsPart}
 use Rattle.report.specs.declared.piece.Piece.{Piece}
 use Rattle.report.specs.Pieces.{piece_text}
-use Rattle.report.specs.Said.{IsSaid}
+use Rattle.report.specs.AddedText.{HasAdded}
 use Rattle.std.specs.Prelude.{◌==◌, codes, decimal}
 use Rattle.std.proofs.lemmas.Bool.{cond-true, cond-false}
 use Rattle.audit_model.specs.declared.fault.PlanFault.TheVariants.{TooFewMajorities}
@@ -15,49 +15,49 @@ use Rattle.audit_model.specs.State.{Stream}
 use Rattle.report.proofs.Appended.{part_after}
 
 -- an equal text is the added line
-pub adds_line : {n m : Stream} {said line : List ℕ} → AddsLine n m said → said ≡ line → AddsLine n m line
+pub adds_line : {n m : Stream} {text_so_far line : List ℕ} → AddsLine n m text_so_far → text_so_far ≡ line → AddsLine n m line
 adds_line {n = n} {m = m} a e = subst (λ (text : List ℕ). AddsLine n m text) e a
 
 -- a text written in whole or in part is added to the line
-pub said_adds : (n m : Stream) (text : List ℕ) (whole : Bool) → IsSaid n m text whole → AddsLine n m text
-said_adds n m text true s = record { added = inl s }
-said_adds n m text false s = record { added = inr s }
+pub text_adds : (n m : Stream) (text : List ℕ) (whole : Bool) → HasAdded n m text whole → AddsLine n m text
+text_adds n m text true s = record { added = inl s }
+text_adds n m text false s = record { added = inr s }
 
 -- before its first piece, nothing of a line is written
-pub said_nothing : (n : Stream) → IsSaid n n [] true
+pub said_nothing : (n : Stream) → HasAdded n n [] true
 said_nothing n = (Appends-nil n.bytes, refl)
 
 -- a piece that was written in part ends the line
-pub fails_after : (start old new : Stream) (said piece : List ℕ) (going : Bool) → going ≡ true
-    → AppendsPart old.bytes new.bytes piece → Rose old.faults new.faults → IsSaid start old said going → IsSaid start new (said ++ piece) false
-fails_after start old new said piece true e part rose s =
-    (part_after start.bytes old.bytes new.bytes said piece s.0 part, subst (λ (k : ℕ). Rose k new.faults) s.1 rose)
-fails_after start old new said piece false e part rose s = cc
+pub fails_after : (start old new : Stream) (text_so_far piece : List ℕ) (going : Bool) → going ≡ true
+    → AppendsPart old.bytes new.bytes piece → Rose old.faults new.faults → HasAdded start old text_so_far going → HasAdded start new (text_so_far ++ piece) false
+fails_after start old new text_so_far piece true e part rose s =
+    (part_after start.bytes old.bytes new.bytes text_so_far piece s.0 part, subst (λ (k : ℕ). Rose k new.faults) s.1 rose)
+fails_after start old new text_so_far piece false e part rose s = cc
 
 -- ---- a line with some pieces written
 
 -- a front of the whole line was written, and this rest is left
 pub record IsOnTheWay (start now : Stream) (going : Bool) (whole left : List ℕ) : Type 0 where
-  pub said : List ℕ
-  pub is_said : IsSaid start now said going
-  pub split : said ++ left ≡ whole
+  pub text_so_far : List ℕ
+  pub has_added : HasAdded start now text_so_far going
+  pub split : text_so_far ++ left ≡ whole
 
 -- the state after the first piece of a line
-pub begun : (start now : Stream) (first left : List ℕ) (going : Bool) → IsSaid start now first going → IsOnTheWay start now going (first ++ left) left
-begun start now first left going s = record { said = first; is_said = s; split = refl }
+pub begun : (start now : Stream) (first left : List ℕ) (going : Bool) → HasAdded start now first going → IsOnTheWay start now going (first ++ left) left
+begun start now first left going s = record { text_so_far = first; has_added = s; split = refl }
 
 -- the state after one more piece
 pub goes_on : (start now next : Stream) (going then : Bool) (whole piece left : List ℕ) → IsOnTheWay start now going whole (piece ++ left)
-    → ((from : Stream) (said : List ℕ) → IsSaid from now said going → IsSaid from next (said ++ piece) then) → IsOnTheWay start next then whole left
+    → ((from : Stream) (text_so_far : List ℕ) → HasAdded from now text_so_far going → HasAdded from next (text_so_far ++ piece) then) → IsOnTheWay start next then whole left
 goes_on start now next going then whole piece left w more = record {
-  said = w.said ++ piece;
-  is_said = more start w.said w.is_said;
-  split = append_assoc w.said piece left ∙ w.split;
+  text_so_far = w.text_so_far ++ piece;
+  has_added = more start w.text_so_far w.has_added;
+  split = append_assoc w.text_so_far piece left ∙ w.split;
 }
 
 -- if nothing is left, the whole line was written
-pub all_said : (start now : Stream) (going : Bool) (whole : List ℕ) → IsOnTheWay start now going whole [] → IsSaid start now whole going
-all_said start now going whole w = subst (λ (text : List ℕ). IsSaid start now text going) (sym (append-nil w.said) ∙ w.split) w.is_said
+pub all_added : (start now : Stream) (going : Bool) (whole : List ℕ) → IsOnTheWay start now going whole [] → HasAdded start now whole going
+all_added start now going whole w = subst (λ (text : List ℕ). HasAdded start now text going) (sym (append-nil w.text_so_far) ∙ w.split) w.has_added
 
 -- ---- the texts of pieces
 

@@ -3,4 +3,4 @@ pub mod Lines
 pub mod Outcomes
 pub mod Parts
 pub mod Pieces
-pub mod Said
+pub mod AddedText

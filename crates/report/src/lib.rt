@@ -26,6 +26,6 @@ pub mod writing;
 pub use audit::text;
 pub use check::check_text;
 pub use ended::Ended;
-pub use note::{fault_name, tell};
+pub use note::{fault_name, write_diagnostic};
 pub use room::reserve;
 pub use writing::write_all;

@@ -17,11 +17,11 @@ mod table;
 
 use crate::ended::Ended;
 use crate::note::arguments::word_line;
-use crate::note::checkpoint::{tell_damaged, tell_other};
+use crate::note::checkpoint::{write_damaged, write_other_job};
 use crate::note::graph::{graph_line, region_line};
 use crate::note::line::count_of_line;
-use crate::note::output::{say, say_text};
-use crate::note::plan::{plan_line, say_named};
+use crate::note::output::{write_note, write_text};
+use crate::note::plan::{plan_line, write_named};
 use crate::note::table::table_line;
 use crate::piece::Piece::Text;
 use audit_io::sink::Sink;
@@ -29,50 +29,50 @@ pub use checkpoint::fault_name;
 pub use output::add_line;
 
 /// Writes the diagnostic and returns the exit status.
-pub fn tell<N: Sink>(why: &Ended, note: &mut N) -> u8
+pub fn write_diagnostic<N: Sink>(why: &Ended, note: &mut N) -> u8
     ensures status { result ≡ status_of (ending_of why.now) }
     ensures observed { WritesEnding (columns_kept why.now) (N.state note.old) (N.state note.new) (ending_of why.now) }
 {
-    tell_line(why, note);
+    write_reason(why, note);
     status(why)
 }
 
-fn tell_line<N: Sink>(why: &Ended, note: &mut N)
+fn write_reason<N: Sink>(why: &Ended, note: &mut N)
     ensures { WritesEnding (columns_kept why.now) (N.state note.old) (N.state note.new) (ending_of why.now) }
 {
     match why {
         Ended::Done => {}
-        Ended::BadWords(fault) => say(note, &[Text("words: ")], &word_line(fault)),
-        Ended::TooManyBytes => say_text(note, "graph: more than 67108864 bytes"),
-        Ended::BadGraph(fault, columns) => say(
+        Ended::BadWords(fault) => write_note(note, &[Text("words: ")], &word_line(fault)),
+        Ended::TooManyBytes => write_text(note, "graph: more than 67108864 bytes"),
+        Ended::BadGraph(fault, columns) => write_note(
             note,
             &[Text("graph: ")],
             &graph_line(fault, columns),
         ),
-        Ended::BadRegions(fault, column) => say(
+        Ended::BadRegions(fault, column) => write_note(
             note,
             &[Text("graph: ")],
             &region_line(fault, column),
         ),
-        Ended::BadPlan(fault) => say(note, &[Text("plan: ")], &plan_line(fault)),
-        Ended::BadTable(fault) => say(note, &[Text("table: ")], &table_line(fault)),
-        Ended::BadPlanNamed(name, fault) => say_named(note, name, fault),
-        Ended::NoMemory => say_text(note, "memory"),
-        Ended::ReadFault => say_text(note, "read fault"),
-        Ended::WriteFault => say_text(note, "write fault"),
-        Ended::LoadFault => say_text(note, "checkpoint load fault"),
-        Ended::FolderTaken => say_text(note, "checkpoint: another run holds the folder"),
-        Ended::Stopped { done, total } => tell_stopped(note, *done, *total),
-        Ended::Damaged(slots) => tell_damaged(note, slots),
-        Ended::OtherJob { found, wanted } => tell_other(note, found, wanted),
-        Ended::SaveFault => say_text(note, "checkpoint save fault"),
+        Ended::BadPlan(fault) => write_note(note, &[Text("plan: ")], &plan_line(fault)),
+        Ended::BadTable(fault) => write_note(note, &[Text("table: ")], &table_line(fault)),
+        Ended::BadPlanNamed(name, fault) => write_named(note, name, fault),
+        Ended::NoMemory => write_text(note, "memory"),
+        Ended::ReadFault => write_text(note, "read fault"),
+        Ended::WriteFault => write_text(note, "write fault"),
+        Ended::LoadFault => write_text(note, "checkpoint load fault"),
+        Ended::FolderTaken => write_text(note, "checkpoint: another run holds the folder"),
+        Ended::Stopped { done, total } => write_stopped(note, *done, *total),
+        Ended::Damaged(slots) => write_damaged(note, slots),
+        Ended::OtherJob { found, wanted } => write_other_job(note, found, wanted),
+        Ended::SaveFault => write_text(note, "checkpoint save fault"),
     }
 }
 
-fn tell_stopped<N: Sink>(note: &mut N, done: u32, total: u32)
+fn write_stopped<N: Sink>(note: &mut N, done: u32, total: u32)
     ensures { AddsLine (N.state note.old) (N.state note.new) (terms.as_line (codes "stopped: " ∷ decimal done ∷ codes " of " ∷ decimal total ∷ codes " done" ∷ [])) }
 {
-    say(note, &[Text("stopped: ")], &count_of_line(done, total));
+    write_note(note, &[Text("stopped: ")], &count_of_line(done, total));
 }
 
 pub(crate) fn status(why: &Ended) -> u8

@@ -211,11 +211,11 @@ fn count_regions(regions: &[u32]) -> u32
     requires { All (λ r. r < most_regions) regions.now }
     ensures { result ≡ region_count regions.now }
 {
-    count_marked(&marked(regions))
+    count_marked(&used_regions(regions))
 }
 
 /// Returns an array that is true at the index of each region that has a unit.
-fn marked(regions: &[u32]) -> [bool; REGIONS]
+fn used_regions(regions: &[u32]) -> [bool; REGIONS]
     requires { All (λ r. r < most_regions) regions.now }
     ensures { (r : ℕ) → r < most_regions → slice_index_or result r false ≡ has regions.now r }
 {

@@ -1,6 +1,6 @@
 //! Writing a whole text to a sink.
 
-ghost use Rattle.report.specs.Said.{WritesAllOf};
+ghost use Rattle.report.specs.AddedText.{WritesAllOf};
 
 use audit_io::sink::Sink;
 use audit_io::source::Failed;

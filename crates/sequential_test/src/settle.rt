@@ -16,7 +16,7 @@ use plan_core::job::Job;
 
 /// The number of endpoint trajectories of a job, and the number of outlier walks, whose ids come before theirs.
 #[derive(Clone, Copy)]
-struct Span {
+struct EndpointIds {
     walks: u32,
     ends: u32,
     ghost few: { walks + ends ≤ most_trajectories },
@@ -51,7 +51,7 @@ pub fn settle(job: &Job, ask: u32, hits: u32, posted: &[Outcome]) -> Option<Stop
     let setting = job.setting();
     let place = ask as usize;
     let tail = setting.asks.as_slice()[place].tail;
-    let span = Span {
+    let span = EndpointIds {
         walks: setting.walks,
         ends: setting.ends,
     };
@@ -86,7 +86,7 @@ fn count_tail(test: EndTest, posted: &[Outcome], n: u32) -> usize
 
 /// Returns the number of endpoints before the first missing one, by rising id. The first `n` endpoints are complete if
 /// `posted` has `n` of them, because no two outcomes have the same id.
-fn known_ends(span: Span, posted: &[Outcome]) -> u32
+fn known_ends(span: EndpointIds, posted: &[Outcome]) -> u32
     ensures within { result ≤ span.ends }
     ensures known { ends_below span.walks posted.now result ≡ result }
     ensures gap { result < span.ends → ends_below span.walks posted.now (result + 1) ≢ result + 1 }
@@ -131,7 +131,7 @@ fn tail_place(test: EndTest, known: u32, enough: usize, posted: &[Outcome]) -> u
 /// Does the work of `settle` with numbers of the job. Two bisections find the first missing endpoint and the stopping
 /// place. Each step of a bisection goes through the outcomes once.
 fn find_stop(
-    span: Span,
+    span: EndpointIds,
     tail: Tail,
     start: i64,
     place: usize,

@@ -32,7 +32,7 @@ fn ids_from(todo: &[u32], from: u32, to: u32) -> &[u32]
 
 /// A range of consecutive ids, and the counter from which workers claim them.
 #[derive(Drop)]
-struct Stretch<'a> {
+struct IdRange<'a> {
     ids: &'a [u32],
     from: u32,
     to: u32,
@@ -51,20 +51,20 @@ struct Rounds<'a> {
 fn walk_to<R: Threads + Sync, J: Judge + Send, G: Gate + Sync>(
     rt: &Runtime<R, G>,
     job: &Job,
-    stretch: Stretch,
+    id_range: IdRange,
     batch_workers: &mut BatchWorkers<J>,
     book: &mut Book,
     sorted: &mut OutcomeList,
 )
-    requires ids { AreIds stretch.from stretch.to stretch.ids.now }
-    requires few { stretch.to ≤ total job.now }
-    requires batch { IsFreshBatch (stretch.to - stretch.from) (vec_len batch_workers.old.idle_workers) stretch.batch }
-    requires walked { HasWalkedTo job.now (vec_len batch_workers.old.idle_workers) stretch.from batch_workers.old book.old sorted.old }
-    ensures walked { HasWalkedTo job.now (vec_len batch_workers.old.idle_workers) stretch.entry.to batch_workers.new book.new sorted.new }
-    ensures sorted { sorted.new.items ≡ found_below job.now stretch.entry.to }
+    requires ids { AreIds id_range.from id_range.to id_range.ids.now }
+    requires few { id_range.to ≤ total job.now }
+    requires batch { IsFreshBatch (id_range.to - id_range.from) (vec_len batch_workers.old.idle_workers) id_range.batch }
+    requires walked { HasWalkedTo job.now (vec_len batch_workers.old.idle_workers) id_range.from batch_workers.old book.old sorted.old }
+    ensures walked { HasWalkedTo job.now (vec_len batch_workers.old.idle_workers) id_range.entry.to batch_workers.new book.new sorted.new }
+    ensures sorted { sorted.new.items ≡ found_below job.now id_range.entry.to }
     ensures rising { AllPairs (λ a b. a.id ≡ b.id → ⊥) sorted.new.items }
 {
-    walk_batch(rt, job, stretch.ids, stretch.batch, batch_workers, book);
+    walk_batch(rt, job, id_range.ids, id_range.batch, batch_workers, book);
     book.sorted_into(sorted);
 }
 
@@ -97,13 +97,13 @@ fn walk_rounds<R: Threads + Sync, J: Judge + Send, G: Gate + Sync>(
         let from = walks + walked;
         let to = walks + next;
         let ids = ids_from(todo, from, to);
-        let stretch = Stretch {
+        let id_range = IdRange {
             ids,
             from,
             to,
             batch,
         };
-        walk_to(rt, job, stretch, batch_workers, book, sorted);
+        walk_to(rt, job, id_range, batch_workers, book, sorted);
         walked = next;
         match find_stops(job, sorted.as_slice()) {
             Some(stops) => return stops,
@@ -146,13 +146,13 @@ pub fn walk_to_stops<R: Threads + Sync, J: Judge + Send, G: Gate + Sync>(
     } = pool;
     find_hub(job, &mut batch_workers);
     let to = job.setting().walks;
-    let stretch = Stretch {
+    let id_range = IdRange {
         ids: ids_from(todo, 0, to),
         from: 0,
         to,
         batch: walks,
     };
-    walk_to(rt, job, stretch, &mut batch_workers, book, sorted);
+    walk_to(rt, job, id_range, &mut batch_workers, book, sorted);
     let rounds = Rounds {
         todo,
         batches: rounds,

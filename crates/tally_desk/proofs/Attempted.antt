@@ -78,11 +78,11 @@ module _ (parts : Parts) (plan : IsPlan parts) where
       → All (IsSound parts.job) (cond b (made_with parts earlier e ∷ []) [] ++ ms)
       → InTurnFrom (saves_made (earlier ++ e ∷ [])) (map (try_made parts.job) ms ++ rest)
       → InTurnFrom (saves_made earlier) (map (try_made parts.job) (cond b (made_with parts earlier e ∷ []) [] ++ ms) ++ rest)
-  turn_with earlier e ms rest false undue due of_todo sound goes =
+  turn_with earlier e ms rest false not_due due of_todo sound goes =
       subst (λ (n : ℕ). InTurnFrom n (map (try_made parts.job) ms ++ rest)) (next_turn earlier e false (unsaved e.saved due)) goes
     where
       unsaved : (s : Bool) → (s ≡ true → is_due parts.save_every e ≡ true) → s ≡ false
-      unsaved true h = absurd (true≢false (sym (h refl) ∙ undue))
+      unsaved true h = absurd (true≢false (sym (h refl) ∙ not_due))
       unsaved false h = refl
   turn_with earlier e ms rest true is_one due of_todo sound goes = (
     save_at earlier e of_todo (All-head (IsSound parts.job) (made_with parts earlier e) ms sound),

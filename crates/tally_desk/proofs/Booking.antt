@@ -19,7 +19,7 @@ use Rattle.tally_desk.specs.Parts.{Parts, IsPlan}
 use Rattle.claim_counter.proofs.Sharing.{found_id}
 use Rattle.tally_desk.proofs.Found.{found_fits}
 use Rattle.tally_desk.proofs.Marking.{ids_up_to_save}
-use Rattle.tally_desk.proofs.Todo.{todo_within, todo_lacked}
+use Rattle.tally_desk.proofs.Todo.{todo_within, todo_missing}
 
 -- one more post adds the outcome of its trajectory
 pub booked-push : (parts : Parts) (l : List Entry) (e : Entry) → booked parts (l ++ e ∷ []) ≡ booked parts l ++ found parts.job e.id ∷ []
@@ -41,7 +41,7 @@ absent_of_ids job (x ∷ ids) id none =
 pub absent_of_book : (parts : Parts) → IsPlan parts → (l : List Entry) (id : ℕ) → 0 < times id parts.todo → times id (ids_of l) ≡ 0 → has_id (booked parts l) id ≡ false
 absent_of_book parts plan l id to_do unposted =
     list_any-append (λ (o : Outcome). o.id == id) parts.initial_outcomes (map (found parts.job) (ids_of l))
-    ∙ or_from _ _ (todo_lacked parts plan id to_do) (absent_of_ids parts.job (ids_of l) id unposted)
+    ∙ or_from _ _ (todo_missing parts plan id to_do) (absent_of_ids parts.job (ids_of l) id unposted)
 
 -- ---- what fits
 

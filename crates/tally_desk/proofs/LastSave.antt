@@ -7,7 +7,7 @@ use Rattle.std.proofs.lemmas.List.{append-nil, length-map}
 use Rattle.std.proofs.lemmas.List.Sorted.{length_permutation, sum_by-IsPermutation}
 use Rattle.audit_io.specs.declared.source.Failed.{Failed}
 use Rattle.audit_model.specs.Faults.{Counts, HasCause, Rose}
-use Rattle.audit_model.specs.State.{Kept as KeeperState}
+use Rattle.audit_model.specs.State.{KeeperState}
 use Rattle.audit_model.specs.Observed.{IfBothObserved, IfObserved}
 use Rattle.audit_model.specs.Pair.{Pair, stored, HoldsBytes, KeepsOther}
 use Rattle.audit_model.specs.Attempts.{attempted_all, attempted_too, try_of}

@@ -112,11 +112,11 @@ module _ (parts : Parts) (plan : IsPlan parts) where
   pub todo_is : (drawn : ℕ) (l : List Entry) → todo (machine_of parts drawn l) ≡ parts.todo
   todo_is drawn l =
       let s = parts.job.setting in
-      let lacked = filter_below (total parts.job) (λ id. not (has_id parts.initial_outcomes id) && is_in_part s.parts s.part id) in
+      let missing = filter_below (total parts.job) (λ id. not (has_id parts.initial_outcomes id) && is_in_part s.parts s.part id) in
       ap (take (length parts.todo))
       (filter_same (total parts.job) (λ id. not (has (initial_ids parts) id) && is_in_part s.parts s.part id) (λ id. not (has_id parts.initial_outcomes id) && is_in_part s.parts s.part id)
       (λ id. ap (λ (b : Bool). not b && is_in_part s.parts s.part id) (has_ids parts.initial_outcomes id)))
-      ∙ ap (λ (xs : List ℕ). take (length xs) lacked) plan.todo.1 ∙ take_again plan.todo.0 lacked ∙ sym plan.todo.1
+      ∙ ap (λ (xs : List ℕ). take (length xs) missing) plan.todo.1 ∙ take_again plan.todo.0 missing ∙ sym plan.todo.1
 
   abbrev at : ℕ → ℕ
   at place = get_or parts.todo place 0

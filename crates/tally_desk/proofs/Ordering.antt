@@ -92,10 +92,10 @@ module _ (parts : Parts) (plan : IsPlan parts) where
   moved_on earlier e false is = ap (λ (n : ℕ). moved n parts.place) (next_turn earlier e false is)
 
   unsaved : (e : Entry) → Due e → is_due v e ≡ false → e.saved ≡ false
-  unsaved e due undue = by e.saved due
+  unsaved e due not_due = by e.saved due
     where
       by : (s : Bool) → (s ≡ true → is_due v e ≡ true) → s ≡ false
-      by true h = absurd (true≢false (sym (h refl) ∙ undue))
+      by true h = absurd (true≢false (sym (h refl) ∙ not_due))
       by false h = refl
 
   -- the saves with one more post
@@ -103,9 +103,9 @@ module _ (parts : Parts) (plan : IsPlan parts) where
       → OfTodo (earlier ++ e ∷ []) → (b ≡ true → length earlier + 1 ≡ suc q * v) → All (IsSound parts.job) (cond b (made_with parts earlier e ∷ []) [] ++ ms)
       → From whole (cond b (suc (suc q)) (suc q)) (earlier ++ e ∷ []) (map (try_made parts.job) ms ++ rest)
       → From whole (suc q) earlier (map (try_made parts.job) (cond b (made_with parts earlier e ∷ []) [] ++ ms) ++ rest)
-  order_with whole earlier posted e q ms rest whole_is false undue due of_todo count sound goes =
+  order_with whole earlier posted e q ms rest whole_is false not_due due of_todo count sound goes =
       subst (λ place. AreSavesFrom parts.job parts.initial_outcomes v (ids_of whole) (suc q) place (map (try_made parts.job) ms ++ rest))
-      (moved_on earlier e false (unsaved e due undue)) goes
+      (moved_on earlier e false (unsaved e due not_due)) goes
   order_with whole earlier posted e q ms rest whole_is true is_one due of_todo count sound goes = (
     save_of (moved (saves_made earlier) parts.place).generation (moved (saves_made earlier) parts.place).slot (earlier ++ e ∷ []) (take (suc q * v) (ids_of whole)) e.saved
         (first_ids earlier posted e (suc q * v) (count refl) ∙ ap (λ (l : List Entry). take (suc q * v) (ids_of l)) (sym whole_is)) of_todo

@@ -95,11 +95,11 @@ module _ (parts : Parts) (plan : IsPlan parts) where
       → All (IsSound parts.job) (cond b (made_with parts earlier e ∷ []) [] ++ rest)
       → (All (IsSound parts.job) rest → InTurnFrom (saves_made (earlier ++ e ∷ [])) rest)
       → InTurnFrom (saves_made earlier) (cond b (made_with parts earlier e ∷ []) [] ++ rest)
-  turn_with earlier e rest false undue due of_todo sound later =
+  turn_with earlier e rest false not_due due of_todo sound later =
       subst (λ (n : ℕ). InTurnFrom n rest) (next_turn earlier e false (unsaved e.saved due)) (later sound)
     where
       unsaved : (s : Bool) → (s ≡ true → is_due parts.save_every e ≡ true) → s ≡ false
-      unsaved true h = absurd (true≢false (sym (h refl) ∙ undue))
+      unsaved true h = absurd (true≢false (sym (h refl) ∙ not_due))
       unsaved false h = refl
   turn_with earlier e rest true is_one due of_todo sound later = (
     save_at earlier e of_todo (All-head (IsSound parts.job) (made_with parts earlier e) rest sound),

@@ -18,7 +18,7 @@ use Rattle.claim_counter.specs.Records.{IsSole, with_claim, at_end}
 use Rattle.tally_desk.specs.declared.entry.Entry.{Entry}
 use Rattle.tally_desk.specs.declared.state.RunState.{RunState}
 use Rattle.tally_desk.specs.Counter.{CounterLaws}
-use Rattle.tally_desk.specs.Desks.{BeginsTurn, CanPost, DrawsPlace, FitsDesk, IsInTurn, IsComplete, KeepsTally, IsWaiting, KnowsPosts, LooksForTurn, SeesSeats, Serves, TakesTicket, Tallied, AttemptsTicket, entry_sum, first_view, claimed_ids, is_in_turn, joined_view, left_view, own_of, right_view, with_entry, with_own, with_turn}
+use Rattle.tally_desk.specs.Desks.{BeginsTurn, CanPost, DrawsPlace, FitsDesk, IsInTurn, IsRunComplete, KeepsTally, IsWaiting, KnowsPosts, LooksForTurn, SeesSeats, Serves, TakesTicket, Tallied, AttemptsTicket, entry_sum, first_view, claimed_ids, is_in_turn, joined_view, left_view, own_of, right_view, with_entry, with_own, with_turn}
 use Rattle.tally_desk.specs.Entries.{post_of, posted_id, ids_of, is_due, ticket_of}
 use Rattle.tally_desk.specs.Parts.{Parts, IsPlan}
 use Rattle.tally_desk.specs.Passes.{HasPostedAll}
@@ -313,7 +313,7 @@ module _ {C : Type 0} (HomeAs : Parts → RunState C → List Entry → Type 0) 
   }
 
   pub completes : CounterLaws → (id : ℕ) (v : PassView) (ws : List ℕ) (xs : List (RunState C)) → Final (Seen (Tallied HomeAs parts) id v) ws xs → 0 < v.own.weight → v.own.weight + v.own.spare ≡ parts.seats → v.turn ≡ no_turn
-      → (y : RunState C) × (get_elem? xs 0 ≡ maybe.some y) × IsComplete HomeAs parts (get_or ws 0 0) y v
+      → (y : RunState C) × (get_elem? xs 0 ≡ maybe.some y) × IsRunComplete HomeAs parts (get_or ws 0 0) y v
   completes laws id v ws xs final weighs all idle =
       let s = final.0 in
       let k = final.1.0 in
@@ -369,7 +369,7 @@ module _ {C : Type 0} (HomeAs : Parts → RunState C → List Entry → Type 0) 
       }
 
   -- once all is drawn and posted, the posts are the ids of the list, each once
-  pub complete : (drawn : ℕ) (y : RunState C) (v : PassView) (k : IsComplete HomeAs parts drawn y v) → v.own.ended ≡ true → HasPostedAll parts v → IsPermutation (ids_of k.posted) parts.todo
+  pub complete : (drawn : ℕ) (y : RunState C) (v : PassView) (k : IsRunComplete HomeAs parts drawn y v) → v.own.ended ≡ true → HasPostedAll parts v → IsPermutation (ids_of k.posted) parts.todo
   complete drawn y v k is_ended all =
       let todo = parts.todo in
       let limit = length todo in

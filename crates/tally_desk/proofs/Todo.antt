@@ -59,8 +59,8 @@ module _ (parts : Parts) (plan : IsPlan parts) where
   pub todo_within : (x : ℕ) → 0 < times x parts.todo → x < total parts.job
   todo_within x some_here = below_from_once x (total parts.job) (omega (arith, some_here, todo_below_total x))
 
-  pub todo_lacked : (x : ℕ) → 0 < times x parts.todo → has_id parts.initial_outcomes x ≡ false
-  todo_lacked x some_here = not-true (has_id parts.initial_outcomes x)
+  pub todo_missing : (x : ℕ) → 0 < times x parts.todo → has_id parts.initial_outcomes x ≡ false
+  todo_missing x some_here = not-true (has_id parts.initial_outcomes x)
       (and_parts (not (has_id parts.initial_outcomes x)) (is_in_part parts.job.setting.parts parts.job.setting.part x)
       (filter_passes x (total parts.job) is_pending (omega (arith, some_here, todo_taken x)))).0
 

@@ -6,7 +6,7 @@ use Rattle.std.proofs.lemmas.List.Elements.{All-push}
 use Rattle.std.proofs.lemmas.List.Sums.{count_by-le-length}
 use Rattle.std.proofs.lemmas.Bool.{true≢false}
 use Rattle.audit_model.specs.Faults.{Counts}
-use Rattle.audit_model.specs.State.{Kept}
+use Rattle.audit_model.specs.State.{KeeperState}
 use Rattle.audit_model.specs.Observed.{IfBothObserved, IfObserved}
 use Rattle.audit_model.specs.Pair.{Pair, HoldsBytes, KeepsOther}
 use Rattle.audit_model.specs.Attempts.{attempted_all, attempted_too}
@@ -114,7 +114,7 @@ module _ (newest : SavedSlotsAreNewest) (ours : CheckpointsAreOurs) where
 
 -- ---- the turn
 
-module _ {C : Type 0} (state : C → Kept) (lets : Lets) (parts : Parts) (y : RunState C) (l : List Entry) (o : Outcome)
+module _ {C : Type 0} (state : C → KeeperState) (lets : Lets) (parts : Parts) (y : RunState C) (l : List Entry) (o : Outcome)
     (may : MayTurn state lets parts y l o) where
   abbrev next : Bool → List Entry
   next saved = l ++ post_of (length l) o.id saved ∷ []
@@ -333,7 +333,7 @@ module _ {C : Type 0} (state : C → Kept) (lets : Lets) (parts : Parts) (y : Ru
         due_by d is = ap (λ (k : ℕ). (length l + 1) % k == 0) may.holds.equipped.every ∙ is
 
         by : (d : Bool) → is_due parts.save_every (post_of (length l) o.id false) ≡ d → Done n saved
-        by false not_due = let was = s.undue (due_by false not_due) in subst (λ (x : RunState C × Bool). Done x.0 x.1) (λ k. (sym was.1 k, sym was.0 k)) (undone not_due)
+        by false not_due = let was = s.not_due (due_by false not_due) in subst (λ (x : RunState C × Bool). Done x.0 x.1) (λ k. (sym was.1 k, sym was.0 k)) (undone not_due)
         by true was_due = attempted_done newest ours n (λ _. was_due) saved (s.due (due_by true was_due))
 
   -- the entry of the outcome was appended

@@ -216,7 +216,7 @@ module _ {C : Type 0} where
   -- ---- the end
 
   -- the knowledge of the only pass at the end: all posts are its own
-  pub record IsComplete (HomeAs : Parts → RunState C → List Entry → Type 0) (parts : Parts) (drawn : ℕ) (y : RunState C) (v : PassView) : Type 0 where
+  pub record IsRunComplete (HomeAs : Parts → RunState C → List Entry → Type 0) (parts : Parts) (drawn : ℕ) (y : RunState C) (v : PassView) : Type 0 where
     pub plan : IsPlan parts
     pub sole : IsSole (length parts.todo) drawn v.own
     pub posted : List Entry

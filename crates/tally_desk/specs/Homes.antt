@@ -1,7 +1,7 @@
 -- The contents of a desk's slot after these posts.
 use Rattle.std.specs.Prelude.{◌≡◌, ℕ, ◌+◌, ◌-◌, ◌*◌, ◌%◌, ◌^◌, ◌<◌, ◌≤◌, min, Bool, true, cond, List, ◌∷◌, [], ◌++◌, length, map, Some, vec_capacity}
 use Rattle.std.specs.List.{All, range_with_len}
-use Rattle.audit_model.specs.State.{Kept}
+use Rattle.audit_model.specs.State.{KeeperState}
 use Rattle.audit_model.specs.Observed.{IfBothObserved}
 use Rattle.audit_model.specs.Faults.{Counts}
 use Rattle.audit_model.specs.Pair.{Pair, Stored, stored}
@@ -97,7 +97,7 @@ pub record SlotsAs (parts : Parts) (before now : Pair) (place : Place) (posted :
 
 -- ---- the value
 
-module _ {C : Type 0} (state : C → Kept) where
+module _ {C : Type 0} (state : C → KeeperState) where
   -- the state of a desk after these posts: the book, the keeper, the place and the number of failed saves
   pub record KeptAs (parts : Parts) (book : Booked) (keeper : C) (place : Place) (failed : ℕ) (posted : List Entry) : Type 0 where
     pub book_is : book ≡ record { total = total parts.job; outcomes = booked parts posted }
@@ -117,19 +117,19 @@ module _ {C : Type 0} (state : C → Kept) where
 
   -- the remaining fields: the save interval, the job's digest, and capacity for all posts, all outcomes by rising id
   -- and their checkpoint
-  pub record IsEquipped (parts : Parts) (home : RunState C) : Type 0 where
+  pub record HasBuffers (parts : Parts) (home : RunState C) : Type 0 where
     pub every : home.save_every ≡ parts.save_every
     pub digest : home.digest ≡ job_digest parts.job
     pub entry_room : length parts.todo ≤ vec_capacity home.posted
     pub sorted_room : total parts.job ≤ length home.sorted.items + home.sorted.spare
     pub save_room : 84 + 80 * total parts.job ≤ length home.room.items + home.room.spare
 
-module _ {C : Type 0} (state : C → Kept) (lets : Lets) where
+module _ {C : Type 0} (state : C → KeeperState) (lets : Lets) where
   -- the contents of the slot after these posts, with a keeper that accepts each due save of the run
   pub record HomeAs (parts : Parts) (home : RunState C) (posted : List Entry) : Type 0 where
     pub entries : home.posted.items ≡ posted
     pub kept : KeptAs state parts home.book home.keeper home.place home.failed_saves posted
-    pub equipped : IsEquipped state parts home
+    pub equipped : HasBuffers state parts home
     pub run_saves : LetsDesk lets parts
 
   -- The outcome may be posted after these posts. Their tickets are their places, their ids are different ids to do, and

@@ -3,7 +3,7 @@ pub mod Pools
 pub mod DeskModel
 pub mod Desks
 pub mod Entries
-pub mod Founded
+pub mod DeskStart
 pub mod Holding
 pub mod Homes
 pub mod InTurn

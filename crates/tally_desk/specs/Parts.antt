@@ -1,7 +1,7 @@
 -- The constants of a desk, and the requirements on its initial state.
 use Rattle.std.specs.Prelude.{◌≡◌, ℕ, ◌<◌, ◌≤◌, IsTrue, List, length, Option}
 use Rattle.std.specs.List.{All}
-use Rattle.audit_model.specs.State.{Kept}
+use Rattle.audit_model.specs.State.{KeeperState}
 use Rattle.audit_model.specs.Observed.{IfObserved}
 use Rattle.audit_model.specs.Pair.{Pair}
 use Rattle.audit_model.specs.declared.outcome.Outcome.{Outcome}
@@ -25,7 +25,7 @@ pub record Parts : Type 0 where
   pub save_every : ℕ
   pub seats : ℕ
   pub place : Place
-  pub keeper : Kept
+  pub keeper : KeeperState
 
 -- the place of the job's next checkpoint, if the slots are known
 abbrev pub IsPlaceFor : Job → Option Pair → Place → Type 0
@@ -36,7 +36,7 @@ abbrev pub IsTodoFor : Job → List Outcome → List ℕ → Type 0
 IsTodoFor job initial_outcomes todo = (budget : ℕ) × (todo ≡ run_ids job initial_outcomes budget)
 
 -- the requirements on a desk of the job, given the known slots: the state of a run, and ids to do
-pub record MayFound {C : Type 0} (job : Job) (slots : Option Pair) (s : RunState C) (ids : List ℕ) : Type 0 where
+pub record CanOpenDesk {C : Type 0} (job : Job) (slots : Option Pair) (s : RunState C) (ids : List ℕ) : Type 0 where
   pub digest : s.digest ≡ job_digest job
   pub every : 1 ≤ s.save_every
   pub slot : s.place.slot < 2

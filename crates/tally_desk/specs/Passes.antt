@@ -2,7 +2,7 @@
 use Rattle.std.specs.Prelude.{◌≡◌, ℕ, ◌<◌, Bool, List, length, slice_index, Some}
 use Rattle.std.specs.List.{range_with_len}
 use Rattle.std.specs.List.Sorted.{IsPermutation}
-use Rattle.audit_model.specs.State.{Kept}
+use Rattle.audit_model.specs.State.{KeeperState}
 use Rattle.claim_counter.specs.Records.{with_claim}
 use Rattle.tally_desk.specs.declared.entry.Entry.{Entry}
 use Rattle.tally_desk.specs.declared.pass.DeskPass.{DeskPass}
@@ -10,7 +10,7 @@ use Rattle.tally_desk.specs.declared.state.RunState.{RunState}
 use Rattle.tally_desk.specs.DeskModel.{DeskModel}
 use Rattle.tally_desk.specs.Desks.{AreDue, claimed_ids, ended_view, first_view, joined_view, left_view, right_view, with_entry, with_own}
 use Rattle.tally_desk.specs.Entries.{post_of, ids_of, tickets_of}
-use Rattle.tally_desk.specs.Homes.{IsEquipped, KeptAs}
+use Rattle.tally_desk.specs.Homes.{HasBuffers, KeptAs}
 use Rattle.tally_desk.specs.Parts.{IsPlan, Parts}
 use Rattle.tally_desk.specs.Views.{PassView, view_in}
 use Rattle.audit_model.specs.Times.{times}
@@ -49,7 +49,7 @@ HasPostedAll parts v = (id : ℕ) → times id (ids_of v.entries) ≡ times id (
 
 -- The state after a desk is closed with its only pass, which posted all. `posted` has its posts by rising ticket: one
 -- for each id to do, marked only if a save was due. The book and the keeper are those of a desk after these posts.
-pub record IsClosed {C : Type 0} (state : C → Kept) (parts : Parts) (v : PassView) (s : RunState C) : Type 0 where
+pub record IsClosed {C : Type 0} (state : C → KeeperState) (parts : Parts) (v : PassView) (s : RunState C) : Type 0 where
   pub plan : IsPlan parts
   pub slot : s.place.slot < 2
   pub generation : s.place.generation < 3
@@ -60,7 +60,7 @@ pub record IsClosed {C : Type 0} (state : C → Kept) (parts : Parts) (v : PassV
   pub due : AreDue parts posted
   pub kept : KeptAs state parts s.book s.keeper s.place s.failed_saves posted
   pub entries : s.posted.items ≡ posted
-  pub equipped : IsEquipped state parts s
+  pub equipped : HasBuffers state parts s
 
 -- ---- invariants of a pass that posts what it claims
 

@@ -15,7 +15,7 @@ use Rattle.outcome_book.specs.Booked.{IsBook}
 use Rattle.tally_desk.specs.declared.entry.Entry.{Entry}
 use Rattle.tally_desk.specs.declared.state.RunState.{RunState}
 use Rattle.tally_desk.specs.Entries.{ids_of}
-use Rattle.audit_model.specs.State.{Kept}
+use Rattle.audit_model.specs.State.{KeeperState}
 use Rattle.audit_statement.specs.InOrder.{AreSavesOf, failed_of}
 use Rattle.audit_model.specs.Observed.{IfBothObserved}
 use Rattle.tally_desk.specs.Homes.{booked}
@@ -23,7 +23,7 @@ use Rattle.tally_desk.specs.InTurn.{IsPartSave, RunSavesInTurn}
 use Rattle.tally_desk.specs.Parts.{IsPlan, Parts}
 
 -- the constants of a desk that takes over this state
-abbrev pub starts : {C : Type 0} → (C → Kept) → Job → RunState C → List ℕ → ℕ → Parts
+abbrev pub starts : {C : Type 0} → (C → KeeperState) → Job → RunState C → List ℕ → ℕ → Parts
 starts state job s todo seats = record {
   job = job;
   initial_outcomes = s.book.outcomes;
@@ -61,7 +61,7 @@ pub record AreRunAttempts (parts : Parts) (attempts : List Try) : Type 0 where
   pub each : All (IsRunTry parts) attempts
 
 -- the result of a run: its posts, all outcomes by rising id, and the state of the keeper
-pub record HasRun (parts : Parts) (keeper_now : Kept) (sorted : List Outcome)
+pub record HasRun (parts : Parts) (keeper_now : KeeperState) (sorted : List Outcome)
     (result : Result (Unit {0}) Failed) : Type 0 where
   pub plan : IsPlan parts
   pub posted : List Entry

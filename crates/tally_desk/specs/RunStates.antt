@@ -19,7 +19,7 @@ module _ {C : Type 0} where
     pub save_room : 84 + 80 * total job ≤ length s.room.items + s.room.spare
 
   -- the state as passed in, with nothing posted, and with capacity for `count` posts
-  pub record IsFurnished (count : ℕ) (before now : RunState C) : Type 0 where
+  pub record HasNoPosts (count : ℕ) (before now : RunState C) : Type 0 where
     pub book_is : now.book ≡ before.book
     pub keeper_is : now.keeper ≡ before.keeper
     pub digest_is : now.digest ≡ before.digest

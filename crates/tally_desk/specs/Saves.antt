@@ -1,7 +1,7 @@
 -- The last save of a run that saves while it walks.
 use Rattle.std.specs.Prelude.{◌≡◌, true, false, Result, is_ok}
 use Rattle.audit_io.specs.declared.source.Failed.{Failed}
-use Rattle.audit_model.specs.State.{Kept as KeeperState}
+use Rattle.audit_model.specs.State.{KeeperState}
 use Rattle.ckpt_store.specs.Saved.{SavesThese}
 use Rattle.tally_desk.specs.declared.state.RunState.{RunState}
 use Rattle.tally_desk.specs.Entries.{ends_saved}

@@ -1,7 +1,7 @@
 -- The effect of a save of the book on the slot's contents.
 use Rattle.std.specs.Prelude.{◌≡◌, ℕ, ◌+◌, ◌%◌, ◌==◌, Bool, true, false, List, length}
 use Rattle.audit_model.specs.Faults.{Counts, Rose}
-use Rattle.audit_model.specs.State.{Kept}
+use Rattle.audit_model.specs.State.{KeeperState}
 use Rattle.audit_model.specs.Observed.{IfObserved}
 use Rattle.audit_model.specs.Pair.{HoldsBytes, KeepsOther}
 use Rattle.audit_model.specs.Attempts.{attempted_too}
@@ -31,7 +31,7 @@ module _ {C : Type 0} where
     pub sorted_room : length now.sorted.items + now.sorted.spare ≡ length before.sorted.items + before.sorted.spare
     pub save_room : length now.room.items + now.room.spare ≡ length before.room.items + before.room.spare
 
-  module _ (state : C → Kept) where
+  module _ (state : C → KeeperState) where
     -- the keeper accepts a save of the book, which is a checkpoint
     abbrev pub LetsSave : Lets → RunState C → Type 0
     LetsSave lets home = IsCheckpoint (bytes_of home) 2 home.digest home.place.generation (sorted_of home) → lets (state home.keeper) home.place.slot (bytes_of home)
@@ -63,5 +63,5 @@ module _ {C : Type 0} where
 
     -- a save was attempted if it was due after this number of posts, and otherwise nothing was done
     pub record SavedWhereDue (posts : ℕ) (before now : RunState C) (saved : Bool) : Type 0 where
-      pub undue : (posts % before.save_every == 0) ≡ false → (saved ≡ false) × (now ≡ before)
+      pub not_due : (posts % before.save_every == 0) ≡ false → (saved ≡ false) × (now ≡ before)
       pub due : (posts % before.save_every == 0) ≡ true → AttemptedSave before now saved

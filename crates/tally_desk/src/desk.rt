@@ -5,7 +5,7 @@ use crate::handing::open;
 use crate::pass::{DeskPass, take_out};
 use crate::rule::{DeskSplit, NextPlace, OneTally, PollTicket, Posting, See, Serve, Take};
 use crate::state::RunState;
-use crate::view::{DeskView, Founding};
+use crate::view::{DeskView, DeskArguments};
 use atomic_table::{Seat, Table};
 use audit_io::keeper::Keeper;
 use audit_model::lists::UnitList;
@@ -26,7 +26,7 @@ const LONGEST_SLEEP: u64 = 100;
 /// number of posts is a multiple of `save_every`. Claims are lock-free; only posts wait for each other.
 #[derive(Drop)]
 pub struct Desk<C: Keeper> {
-    pub(crate) table: Table<RunState<C>, DeskView, Founding<C>, OneTally<C>, Global>,
+    pub(crate) table: Table<RunState<C>, DeskView, DeskArguments<C>, OneTally<C>, Global>,
     todo: UnitList,
     save_every: u32,
     ghost three_words: { table.shared.table_id.words ≡ 3 },
@@ -37,7 +37,7 @@ pub struct Desk<C: Keeper> {
 
 impl<C: Keeper> Model for Desk<C> {
     ghost use Rattle.tally_desk.specs.DeskModel.{DeskModel};
-    ghost use Rattle.tally_desk.specs.Founded.{parts_of};
+    ghost use Rattle.tally_desk.specs.DeskStart.{parts_of};
 
     ghost Value = { DeskModel };
 
@@ -52,7 +52,7 @@ impl<C: Keeper> Desk<C> {
     ghost use Rattle.tally_desk.specs.Desks.{BeginsTurn, CanPost, HasServed, IsInTurn, IsWaiting, claimed_ids, ended_view, joined_view, left_view, right_view, with_turn};
     ghost use Rattle.tally_desk.specs.Entries.{ids_of};
     ghost use Rattle.tally_desk.specs.Homes.{HomeAs};
-    ghost use Rattle.tally_desk.specs.Parts.{LetsDesk, MayFound};
+    ghost use Rattle.tally_desk.specs.Parts.{LetsDesk, CanOpenDesk};
     ghost use Rattle.tally_desk.specs.Passes.{Belongs, Claims, HasPostedAll, IsClosed, IsFirstPass, Posts, view_of};
     ghost use Rattle.tally_desk.specs.RunResult.{starts};
     ghost use Rattle.tally_desk.specs.Views.{waiting};
@@ -70,7 +70,7 @@ impl<C: Keeper> Desk<C> {
         todo: UnitList,
         seats: u32,
     ) -> Result<(Desk<C>, DeskPass), RunState<C>>
-        requires found { MayFound job.now (C.state state.keeper).slots state todo }
+        requires found { CanOpenDesk job.now (C.state state.keeper).slots state todo }
         requires seats { (1 ≤ seats) × (seats ≤ 33) }
         requires lets { LetsDesk C.lets (starts C.state job.now state todo seats) }
         ensures parts { IfOk result (λ d. d.0.parts ≡ starts C.state job.now state todo seats) }

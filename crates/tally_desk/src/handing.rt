@@ -2,15 +2,15 @@
 
 ghost use Rattle.std.specs.Prelude.{◌≡◌, ◌≤◌, ◌∷◌, [], IfOk, IfErr, vec_len};
 ghost use Rattle.tally_desk.specs.Desks.{first_view};
-ghost use Rattle.tally_desk.specs.Founded.{parts_of};
+ghost use Rattle.tally_desk.specs.DeskStart.{parts_of};
 ghost use Rattle.tally_desk.specs.Homes.{HomeAs};
-ghost use Rattle.tally_desk.specs.Parts.{IsPlan, LetsDesk, MayFound};
+ghost use Rattle.tally_desk.specs.Parts.{IsPlan, LetsDesk, CanOpenDesk};
 ghost use Rattle.tally_desk.specs.RunResult.{starts};
-ghost use Rattle.tally_desk.specs.RunStates.{HoldsOne, IsFurnished};
+ghost use Rattle.tally_desk.specs.RunStates.{HoldsOne, HasNoPosts};
 
 use crate::rule::OneTally;
 use crate::state::RunState;
-use crate::view::{DeskView, Founding};
+use crate::view::{DeskView, DeskArguments};
 use atomic_table::{Seat, Table};
 use audit_io::keeper::Keeper;
 use audit_model::lists::UnitList;
@@ -20,12 +20,12 @@ use std::snapshot::Snapshot;
 
 // Replaces the state's list of posts by an empty one with capacity for `count` posts, and its number of failed saves by
 // zero. If out of memory, the state is returned unchanged.
-fn furnish<C>(
+fn reset_posts<C>(
     alloc: Global,
     mut state: RunState<C>,
     count: usize,
 ) -> Result<RunState<C>, RunState<C>>
-    ensures state { IfOk result (IsFurnished count state) }
+    ensures state { IfOk result (HasNoPosts count state) }
     ensures refused { IfErr result (λ r. r ≡ state) }
 {
     match Vec::with_capacity(alloc, count) {
@@ -44,8 +44,8 @@ fn take_snapshots<C: Keeper>(
     state: &RunState<C>,
     todo: &UnitList,
     seats: u32,
-) -> Founding<C>
-    requires found { MayFound job.now (C.state state.now.keeper).slots state.now todo.now }
+) -> DeskArguments<C>
+    requires found { CanOpenDesk job.now (C.state state.now.keeper).slots state.now todo.now }
     requires seats { (1 ≤ seats) × (seats ≤ 33) }
     ensures parts { parts_of C.state result ≡ starts C.state job.now state.now todo.now seats }
     ensures todo { result.todo.value ≡ todo.now }
@@ -54,7 +54,7 @@ fn take_snapshots<C: Keeper>(
     // Called for their contracts: the job is within its limits, and the book is within its capacity.
     let _units = job.units();
     let _len = state.book.len();
-    Founding {
+    DeskArguments {
         job: Snapshot::of(job),
         book: Snapshot::of(&state.book),
         todo: Snapshot::of(todo),
@@ -75,12 +75,12 @@ pub(crate) fn open<C: Keeper>(
     seats: u32,
 ) -> Result<
     (
-        Table<RunState<C>, DeskView, Founding<C>, OneTally<C>, Global>,
+        Table<RunState<C>, DeskView, DeskArguments<C>, OneTally<C>, Global>,
         Seat<RunState<C>, DeskView>,
     ),
     RunState<C>,
 >
-    requires found { MayFound job.now (C.state state.keeper).slots state todo.now }
+    requires found { CanOpenDesk job.now (C.state state.keeper).slots state todo.now }
     requires seats { (1 ≤ seats) × (seats ≤ 33) }
     requires lets { LetsDesk C.lets (starts C.state job.now state todo.now seats) }
     ensures counts { IfOk result (λ t. (t.0.shared.table_id.words ≡ 3) × (t.0.shared.table_id.slots ≡ 1)) }
@@ -90,9 +90,9 @@ pub(crate) fn open<C: Keeper>(
         × (t.1.me ≡ (first_view (parts_of C.state t.0.shared.key), []))) }
     ensures refused { IfErr result (λ r. (r.book ≡ state.book) × (r.keeper ≡ state.keeper)) }
 {
-    let founding = take_snapshots(job, &state, todo, seats);
-    match furnish(alloc, state, todo.len()) {
-        Ok(state) => make_table(alloc, state, &founding),
+    let desk_arguments = take_snapshots(job, &state, todo, seats);
+    match reset_posts(alloc, state, todo.len()) {
+        Ok(state) => make_table(alloc, state, &desk_arguments),
         Err(refused) => Err(refused),
     }
 }
@@ -101,26 +101,26 @@ pub(crate) fn open<C: Keeper>(
 fn make_table<C: Keeper>(
     alloc: Global,
     state: RunState<C>,
-    founding: &Founding<C>,
+    desk_arguments: &DeskArguments<C>,
 ) -> Result<
     (
-        Table<RunState<C>, DeskView, Founding<C>, OneTally<C>, Global>,
+        Table<RunState<C>, DeskView, DeskArguments<C>, OneTally<C>, Global>,
         Seat<RunState<C>, DeskView>,
     ),
     RunState<C>,
 >
-    requires plan { IsPlan (parts_of C.state founding.now) }
-    requires state { HomeAs C.state C.lets (parts_of C.state founding.now) state [] }
+    requires plan { IsPlan (parts_of C.state desk_arguments.now) }
+    requires state { HomeAs C.state C.lets (parts_of C.state desk_arguments.now) state [] }
     ensures counts { IfOk result (λ t. (t.0.shared.table_id.words ≡ 3) × (t.0.shared.table_id.slots ≡ 1)) }
-    ensures key { IfOk result (λ t. t.0.shared.key ≡ founding.now) }
-    ensures seat { IfOk result (λ t. (t.1.table_id ≡ t.0.shared.table_id) × (t.1.me ≡ (first_view (parts_of C.state founding.now), []))) }
+    ensures key { IfOk result (λ t. t.0.shared.key ≡ desk_arguments.now) }
+    ensures seat { IfOk result (λ t. (t.1.table_id ≡ t.0.shared.table_id) × (t.1.me ≡ (first_view (parts_of C.state desk_arguments.now), []))) }
     ensures refused { IfErr result (λ r. r ≡ state) }
 {
     let Ok(mut slots) = Vec::with_capacity(alloc, 1) else {
         return Err(state);
     };
     slots.push_reserved(state);
-    match Table::new(alloc, &[0, 0, 0], slots, founding) {
+    match Table::new(alloc, &[0, 0, 0], slots, desk_arguments) {
         Ok(made) => Ok(made),
         Err(refused) => Err(take_only(refused.slots)),
     }

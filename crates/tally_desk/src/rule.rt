@@ -3,7 +3,7 @@
 ghost use Rattle.std.specs.Prelude.{ℕ};
 
 use crate::state::RunState;
-use crate::view::{DeskView, Founding};
+use crate::view::{DeskView, DeskArguments};
 use atomic_table::{Join, Play, Split, TableRule};
 use audit_io::keeper::Keeper;
 use std::marker::{Brand, PhantomData};
@@ -13,9 +13,9 @@ pub struct OneTally<C> {
     keeper: PhantomData<C>,
 }
 
-impl<C: Keeper> TableRule<RunState<C>, DeskView, Founding<C>> for OneTally<C> {
+impl<C: Keeper> TableRule<RunState<C>, DeskView, DeskArguments<C>> for OneTally<C> {
     ghost use Rattle.tally_desk.specs.Desks.{Tallied, first_view};
-    ghost use Rattle.tally_desk.specs.Founded.{parts_of};
+    ghost use Rattle.tally_desk.specs.DeskStart.{parts_of};
     ghost use Rattle.tally_desk.specs.Homes.{HomeAs};
 
     ghost holds = { λ key. Tallied (HomeAs C.state C.lets) (parts_of C.state key) };

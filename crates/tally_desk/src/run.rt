@@ -5,7 +5,7 @@ ghost use Rattle.audit_model.specs.Limits.{most_workers};
 ghost use Rattle.ckpt_store.specs.Places.{IsPlace};
 ghost use Rattle.claim_counter.specs.Walks.{IsWithin};
 ghost use Rattle.tally_desk.specs.Pools.{IsDeskPool, MaySeat, WalksAtDesk};
-ghost use Rattle.tally_desk.specs.Parts.{LetsDesk, MayFound, Parts};
+ghost use Rattle.tally_desk.specs.Parts.{LetsDesk, CanOpenDesk, Parts};
 ghost use Rattle.tally_desk.specs.Passes.{IsClosed, IsFirstPass};
 ghost use Rattle.tally_desk.specs.RunResult.{BothSaved, HasRun, starts};
 ghost use Rattle.tally_desk.specs.Rooms.{HasSaveRoom};
@@ -53,7 +53,7 @@ pub fn run_over<R: Threads + Wait + Sync, C: Keeper + Send, J: Judge + Send, G: 
     todo: UnitList,
     pool: DeskPool<J>,
 ) -> Result<RunResult<C>, RunState<C>>
-    requires found { MayFound job.now (C.state state.keeper).slots state todo }
+    requires found { CanOpenDesk job.now (C.state state.keeper).slots state todo }
     requires within { IsWithin job.now todo }
     requires pool { IsDeskPool job.now (vec_len pool.walkers) pool }
     requires workers { (1 ≤ vec_len pool.walkers) × (vec_len pool.walkers ≤ most_workers) }
@@ -111,7 +111,7 @@ fn walk_over<R: Threads + Wait + Sync, C: Keeper + Send, J: Judge + Send, G: Gat
     todo: UnitList,
     pool: DeskPool<J>,
 ) -> Result<RunState<C>, RunState<C>>
-    requires found { MayFound job.now (C.state state.keeper).slots state todo }
+    requires found { CanOpenDesk job.now (C.state state.keeper).slots state todo }
     requires within { IsWithin job.now todo }
     requires pool { IsDeskPool job.now (vec_len pool.walkers) pool }
     requires workers { (1 ≤ vec_len pool.walkers) × (vec_len pool.walkers ≤ most_workers) }

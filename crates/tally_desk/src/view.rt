@@ -1,4 +1,4 @@
-//! A pass at a desk as proofs know it (`DeskView`), and the values that a desk was made with (`Founding`).
+//! A pass at a desk as proofs know it (`DeskView`), and the values that a desk was made with (`DeskArguments`).
 
 use audit_model::lists::UnitList;
 use audit_model::place::Place;
@@ -22,7 +22,7 @@ impl Model for DeskView {
 
 /// The arguments with which a desk was made, as proofs know them.
 #[derive(Drop)]
-pub struct Founding<C> {
+pub struct DeskArguments<C> {
     pub(crate) job: Snapshot<Job>,
     pub(crate) book: Snapshot<Book>,
     pub(crate) todo: Snapshot<UnitList>,

@@ -42,7 +42,7 @@ impl<J: Judge> DeskWorker<J> {
         let pass = &mut self.pass;
         let buffered = &mut self.buffered;
         while let Some(id) = desk.claim(pass) {
-            let token = StartToken::tell(gate, id);
+            let token = StartToken::announce(gate, id);
             let outcome = walker.walk(job, hub, token);
             hand_in(rt, desk, pass, buffered, outcome);
         }

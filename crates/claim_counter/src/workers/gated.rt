@@ -27,7 +27,7 @@ impl Model for StartToken {
 
 impl StartToken {
     /// Gives the gate the id of a trajectory, and returns the token that permits its walk.
-    pub fn tell<G: Gate>(gate: &G, id: u32) -> StartToken
+    pub fn announce<G: Gate>(gate: &G, id: u32) -> StartToken
         ensures { result ≡ id }
     {
         gate.before(id);

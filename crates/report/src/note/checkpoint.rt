@@ -6,17 +6,17 @@ ghost use Rattle.hex.specs.Hex.{encode_lower};
 ghost use Rattle.audit_statement.specs.Endings.{AddsLine};
 ghost use Rattle.audit_statement.specs.Note as terms;
 
-use crate::note::output::say;
+use crate::note::output::write_note;
 use crate::piece::Piece::{Digest, Text};
 use audit_io::sink::Sink;
 use audit_model::fault::CkptFault;
 use ckpt_store::slots::{Slot, Slots};
 
 /// Writes the diagnostic of two slots if neither is valid and at least one is not empty.
-pub(crate) fn tell_damaged<N: Sink>(note: &mut N, slots: &Slots)
+pub(crate) fn write_damaged<N: Sink>(note: &mut N, slots: &Slots)
     ensures { AddsLine (N.state note.old) (N.state note.new) (terms.as_line (codes "checkpoint: slot 0 " ∷ terms.slot_name (slot_view slots.now.zero) ∷ codes ", slot 1 " ∷ terms.slot_name (slot_view slots.now.one) ∷ [])) }
 {
-    say(
+    write_note(
         note,
         &[Text("checkpoint: slot 0 ")],
         &[
@@ -29,10 +29,10 @@ pub(crate) fn tell_damaged<N: Sink>(note: &mut N, slots: &Slots)
 
 /// Writes the diagnostic if the newest slot belongs to another job. `found` is the digest of that
 /// job, `wanted` that of this one.
-pub(crate) fn tell_other<'x, N: Sink>(note: &mut N, found: &'x [u8; 32], wanted: &'x [u8; 32])
+pub(crate) fn write_other_job<'x, N: Sink>(note: &mut N, found: &'x [u8; 32], wanted: &'x [u8; 32])
     ensures { AddsLine (N.state note.old) (N.state note.new) (terms.as_line (codes "checkpoint: other job " ∷ encode_lower found.now ∷ codes ", this job " ∷ encode_lower wanted.now ∷ [])) }
 {
-    say(
+    write_note(
         note,
         &[Text("checkpoint: other job ")],
         &[Digest(found), Text(", this job "), Digest(wanted)],

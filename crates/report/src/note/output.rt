@@ -3,7 +3,7 @@
 ghost use Rattle.std.specs.Prelude.{◌≡◌, ◌++◌, ◌∷◌, List, ℕ, flat_map, map, []};
 ghost use Rattle.hex.specs.Hex.{encode_lower};
 ghost use Rattle.report.specs.Pieces.{piece_text};
-ghost use Rattle.report.specs.Said.{AddsText, IsSaid};
+ghost use Rattle.report.specs.AddedText.{AddsText, HasAdded};
 ghost use Rattle.audit_statement.specs.Endings.{AddsLine};
 ghost use Rattle.audit_model.specs.State.{Stream};
 ghost use Rattle.audit_statement.specs.Note as terms;
@@ -26,7 +26,7 @@ pub fn add_line<N: Sink>(note: &mut N, going: bool, first: &[Piece], pieces: &[P
 }
 
 /// Writes these pieces as one line.
-pub(crate) fn say<N: Sink>(note: &mut N, first: &[Piece], pieces: &[Piece])
+pub(crate) fn write_note<N: Sink>(note: &mut N, first: &[Piece], pieces: &[Piece])
     ensures { AddsLine (N.state note.old) (N.state note.new) (terms.as_line (map piece_text first.now ++ map piece_text pieces.now)) }
 {
     // The line is the last output, so nothing depends on the result.
@@ -34,16 +34,16 @@ pub(crate) fn say<N: Sink>(note: &mut N, first: &[Piece], pieces: &[Piece])
 }
 
 /// Writes this text as a line.
-pub(crate) fn say_text<N: Sink>(note: &mut N, text: &str)
+pub(crate) fn write_text<N: Sink>(note: &mut N, text: &str)
     ensures { AddsLine (N.state note.old) (N.state note.new) (terms.as_line (text.now ∷ [])) }
 {
-    say(note, &[Text(text)], &[]);
+    write_note(note, &[Text(text)], &[]);
 }
 
 // Writes these pieces of a line, if `going` is true. Returns false after a failure.
 fn add_pieces<N: Sink>(note: &mut N, going: bool, pieces: &[Piece]) -> bool
-    ensures { (start : Stream) (said : List ℕ) → IsSaid start (N.state note.old) said going
-        → IsSaid start (N.state note.new) (said ++ flat_map piece_text pieces.now) result }
+    ensures { (start : Stream) (text_so_far : List ℕ) → HasAdded start (N.state note.old) text_so_far going
+        → HasAdded start (N.state note.new) (text_so_far ++ flat_map piece_text pieces.now) result }
 {
     let mut going = going;
     for piece in pieces {
@@ -54,8 +54,8 @@ fn add_pieces<N: Sink>(note: &mut N, going: bool, pieces: &[Piece]) -> bool
 
 // Writes this piece of a line, if `going` is true. Returns false after a failure.
 fn add_piece<N: Sink>(note: &mut N, going: bool, piece: &Piece) -> bool
-    ensures { (start : Stream) (said : List ℕ) → IsSaid start (N.state note.old) said going
-        → IsSaid start (N.state note.new) (said ++ piece_text piece.now) result }
+    ensures { (start : Stream) (text_so_far : List ℕ) → HasAdded start (N.state note.old) text_so_far going
+        → HasAdded start (N.state note.new) (text_so_far ++ piece_text piece.now) result }
 {
     match piece {
         Text(text) => add(note, going, text.as_bytes()),
@@ -69,8 +69,8 @@ fn add_piece<N: Sink>(note: &mut N, going: bool, piece: &Piece) -> bool
 
 // Writes these bytes of a line, if `going` is true. Returns false after a failure.
 fn add<N: Sink>(note: &mut N, going: bool, piece: &[u8]) -> bool
-    ensures { (start : Stream) (said : List ℕ) → IsSaid start (N.state note.old) said going
-        → IsSaid start (N.state note.new) (said ++ piece.now) result }
+    ensures { (start : Stream) (text_so_far : List ℕ) → HasAdded start (N.state note.old) text_so_far going
+        → HasAdded start (N.state note.new) (text_so_far ++ piece.now) result }
 {
     if !going {
         return false;

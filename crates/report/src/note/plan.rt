@@ -7,18 +7,18 @@ ghost use Rattle.audit_model.specs.declared.fault.PlanFault.TheVariants.{Disconn
 ghost use Rattle.audit_statement.specs.Note as terms;
 
 use crate::note::line::{Line, line_of, text_line};
-use crate::note::output::say;
+use crate::note::output::write_note;
 use crate::piece::Piece::{Number, Text};
 use audit_io::sink::Sink;
 use audit_model::fault::PlanFault;
 use audit_model::text;
 
 /// Writes the diagnostic of a refused plan of a table, with the plan's name.
-pub(crate) fn say_named<N: Sink>(note: &mut N, name: &text::Text, fault: &PlanFault)
+pub(crate) fn write_named<N: Sink>(note: &mut N, name: &text::Text, fault: &PlanFault)
     ensures { AddsLine (N.state note.old) (N.state note.new) (terms.as_line (codes "plan " ∷ name.now ∷ codes ": " ∷ terms.plan_note fault.now)) }
 {
     let name = name.as_str();
-    say(
+    write_note(
         note,
         &[Text("plan "), Text(name), Text(": ")],
         &plan_line(fault),

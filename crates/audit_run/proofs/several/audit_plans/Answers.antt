@@ -7,4 +7,4 @@ run_plans-why-requires-after_bounds g c κs within = c.requires
 
 pub returns : goal.returns
 returns g c = λ keeper.
-    keeps_promise _ _ _ _ _ _ (plans_end _ _ _ _ _ _ _ (c.run_plans-why.ensures keeper) c.tell-status.ensures.status c.tell-status.ensures.observed)
+    keeps_promise _ _ _ _ _ _ (plans_end _ _ _ _ _ _ _ (c.run_plans-why.ensures keeper) c.write_diagnostic-status.ensures.status c.write_diagnostic-status.ensures.observed)

@@ -11,9 +11,9 @@ run_command-why-requires-clause-lets g c κs within = c.requires.lets _ c.in-Ok.
 pub returns-in-Ok : goal.returns-in-Ok
 returns-in-Ok g c =
     c.ended_calls_keep_their_promise.ensures _ _ _ _ _ _
-    (ends_for _ _ _ _ _ _ _ (c.run_command-why.ensures _ _ _ c.in-Ok.ensures) c.tell-status.ensures.status c.tell-status.ensures.observed)
+    (ends_for _ _ _ _ _ _ _ (c.run_command-why.ensures _ _ _ c.in-Ok.ensures) c.write_diagnostic-status.ensures.status c.write_diagnostic-status.ensures.observed)
 
 pub returns-in-Err : goal.returns-in-Err
 returns-in-Err g c =
     c.ended_calls_keep_their_promise.ensures _ _ _ _ _ _
-    (ends_for _ _ _ _ _ _ _ (c.in-Err.ensures _ _) c.tell-status-in-Err.ensures.status c.tell-status-in-Err.ensures.observed)
+    (ends_for _ _ _ _ _ _ _ (c.in-Err.ensures _ _) c.write_diagnostic-status-in-Err.ensures.status c.write_diagnostic-status-in-Err.ensures.observed)

@@ -1,7 +1,7 @@
 use Rattle.std.proofs.Common.{map, take}
 use Rattle.audit_words.specs.Arguments as definition
 use Rattle.audit_words.specs.Usage.{on_lines}
-use Rattle.report.specs.Said.{AddsText}
+use Rattle.report.specs.AddedText.{AddsText}
 use Rattle.audit_words.proofs.answering.add_arguments.Given as goal
 
 abbrev pub invariant-loop-name : goal.invariant-loop-name

@@ -1,6 +1,6 @@
 use Rattle.std.proofs.Common.{map, take}
 use Rattle.audit_words.specs.Usage.{on_lines}
-use Rattle.report.specs.Said.{AddsText}
+use Rattle.report.specs.AddedText.{AddsText}
 use Rattle.audit_words.proofs.answering.add_lines.Given as goal
 
 abbrev pub invariant-loop-line : goal.invariant-loop-line

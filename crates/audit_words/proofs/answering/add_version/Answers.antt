@@ -1,6 +1,6 @@
 use Rattle.std.proofs.Common.{[], ◌∷◌, codes, true, refl}
 use Rattle.audit_statement.specs.Report.{line}
-use Rattle.report.specs.Said.{AddsText}
+use Rattle.report.specs.AddedText.{AddsText}
 use Rattle.audit_words.proofs.Lines.{adds_as, adds_both, said_of}
 use Rattle.audit_words.proofs.answering.add_version.Goals as goal
 

@@ -4,8 +4,8 @@ use Rattle.std.proofs.lemmas.Bool.{and_parts}
 use Rattle.audit_model.specs.declared.fault.Name.TheVariants as name
 use Rattle.audit_model.specs.declared.setting.Command.TheVariants as command
 use Rattle.audit_statement.specs.Words.{covers_walks, has_walks, is_number, number_named, text_of}
-use Rattle.audit_words.specs.Spoken.{pairs_in}
-use Rattle.audit_words.proofs.Goodness.{number-bounds}
+use Rattle.audit_words.specs.ArgumentBytes.{pairs_in}
+use Rattle.audit_words.proofs.ValidValues.{number-bounds}
 use Rattle.audit_words.proofs.fields.is_budget.Goals as goal
 
 pub returns-then-is_number : goal.returns-then-is_number

@@ -3,8 +3,8 @@ use Rattle.std.specs.Prelude.{◌&&◌}
 use Rattle.audit_model.specs.declared.fault.Name.TheVariants as name
 use Rattle.audit_model.specs.declared.setting.Command.TheVariants as command
 use Rattle.audit_statement.specs.Words.{divides_draws, is_yes_or_no, number_named, text_of}
-use Rattle.audit_words.specs.Spoken.{pairs_in}
-use Rattle.audit_words.proofs.Goodness.{number-bounds}
+use Rattle.audit_words.specs.ArgumentBytes.{pairs_in}
+use Rattle.audit_words.proofs.ValidValues.{number-bounds}
 use Rattle.audit_words.proofs.fields.is_serial.Goals as goal
 
 pub returns-then-is_answer : goal.returns-then-is_answer

@@ -1,5 +1,5 @@
 use Rattle.std.proofs.Common.{◌≡◌, drop, find, bytes_eq}
-use Rattle.audit_words.specs.Spoken.{pairs_in}
+use Rattle.audit_words.specs.ArgumentBytes.{pairs_in}
 use Rattle.audit_model.specs.Names.{name_text}
 use Rattle.audit_words.proofs.pairs.find_value.Given as goal
 

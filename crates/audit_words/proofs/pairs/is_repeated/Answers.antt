@@ -1,7 +1,7 @@
 use Rattle.std.proofs.Common.{◌≡◌, true, sym, bytes_eq, arith}
 use Rattle.audit_model.specs.declared.setting.Command.TheVariants as command
 use Rattle.audit_model.proofs.Below.{any_below_from}
-use Rattle.audit_words.specs.Spoken.{pairs_in}
+use Rattle.audit_words.specs.ArgumentBytes.{pairs_in}
 use Rattle.audit_statement.specs.Words as definition
 use Rattle.audit_words.proofs.pairs.is_repeated.Goals as goal
 

@@ -1,7 +1,7 @@
 use Rattle.std.proofs.Common.{◌≡◌, false, bytes_eq}
 use Rattle.audit_model.specs.Below.{any_below}
 use Rattle.audit_model.specs.declared.setting.Command.TheVariants as command
-use Rattle.audit_words.specs.Spoken.{pairs_in}
+use Rattle.audit_words.specs.ArgumentBytes.{pairs_in}
 use Rattle.audit_statement.specs.Words as definition
 use Rattle.audit_words.proofs.pairs.is_repeated.Given as goal
 

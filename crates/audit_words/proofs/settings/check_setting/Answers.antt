@@ -4,8 +4,8 @@ use Rattle.audit_model.specs.declared.fault.Name.{Name}
 use Rattle.audit_model.specs.declared.fault.Name.TheVariants as name
 use Rattle.audit_model.specs.declared.setting.Command.TheVariants as command
 use Rattle.audit_statement.specs.Words as definition
-use Rattle.audit_words.specs.Spoken.{pairs_in}
-use Rattle.audit_words.proofs.Goodness.{number-bounds}
+use Rattle.audit_words.specs.ArgumentBytes.{pairs_in}
+use Rattle.audit_words.proofs.ValidValues.{number-bounds}
 use Rattle.audit_words.proofs.settings.check_setting.Goals as goal
 
 pub returns : goal.returns

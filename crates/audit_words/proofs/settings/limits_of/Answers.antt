@@ -1,6 +1,6 @@
 use Rattle.std.proofs.Common.{arith}
-use Rattle.audit_words.specs.Spoken.{pairs_in}
-use Rattle.audit_words.proofs.Goodness.{AreBounded-good}
+use Rattle.audit_words.specs.ArgumentBytes.{pairs_in}
+use Rattle.audit_words.proofs.ValidValues.{AreBounded-good}
 use Rattle.audit_words.proofs.settings.limits_of.Goals as goal
 
 pub returns-clause-max_split : goal.returns-clause-max_split

@@ -2,8 +2,8 @@ use Rattle.std.proofs.Common.{◌≡◌, arith}
 use Rattle.audit_model.specs.declared.fault.Name.TheVariants as name
 use Rattle.audit_model.specs.declared.setting.Command.TheVariants as command
 use Rattle.audit_statement.specs.Words as definition
-use Rattle.audit_words.specs.Spoken.{pairs_in}
-use Rattle.audit_words.proofs.Goodness.{number-bounds}
+use Rattle.audit_words.specs.ArgumentBytes.{pairs_in}
+use Rattle.audit_words.proofs.ValidValues.{number-bounds}
 use Rattle.audit_words.proofs.settings.made_setting.Goals as goal
 
 pub returns : goal.returns

@@ -3,7 +3,7 @@ use Rattle.std.specs.Prelude.{codes, bytes_eq}
 use Rattle.audit_model.specs.declared.fault.Name.TheVariants as name
 use Rattle.audit_model.specs.declared.setting.Command.TheVariants as command
 use Rattle.audit_statement.specs.Words as definition
-use Rattle.audit_words.specs.Spoken.{pairs_in}
+use Rattle.audit_words.specs.ArgumentBytes.{pairs_in}
 use Rattle.audit_words.proofs.settings.read_setting.Goals as goal
 
 pub returns : goal.returns

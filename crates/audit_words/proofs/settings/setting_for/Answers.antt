@@ -1,6 +1,6 @@
 use Rattle.std.proofs.Common.{subst}
 use Rattle.audit_words.specs.Judged.{AreReadable}
-use Rattle.audit_words.specs.Spoken.{pairs_in}
+use Rattle.audit_words.specs.ArgumentBytes.{pairs_in}
 use Rattle.audit_words.proofs.settings.setting_for.Goals as goal
 
 pub made_setting-requires : goal.made_setting-requires

@@ -1,7 +1,7 @@
 use Rattle.std.proofs.Common.{add-one, ◌≡◌, ◌∙◌, ◌<◌, arith, false, get_or, is_none, length, ap, sym}
 use Rattle.audit_model.specs.declared.fault.Name.TheVariants.{Pop}
 use Rattle.audit_statement.specs.Words.{given_or_default, names_of}
-use Rattle.audit_words.specs.Spoken.{pairs_in}
+use Rattle.audit_words.specs.ArgumentBytes.{pairs_in}
 use Rattle.audit_words.proofs.Finding.{find-skips, is_none-mapped}
 use Rattle.audit_words.proofs.words.judge_missing.Goals as goal
 

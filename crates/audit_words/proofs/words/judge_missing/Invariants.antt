@@ -1,5 +1,5 @@
 use Rattle.std.proofs.Common.{◌≡◌, drop, find, is_none}
-use Rattle.audit_words.specs.Spoken.{pairs_in}
+use Rattle.audit_words.specs.ArgumentBytes.{pairs_in}
 use Rattle.audit_statement.specs.Words as definition
 use Rattle.audit_words.proofs.words.judge_missing.Given as goal
 

@@ -2,7 +2,7 @@ use Rattle.std.proofs.Common.{◌≡◌, ◌+◌, subst, arith, None, inl, inr, 
 use Rattle.std.proofs.lemmas.Result.{err_from_is_err_and}
 use Rattle.audit_model.specs.First.{first_some_below}
 use Rattle.audit_model.proofs.First.{first_some_below_found}
-use Rattle.audit_words.specs.Spoken.{pairs_in}
+use Rattle.audit_words.specs.ArgumentBytes.{pairs_in}
 use Rattle.audit_words.proofs.Finding.{first_some_below-none}
 use Rattle.audit_statement.specs.Words as definition
 use Rattle.audit_words.proofs.words.judge_pairs.Goals as goal

@@ -1,6 +1,6 @@
 use Rattle.std.proofs.Common.{◌≡◌, None}
 use Rattle.audit_model.specs.First.{first_some_below}
-use Rattle.audit_words.specs.Spoken.{pairs_in}
+use Rattle.audit_words.specs.ArgumentBytes.{pairs_in}
 use Rattle.audit_statement.specs.Words as definition
 use Rattle.audit_words.proofs.words.judge_pairs.Given as goal
 

@@ -1,19 +1,19 @@
 use Rattle.std.proofs.Common.{◌≡◌, ◌⊎◌, ◌<◌, ◌≤◌, ap, arith, below_more, false, get_or, inr, length, option_map, Some, subst, sym, true}
 use Rattle.audit_model.specs.declared.fault.Name.TheVariants.{Pop}
 use Rattle.audit_model.specs.declared.fault.WordFault.TheVariants.{BadValue, Memory}
-use Rattle.audit_words.specs.Judged.{RestsOnGood, fault_of_values}
-use Rattle.audit_words.specs.Spoken.{pairs_in}
+use Rattle.audit_words.specs.Judged.{DependenciesAreValid, fault_of_values}
+use Rattle.audit_words.specs.ArgumentBytes.{pairs_in}
 use Rattle.audit_statement.specs.Words.{is_good, names_of}
 use Rattle.audit_words.proofs.Finding.{find-failing, find-no_failing}
-use Rattle.audit_words.proofs.Order.{RestsOnGood-behind}
+use Rattle.audit_words.proofs.Order.{DependenciesAreValid-behind}
 use Rattle.audit_words.proofs.words.judge_values.Goals as goal
 
 pub is_good-requires : goal.is_good-requires
 is_good-requires c =
     let table = c.names_of-name-items.ensures in
     let inside : c.loop-name.name-index < length (names_of c.args.command) = omega (arith, ap length table) in
-    subst (λ names. RestsOnGood (pairs_in c.args.words.now) (get_or names c.loop-name.name-index Pop)) (sym table)
-    (RestsOnGood-behind c.args.command (pairs_in c.args.words.now) c.loop-name.name-index inside c.requires c.loop-name.invariant)
+    subst (λ names. DependenciesAreValid (pairs_in c.args.words.now) (get_or names c.loop-name.name-index Pop)) (sym table)
+    (DependenciesAreValid-behind c.args.command (pairs_in c.args.words.now) c.loop-name.name-index inside c.requires c.loop-name.invariant)
 
 pub returns-then-not-is_good : goal.returns-then-not-is_good
 returns-then-not-is_good c =

@@ -1,6 +1,6 @@
 use Rattle.std.proofs.Common.{◌≡◌, ℕ, ◌<◌, get_or, true}
 use Rattle.audit_model.specs.declared.fault.Name.TheVariants.{Pop}
-use Rattle.audit_words.specs.Spoken.{pairs_in}
+use Rattle.audit_words.specs.ArgumentBytes.{pairs_in}
 use Rattle.audit_statement.specs.Words as definition
 use Rattle.audit_words.proofs.words.judge_values.Given as goal
 

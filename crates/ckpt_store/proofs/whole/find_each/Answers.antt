@@ -1,6 +1,6 @@
 use Rattle.std.proofs.Common.{◌<◌, ◌∙◌, get_or, ◌∷◌, [], ◌++◌, map, take, sym, subst, List, length, arith}
 use Rattle.std.proofs.lemmas.List.{length-set}
-use Rattle.audit_model.specs.State.{Kept}
+use Rattle.audit_model.specs.State.{KeeperState}
 use Rattle.ckpt_store.specs.declared.finding.Finding.{Finding}
 use Rattle.ckpt_store.specs.Findings.{AreFound}
 use Rattle.ckpt_store.proofs.FoundSlots.{found_more, left_next, rest_next, taken_next}
@@ -24,7 +24,7 @@ loop-place-preserved g c =
       c.in_ok-found.ensures.covered,
       length-set now place new ∙ i.2,
       rest_next observed now first place i.2 l i.3 d new,
-      subst (λ (fs : List Kept × List Kept). AreFound c.args.job.now c.args.digest.now fs.0 fs.1 c.args.collection.now c.push.new.self c.find_in.new.collection)
+      subst (λ (fs : List KeeperState × List KeeperState). AreFound c.args.job.now c.args.digest.now fs.0 fs.1 c.args.collection.now c.push.new.self c.find_in.new.collection)
           (λ k. (sym (taken_next observed now first place i.2 l i.3 d) k, sym (left_next observed now first place i.2 l i.3 d new) k))
           (subst (λ (fs : List Finding). AreFound c.args.job.now c.args.digest.now (map observed (take place first) ++ observed (get_or now place d) ∷ []) (map observed (take place now) ++ observed new ∷ [])
           c.args.collection.now fs c.find_in.new.collection)

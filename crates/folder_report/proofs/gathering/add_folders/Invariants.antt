@@ -1,7 +1,7 @@
 use Rattle.std.proofs.Common.{map, take}
 use Rattle.std.specs.Prelude.{string_bytes}
 use Rattle.folder_report.specs.FolderLines.{folder_line, of_each}
-use Rattle.report.specs.Said.{AddsText}
+use Rattle.report.specs.AddedText.{AddsText}
 use Rattle.folder_report.proofs.gathering.add_folders.Given as goal
 
 abbrev pub invariant-loop-place : goal.invariant-loop-place

@@ -6,7 +6,7 @@ use Rattle.plan_runs.specs.declared.ending.Finished.{Finished}
 use Rattle.plan_runs.specs.Ending.{ended_as, stopped_by}
 use Rattle.plan_runs.specs.Found.{listed_in}
 use Rattle.plan_runs.proofs.Finished.{short_ends, written_ends}
-use Rattle.plan_runs.proofs.Telling.{length-listed}
+use Rattle.plan_runs.proofs.Reporting.{length-listed}
 use Rattle.plan_runs.proofs.ending.end_run.Goals as goal
 
 pub text_of-text-requires-clause-whole : goal.text_of-text-requires-clause-whole
@@ -17,11 +17,11 @@ returns-then-found-due g c = λ initial_outcomes before after opened has saved.
     let job = c.args.job.now in
     let short : c.args.found.listed < reported job = omega (arith, c.if-found-due.true, c.due-due.ensures) in
     let left = has.short short in
-    let long = length-listed c.args.found has.tellable.enough in
+    let long = length-listed c.args.found has.reportable.enough in
     let is = c.stop.ensures ∙ ap (λ n. stopped_by c.args.found.listed n c.args.saved) (c.due-due.ensures ∙ left.due) ∙ ap (λ n. stopped_by n (total job) c.args.saved) (sym long) in
     let out = g.K.Sink.state c.args.out.now in
     subst (λ (how : Finished). Finishes job out out before after (ended_as how)) (sym is)
-    (short_ends job c.requires.tellable.run initial_outcomes (listed_in c.args.found) left.all out before after opened (omega (arith, short, long, left.due)) c.args.saved saved)
+    (short_ends job c.requires.reportable.run initial_outcomes (listed_in c.args.found) left.all out before after opened (omega (arith, short, long, left.due)) c.args.saved saved)
 
 pub returns : goal.returns
 returns g c = λ initial_outcomes before after opened has saved.
@@ -32,5 +32,5 @@ returns g c = λ initial_outcomes before after opened has saved.
     let out = g.K.Sink.state c.args.out.now in
     let later = g.K.Sink.state c.write_all-written.new.out in
     subst (λ (how : Finished). Finishes job out later before after (ended_as how)) (sym c.end.ensures)
-    (written_ends job c.requires.tellable.run initial_outcomes all.outcomes all.all out later before after opened c.as_slice.result.now c.write_all-written.result c.args.saved
+    (written_ends job c.requires.reportable.run initial_outcomes all.outcomes all.all out later before after opened c.as_slice.result.now c.write_all-written.result c.args.saved
     all.whole text c.write_all-written.ensures saved)

@@ -1,6 +1,6 @@
 use Rattle.std.proofs.Common.{◌≡◌, ℕ, List, Ok, Err, map, length, ap, subst, arith}
 use Rattle.std.proofs.lemmas.List.{nil_from_length}
-use Rattle.report.specs.Said.{WritesAllOf}
+use Rattle.report.specs.AddedText.{WritesAllOf}
 use Rattle.audit_statement.specs.Draw.{draw}
 use Rattle.audit_statement.specs.Report.{plan_text}
 use Rattle.plan_runs.specs.declared.plans.PlanWalk.{PlanWalk}

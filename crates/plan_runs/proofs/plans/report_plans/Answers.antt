@@ -1,7 +1,7 @@
 use Rattle.std.proofs.Common.{◌≡◌, ℕ, List, All, Ok, Err, refl, subst, sym}
 use Rattle.std.proofs.lemmas.List.Elements.{All-map}
 use Rattle.audit_model.specs.Job.{Job}
-use Rattle.report.specs.Said.{WritesAllOf}
+use Rattle.report.specs.AddedText.{WritesAllOf}
 use Rattle.audit_statement.specs.Draw.{draw}
 use Rattle.plan_csv.specs.Named.{pair_of}
 use Rattle.audit_statement.specs.Jobs.{Jobs}

@@ -10,8 +10,8 @@ walk-found-requires-clause-buffers g c κs within = c.requires.resources.buffers
 pub walk-found-requires-clause-workers : goal.walk-found-requires-clause-workers
 walk-found-requires-clause-workers g c κs within = c.requires.resources.workers
 
-pub text_of-requires-clause-tellable : goal.text_of-requires-clause-tellable
-text_of-requires-clause-tellable g c = c.walk-found.ensures.tellable
+pub text_of-requires-clause-reportable : goal.text_of-requires-clause-reportable
+text_of-requires-clause-reportable g c = c.walk-found.ensures.reportable
 
 pub text_of-requires-clause-whole : goal.text_of-requires-clause-whole
 text_of-requires-clause-whole g c =

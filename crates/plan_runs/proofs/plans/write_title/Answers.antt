@@ -1,6 +1,6 @@
 use Rattle.std.proofs.Common.{ℕ, List, [], ◌∷◌, ◌++◌, Ok, Err, subst}
 use Rattle.std.specs.Prelude.{codes}
-use Rattle.report.specs.Said.{WritesAllOf}
+use Rattle.report.specs.AddedText.{WritesAllOf}
 use Rattle.plan_runs.proofs.Reported.{writes_part, writes_then}
 use Rattle.plan_runs.proofs.plans.write_title.Goals as goal
 

@@ -10,7 +10,7 @@ use Rattle.outcome_book.proofs.ById.{by_id-mapped}
 use Rattle.tally_desk.proofs.Holding.{run_attempts_are_right, saves_hold_parts}
 use Rattle.plan_runs.specs.Ending.{SavedBy, SavesLast}
 use Rattle.plan_runs.specs.Saving.{target_of}
-use Rattle.plan_runs.proofs.Telling.{all_found}
+use Rattle.plan_runs.proofs.Reporting.{all_found}
 use Rattle.plan_runs.proofs.Desked.{all_outcomes, saves_last}
 use Rattle.plan_runs.proofs.Placing.{first_place_for, place_observed_for, placed_known, saved_plain, saves_every}
 use Rattle.plan_runs.proofs.saving.run_saved.Goals as goal
@@ -55,14 +55,14 @@ run_over-requires-clause-lets g c κs within =
     subst (λ (x : ℕ × List ℕ). LetsRun g.C.Keeper.lets observed job initial_outcomes x.0 state.place x.1) (λ i. (sym c.requires.resources.every i, sym buffers.ids i))
     (c.requires.lets initial_outcomes state.place c.requires.saved c.requires.opened (first_place_for job (g.C.Keeper.state state.keeper).slots (target_of state) c.requires.placed))
 
-pub end_run-finished-requires-clause-tellable : goal.end_run-finished-requires-clause-tellable
-end_run-finished-requires-clause-tellable g c =
+pub end_run-finished-requires-clause-reportable : goal.end_run-finished-requires-clause-reportable
+end_run-finished-requires-clause-reportable g c =
     let job = c.args.job.now in
     let buffers = c.requires.resources.buffers in
     let all = all_outcomes _ _ _ _ c.in-Ok.ensures.ran buffers.ids by_id-mapped buffers.start.run buffers.start.fit buffers.todo.within buffers.todo.absent in
     let found = c.all-found.ensures in
     (all_found job buffers.start.run (saved_plain job buffers.start.run c.requires.saved) c.args.resources.state.book.outcomes c.all-found.result (rw (found.sorted, c.into_outcomes-keeper.ensures.sorted) all) (rw found.sorted found.listed)
-    found.observed (rw found.text buffers.blank) (rw found.text buffers.report_room)).tellable
+    found.observed (rw found.text buffers.blank) (rw found.text buffers.report_room)).reportable
 
 pub returns-in-Ok : goal.returns-in-Ok
 returns-in-Ok g c =

@@ -4,7 +4,7 @@ use Rattle.audit_statement.specs.Along.{own_steps}
 use Rattle.audit_statement.specs.Draw.{draw}
 use Rattle.audit_statement.specs.Trace.{line_at}
 use Rattle.plan_runs.proofs.Strides.{first_line, lines_cut}
-use Rattle.report.specs.Said.{WritesAllOf}
+use Rattle.report.specs.AddedText.{WritesAllOf}
 use Rattle.plan_runs.proofs.tracing.write_lines.Goals as goal
 
 one_at_least : (q : ℕ) → 1 ≤ q + 1

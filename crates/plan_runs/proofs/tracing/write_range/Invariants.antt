@@ -1,6 +1,6 @@
 use Rattle.std.proofs.Common.{Ok}
 use Rattle.plan_runs.specs.Tracers.{IsTracer, lines_of_range}
-use Rattle.report.specs.Said.{WritesAllOf}
+use Rattle.report.specs.AddedText.{WritesAllOf}
 use Rattle.plan_runs.proofs.tracing.write_range.Given as goal
 
 abbrev pub invariant-loop-place : goal.invariant-loop-place

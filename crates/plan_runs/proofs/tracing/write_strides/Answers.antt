@@ -22,12 +22,12 @@ loop-place-preserved g c =
     ap (λ (n : ℕ). step + n) (c.min-stride.ensures ∙ ap (λ (n : ℕ). min thin (n - step)) c.steps_of-steps.ensures) ∙ shown_next thin (own_steps job id) c.loop-place.place step so_far.at in
     record {
       at = next;
-      pen = c.in-Ok.ensures.pen;
+      line_buffer = c.in-Ok.ensures.line_buffer;
       way = subst (λ (h : ChainState). IsUnderWay job id (step + c.min-stride.result) h c.go_on.new.way) (sym c.in-Ok.ensures.same) under;
       before = c.in-Ok.ensures.before ∙ ap (λ (h : ChainState). h.plan) (sym c.in-Ok.ensures.same);
       written = λ before first.
           lines_then job (draw job.setting.key) id thin before (g.K.Sink.state c.loop-place.out) (g.K.Sink.state c.write_line.new.out) c.loop-place.place step (step + c.min-stride.result)
-          c.loop-place.tracer.pen.before (Ok tt) so_far.at next (so_far.before ∙ so_far.way.walked.visited) (so_far.written before first)
+          c.loop-place.tracer.line_buffer.before (Ok tt) so_far.at next (so_far.before ∙ so_far.way.walked.visited) (so_far.written before first)
           (c.in-Ok.ensures.written id (record { plan = under.walked.visited; counted = c.move_count.ensures ∙ under.walked.counted }));
     }
 
@@ -46,5 +46,5 @@ returns-in-Err-clause-written g c = λ before first.
     lines_cut job (draw job.setting.key) id thin before (g.K.Sink.state c.write_line.new.out) (c.loop-place.place + 1 + 1) (quotient_up (own_steps job id) thin + 1) c.in-Err.field-0 _
     (two_more c.loop-place.place (quotient_up (own_steps job id) thin) below)
     (lines_then job (draw job.setting.key) id thin before (g.K.Sink.state c.loop-place.out) (g.K.Sink.state c.write_line.new.out) c.loop-place.place step (step + c.min-stride.result)
-    c.loop-place.tracer.pen.before (Err c.in-Err.field-0) so_far.at next (so_far.before ∙ so_far.way.walked.visited) (so_far.written before first)
+    c.loop-place.tracer.line_buffer.before (Err c.in-Err.field-0) so_far.at next (so_far.before ∙ so_far.way.walked.visited) (so_far.written before first)
     (c.in-Err.ensures.written id (record { plan = under.walked.visited; counted = c.move_count.ensures ∙ under.walked.counted })))

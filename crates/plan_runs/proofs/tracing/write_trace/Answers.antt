@@ -3,7 +3,7 @@ use Rattle.audit_statement.specs.Draw.{draw}
 use Rattle.audit_statement.specs.Trace.{trace_head}
 use Rattle.plan_runs.specs.Tracers.{end_line, lines_of_range}
 use Rattle.plan_runs.proofs.Strides.{text_parts, wrote_part, wrote_then}
-use Rattle.report.specs.Said.{WritesAllOf}
+use Rattle.report.specs.AddedText.{WritesAllOf}
 use Rattle.plan_runs.proofs.tracing.write_trace.Goals as goal
 
 pub returns-in-Err : goal.returns-in-Err

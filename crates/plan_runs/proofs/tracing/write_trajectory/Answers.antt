@@ -3,7 +3,7 @@ use Rattle.audit_statement.specs.Draw.{draw}
 use Rattle.audit_statement.specs.Trace.{trace_id_line}
 use Rattle.plan_runs.specs.Tracers.{all_lines}
 use Rattle.plan_runs.proofs.Strides.{trajectory_parts, wrote_part, wrote_then}
-use Rattle.report.specs.Said.{WritesAllOf}
+use Rattle.report.specs.AddedText.{WritesAllOf}
 use Rattle.plan_runs.proofs.tracing.write_trajectory.Goals as goal
 
 pub returns-in-Err-clause-written : goal.returns-in-Err-clause-written

@@ -2,8 +2,8 @@ use Rattle.std.proofs.Common.{Ok, refl, sym, subst}
 use Rattle.plan_runs.specs.Ending.{SavedBy}
 use Rattle.plan_runs.proofs.walking.run_unsaved.Goals as goal
 
-pub end_run-requires-clause-tellable : goal.end_run-requires-clause-tellable
-end_run-requires-clause-tellable g c = c.walk-found.ensures.tellable
+pub end_run-requires-clause-reportable : goal.end_run-requires-clause-reportable
+end_run-requires-clause-reportable g c = c.walk-found.ensures.reportable
 
 pub returns : goal.returns
 returns g c = λ k opened.

@@ -1,7 +1,7 @@
 use Rattle.std.proofs.Common.{◌∙◌, refl, sym, subst}
 use Rattle.claim_counter.specs.Walks.{IsTodo, IsWithin}
 use Rattle.audit_laws.proofs.Running.{are_all}
-use Rattle.plan_runs.proofs.Telling.{all_found}
+use Rattle.plan_runs.proofs.Reporting.{all_found}
 use Rattle.plan_runs.proofs.walking.walk_all.Goals as goal
 
 pub returns : goal.returns

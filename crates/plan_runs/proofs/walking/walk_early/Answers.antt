@@ -3,7 +3,7 @@ use Rattle.audit_model.specs.declared.outcome.Outcome.{Outcome}
 use Rattle.audit_model.specs.declared.setting.Setting.{Setting}
 use Rattle.audit_model.specs.Run.{run_ids}
 use Rattle.plan_runs.proofs.EarlyStops.{all_walked}
-use Rattle.plan_runs.proofs.Telling.{early_found}
+use Rattle.plan_runs.proofs.Reporting.{early_found}
 use Rattle.plan_runs.proofs.walking.walk_early.Goals as goal
 
 pub walk_to_stops-stops-requires-clause-ids : goal.walk_to_stops-stops-requires-clause-ids

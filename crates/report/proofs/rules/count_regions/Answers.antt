@@ -8,5 +8,5 @@ use Rattle.report.proofs.rules.count_regions.Goals as goal
 pub returns : goal.returns
 returns c =
     c.count_marked.ensures
-    ∙ count_below_same 5000 (λ r. slice_index_or c.marked.result r false) (has c.args.regions.now) c.marked.ensures
+    ∙ count_below_same 5000 (λ r. slice_index_or c.used_regions.result r false) (has c.args.regions.now) c.used_regions.ensures
     ∙ regions_counted c.args.regions.now c.requires

@@ -20,7 +20,7 @@ loop-place-preserved g c =
         weight = ap (λ (p : PassRecord). p.weight) drawn ∙ was.weight;
         spare = ap (λ (p : PassRecord). p.spare) drawn ∙ was.spare;
         shared = shared_more c.args.job.now c.args.todo.now (own c.loop-place.pass).claims _ c.in-Some.place c.loop-place.share.items _ c.walk.result
-            was.shared (ap (λ (p : PassRecord). p.claims) drawn) items (c.walk.ensures.outcome ∙ ap (outcome c.args.job.now (draw c.args.job.now.setting.key)) c.tell-token.ensures);
+            was.shared (ap (λ (p : PassRecord). p.claims) drawn) items (c.walk.ensures.outcome ∙ ap (outcome c.args.job.now (draw c.args.job.now.setting.key)) c.announce-token.ensures);
         room = omega (arith, was.room, c.append.ensures.spare, ap length items, length-append c.loop-place.share.items (c.walk.result ∷ []));
       };
       kept_room = omega (arith, kept, c.append.ensures.spare, ap length items, length-append c.loop-place.share.items (c.walk.result ∷ []));

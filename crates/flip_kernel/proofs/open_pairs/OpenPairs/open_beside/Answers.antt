@@ -1,6 +1,6 @@
 use Rattle.std.proofs.Common.{ℕ, ◌+◌, ◌*◌, ◌<◌, ◌≤◌, Bool, List, length, get_or, take, sym, subst, arith}
 use Rattle.std.proofs.lemmas.List.Elements.{All-get_or}
-use Rattle.flip_kernel.specs.OpenPairs.{HasOpened}
+use Rattle.flip_kernel.specs.OpenPairs.{HasOpenedPairs}
 use Rattle.flip_kernel.proofs.Tables.{place_within, opens_more}
 use Rattle.flip_kernel.proofs.open_pairs.OpenPairs.open_beside.Goals as goal
 
@@ -13,5 +13,5 @@ loop-other-preserved c =
     let there : get_or plan (get_or row i 0) 0 < c.args.districts = c.requires.in_range (get_or row i 0) below in
     let wide : c.args.graph.now.units * c.args.districts ≤ length c.loop-other.self = omega (arith, c.requires.width, c.loop-other.invariant.width) in
     let inside = place_within c.args.graph.now.units c.args.districts c.args.unit (get_or plan (get_or row i 0) 0) (length c.loop-other.self) c.requires.unit there wide in
-    subst (λ (t : List Bool). HasOpened plan c.args.districts c.args.unit (take (i + 1) row) c.args.self.now t) (sym c.put.ensures)
+    subst (λ (t : List Bool). HasOpenedPairs plan c.args.districts c.args.unit (take (i + 1) row) c.args.self.now t) (sym c.put.ensures)
     (opens_more plan c.args.districts c.args.unit row i c.args.self.now c.loop-other.self c.loop-other-test.true there inside c.loop-other.invariant)

@@ -1,8 +1,8 @@
-use Rattle.flip_kernel.proofs.Tables.{IsClosed, IsRenewing}
+use Rattle.flip_kernel.proofs.Tables.{IsClosed, IsUpdating}
 use Rattle.flip_kernel.proofs.open_pairs.OpenPairs.update.Given as goal
 
 abbrev pub invariant-loop-other : goal.invariant-loop-other
 invariant-loop-other l = record {
-  renewing : IsRenewing l.graph l.plan l.districts l.other-items l.unit l.home l.district l.other-index l.self;
+  updating : IsUpdating l.graph l.plan l.districts l.other-items l.unit l.home l.district l.other-index l.self;
   closed : IsClosed l.graph.units l.plan l.districts l.unit l.self;
 }

@@ -2,4 +2,4 @@ use Rattle.report.proofs.NoteLines.{fails_after}
 use Rattle.report.proofs.note.output.add.Goals as goal
 
 pub returns-in-Err : goal.returns-in-Err
-returns-in-Err g c = λ start said s. fails_after start _ _ said c.args.piece.now c.args.going c.if-not-going.false c.in-Err.ensures.0 c.in-Err.ensures.1 s
+returns-in-Err g c = λ start text_so_far s. fails_after start _ _ text_so_far c.args.piece.now c.args.going c.if-not-going.false c.in-Err.ensures.0 c.in-Err.ensures.1 s

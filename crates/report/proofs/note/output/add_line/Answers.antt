@@ -1,16 +1,16 @@
 use Rattle.std.proofs.Common.{◌∙◌, ◌++◌, ◌∷◌, [], ℕ, List, ap, append_assoc, flat_map, subst, sym}
 use Rattle.report.specs.Pieces.{piece_text}
-use Rattle.report.specs.Said.{IsSaid}
+use Rattle.report.specs.AddedText.{HasAdded}
 use Rattle.report.proofs.NoteLines.{two_texts}
 use Rattle.report.proofs.note.output.add_line.Goals as goal
 
 pub returns : goal.returns
 returns g c = record {
-  adds = λ start said s.
+  adds = λ start text_so_far s.
       let first = flat_map piece_text c.args.first.now in
       let more = flat_map piece_text c.args.pieces.now in
-      subst (λ (t : List ℕ). IsSaid start (g.N.Sink.state c.add.new.note) t c.add.result)
-      (append_assoc (said ++ first) more (10 ∷ []) ∙ append_assoc said first (more ++ 10 ∷ [])
-      ∙ ap (λ t. said ++ t) (sym (append_assoc first more (10 ∷ [])) ∙ two_texts c.args.first.now c.args.pieces.now))
-      (c.add.ensures start _ (c.add_pieces-going-2.ensures start _ (c.add_pieces-going.ensures start said s)));
+      subst (λ (t : List ℕ). HasAdded start (g.N.Sink.state c.add.new.note) t c.add.result)
+      (append_assoc (text_so_far ++ first) more (10 ∷ []) ∙ append_assoc text_so_far first (more ++ 10 ∷ [])
+      ∙ ap (λ t. text_so_far ++ t) (sym (append_assoc first more (10 ∷ [])) ∙ two_texts c.args.first.now c.args.pieces.now))
+      (c.add.ensures start _ (c.add_pieces-going-2.ensures start _ (c.add_pieces-going.ensures start text_so_far s)));
 }

@@ -3,7 +3,7 @@ use Rattle.atomic_table.specs.Table.{Me}
 use Rattle.tally_desk.specs.declared.state.RunState.{RunState}
 use Rattle.tally_desk.specs.DeskModel.{DeskModel}
 use Rattle.tally_desk.specs.Desks.{BeginsTurn, IsWaiting}
-use Rattle.tally_desk.specs.Founded.{parts_of}
+use Rattle.tally_desk.specs.DeskStart.{parts_of}
 use Rattle.tally_desk.specs.Homes.{HomeAs}
 use Rattle.tally_desk.specs.Views.{PassView}
 use Rattle.tally_desk.proofs.Steps.{look}

@@ -2,7 +2,7 @@ use Rattle.std.proofs.Common.{rules, arith, sym, ap, subst, ◌∙◌, ◌≡◌
 use Rattle.claim_counter.specs.Records.{with_claim}
 use Rattle.tally_desk.specs.DeskModel.{DeskModel}
 use Rattle.tally_desk.specs.Desks.{claimed_ids, ended_view, with_own}
-use Rattle.tally_desk.specs.Founded.{parts_of}
+use Rattle.tally_desk.specs.DeskStart.{parts_of}
 use Rattle.tally_desk.specs.Homes.{HomeAs}
 use Rattle.tally_desk.specs.Passes.{Belongs, Claims}
 use Rattle.tally_desk.specs.Views.{PassView, view_in}

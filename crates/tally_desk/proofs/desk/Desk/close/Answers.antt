@@ -9,8 +9,8 @@ use mathlib.Core.Option.{some-injective}
 use Rattle.tally_desk.specs.declared.state.RunState.{RunState}
 use Rattle.claim_counter.specs.Views.{HasAllSeats}
 use Rattle.tally_desk.specs.DeskModel.{DeskModel}
-use Rattle.tally_desk.specs.Desks.{IsComplete, Tallied}
-use Rattle.tally_desk.specs.Founded.{parts_of}
+use Rattle.tally_desk.specs.Desks.{IsRunComplete, Tallied}
+use Rattle.tally_desk.specs.DeskStart.{parts_of}
 use Rattle.tally_desk.specs.Homes.{HomeAs}
 use Rattle.tally_desk.specs.Passes.{HasPostedAll, IsClosed, view_of}
 use Rattle.tally_desk.specs.Entries.{posted_id, saves_made}
@@ -39,7 +39,7 @@ returns g c =
     let s = completes (HomeAs g.C.Keeper.state g.C.Keeper.lets) parts counter_laws c.take_out-seat.result.id v _ _ final c.args.pass.live only c.args.pass.idle in
     let same : s.0 ≡ c.take-state.result = some-injective _ _ (sym s.1 ∙ c.take-state.ensures.value) in
     let drawn = get_or (slots_items c.close_with-closed.result.words) 0 0 in
-    let k = subst (λ (h : RunState g.row.C.Denot). IsComplete (HomeAs g.C.Keeper.state g.C.Keeper.lets) parts drawn h v) same s.2 in
+    let k = subst (λ (h : RunState g.row.C.Denot). IsRunComplete (HomeAs g.C.Keeper.state g.C.Keeper.lets) parts drawn h v) same s.2 in
     let all = complete (HomeAs g.C.Keeper.state g.C.Keeper.lets) parts drawn c.take-state.result v k c.requires.ended whole in
     let count : length k.posted ≡ length parts.todo = sym (length_permutation _ _ all ∙ length-map k.posted posted_id) in
     let place = k.holds.kept.place_is in

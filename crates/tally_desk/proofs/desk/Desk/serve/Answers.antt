@@ -6,7 +6,7 @@ use Rattle.claim_counter.specs.Walks.{found}
 use Rattle.tally_desk.specs.DeskModel.{DeskModel}
 use Rattle.tally_desk.specs.Desks.{IsInTurn}
 use Rattle.tally_desk.specs.Entries.{post_of, is_due}
-use Rattle.tally_desk.specs.Founded.{parts_of}
+use Rattle.tally_desk.specs.DeskStart.{parts_of}
 use Rattle.tally_desk.specs.Homes.{HomeAs, MayTurn}
 use Rattle.tally_desk.proofs.Steps.{carried_now, posted_at_home, posted_len, serve}
 use Rattle.tally_desk.proofs.Todo.{todo_small}

@@ -1,7 +1,7 @@
 use Rattle.std.proofs.Common.{rules, ◌∙◌, ap, refl, subst, sym}
 use Rattle.tally_desk.specs.DeskModel.{DeskModel}
 use Rattle.tally_desk.specs.Desks.{CanPost}
-use Rattle.tally_desk.specs.Founded.{parts_of}
+use Rattle.tally_desk.specs.DeskStart.{parts_of}
 use Rattle.tally_desk.specs.Homes.{HomeAs}
 use Rattle.tally_desk.proofs.Steps.{try_ticket}
 use Rattle.tally_desk.proofs.desk.Desk.try_ticket.Goals as goal

@@ -19,8 +19,8 @@ loop-id-init g c = record {
 pub hand_in-requires : goal.hand_in-requires
 hand_in-requires g c =
     let parts = c.args.desk.now.parts in
-    let right = walked_found c.args.job.now c.args.desk.now.parts.job c.in-Some.id c.tell-token.result c.walk-outcome.result c.requires.shared.same c.tell-token.ensures c.walk-outcome.ensures.outcome in
-    let named = walked_id c.args.job.now c.in-Some.id c.tell-token.result c.walk-outcome.result c.tell-token.ensures c.walk-outcome.ensures.outcome in
+    let right = walked_found c.args.job.now c.args.desk.now.parts.job c.in-Some.id c.announce-token.result c.walk-outcome.result c.requires.shared.same c.announce-token.ensures c.walk-outcome.ensures.outcome in
+    let named = walked_id c.args.job.now c.in-Some.id c.announce-token.result c.walk-outcome.result c.announce-token.ensures c.walk-outcome.ensures.outcome in
     record {
       belongs = c.in-Some.ensures.pass;
       rest = claimed_buffered parts c.in-Some.id (view_of c.loop-id.pass) (view_of c.claim.new.pass) c.loop-id.buffered.items c.walk-outcome.result c.loop-id.invariant.at_desk.holds.rest

@@ -1,6 +1,0 @@
-use Rattle.std.proofs.Common.{◌≡◌, length}
-use Rattle.std.specs.Io.KnownBytes.{Keeps}
-use Rattle.audit_io.proofs.retry_on_eintr.write_again.Given as goal
-
-abbrev pub invariant-loop : goal.invariant-loop
-invariant-loop g l = (length l.bytes ≡ length l.initial.bytes) × Keeps (g.T.Write.contents l.initial.to) (g.T.Write.contents l.to)

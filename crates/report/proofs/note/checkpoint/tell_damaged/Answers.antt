@@ -1,5 +1,0 @@
-use Rattle.report.proofs.NoteLines.{adds_line}
-use Rattle.report.proofs.note.checkpoint.tell_damaged.Goals as goal
-
-pub returns : goal.returns
-returns g c = adds_line c.say.ensures (rw (c.slot_name.ensures, c.slot_name-2.ensures))

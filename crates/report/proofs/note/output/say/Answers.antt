@@ -1,6 +1,0 @@
-use Rattle.std.proofs.Common.{[]}
-use Rattle.report.proofs.NoteLines.{said_adds, said_nothing}
-use Rattle.report.proofs.note.output.say.Goals as goal
-
-pub returns : goal.returns
-returns g c = said_adds _ _ _ _ (c.add_line-ended.ensures.adds _ [] (said_nothing _))

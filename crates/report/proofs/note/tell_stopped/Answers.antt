@@ -1,6 +1,0 @@
-use Rattle.std.proofs.Common.{◌++◌, List, ℕ, ap, codes}
-use Rattle.report.proofs.NoteLines.{adds_line}
-use Rattle.report.proofs.note.tell_stopped.Goals as goal
-
-pub returns : goal.returns
-returns g c = adds_line c.say.ensures (ap (λ (t : List ℕ). codes "stopped: " ++ t) c.count_of_line.ensures)
