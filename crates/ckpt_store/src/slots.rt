@@ -109,8 +109,8 @@ impl Slots {
                 slot: 0,
                 generation: 0,
             },
-            Some(0) => beside(1, &self.zero),
-            Some(_) => beside(0, &self.one),
+            Some(0) => place_in_other_slot(1, &self.zero),
+            Some(_) => place_in_other_slot(0, &self.one),
         }
     }
 
@@ -144,7 +144,7 @@ impl Slots {
 }
 
 /// Returns the place in `slot` with the generation after that of `newest`. `newest` is the other slot, and is valid.
-fn beside(slot: u8, newest: &Slot) -> Place
+fn place_in_other_slot(slot: u8, newest: &Slot) -> Place
     ensures place { result ≡ record { slot = slot; generation = definition.generation_after (definition.generation_of (slot_view newest.now)) } }
     ensures generation { result.generation < 3 }
 {

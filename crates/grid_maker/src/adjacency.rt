@@ -12,7 +12,7 @@ use serde_json::{Value, json};
 use std::alloc::Global;
 
 /// Returns the unit to the right of a unit in the same row, or `None` at the row's end.
-pub(crate) fn right(square: Square, unit: u32) -> Option<u32>
+pub(crate) fn find_right(square: Square, unit: u32) -> Option<u32>
     requires { unit < grid_side square.size * grid_side square.size }
     ensures { result ≡ unit_right (grid_side square.size) unit }
 {
@@ -25,7 +25,7 @@ pub(crate) fn right(square: Square, unit: u32) -> Option<u32>
 }
 
 /// Returns the unit below a unit, or `None` in the last row.
-pub(crate) fn below(square: Square, unit: u32) -> Option<u32>
+pub(crate) fn find_below(square: Square, unit: u32) -> Option<u32>
     requires { unit < grid_side square.size * grid_side square.size }
     ensures { result ≡ unit_below (grid_side square.size) unit }
 {
@@ -51,14 +51,14 @@ pub fn adjacency_of(alloc: Global, square: Square) -> Result<Value, Memory>
 }
 
 /// Returns the unit above a unit, or `None` in the first row.
-fn above(side: u32, unit: u32) -> Option<u32>
+fn find_above(side: u32, unit: u32) -> Option<u32>
     ensures { result ≡ unit_above side unit }
 {
     unit.checked_sub(side)
 }
 
 /// Returns the unit to the left of a unit in the same row, or `None` at the row's start.
-fn unit_to_the_left(square: Square, unit: u32) -> Option<u32>
+fn find_left(square: Square, unit: u32) -> Option<u32>
     ensures { result ≡ unit_left (grid_side square.size) unit }
 {
     let side = 10 * square.size;
@@ -85,9 +85,9 @@ fn neighbours_of(alloc: Global, square: Square, unit: u32) -> Result<Value, Memo
     ensures { IfOk result (λ value. view value ≡ neighbours_tree square.size unit) }
 {
     let mut list = Vec::new(alloc);
-    push_entry(alloc, &mut list, above(10 * square.size, unit))?;
-    push_entry(alloc, &mut list, unit_to_the_left(square, unit))?;
-    push_entry(alloc, &mut list, right(square, unit))?;
-    push_entry(alloc, &mut list, below(square, unit))?;
+    push_entry(alloc, &mut list, find_above(10 * square.size, unit))?;
+    push_entry(alloc, &mut list, find_left(square, unit))?;
+    push_entry(alloc, &mut list, find_right(square, unit))?;
+    push_entry(alloc, &mut list, find_below(square, unit))?;
     Ok(Value::Array(list))
 }

@@ -10,7 +10,7 @@ ghost use Rattle.audit_statement.specs.Reading.{reading};
 ghost use Rattle.grid_maker.specs.Columns.{grid_columns};
 ghost use Rattle.grid_maker.specs.Pairs.{extended, pairs_until};
 
-use crate::adjacency::{below, right};
+use crate::adjacency::{find_below, find_right};
 use crate::nodes::VOTES_STREAM;
 use crate::square::Square;
 use audit_model::lists::{LabelList, NumList, UnitList};
@@ -66,8 +66,8 @@ fn pairs_of(alloc: Global, square: Square) -> Result<Vec<(u32, u32)>, Memory>
     let side = 10 * square.size;
     let mut pairs = Vec::new(alloc);
     for unit in 0..side * side {
-        push_pair(&mut pairs, unit, right(square, unit))?;
-        push_pair(&mut pairs, unit, below(square, unit))?;
+        push_pair(&mut pairs, unit, find_right(square, unit))?;
+        push_pair(&mut pairs, unit, find_below(square, unit))?;
     }
     Ok(pairs)
 }

@@ -75,7 +75,7 @@ pub fn end(written: Result<(), Failed>, saved: Result<(), Failed>) -> Finished
 }
 
 // Returns the number of outcomes that the report needs.
-fn due(job: &Job) -> u32
+fn count_reported(job: &Job) -> u32
     ensures { result ≡ reported job.now }
 {
     if job.setting().stop == 0 {
@@ -121,7 +121,7 @@ pub fn end_run<K: Sink, J: Judge>(
         → SavedBy (saves job.now.setting) job.now initial_outcomes before after saved
         → Finishes job.now (K.state out.old) (K.state out.new) before after (ended_as result) }
 {
-    let due = due(job);
+    let due = count_reported(job);
     if found.listed < due as usize {
         return stop(found.listed as u32, due, saved);
     }

@@ -69,7 +69,7 @@ pub fn run_over<R: Threads + Wait + Sync, C: Keeper + Send, J: Judge + Send, G: 
 }
 
 // Returns `Ok` if no save failed: neither one at the desk nor the last save.
-fn both(failed: u32, rest: Result<(), Failed>) -> Result<(), Failed>
+fn combine_results(failed: u32, rest: Result<(), Failed>) -> Result<(), Failed>
     ensures { BothSaved failed rest result }
 {
     if failed > 0 {
@@ -139,6 +139,6 @@ fn save_last<C: Keeper>(mut state: RunState<C>) -> RunResult<C>
         → HasRun parts (C.state result.state.keeper) result.state.sorted.items result.saved }
 {
     let rest = save_rest(&mut state);
-    let saved = both(state.failed_saves, rest);
+    let saved = combine_results(state.failed_saves, rest);
     RunResult { state, saved }
 }

@@ -10,15 +10,15 @@ use Rattle.plan_runs.proofs.Reporting.{length-listed}
 use Rattle.plan_runs.proofs.ending.end_run.Goals as goal
 
 pub text_of-text-requires-clause-whole : goal.text_of-text-requires-clause-whole
-text_of-text-requires-clause-whole g c = omega (arith, c.if-found-due.false, c.due-due.ensures)
+text_of-text-requires-clause-whole g c = omega (arith, c.if-found-due.false, c.count_reported-due.ensures)
 
 pub returns-then-found-due : goal.returns-then-found-due
 returns-then-found-due g c = λ initial_outcomes before after opened has saved.
     let job = c.args.job.now in
-    let short : c.args.found.listed < reported job = omega (arith, c.if-found-due.true, c.due-due.ensures) in
+    let short : c.args.found.listed < reported job = omega (arith, c.if-found-due.true, c.count_reported-due.ensures) in
     let left = has.short short in
     let long = length-listed c.args.found has.reportable.enough in
-    let is = c.stop.ensures ∙ ap (λ n. stopped_by c.args.found.listed n c.args.saved) (c.due-due.ensures ∙ left.due) ∙ ap (λ n. stopped_by n (total job) c.args.saved) (sym long) in
+    let is = c.stop.ensures ∙ ap (λ n. stopped_by c.args.found.listed n c.args.saved) (c.count_reported-due.ensures ∙ left.due) ∙ ap (λ n. stopped_by n (total job) c.args.saved) (sym long) in
     let out = g.K.Sink.state c.args.out.now in
     subst (λ (how : Finished). Finishes job out out before after (ended_as how)) (sym is)
     (short_ends job c.requires.reportable.run initial_outcomes (listed_in c.args.found) left.all out before after opened (omega (arith, short, long, left.due)) c.args.saved saved)
@@ -26,7 +26,7 @@ returns-then-found-due g c = λ initial_outcomes before after opened has saved.
 pub returns : goal.returns
 returns g c = λ initial_outcomes before after opened has saved.
     let job = c.args.job.now in
-    let whole : reported job ≤ c.args.found.listed = omega (arith, c.if-found-due.false, c.due-due.ensures) in
+    let whole : reported job ≤ c.args.found.listed = omega (arith, c.if-found-due.false, c.count_reported-due.ensures) in
     let all = has.whole whole in
     let text = c.as_slice.ensures ∙ c.text_of-text.ensures ∙ all.same in
     let out = g.K.Sink.state c.args.out.now in

@@ -15,5 +15,5 @@ pub returns : goal.returns
 returns g c = λ parts v k.
     let last = c.save_rest-rest.ensures in
     has_run g.C.Keeper.state (unfailed_runs_save_in_turn saved_slots_are_newest checkpoints_are_ours) parts v c.args.state c.save_rest-rest.new.state k
-    c.save_rest-rest.result c.both-saved.result last.rest
-    (subst (λ (n : ℕ). BothSaved n c.save_rest-rest.result c.both-saved.result) last.rest.failed c.both-saved.ensures) last.sorted last.book last.all last.rising
+    c.save_rest-rest.result c.combine_results-saved.result last.rest
+    (subst (λ (n : ℕ). BothSaved n c.save_rest-rest.result c.combine_results-saved.result) last.rest.failed c.combine_results-saved.ensures) last.sorted last.book last.all last.rising

@@ -3,7 +3,7 @@ use Rattle.audit_model.specs.declared.setting.Setting.{Setting}
 use Rattle.audit_model.specs.Job.{Job}
 use Rattle.report.specs.Outcomes.{reported_by}
 use Rattle.audit_laws.proofs.Running.{reports_all}
-use Rattle.plan_runs.proofs.ending.due.Goals as goal
+use Rattle.plan_runs.proofs.ending.count_reported.Goals as goal
 
 some_stop : (job : Job) (n : ℕ) → (n ≡ 0 → ⊥) → reported_by n job ≡ job.setting.walks
 some_stop job zero some = absurd (some refl)
