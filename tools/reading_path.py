@@ -40,11 +40,11 @@ class Definition:
 
     def words(self) -> set[str]:
         """The names in it, without its comments and texts."""
-        bare = (
+        cleaned = (
             re.sub(r"--.*", "", re.sub(r'"[^"]*"', '""', line))
             for line in self.lines + [line for _, line in self.over]
         )
-        return {word for line in bare for word in WORD.findall(line)}
+        return {word for line in cleaned for word in WORD.findall(line)}
 
 
 class Module:

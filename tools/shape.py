@@ -74,7 +74,7 @@ def files(folder: str, ending: str) -> typing.Iterator[tuple[str, str]]:
                     yield os.path.join(where, name), file.read()
 
 
-def closing(text: str, at: int) -> int:
+def find_closing(text: str, at: int) -> int:
     """The place after the bracket that closes the one at this place."""
     pairs = {"(": ")", "{": "}", "[": "]"}
     depth = 0
@@ -129,7 +129,7 @@ def functions(folder: str) -> typing.Iterator[Function]:
             if start.group(1):
                 continue
             opening = text.find("(", start.end())
-            end = closing(text, opening)
+            end = find_closing(text, opening)
             at, requires = end, 0
             # The clauses up to the body: each clause has its own braces.
             while True:
@@ -141,11 +141,11 @@ def functions(folder: str) -> typing.Iterator[Function]:
                 if not word:
                     yield Function(
                         start.group(2), file, parts_of(text[opening + 1:end - 1]), requires,
-                        text[brace:closing(text, brace)],
+                        text[brace:find_closing(text, brace)],
                     )
                     break
                 requires += word.group(1) == "requires"
-                at = closing(text, brace)
+                at = find_closing(text, brace)
 
 
 def definitions(folder: str) -> dict[str, set[str]]:
@@ -167,7 +167,7 @@ def definitions(folder: str) -> dict[str, set[str]]:
 
 def lemmas(folder: str) -> tuple[int, int]:
     """Returns the number of lemmas, and of those below a comment."""
-    all_of_them, told = 0, 0
+    all_of_them, commented = 0, 0
     for file, text in files(folder, ".antt"):
         if "/proofs/" not in file or file.endswith(
             ("Lib.antt", "Answers.antt", "Invariants.antt", "Proof.antt")
@@ -179,10 +179,10 @@ def lemmas(folder: str) -> tuple[int, int]:
                 r"^(?:pub )?(?!use\b|mod\b|module\b|unfolding\b|open\b)[A-Za-z_][\w-]* :", line
             ):
                 all_of_them += 1
-                told += before.startswith("--")
+                commented += before.startswith("--")
             if not line.startswith("unfolding"):
                 before = line
-    return all_of_them, told
+    return all_of_them, commented
 
 
 def entries() -> tuple[int, int]:
@@ -195,7 +195,7 @@ def crate_of(file: str) -> str:
     return os.path.relpath(file, os.path.join(TOP, "crates")).split(os.sep)[0]
 
 
-def stands_on() -> dict[str, set[str]]:
+def read_dependencies() -> dict[str, set[str]]:
     with open(os.path.join(TOP, "crates.txt"), encoding="utf-8") as file:
         lines = [line.split("#")[0] for line in file if ":" in line.split("#")[0]]
     return {line.split()[0].rstrip(":"): set(line.split(":", 1)[1].split()) for line in lines}
@@ -216,7 +216,7 @@ class Shape:
 Call = tuple[str, str]
 
 
-def brought_into(text: str) -> dict[str, str]:
+def find_imports(text: str) -> dict[str, str]:
     """Returns the crate of each name that a file brings in."""
     brought = {}
     for path, names in re.findall(r"^use ([\w:]+)::(?:\{([^}]*)\}|\w+);", text, re.M | re.S):
@@ -234,14 +234,14 @@ def calls_among(found: list[Function]) -> dict[Call, set[Call]]:
     in; one with a dot is of the same crate, or of one on which it stands.
     """
     homes: dict[str, set[str]] = defaultdict(set)
-    below = stands_on()
+    below = read_dependencies()
     for f in found:
         homes[f.name].add(crate_of(f.file))
     calls: dict[Call, set[Call]] = defaultdict(set)
     for f in found:
         crate = crate_of(f.file)
         with open(f.file, encoding="utf-8") as file:
-            brought = brought_into(file.read())
+            brought = find_imports(file.read())
         for dot, name in re.findall(r"(\.|::|\b)(\w+)(?:::<[^()]*?>)?\(", f.body):
             near = homes[name]
             if crate in near:
@@ -278,7 +278,7 @@ def counts(folder: str) -> Shape:
     found = list(functions(folder))
     many = [f for f in found if f.parameters > 6]
     double = {name: where for name, where in definitions(folder).items() if len(where) > 1}
-    all_of_them, told = lemmas(folder)
+    all_of_them, commented = lemmas(folder)
     lines = sorted(f.lines() for f in found) or [0]
     return Shape(
         found,
@@ -293,7 +293,7 @@ def counts(folder: str) -> Shape:
             "lines of a body, longest": lines[-1],
             "names of definitions in two modules or more": len(double),
             "lemmas": all_of_them,
-            "lemmas below a comment": f"{100 * told // max(1, all_of_them)} %",
+            "lemmas below a comment": f"{100 * commented // max(1, all_of_them)} %",
         },
     )
 
@@ -349,7 +349,7 @@ def above_limit(folder: str) -> dict[str, list[str]]:
     """Returns what each count with a limit counts."""
     own = list(functions(folder))
     return {
-        "crates": sorted(stands_on()),
+        "crates": sorted(read_dependencies()),
         "calls_to_the_flip": [
             f"{crate}::{name}"
             for crate, name in way(own, ("audit_run", "audit"), ("flip_kernel", "flip"))
@@ -366,7 +366,9 @@ def above_limit(folder: str) -> dict[str, list[str]]:
             for file, text in files(folder, ".rt") if text.count("\n") > 500
         ],
         "lines_over_120_columns": wide_lines(folder),
-        "lemmas_that_nothing_cites": [f"{name} in {path}" for path, name in uncited.uncited()],
+        "lemmas_that_nothing_cites": [
+            f"{name} in {path}" for path, name in uncited.find_uncited()
+        ],
         "imports_that_nothing_uses": [
             f"{name} in {path}" for path, name in uncited.unused_imports()
         ],
