@@ -19,7 +19,7 @@ import sys
 import typing
 
 from tests.parsers import measuring
-from bench.cost_table import Run, best_of, once
+from bench.cost_table import Run, best_of, run_once
 
 Place = tuple[int, int]
 # The district of each place.
@@ -33,7 +33,7 @@ WORDS = (
 )
 
 
-def winding(by_rows: bool) -> typing.Iterator[Place]:
+def wind_through(by_rows: bool) -> typing.Iterator[Place]:
     """The places along a path through all rows, or all columns, each the other way than the one
     before.
     """
@@ -48,7 +48,8 @@ def plan_of(number: int) -> Plan:
     size = ROWS * COLUMNS // DISTRICTS
     cuts = [size * d + (7 * number + 3 * d) % 41 - 20 for d in range(1, DISTRICTS)]
     return {
-        place: sum(at >= cut for cut in cuts) for at, place in enumerate(winding(number % 2 == 0))
+        place: sum(at >= cut for cut in cuts)
+        for at, place in enumerate(wind_through(number % 2 == 0))
     }
 
 
@@ -101,7 +102,7 @@ def table_of(plans: list[Plan]) -> str:
 
 
 def best(program: str, words: list[str], data: str, rounds: int) -> Run:
-    return best_of([once(program, words, data.encode()) for _ in range(rounds)])
+    return best_of([run_once(program, words, data.encode()) for _ in range(rounds)])
 
 
 def main(program: str, steps: int, rounds: int, write: bool) -> None:
@@ -111,7 +112,7 @@ def main(program: str, steps: int, rounds: int, write: bool) -> None:
         print(graph, table, sep="\n", end="")
         return
     words = [*WORDS, "--steps", str(steps)]
-    least = once("/bin/true", [], b"").megabytes
+    least = run_once("/bin/true", [], b"").megabytes
     whole = best(program, ["plans", *words], graph + "\n" + table, rounds)
     alone = [best(program, ["run", *words], graph_of(plan), rounds) for plan in plans]
     same = whole.text == "".join(
