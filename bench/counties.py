@@ -23,7 +23,7 @@ import subprocess
 import sys
 import typing
 
-from tests.parsers import measuring
+from tests.parsers import measuring_parser
 
 
 Place = tuple[int, int]
@@ -170,7 +170,7 @@ def main(program: str, steps: int, rounds: int) -> None:
 
 
 def arguments() -> argparse.Namespace:
-    parser = measuring("counties", __doc__, 10000000)
+    parser = measuring_parser("counties", __doc__, 10000000)
     parser.add_argument("--write", action="store_true", help="write the map alone")
     parser.add_argument("--small", action="store_true", help="write a map of 120 units")
     return parser.parse_args()

@@ -18,7 +18,7 @@ import random
 import sys
 import typing
 
-from tests.parsers import measuring
+from tests.parsers import measuring_parser
 from bench.cost_table import Run, best_of, run_once
 
 Place = tuple[int, int]
@@ -130,7 +130,7 @@ def main(program: str, steps: int, rounds: int, write: bool) -> None:
 
 
 def arguments() -> argparse.Namespace:
-    parser = measuring("plans_cost", __doc__, 1000000)
+    parser = measuring_parser("plans_cost", __doc__, 1000000)
     parser.add_argument("--write", action="store_true", help="write the input of the call alone")
     return parser.parse_args()
 

@@ -191,7 +191,7 @@ def record(number: int, moved: int, values: Sequence[int]) -> bytes:
     return struct.pack(">IQ4q", number, moved, *values, *[0] * (4 - len(values)))
 
 
-def sealed(front: bytes) -> bytes:
+def seal(front: bytes) -> bytes:
     return front + hashlib.sha256(front).digest()
 
 
@@ -202,7 +202,7 @@ def checkpoint(job_digest: bytes, generation: int, found: Mapping[int, Outcome])
     head = (
         b"DISTCKPT" + struct.pack(">I", 2) + job_digest + struct.pack(">2I", generation, len(found))
     )
-    return sealed(
+    return seal(
         head
         + b"".join(
             record(number, *found[number][:2]) + struct.pack(">9I", *found[number][2])
@@ -216,7 +216,7 @@ def old_checkpoint(job_digest: bytes, generation: int, found: Mapping[int, Outco
     head = (
         b"DISTCKPT" + struct.pack(">I", 1) + job_digest + struct.pack(">2I", generation, len(found))
     )
-    return sealed(head + b"".join(record(number, *found[number][:2]) for number in sorted(found)))
+    return seal(head + b"".join(record(number, *found[number][:2]) for number in sorted(found)))
 
 
 def records(data: bytes) -> list[tuple[int, ...]] | None:
@@ -258,7 +258,7 @@ def fault(data: bytes) -> str | None:
         "bad order": found is not None and any(
             one[0] >= other[0] for one, other in zip(found, found[1:])
         ),
-        "bad digest": sealed(data[:-32]) != data,
+        "bad digest": seal(data[:-32]) != data,
     }
     return next((name for name, applies in faults.items() if applies), None)
 

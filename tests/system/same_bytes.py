@@ -57,7 +57,7 @@ class Kit(typing.NamedTuple):
 def kit_of(checks: Checks) -> typing.Optional[Kit]:
     """Returns the toolchain, or None if it is not here."""
     if not shutil.which("rt"):
-        checks.missing("toolchain", "rt")
+        checks.count_missing("toolchain", "rt")
         return None
     folder = pathlib.Path(run(["rt", "doc"]).out.strip().splitlines()[-1]).parent
     lines = (line.partition("#")[0] for line in (TOP / "crates.txt").read_text().splitlines())
@@ -103,7 +103,7 @@ def library_again(
     words = ["build", *kit.words(LIBRARY, "src/lib.rt")]
     words += ["--logic-built", str(kit.folder / "logic_built"), "--jobs", "1", "--links"]
     end = kit.rattle(clone, LIBRARY, [*words, f"{LIBRARY}=", "--statements", "-o", str(built)])
-    checks.ended("library_builds", end)
+    checks.has_status("library_builds", end)
     here, there = files_of(TOP / "crates" / LIBRARY / "out" / "rlib" / name), files_of(built)
     checks.is_equal("library_files", sorted(there), sorted(here))
     is_alike = here["format"].read_bytes() == there["format"].read_bytes()
@@ -123,15 +123,15 @@ def built_program(
     if not checked.exists():
         logic = ["--logic-built", str(kit.folder / "logic_built"), "--jobs", "1"]
         end = kit.rattle(clone, PROGRAM, ["check", *words, *logic, "-o", str(checked)])
-        checks.ended("program_is_proved", end)
+        checks.has_status("program_is_proved", end)
     tools = ["--toolchain", str(kit.folder / "toolchain")]
     made = clone / "crates" / PROGRAM / "out" / PROGRAM
     made.parent.mkdir(exist_ok=True)
     words = ["build", *words, "--crate-checked", str(checked), *tools, "--backend", "llvm"]
-    checks.ended("program_builds", kit.rattle(clone, PROGRAM, [*words, "-o", f"{made}.o"]))
+    checks.has_status("program_builds", kit.rattle(clone, PROGRAM, [*words, "-o", f"{made}.o"]))
     words = ["--target", "x86_64-unknown-linux-gnu", *tools, "-o", str(made), f"{made}.o"]
     words += [str(kit.folder / "c" / name) for name in ("libos_c.a", "liblibc_c.a")]
-    checks.ended("program_links", run([kit.folder / "bin" / "rattle-link", *words]))
+    checks.has_status("program_links", run([kit.folder / "bin" / "rattle-link", *words]))
     return made
 
 
@@ -142,7 +142,7 @@ def own_program() -> typing.Optional[pathlib.Path]:
     return own if own.exists() and not changed else None
 
 
-def compared(checks: Checks, made: list[pathlib.Path], paths: list[str]) -> None:
+def compare_builds(checks: Checks, made: list[pathlib.Path], paths: list[str]) -> None:
     """Compares two builds of the auditor, and looks for paths in the first."""
     if not all(path.exists() for path in made):
         return
@@ -171,7 +171,7 @@ def main() -> int:
     }
     missing = [name for name, path in libraries.items() if not path.is_dir()]
     if missing:
-        checks.missing("libraries", f"what rt ci builds of {' '.join(missing)}")
+        checks.count_missing("libraries", f"what rt ci builds of {' '.join(missing)}")
         return checks.finish()
     # rt ci gives back what rt check had left, which does not fit its own libraries.
     left = [name for name, path in libraries.items() if (path.parent / "stamp").exists()]
@@ -185,7 +185,7 @@ def main() -> int:
         paths = [str(TOP), str(room)]
         for clone in clones:
             clone.parent.mkdir(exist_ok=True, parents=True)
-            checks.ended(f"clones_{clone.name}", clean_clone(kit, clone))
+            checks.has_status(f"clones_{clone.name}", clean_clone(kit, clone))
         named = [
             crate
             for crate, path in libraries.items()
@@ -194,7 +194,7 @@ def main() -> int:
         checks.is_equal("libraries_name_no_path", named, [])
         library_again(checks, kit, clones[0], paths)
         made = [built_program(checks, kit, clone, room / "checked") for clone in clones]
-        compared(checks, [*made, *([own] if own else [])], paths)
+        compare_builds(checks, [*made, *([own] if own else [])], paths)
     return checks.finish()
 
 
