@@ -407,7 +407,7 @@ class Walk:
         both, share = zip(self.sums["--group"], self.sums["--group-of"]), self.job.n["group-share"]
         return sum(10000 * part > share * whole for part, whole in both)
 
-    def keeps_rules(self) -> bool:
+    def is_within_rules(self) -> bool:
         n, parts = self.job.n, self.parts
         return (self.cut <= n["max-cut"] and max(parts, default=0) <= n["max-split"]
                 and self.length <= n["max-length"] and sum(parts) - len(parts) <= n["max-splits"]
@@ -438,7 +438,7 @@ class Walk:
     def is_legal(self) -> bool:
         sets = [[u for u, at in enumerate(self.plan) if at == d] for d in range(self.job.districts)]
         return (all(self.job.low <= people <= self.job.high for people in self.sums["--pop"])
-                and all(self.joins(members, [], []) for members in sets) and self.keeps_rules()
+                and all(self.joins(members, [], []) for members in sets) and self.is_within_rules()
                 and all(self.plan[u] == self.job.start[u] for u in self.job.frozen))
 
     def try_move(self, unit: int, into: int) -> bool:
@@ -447,7 +447,7 @@ class Walk:
         if (unit not in job.frozen and people[out] - amount >= job.low
                 and people[into] + amount <= job.high and self.joins(mates, [unit], [8, 64])):
             self.move(unit, into)
-            if self.keeps_rules():
+            if self.is_within_rules():
                 return True
             self.move(unit, out)
         return False

@@ -402,7 +402,7 @@ class Reader:
     def next(self) -> str | None:
         return self.lines[self.place] if self.place < len(self.lines) else None
 
-    def begins(self, word: str) -> bool:
+    def is_at(self, word: str) -> bool:
         line = self.next()
         return line is not None and line.split(" ")[0] == word
 
@@ -472,7 +472,7 @@ class Head(typing.NamedTuple):
 
 def source_of(lines: Reader) -> Source | None:
     """Returns the source, if the text names one."""
-    if not lines.begins("source"):
+    if not lines.is_at("source"):
         return None
     sha256, count = lines.take(
         "source sha256 ([0-9a-f]{64}) bytes N".replace("N", NUMBER), "source sha256 H bytes n"
@@ -532,7 +532,7 @@ def has_rule(lines: Reader, word: str, is_named: bool | None) -> bool:
 
     Where the columns are told, it stands exactly where its column is named.
     """
-    is_there = lines.begins(word)
+    is_there = lines.is_at(word)
     if is_named is not None and is_there != is_named:
         refuse(
             lines.number,
@@ -550,7 +550,7 @@ def rules_of(
 ) -> dict[str, int]:
     """The rules that are set, by the names of their fields."""
     found: dict[str, int] = {}
-    if lines.begins("max-cut"):
+    if lines.is_at("max-cut"):
         (found["max_cut"],) = lines.numbers("max-cut N", "max-cut c")
         lines.ask_that(found["max_cut"] < MOST_CUT, "a limit at its default has no line")
     if has_rule(lines, "max-split", None if source is None else source.region is not None):
@@ -560,7 +560,7 @@ def rules_of(
             "the limit or the number of regions is out of range",
         )
         found.update(max_split=most, regions=regions)
-        if lines.begins("max-splits"):
+        if lines.is_at("max-splits"):
             splits, split_regions = lines.numbers(
                 "max-splits N max-split-regions N", "max-splits s max-split-regions k"
             )
@@ -578,7 +578,7 @@ def rules_of(
             "the count of majorities is below the limit, or above the number of districts",
         )
         found.update(group_districts=least, majorities=majorities)
-        if lines.begins("group-share"):
+        if lines.is_at("group-share"):
             (found["group_share"],) = lines.numbers("group-share N", "group-share p")
             lines.ask_that(
                 found["group_share"] <= MOST_SHARE and found["group_share"] != HALF_SHARE,
@@ -592,7 +592,7 @@ def rules_of(
         lines.ask_that(
             found["cut_length"] <= edges * MOST_LENGTH, "so few edges are not so long in all"
         )
-        if lines.begins("max-length"):
+        if lines.is_at("max-length"):
             (found["max_length"],) = lines.numbers("max-length N", "max-length l")
             lines.ask_that(
                 found["cut_length"] <= found["max_length"] < MOST_CUT_LENGTH,
@@ -643,7 +643,7 @@ def setting_of(lines: Reader) -> Setting:
         "a number is out of range",
     )
     stop = 0
-    if lines.begins("stop") and len((lines.next() or "").split(" ")) == 2:
+    if lines.is_at("stop") and len((lines.next() or "").split(" ")) == 2:
         (stop,) = lines.numbers("stop N", "stop h")
         lines.ask_that(
             1 <= stop <= MOST_TRAJECTORIES and ends >= 1,
@@ -1103,7 +1103,7 @@ class Report:
         shift = tests.shift(walks) if version == "2" else None
         stops = tests.stops() if setting.stop else ()
         ends = tests.ends() if setting.ends and not setting.stop else ()
-        serial = tests.serial() if lines.begins("serial") else ()
+        serial = tests.serial() if lines.is_at("serial") else ()
         lines.take("end", "end")
         return cls(key, *head, setting, walks, shift, stops, ends, serial, source)
 

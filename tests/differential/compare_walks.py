@@ -157,7 +157,7 @@ class Job:
             margins[plan[unit]] += 2 * part - whole
         return len([margin for margin in margins if margin > 0])
 
-    def obeys_rules(self, plan: Plan) -> bool:
+    def is_within_rules(self, plan: Plan) -> bool:
         return (
             self.cut_edges(plan) <= self.max_cut
             and self.widest(plan) <= self.max_split
@@ -174,7 +174,7 @@ class Job:
             amount = 10000 * self.districts * sum(self.people[u] for u in members)
             if not (10000 - self.slack) * self.total <= amount <= (10000 + self.slack) * self.total:
                 return False
-        return self.obeys_rules(plan)
+        return self.is_within_rules(plan)
 
     def try_step(self, plan: Plan, draw: int) -> Plan:
         pairs = self.units * self.districts
@@ -290,7 +290,7 @@ def report_of(job: Job, asked: Trajectories, found: Sequence[Outcome]) -> str:
         *([f"max-split {job.max_split} regions {len(set(job.regions))}"] if job.regions else []),
         *(
             [f"max-splits {job.max_splits} max-split-regions {job.max_split_regions}"]
-            if limits_splits(job)
+            if has_split_limits(job)
             else []
         ),
         *(
@@ -354,7 +354,7 @@ def origin_of(
     ]
 
 
-def limits_splits(job: Job) -> bool:
+def has_split_limits(job: Job) -> bool:
     return bool(job.regions) and (job.max_splits, job.max_split_regions) != (
         MOST_SPLITS,
         MOST_REGIONS,

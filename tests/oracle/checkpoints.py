@@ -29,7 +29,7 @@ from tests.differential.compare_walks import (
     Outcome,
     Trajectories,
     draws,
-    limits_splits,
+    has_split_limits,
     origin_of,
     outcomes,
 )
@@ -162,7 +162,7 @@ def digest(job: Job, setting: Setting) -> bytes:
     """Returns the SHA-256 of all that the outcomes depend on."""
     edges = sorted(tuple(sorted(edge)) for edge in job.graph.edges)
     has_rules = job.max_cut < NO_LIMIT or job.regions or job.group
-    version = 3 if job.group or limits_splits(job) else 2 if has_rules else 1
+    version = 3 if job.group or has_split_limits(job) else 2 if has_rules else 1
     parts = [
         f"district-job {version}".encode(),
         struct.pack(">3I", job.units, len(edges), job.districts),
@@ -180,7 +180,7 @@ def digest(job: Job, setting: Setting) -> bytes:
     parts += [struct.pack(">I", job.max_cut)] if has_rules else []
     parts += [struct.pack(f">{1 + job.units}I", job.max_split, *job.regions)] if job.regions else []
     parts += (
-        [struct.pack(">2I", job.max_splits, job.max_split_regions)] if limits_splits(job) else []
+        [struct.pack(">2I", job.max_splits, job.max_split_regions)] if has_split_limits(job) else []
     )
     parts += [struct.pack(">I", job.group_districts)] if job.group else []
     parts += [struct.pack(">2Q", *unit) for unit in zip(*job.group)]

@@ -871,7 +871,7 @@ class Job:
             for part, all_of_it in zip(members, whole)
         )
 
-    def meets_rules(self, plan: Plan) -> bool:
+    def is_within_rules(self, plan: Plan) -> bool:
         setting = self.setting
         return (
             self.cut(plan) <= setting.max_cut
@@ -894,7 +894,7 @@ class Job:
             members = {u for u, d in enumerate(plan) if d == district}
             if not members or self.find_reached(members) != members:
                 return False
-        return self.meets_rules(plan)
+        return self.is_within_rules(plan)
 
     def walk(self, plan: Plan, stream: int, steps: int) -> tuple[list[Plan], int]:
         """Returns the plans visited, and the moves."""
@@ -934,7 +934,7 @@ class Job:
             "gap": 2 * (sum(self.first) + sum(self.second)),
         }[score]
 
-    def limits_splits(self) -> bool:
+    def has_split_limits(self) -> bool:
         """Returns whether there are regions whose splits, or whose split ones, are limited."""
         return bool(self.regions) and (
             self.setting.max_splits < MOST_SPLITS or self.setting.max_split_regions < MOST_REGIONS
@@ -942,7 +942,7 @@ class Job:
 
     def digest(self) -> bytes:
         setting = self.setting
-        further = self.limits_splits() or self.group
+        further = self.has_split_limits() or self.group
         limited = setting.max_cut < MOST_CUT or self.regions or self.group or self.frozen
         has_share = self.group and setting.group_share != 5000
         version = 4 if has_share or self.frozen else 3 if further else 2 if limited else 1
@@ -972,7 +972,7 @@ class Job:
         )
         parts += (
             [struct.pack(">2I", setting.max_splits, setting.max_split_regions)]
-            if self.limits_splits()
+            if self.has_split_limits()
             else []
         )
         parts += [struct.pack(">I", setting.group_districts)] if self.group else []
@@ -1097,7 +1097,7 @@ def head(job: Job) -> list[str]:
     )
     lines += (
         [f"max-splits {setting.max_splits} max-split-regions {setting.max_split_regions}"]
-        if job.limits_splits()
+        if job.has_split_limits()
         else []
     )
     lines += (
