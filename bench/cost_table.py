@@ -40,7 +40,7 @@ KEY = ["--key", "0" * 64, "--slack", "1000", "--ask", "cut-edges:low,gap:high"]
 COLUMNS = ["--pop", "pop", "--first", "a", "--second", "b", "--district", "d"]
 
 
-def crossed(rows: int, columns: int, districts: int) -> bytes:
+def make_crossed_grid(rows: int, columns: int, districts: int) -> bytes:
     """The bytes of a grid with both diagonals of each square: texts as ids, bands of rows as
     districts.
     """
@@ -79,7 +79,7 @@ class Run(typing.NamedTuple):
     text: str
 
 
-def once(program: str, words: list[str], data: bytes) -> Run:
+def run_once(program: str, words: list[str], data: bytes) -> Run:
     """Runs a program on these bytes, and counts the seconds of the processor."""
     with tempfile.TemporaryFile() as source, tempfile.TemporaryFile() as written:
         source.write(data)
@@ -95,7 +95,7 @@ def once(program: str, words: list[str], data: bytes) -> Run:
 
 
 def best(program: str, words: list[str], data: bytes) -> Run:
-    runs = [once(program, words, data) for _ in range(3)]
+    runs = [run_once(program, words, data) for _ in range(3)]
     return best_of(runs)
 
 
@@ -108,11 +108,11 @@ def best_of(runs: list[Run]) -> Run:
 
 def megabytes(memory: float) -> str:
     """Returns a size of memory as text; what this script itself takes is the least to be seen."""
-    least = once("/bin/true", [], b"").megabytes
+    least = run_once("/bin/true", [], b"").megabytes
     return f"{memory:.0f}" if memory > least + 1 else f"at most {memory:.0f}"
 
 
-def prepared(path: str, words: list[str], column: str) -> tuple[bytes, list[str]]:
+def prepare_map(path: str, words: list[str], column: str) -> tuple[bytes, list[str]]:
     """The bytes of a real map with the plan of this column as its districts, and the words of `run`
     for it.
     """
@@ -169,7 +169,7 @@ def row_of(
     return row, million
 
 
-def spoken(least: float, most: float) -> str:
+def format_range(least: float, most: float) -> str:
     """How long 10^9 steps take, from the seconds for a million."""
     (low, unit), (high, last) = (
         (1000 * million, "seconds") if million < 0.1 else (1000 * million / 60, "minutes")
@@ -182,10 +182,12 @@ def spoken(least: float, most: float) -> str:
     )
 
 
-def told(of: typing.Mapping[str, list[float]]) -> str:
+def format_times(of: typing.Mapping[str, list[float]]) -> str:
     """Returns the time of a walk of 10^9 steps by the table, on each kind of graph."""
     said = "; ".join(
-        f"{kind} {spoken(min(seconds), max(seconds))}" for kind, seconds in of.items() if seconds
+        f"{kind} {format_range(min(seconds), max(seconds))}"
+        for kind, seconds in of.items()
+        if seconds
     )
     return f"By these rows a walk of 10^9 steps takes: {said}."
 
@@ -214,7 +216,7 @@ def table(program: str, steps: int, most: int, folder: typing.Optional[str]) -> 
         add("on the grids of `make`", f"`make --size {size}`", ["make", "--size", str(size)], b"")
     for name, path, words, counts in real_maps(folder):
         for districts in counts:
-            data, command = prepared(path, words, f"PLAN{districts}")
+            data, command = prepare_map(path, words, f"PLAN{districts}")
             if len(json.loads(data)["nodes"]) <= most:
                 add(
                     (
@@ -228,19 +230,19 @@ def table(program: str, steps: int, most: int, folder: typing.Optional[str]) -> 
     for rows, columns in (
         shape for shape in ((30, 30), (100, 100), (250, 400)) if shape[0] * shape[1] <= most
     ):
-        data = crossed(rows, columns, 10)
+        data = make_crossed_grid(rows, columns, 10)
         add(
             "with diagonals",
             f"a file of {len(data) / 1e6:.1f} MB, {rows} by {columns} with diagonals",
             ["run", *COLUMNS],
             data,
         )
-    return "\n".join([*lines, "", told(of)])
+    return "\n".join([*lines, "", format_times(of)])
 
 
-def timed(program: str, words: list[str]) -> float:
+def measure_seconds(program: str, words: list[str]) -> float:
     begin = time.perf_counter()
-    once(program, words, b"")
+    run_once(program, words, b"")
     return time.perf_counter() - begin
 
 
@@ -254,7 +256,7 @@ def workers(program: str, plain: typing.Optional[str], steps: int) -> str:
     for _ in range(3):
         for count in ("1", "4"):
             for name, path in programs:
-                times[name, count].append(timed(path, [*words, count]))
+                times[name, count].append(measure_seconds(path, [*words, count]))
     lines = [
         f"| 16 walks of {steps} steps | one worker, s | four workers, s | times as fast |",
         "|---|---|---|---|",

@@ -23,7 +23,7 @@ import subprocess
 import sys
 import typing
 
-from tests.parsers import measuring
+from tests.parsers import measuring_parser
 
 
 Place = tuple[int, int]
@@ -149,7 +149,7 @@ def best(program: str, words: list[str], text: str, rounds: int) -> tuple[float,
 
 def main(program: str, steps: int, rounds: int) -> None:
     text = county_map()
-    bare: typing.Optional[float] = None
+    first: typing.Optional[float] = None
     print(
         (
             "| rules | a million steps, s | beside none | moves of a thousand steps"
@@ -162,15 +162,15 @@ def main(program: str, steps: int, rounds: int) -> None:
         whole, report = best(program, [*WORDS, *rule, "--steps", str(steps)], text, rounds)
         moved = next(line.split()[3] for line in report.splitlines() if line.startswith("walk "))
         each = (whole - short) * 10**6 / steps
-        bare = bare or each
+        first = first or each
         print(
-            f"| {name} | {each:.3f} | {each / bare:.2f} | {1000 * int(moved) / steps:.1f} |",
+            f"| {name} | {each:.3f} | {each / first:.2f} | {1000 * int(moved) / steps:.1f} |",
             flush=True,
         )
 
 
 def arguments() -> argparse.Namespace:
-    parser = measuring("counties", __doc__, 10000000)
+    parser = measuring_parser("counties", __doc__, 10000000)
     parser.add_argument("--write", action="store_true", help="write the map alone")
     parser.add_argument("--small", action="store_true", help="write a map of 120 units")
     return parser.parse_args()

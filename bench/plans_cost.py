@@ -18,8 +18,8 @@ import random
 import sys
 import typing
 
-from tests.parsers import measuring
-from bench.cost_table import Run, best_of, once
+from tests.parsers import measuring_parser
+from bench.cost_table import Run, best_of, run_once
 
 Place = tuple[int, int]
 # The district of each place.
@@ -33,7 +33,7 @@ WORDS = (
 )
 
 
-def winding(by_rows: bool) -> typing.Iterator[Place]:
+def wind_through(by_rows: bool) -> typing.Iterator[Place]:
     """The places along a path through all rows, or all columns, each the other way than the one
     before.
     """
@@ -48,7 +48,8 @@ def plan_of(number: int) -> Plan:
     size = ROWS * COLUMNS // DISTRICTS
     cuts = [size * d + (7 * number + 3 * d) % 41 - 20 for d in range(1, DISTRICTS)]
     return {
-        place: sum(at >= cut for cut in cuts) for at, place in enumerate(winding(number % 2 == 0))
+        place: sum(at >= cut for cut in cuts)
+        for at, place in enumerate(wind_through(number % 2 == 0))
     }
 
 
@@ -101,7 +102,7 @@ def table_of(plans: list[Plan]) -> str:
 
 
 def best(program: str, words: list[str], data: str, rounds: int) -> Run:
-    return best_of([once(program, words, data.encode()) for _ in range(rounds)])
+    return best_of([run_once(program, words, data.encode()) for _ in range(rounds)])
 
 
 def main(program: str, steps: int, rounds: int, write: bool) -> None:
@@ -111,7 +112,7 @@ def main(program: str, steps: int, rounds: int, write: bool) -> None:
         print(graph, table, sep="\n", end="")
         return
     words = [*WORDS, "--steps", str(steps)]
-    least = once("/bin/true", [], b"").megabytes
+    least = run_once("/bin/true", [], b"").megabytes
     whole = best(program, ["plans", *words], graph + "\n" + table, rounds)
     alone = [best(program, ["run", *words], graph_of(plan), rounds) for plan in plans]
     same = whole.text == "".join(
@@ -129,7 +130,7 @@ def main(program: str, steps: int, rounds: int, write: bool) -> None:
 
 
 def arguments() -> argparse.Namespace:
-    parser = measuring("plans_cost", __doc__, 1000000)
+    parser = measuring_parser("plans_cost", __doc__, 1000000)
     parser.add_argument("--write", action="store_true", help="write the input of the call alone")
     return parser.parse_args()
 

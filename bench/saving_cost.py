@@ -37,7 +37,7 @@ def words_of(args: argparse.Namespace, workers: int, save: int) -> list[str]:
     ]
 
 
-def once(
+def run_once(
     args: argparse.Namespace, workers: int, save: int, parent: typing.Optional[str]
 ) -> tuple[float, bytes]:
     """Seconds, and the report."""
@@ -53,7 +53,7 @@ def once(
     return seconds, run.stdout
 
 
-def measured(args: argparse.Namespace) -> tuple[dict[Way, float], bool]:
+def measure_rounds(args: argparse.Namespace) -> tuple[dict[Way, float], bool]:
     """The seconds of each round by the number of workers and the way, and whether all reports are
     the same.
     """
@@ -64,7 +64,7 @@ def measured(args: argparse.Namespace) -> tuple[dict[Way, float], bool]:
             for way, save, parent in zip(
                 WAYS, [0, args.save, args.save], [None, args.memory, None]
             ):
-                took, report = once(args, workers, save, parent)
+                took, report = run_once(args, workers, save, parent)
                 seconds.setdefault((workers, way), []).append(took)
                 reports.add(report)
     return {key: statistics.median(times) for key, times in seconds.items()}, len(reports) == 1
@@ -107,7 +107,7 @@ def main() -> None:
     args = parser.parse_args()
     others = [subprocess.Popen([sys.executable, "-c", BUSY]) for _ in range(args.busy)]
     try:
-        seconds, same = measured(args)
+        seconds, same = measure_rounds(args)
     finally:
         for other in others:
             other.kill()

@@ -60,14 +60,14 @@ walk() {
     [ $status -eq 7 ] || [ $status -eq 0 ] || exit $status
 }
 
-# Gathers the parts and writes the report, or queues the parts again where a trajectory is lacking.
+# Gathers the parts and writes the report, or queues the parts again if a trajectory is missing.
 gather() {
     mkdir -p all && cd all || exit 1
-    "$gatherer" --look yes "${folders[@]}" "${words[@]}" <"$folder/$graph" >told || exit
-    cat told
+    "$gatherer" --look yes "${folders[@]}" "${words[@]}" <"$folder/$graph" >findings || exit
+    cat findings
     local before so_far total
     before=$(cat before 2>/dev/null || echo 0)
-    read -r so_far total < <(sed -n 's/^done: \([0-9]*\) of \([0-9]*\)$/\1 \2/p' told)
+    read -r so_far total < <(sed -n 's/^done: \([0-9]*\) of \([0-9]*\)$/\1 \2/p' findings)
     if [ "$so_far" -lt "$total" ]; then
         [ "$so_far" -gt "$before" ] || { echo "this round has done nothing: see the logs of the parts" >&2; exit 1; }
         echo "$so_far" >before
@@ -75,7 +75,7 @@ gather() {
         return
     fi
     # A gathering that died within the first save of all left a part of one file here.
-    case $(cat told) in "working folder: no slot is intact"*) rm -f audit-[01].ckpt ;; esac
+    case $(cat findings) in "working folder: no slot is intact"*) rm -f audit-[01].ckpt ;; esac
     "$gatherer" "${folders[@]}" "${words[@]}" <"$folder/$graph" || exit
     "$program" "${words[@]}" "${saving[@]}" --resume yes --workers "$cores" <"$folder/$graph" >"$folder/report.new" || exit
     mv "$folder/report.new" "$folder/report"

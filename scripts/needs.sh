@@ -36,17 +36,17 @@ python_with() {
     return 1
 }
 
-# Sets `lacking` to the names of what is missing, and `packages` to the Debian packages that have it.
+# Sets `missing` to the names of what is missing, and `packages` to the Debian packages that have it.
 look() {
     local name
-    lacking=() packages=()
+    missing=() packages=()
     if ! python_with "${modules[@]}" >/dev/null; then
         for name in "${modules[@]}"; do
-            has /usr/bin/python3 "$name" || { lacking+=("$name"); packages+=("${package[$name]}"); }
+            has /usr/bin/python3 "$name" || { missing+=("$name"); packages+=("${package[$name]}"); }
         done
     fi
     for name in "${programs[@]}"; do
-        command -v "$name" >/dev/null || { lacking+=("$name"); packages+=(${package[$name]}); }
+        command -v "$name" >/dev/null || { missing+=("$name"); packages+=(${package[$name]}); }
     done
     mapfile -t packages < <(printf '%s\n' "${packages[@]}" | sed '/^$/d' | sort -u)
 }
@@ -83,14 +83,14 @@ case ${1:-} in
         ;;
 esac
 look
-if [ ${#lacking[@]} -gt 0 ] && [ "${1:-}" != look ]; then
+if [ ${#missing[@]} -gt 0 ] && [ "${1:-}" != look ]; then
     install
     look
 fi
 failed=0 skipped=0
-if [ ${#lacking[@]} -gt 0 ]; then
-    echo "needs: missing: ${lacking[*]}; as root: apt-get install -y ${packages[*]}" >&2
-    if [ -n "${CI:-}" ]; then failed=${#lacking[@]}; else skipped=${#lacking[@]}; fi
+if [ ${#missing[@]} -gt 0 ]; then
+    echo "needs: missing: ${missing[*]}; as root: apt-get install -y ${packages[*]}" >&2
+    if [ -n "${CI:-}" ]; then failed=${#missing[@]}; else skipped=${#missing[@]}; fi
 fi
-echo "needs.sh: $((${#modules[@]} + ${#programs[@]} - ${#lacking[@]})) passed, $failed failed, $skipped skipped"
+echo "needs.sh: $((${#modules[@]} + ${#programs[@]} - ${#missing[@]})) passed, $failed failed, $skipped skipped"
 [ "$failed" -eq 0 ]

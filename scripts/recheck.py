@@ -47,12 +47,12 @@ def same(where: str, expected: Sequence[object], found: Sequence[object]) -> Non
         last = want
 
 
-def sampled(what: str, some: Sized, every: Sized) -> None:
+def print_sample(what: str, some: Sized, every: Sized) -> None:
     print(f"{what}: {len(some)} of {len(every)} walked again; a single wrong one among these "
           f"escaped with chance {1 - len(some) / max(1, len(every)):.6f}.")
 
 
-def rounded_up(name: str, top: int, of: int) -> str:
+def round_up(name: str, top: int, of: int) -> str:
     whole, part = divmod(-(-top * BILLION // of), BILLION)
     return f"{name} {whole}.{part:09d}"
 
@@ -109,12 +109,12 @@ class Job:
                 raise ValueError(f"the report has a line `{line}`: give {name} COLUMN")
         if "--group" in names:
             names.setdefault("--group-of", names["--pop"])
-        self.names, told = names, {
+        self.names, reported = names, {
             **{f"--{k}": str(number) for k, number in n.items()}, "--key": self.key.hex(), **names,
             "--ask": ",".join(map(":".join, self.asks)), "--shift": ("no", "yes")[self.is_shift],
             "--serial": ("no", "yes")[self.is_serial]}
-        for k in sorted(told.keys() & words.keys()):
-            same(f"word {k}", words[k].lower() if k == "--key" else words[k], told[k])
+        for k in sorted(reported.keys() & words.keys()):
+            same(f"word {k}", words[k].lower() if k == "--key" else words[k], reported[k])
         self.origin = f"source sha256 {hashlib.sha256(data).hexdigest()} bytes {len(data)}"
         self.edges, self.columns = (self.make_map(int(words["--size"])) if data == b"make" else
                                     self.read_map(data, names))
@@ -178,7 +178,7 @@ class Job:
             f"{self.words.get('--seed', '')} {kind} {number}".encode()).digest())
         return sorted(ranked[:int(self.words.get(count, len(ranked)))])
 
-    def in_tail(self, k: int, value: int) -> bool:
+    def is_in_tail(self, k: int, value: int) -> bool:
         return value <= self.values[k] if self.asks[k][1] == "low" else value >= self.values[k]
 
     def way(self, trajectory: int) -> Tuple[int, int]:
@@ -201,26 +201,26 @@ class Job:
         return (moved, walk.values(), [0] * 9) if is_end else (moved, counts, bins)
 
     def head_lines(self) -> List[str]:
-        told = {name: f"{name} {number}" for name, number in self.n.items()}
+        pairs = {name: f"{name} {number}" for name, number in self.n.items()}
         return [*[self.origin, *self.source[1:]][:len(self.source)], f"key {self.key.hex()}",
                 f"units {len(self.start)} edges {len(self.edges)} districts {self.districts}",
-                f"population {self.total} {told['slack']} low {self.low} high {self.high}",
-                *[told["max-cut"]] * (self.n["max-cut"] < LIMITS["max-cut"]),
-                *[f"{told['max-split']} regions {self.regions}"] * (self.regions > 0),
-                *[f"{told['max-splits']} {told['max-split-regions']}"] * self.splits,
-                *[told["group-districts"] + f" of {self.there}"] * ("--group" in self.counts),
-                *[told["group-share"]] * self.shares,
+                f"population {self.total} {pairs['slack']} low {self.low} high {self.high}",
+                *[pairs["max-cut"]] * (self.n["max-cut"] < LIMITS["max-cut"]),
+                *[f"{pairs['max-split']} regions {self.regions}"] * (self.regions > 0),
+                *[f"{pairs['max-splits']} {pairs['max-split-regions']}"] * self.splits,
+                *[pairs["group-districts"] + f" of {self.there}"] * ("--group" in self.counts),
+                *[pairs["group-share"]] * self.shares,
                 *[f"frozen {len(self.frozen)}"] * bool(self.columns["--freeze"]),
                 *[f"cut-length {Walk(self, self.start).length}"] * self.has_lengths,
-                *[told["max-length"]] * (self.n["max-length"] < LIMITS["max-length"]),
-                " ".join(told[name] for name in ("walks", "steps", "ends", "hub-steps"))]
+                *[pairs["max-length"]] * (self.n["max-length"] < LIMITS["max-length"]),
+                " ".join(pairs[name] for name in ("walks", "steps", "ends", "hub-steps"))]
 
     def check(self) -> None:
         if "--id" in self.words or {"--trace", "--checkpoints"}.isdisjoint(self.words):
             every = [*[-1] * self.is_serial, *range(self.needed)]
             for number in self.pick("--sample", "trajectory", every):
                 self.known[number] = self.find(every[every.index(number)])  # or there is none
-            sampled("report: trajectories", self.known, every)
+            print_sample("report: trajectories", self.known, every)
         if "--trace" in self.words:
             self.trace(Path(self.words["--trace"]).read_bytes().decode("utf-8").split("\n"))
         if "--checkpoints" in self.words:
@@ -234,43 +234,43 @@ class Job:
         out += self.head_lines() + [f"stop {n['stop']}"] * (n["stop"] > 0)
         visits, walks, ends, asks = n["steps"] + 1, n["walks"], n["ends"], self.texts
 
-        def told(word: int, low: int, high: int) -> int:
+        def read_number(word: int, low: int, high: int) -> int:
             text = "".join("".join(self.lines[len(out):len(out) + 1]).split(" ")[word:word + 1])
             return min(max(int(text) if text.isdecimal() else low, low), high)
         for j, (k, ask) in product(range(walks), enumerate(asks)):
-            moved, counts, _ = known[j] if j in known else (told(3, 0, visits - 1), [], [])
-            count = counts[k] if counts else told(9, 1, visits)
-            out += [f"walk {j} moved {moved} {ask} count {count} of {visits} " + rounded_up(
+            moved, counts, _ = known[j] if j in known else (read_number(3, 0, visits - 1), [], [])
+            count = counts[k] if counts else read_number(9, 1, visits)
+            out += [f"walk {j} moved {moved} {ask} count {count} of {visits} " + round_up(
                 "bound", math.isqrt((2 * count * BILLION ** 2 - 1) // visits) + 1, BILLION)]
         if self.is_shift:
             walked = [bins for j, (_, _, bins) in known.items() if 0 <= j < walks and bins]
             bins = [sum(column) for column in zip([0] * 9, *walked)]
             if len(walked) < walks:
-                bins = [told(b + 1, least, walks * visits) for b, least in enumerate(bins)]
+                bins = [read_number(b + 1, least, walks * visits) for b, least in enumerate(bins)]
                 same("report: the sum of the line shift", [walks * visits], [sum(bins)])
             out += ["shift " + " ".join(map(str, bins))]
         for k, ask in enumerate(asks if ends else []):
-            hits = [self.in_tail(k, known[i][1][k]) if i in known else None
+            hits = [self.is_in_tail(k, known[i][1][k]) if i in known else None
                     for i in range(walks, walks + ends)]
-            rank = told(6, 1 + hits.count(True), 1 + ends - hits.count(False))
-            out += [f"stop {ask} " + self.stopped(hits, self.lines[len(out)].split(" "))
+            rank = read_number(6, 1 + hits.count(True), 1 + ends - hits.count(False))
+            out += [f"stop {ask} " + self.format_stop(hits, self.lines[len(out)].split(" "))
                     if n["stop"] else
-                    f"ends {ask} rank {rank} of {ends + 1} " + rounded_up("p", rank, ends + 1)]
+                    f"ends {ask} rank {rank} of {ends + 1} " + round_up("p", rank, ends + 1)]
         for k, ask in enumerate(asks if self.is_serial else []):
-            rank = known[-1][1][k] if -1 in known else told(8, 1, visits)
+            rank = known[-1][1][k] if -1 in known else read_number(8, 1, visits)
             out += [f"serial {ask} place {self.place} rank {rank} of {visits} "
-                    + rounded_up("p", rank, visits)]
+                    + round_up("p", rank, visits)]
         for at, both in enumerate(zip_longest([*out, "end", ""], self.lines, fillvalue="nothing")):
             same(f"report line {at + 1}", *both)
 
-    def stopped(self, hits: List[Optional[bool]], row: List[str]) -> str:
+    def format_stop(self, hits: List[Optional[bool]], row: List[str]) -> str:
         place = total = 0
         while place < len(hits) and total < self.n["stop"]:
             total, place = total + (hits[place] is True), place + 1
         top, of = (total, place) if total == self.n["stop"] else (total + 1, place + 1)
         if None in hits[:place]:
             place, top, of = map(int, [row[6], *row[8].split("/")])
-        return f"place {place} value {top}/{of} " + rounded_up("p", top, of)
+        return f"place {place} value {top}/{of} " + round_up("p", top, of)
 
     def trace(self, lines: List[str]) -> None:
         head = ["district-trace 1", *self.head_lines(), *(f"ask {ask}" for ask in self.texts)]
@@ -307,7 +307,7 @@ class Job:
                 total = [a + b for a, b in zip(total, counts + bins)]
         self.known.setdefault(number, (moved, Walk(self, plan).values(), []) if not is_walk else (
             moved, total[:asks], total[asks:]) if len(some) == len(middle) else (moved, [], []))
-        sampled(f"trace of id {number}: {len(rows)} plans, inner segments", some, middle)
+        print_sample(f"trace of id {number}: {len(rows)} plans, inner segments", some, middle)
 
     def checkpoint(self, path: Path) -> None:
         data = path.read_bytes()
@@ -326,7 +326,7 @@ class Job:
             moved, values, bins = self.find(k)
             row = [moved, *values, *[0] * (4 - len(values)), *[n * any(found[k][5:]) for n in bins]]
             same(f"{path}: outcome {k}", row, found[k])
-        sampled(f"{path}: outcomes", numbers, found)
+        print_sample(f"{path}: outcomes", numbers, found)
 
     def digest(self) -> str:
         n, columns, asks, long = self.n, self.columns, self.asks, self.has_lengths * len(self.edges)
@@ -400,14 +400,14 @@ class Walk:
 
     def marks(self) -> List[int]:  # the asks in whose tail the plan is, and behind them its bin
         job, bin_of = self.job, min(8, max(0, self.score("seats") - self.job.seats + 4))
-        tails = [k for k, value in enumerate(self.values()) if job.in_tail(k, value)]
+        tails = [k for k, value in enumerate(self.values()) if job.is_in_tail(k, value)]
         return [*tails, len(job.asks) + bin_of]
 
     def majorities(self) -> int:
         both, share = zip(self.sums["--group"], self.sums["--group-of"]), self.job.n["group-share"]
         return sum(10000 * part > share * whole for part, whole in both)
 
-    def keeps_rules(self) -> bool:
+    def is_within_rules(self) -> bool:
         n, parts = self.job.n, self.parts
         return (self.cut <= n["max-cut"] and max(parts, default=0) <= n["max-split"]
                 and self.length <= n["max-length"] and sum(parts) - len(parts) <= n["max-splits"]
@@ -438,16 +438,16 @@ class Walk:
     def is_legal(self) -> bool:
         sets = [[u for u, at in enumerate(self.plan) if at == d] for d in range(self.job.districts)]
         return (all(self.job.low <= people <= self.job.high for people in self.sums["--pop"])
-                and all(self.joins(members, [], []) for members in sets) and self.keeps_rules()
+                and all(self.joins(members, [], []) for members in sets) and self.is_within_rules()
                 and all(self.plan[u] == self.job.start[u] for u in self.job.frozen))
 
-    def makes(self, unit: int, into: int) -> bool:
+    def try_move(self, unit: int, into: int) -> bool:
         job, plan, out, people = self.job, self.plan, self.plan[unit], self.sums["--pop"]
         amount, mates = job.columns["--pop"][unit], [v for v in job.near[unit] if plan[v] == out]
         if (unit not in job.frozen and people[out] - amount >= job.low
                 and people[into] + amount <= job.high and self.joins(mates, [unit], [8, 64])):
             self.move(unit, into)
-            if self.keeps_rules():
+            if self.is_within_rules():
                 return True
             self.move(unit, out)
         return False
@@ -458,7 +458,7 @@ class Walk:
         limit = 2 ** 64 // (pairs := len(self.plan) * d) * pairs
         tally, moved, since, marks = [0] * (asks + 9), 0, begin - with_first, self.marks()
         for step, draw in enumerate(draws_of(job.key, stream, begin, end), begin):
-            if is_open[draw % pairs] and draw < limit and self.makes(*divmod(draw % pairs, d)):
+            if is_open[draw % pairs] and draw < limit and self.try_move(*divmod(draw % pairs, d)):
                 for mark in marks:
                     tally[mark] += step - since
                 marks, moved, since = self.marks(), moved + 1, step

@@ -92,7 +92,7 @@ class Checks:
             name, False, f"from byte {front}: {brief(expected[front:])}", brief(came[front:])
         )
 
-    def ended(self, name: str, end: End, status: int = 0) -> bool:
+    def has_status(self, name: str, end: End, status: int = 0) -> bool:
         """Counts a check that holds where a program ended with this status."""
         return self.is_true(
             name,
@@ -105,7 +105,7 @@ class Checks:
         """Counts a check that holds where a text has this part."""
         return self.is_true(name, part in text, part, text[-1500:])
 
-    def missing(self, name: str, what: str) -> None:
+    def count_missing(self, name: str, what: str) -> None:
         """Counts a check that needs what is not here: failed where CI is set, else skipped."""
         if os.environ.get("CI"):
             self.is_true(name, False, f"{what}, for the variable CI is set", "missing")

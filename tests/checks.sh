@@ -21,7 +21,7 @@ fails() {
 }
 
 # Checks that a status is 0: its name, the status, what was expected, what came.
-judge() {
+check() {
     if [ "$2" -eq 0 ]; then passed=$((passed + 1)); else fails "$1" "$3" "${4:-status $2}"; fi
 }
 
@@ -45,7 +45,7 @@ empty_file() {
 }
 
 # Counts a check as skipped, or as failed where the variable CI is set: its name, and what is missing.
-missing() {
+count_missing() {
     if [ -n "${CI:-}" ]; then
         fails "$1" "$2, for the variable CI is set" "missing"
     else

@@ -45,7 +45,7 @@ class Kit(typing.NamedTuple):
 def kit_of(checks: Checks) -> typing.Optional[Kit]:
     """Returns the toolchain, or None if it is not here."""
     if not shutil.which("rt"):
-        checks.missing("toolchain", "rt")
+        checks.count_missing("toolchain", "rt")
         return None
     folder = pathlib.Path(run(["rt", "doc"]).out.strip().splitlines()[-1]).parent
     lines = (line.partition("#")[0] for line in (TOP / "crates.txt").read_text().splitlines())
@@ -63,7 +63,7 @@ def has_libraries(checks: Checks, names: typing.Iterable[str]) -> bool:
     libraries = {name: library_of(name) for name in names}
     missing = [name for name, path in libraries.items() if not path.is_dir()]
     if missing:
-        checks.missing("libraries", f"what rt ci builds of {' '.join(missing)}")
+        checks.count_missing("libraries", f"what rt ci builds of {' '.join(missing)}")
         return False
     # rt ci gives back what rt check had left, which does not fit its own libraries.
     left = [name for name, path in libraries.items() if (path.parent / "stamp").exists()]

@@ -11,7 +11,7 @@ def parser_of(module: str, text: typing.Optional[str]) -> argparse.ArgumentParse
     )
 
 
-def measuring(name: str, text: typing.Optional[str], steps: int) -> argparse.ArgumentParser:
+def measuring_parser(name: str, text: typing.Optional[str], steps: int) -> argparse.ArgumentParser:
     """Returns the parser of a script that walks a number of steps in several rounds."""
     parser = parser_of(f"bench.{name}", text)
     parser.add_argument("program", nargs="?", default="", help="the built auditor")
@@ -22,7 +22,7 @@ def measuring(name: str, text: typing.Optional[str], steps: int) -> argparse.Arg
     return parser
 
 
-def comparing(name: str, text: typing.Optional[str]) -> argparse.ArgumentParser:
+def comparing_parser(name: str, text: typing.Optional[str]) -> argparse.ArgumentParser:
     """Returns the parser of a script that compares runs, with the program as its first word."""
     parser = parser_of(f"tests.differential.{name}", text)
     parser.add_argument("program", help="the built auditor")

@@ -68,7 +68,7 @@ def program(name: str) -> pathlib.Path:
     return path.resolve()
 
 
-def linked(folder: pathlib.Path) -> tuple[pathlib.Path, pathlib.Path, pathlib.Path]:
+def link_programs(folder: pathlib.Path) -> tuple[pathlib.Path, pathlib.Path, pathlib.Path]:
     """Returns links in a folder to the program over folders, by each of its names.
 
     It does what the name says under which it is called: `audit_folders`, `audit_slots` and

@@ -74,7 +74,7 @@ def starts() -> typing.Iterator[ModuleKey]:
                 yield crate, module
 
 
-def reached() -> set[ModuleKey]:
+def find_reached() -> set[ModuleKey]:
     found, left = set(), list(starts())
     while left:
         at = left.pop()
@@ -88,7 +88,7 @@ def reached() -> set[ModuleKey]:
     return found
 
 
-def listed() -> set[ModuleKey]:
+def read_listed() -> set[ModuleKey]:
     """The modules that the document names, in the last column of a table or in a sentence, as
     `crate` Module, Module.
     """
@@ -217,7 +217,7 @@ def contract() -> list[str]:
     return ["```text"] + text[: text.index("\n{\n")].split("\n") + ["```"]
 
 
-def renewed(text: str) -> str:
+def update_text(text: str) -> str:
     """The document with what its marks ask for written anew."""
     out: list[str] = []
     lines, at = text.split("\n"), 0
@@ -242,12 +242,12 @@ def quotes_in(text: str) -> typing.Iterator[Key]:
             yield from quoted_names(found.group(2))
 
 
-def stale() -> typing.Iterator[str]:
+def find_stale() -> typing.Iterator[str]:
     """Returns what the documents do not quote, or not as it stands."""
     for path in QUOTING:
         with open(path, encoding="utf-8") as file:
             text = file.read()
-        if renewed(text) != text:
+        if update_text(text) != text:
             yield f"{os.path.relpath(path, TOP)} is not what `definitions.py page` writes"
         if path == QUOTING[0]:
             shown = {
@@ -262,15 +262,15 @@ def write_page() -> None:
         with open(path, encoding="utf-8") as file:
             text = file.read()
         with open(path, "w", encoding="utf-8") as file:
-            file.write(renewed(text))
+            file.write(update_text(text))
 
 
 # ---- the list of modules
 
 
-def unlisted() -> typing.Iterator[str]:
+def find_unlisted() -> typing.Iterator[str]:
     """Returns what docs/claims/DEFINITIONS.md does not list, or lists in vain."""
-    modules, documented = reached(), listed()
+    modules, documented = find_reached(), read_listed()
     for crate, module in sorted(modules - documented):
         yield f"docs/claims/DEFINITIONS.md does not list {crate} {module}"
     for crate, module in sorted(m for m in documented if not is_own(*m)):
@@ -302,7 +302,7 @@ def show_path(name: str) -> None:
 
 def main(word: str, name: str) -> int:
     if word == "check":
-        faults = list(unlisted()) + list(code_below()) + list(plain_fault()) + list(stale())
+        faults = [*find_unlisted(), *code_below(), *plain_fault(), *find_stale()]
         print("\n".join(faults), end="\n" if faults else "")
         return 1 if faults else 0
     if word == "page":
@@ -312,7 +312,7 @@ def main(word: str, name: str) -> int:
     elif word == "path":
         show_path(name)
     else:
-        for crate, module in sorted(reached()):
+        for crate, module in sorted(find_reached()):
             print(crate, module)
     return 0
 

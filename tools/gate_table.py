@@ -132,12 +132,12 @@ class Watch:
             line.append(pid)
             pid = seen[pid].parent
         for one in line:
-            use = self.known(one, seen[one].start)
+            use = self.find_use(one, seen[one].start)
             if use:
                 return use
         return None
 
-    def known(self, pid: int, start: str) -> typing.Optional[Use]:
+    def find_use(self, pid: int, start: str) -> typing.Optional[Use]:
         # (a process may become another program, so one that named no crate is asked again)
         if not self.uses.get((pid, start)):
             words, folder = words_of(pid)
@@ -153,10 +153,10 @@ class Watch:
 
 def gate_words() -> list[str]:
     """The command of a gate that takes nothing from earlier runs."""
-    told = subprocess.run(
+    usage = subprocess.run(
         ["rt", "help"], stdout=subprocess.PIPE, stderr=subprocess.STDOUT, text=True, check=False
     ).stdout
-    return ["rt", "ci", "--anew"] if "--anew" in told else ["rt", "ci"]
+    return ["rt", "ci", "--anew"] if "--anew" in usage else ["rt", "ci"]
 
 
 def run(names: list[str], crates: list[str]) -> tuple[int, Watch]:

@@ -71,7 +71,7 @@ def main() -> int:
         if is_installed(name):
             part(checks)
         else:
-            checks.missing(name, name)
+            checks.count_missing(name, name)
     return checks.finish()
 
 

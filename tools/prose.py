@@ -198,7 +198,7 @@ def all_findings() -> dict[str, list[Finding]]:
     return {path: some for path, some in found.items() if some}
 
 
-def recorded() -> dict[str, int]:
+def read_record() -> dict[str, int]:
     """Returns the recorded count of findings by file."""
     counts: dict[str, int] = json.loads(RECORD.read_text(encoding="utf-8"))
     return counts
@@ -206,7 +206,7 @@ def recorded() -> dict[str, int]:
 
 def check() -> int:
     """Compares the findings with the record, and returns the exit status."""
-    found, before = all_findings(), recorded()
+    found, before = all_findings(), read_record()
     worse = {path: some for path, some in found.items() if len(some) > before.get(path, 0)}
     for path, some in worse.items():
         print(f"prose: {path}: {len(some)} findings, recorded are {before.get(path, 0)}")

@@ -40,11 +40,11 @@ class Definition:
 
     def words(self) -> set[str]:
         """The names in it, without its comments and texts."""
-        bare = (
+        cleaned = (
             re.sub(r"--.*", "", re.sub(r'"[^"]*"', '""', line))
             for line in self.lines + [line for _, line in self.over]
         )
-        return {word for line in bare for word in WORD.findall(line)}
+        return {word for line in cleaned for word in WORD.findall(line)}
 
 
 class Module:
@@ -100,7 +100,7 @@ class Module:
         if not found:
             return at + 1
         name, indent, end = found.group(2) or found.group(4), indent_of(lines[at]), at + 1
-        while end < len(lines) and lines[end].strip() and self.goes_on(lines[end], name, indent):
+        while end < len(lines) and lines[end].strip() and self.has_more(lines[end], name, indent):
             end += 1
         self.definitions[name] = Definition(
             (self.crate, self.name, name), comment + lines[at:end], tuple(over)
@@ -113,7 +113,7 @@ class Module:
         return end
 
     @staticmethod
-    def goes_on(line: str, name: str, indent: int) -> bool:
+    def has_more(line: str, name: str, indent: int) -> bool:
         """The line is still the definition's: it stands further in, is an equation of the name, or
         closes a record.
         """

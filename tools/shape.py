@@ -17,10 +17,13 @@ of proofs/ that stand below a comment; and the calls on the shortest way from th
 flip, by names as they stand in the text. A limit have: crates, those calls, types of one name,
 functions that are named by a participle, functions of more than 40 lines, files of more than 500,
 lines of code over 120 columns (clauses and texts are left out), lemmas that nothing cites, imports
-that nothing uses, and uses of the type `Any` in Python. Tests are left out, but not those in
-Python. The counts read the text with patterns, and not as the prover does.
+that nothing uses, uses of the type `Any` in Python, and Python functions and methods that are named
+by a participle or a particle (properties are left out, since they are read as fields). Tests are
+left out, but not those in Python. The counts read the text with patterns, and not as the prover
+does.
 """
 import argparse
+import ast
 import dataclasses
 import os
 import re
@@ -50,19 +53,30 @@ LIMITS = {
     "lemmas_that_nothing_cites": 0,
     "imports_that_nothing_uses": 0,
     "uses_of_any": 8,
+    "python_functions_named_by_a_participle": 0,
 }
 # Functions of more than 40 lines with one `match`, whose arms are one row of a table each.
 TABLES = {"argument_text"}
 # Participles without `ed`, and the words that make a participle no verb: `given_by`, `led_back`.
 PARTICIPLES = set(
-    "begun broken come cut done drawn driven fallen found given gone held hidden kept known led"
-    " left lent lost made met put read risen said seen sent set shown spelt spent split spoilt"
-    " stood swept taken told thrown torn worn written".split()
+    "begun broken built come cut done drawn driven fallen found given gone grown held hidden kept"
+    " known led left lent lost made met put read risen said seen sent set shown spelt spent split"
+    " spoilt spoken stood swept taken told thrown torn worn written".split()
 )
 VERBS = {"cut", "put", "read", "set", "split", "feed", "need", "seed", "spread"}
 PARTICLES = {"after", "again", "all", "at", "back", "by", "in", "of", "once", "up", "with"}
 # Public calls that the formats and the users of these crates fix.
 FIXED = {"done", "ended", "moved", "saved"}
+# Further words that name no action. A Python function is not named by these and particles alone.
+NO_VERBS = PARTICLES | set("around beside by even for from near now only there together".split())
+# Decorators that make a method a field.
+FIELDS = {"property", "functools.cached_property"}
+# Names as `check` has to judge them.
+PLANTED = {
+    "told": True, "looked": True, "taken_up": True, "sealed_again": True, "_given": True,
+    "near": True, "of": True, "tell": False, "read": False, "split_by": False, "need": False,
+    "drawn_graph": False, "of_file": False, "__init__": False,
+}
 
 
 def files(folder: str, ending: str) -> typing.Iterator[tuple[str, str]]:
@@ -74,7 +88,7 @@ def files(folder: str, ending: str) -> typing.Iterator[tuple[str, str]]:
                     yield os.path.join(where, name), file.read()
 
 
-def closing(text: str, at: int) -> int:
+def find_closing(text: str, at: int) -> int:
     """The place after the bracket that closes the one at this place."""
     pairs = {"(": ")", "{": "}", "[": "]"}
     depth = 0
@@ -129,7 +143,7 @@ def functions(folder: str) -> typing.Iterator[Function]:
             if start.group(1):
                 continue
             opening = text.find("(", start.end())
-            end = closing(text, opening)
+            end = find_closing(text, opening)
             at, requires = end, 0
             # The clauses up to the body: each clause has its own braces.
             while True:
@@ -141,11 +155,11 @@ def functions(folder: str) -> typing.Iterator[Function]:
                 if not word:
                     yield Function(
                         start.group(2), file, parts_of(text[opening + 1:end - 1]), requires,
-                        text[brace:closing(text, brace)],
+                        text[brace:find_closing(text, brace)],
                     )
                     break
                 requires += word.group(1) == "requires"
-                at = closing(text, brace)
+                at = find_closing(text, brace)
 
 
 def definitions(folder: str) -> dict[str, set[str]]:
@@ -167,7 +181,7 @@ def definitions(folder: str) -> dict[str, set[str]]:
 
 def lemmas(folder: str) -> tuple[int, int]:
     """Returns the number of lemmas, and of those below a comment."""
-    all_of_them, told = 0, 0
+    all_of_them, commented = 0, 0
     for file, text in files(folder, ".antt"):
         if "/proofs/" not in file or file.endswith(
             ("Lib.antt", "Answers.antt", "Invariants.antt", "Proof.antt")
@@ -179,10 +193,10 @@ def lemmas(folder: str) -> tuple[int, int]:
                 r"^(?:pub )?(?!use\b|mod\b|module\b|unfolding\b|open\b)[A-Za-z_][\w-]* :", line
             ):
                 all_of_them += 1
-                told += before.startswith("--")
+                commented += before.startswith("--")
             if not line.startswith("unfolding"):
                 before = line
-    return all_of_them, told
+    return all_of_them, commented
 
 
 def entries() -> tuple[int, int]:
@@ -195,7 +209,7 @@ def crate_of(file: str) -> str:
     return os.path.relpath(file, os.path.join(TOP, "crates")).split(os.sep)[0]
 
 
-def stands_on() -> dict[str, set[str]]:
+def read_dependencies() -> dict[str, set[str]]:
     with open(os.path.join(TOP, "crates.txt"), encoding="utf-8") as file:
         lines = [line.split("#")[0] for line in file if ":" in line.split("#")[0]]
     return {line.split()[0].rstrip(":"): set(line.split(":", 1)[1].split()) for line in lines}
@@ -216,7 +230,7 @@ class Shape:
 Call = tuple[str, str]
 
 
-def brought_into(text: str) -> dict[str, str]:
+def find_imports(text: str) -> dict[str, str]:
     """Returns the crate of each name that a file brings in."""
     brought = {}
     for path, names in re.findall(r"^use ([\w:]+)::(?:\{([^}]*)\}|\w+);", text, re.M | re.S):
@@ -234,14 +248,14 @@ def calls_among(found: list[Function]) -> dict[Call, set[Call]]:
     in; one with a dot is of the same crate, or of one on which it stands.
     """
     homes: dict[str, set[str]] = defaultdict(set)
-    below = stands_on()
+    below = read_dependencies()
     for f in found:
         homes[f.name].add(crate_of(f.file))
     calls: dict[Call, set[Call]] = defaultdict(set)
     for f in found:
         crate = crate_of(f.file)
         with open(f.file, encoding="utf-8") as file:
-            brought = brought_into(file.read())
+            brought = find_imports(file.read())
         for dot, name in re.findall(r"(\.|::|\b)(\w+)(?:::<[^()]*?>)?\(", f.body):
             near = homes[name]
             if crate in near:
@@ -278,7 +292,7 @@ def counts(folder: str) -> Shape:
     found = list(functions(folder))
     many = [f for f in found if f.parameters > 6]
     double = {name: where for name, where in definitions(folder).items() if len(where) > 1}
-    all_of_them, told = lemmas(folder)
+    all_of_them, commented = lemmas(folder)
     lines = sorted(f.lines() for f in found) or [0]
     return Shape(
         found,
@@ -293,7 +307,7 @@ def counts(folder: str) -> Shape:
             "lines of a body, longest": lines[-1],
             "names of definitions in two modules or more": len(double),
             "lemmas": all_of_them,
-            "lemmas below a comment": f"{100 * told // max(1, all_of_them)} %",
+            "lemmas below a comment": f"{100 * commented // max(1, all_of_them)} %",
         },
     )
 
@@ -301,9 +315,27 @@ def counts(folder: str) -> Shape:
 def is_participle(name: str) -> bool:
     """Returns true if a function has a bare participle as its name, or one with a particle."""
     first, *rest = name.split("_")
-    if first in VERBS or name in FIXED or not set(rest) <= PARTICLES:
+    if first in VERBS or not set(rest) <= PARTICLES:
         return False
     return first in PARTICIPLES or first.endswith("ed")
+
+
+def is_no_verb(name: str) -> bool:
+    """Returns true if a Python function has a participle or only particles as its name."""
+    stem = name.strip("_")
+    return is_participle(stem) or set(stem.split("_")) <= NO_VERBS
+
+
+def python_functions() -> typing.Iterator[tuple[str, str]]:
+    """Yields the name and the place of each Python function and method, without properties."""
+    for path in lint.python_files(*lint.FOLDERS):
+        with open(os.path.join(TOP, path), encoding="utf-8") as file:
+            tree = ast.parse(file.read())
+        for node in ast.walk(tree):
+            if isinstance(node, (ast.FunctionDef, ast.AsyncFunctionDef)):
+                marks = {ast.unparse(mark) for mark in node.decorator_list}
+                if not marks & FIELDS:
+                    yield node.name, f"{path}:{node.lineno}"
 
 
 def types_of_one_name(folder: str) -> list[str]:
@@ -349,14 +381,16 @@ def above_limit(folder: str) -> dict[str, list[str]]:
     """Returns what each count with a limit counts."""
     own = list(functions(folder))
     return {
-        "crates": sorted(stands_on()),
+        "crates": sorted(read_dependencies()),
         "calls_to_the_flip": [
             f"{crate}::{name}"
             for crate, name in way(own, ("audit_run", "audit"), ("flip_kernel", "flip"))
         ],
         "types_of_one_name": types_of_one_name(folder),
         "functions_named_by_a_participle": [
-            f"{f.name} in {os.path.relpath(f.file, folder)}" for f in own if is_participle(f.name)
+            f"{f.name} in {os.path.relpath(f.file, folder)}"
+            for f in own
+            if is_participle(f.name) and f.name not in FIXED
         ],
         "functions_of_more_than_40_lines": [
             f"{f.name}: {f.lines()}" for f in own if f.lines() > 40 and f.name not in TABLES
@@ -366,17 +400,23 @@ def above_limit(folder: str) -> dict[str, list[str]]:
             for file, text in files(folder, ".rt") if text.count("\n") > 500
         ],
         "lines_over_120_columns": wide_lines(folder),
-        "lemmas_that_nothing_cites": [f"{name} in {path}" for path, name in uncited.uncited()],
+        "lemmas_that_nothing_cites": [
+            f"{name} in {path}" for path, name in uncited.find_uncited()
+        ],
         "imports_that_nothing_uses": [
             f"{name} in {path}" for path, name in uncited.unused_imports()
         ],
         "uses_of_any": uses_of_any(),
+        "python_functions_named_by_a_participle": [
+            f"{name} in {place}" for name, place in python_functions() if is_no_verb(name)
+        ],
     }
 
 
 def check() -> int:
     """Compares each count that has a limit with it."""
     checks = Checks("shape")
+    checks.is_equal("judges_planted_names", {name: is_no_verb(name) for name in PLANTED}, PLANTED)
     for name, counted in above_limit(os.path.join(TOP, "crates")).items():
         most = LIMITS.get(name, 0)
         checks.is_true(
@@ -406,6 +446,9 @@ def main(words: argparse.Namespace) -> None:
         "functions by crate": f"{len(shape.found) / crates:.1f}",
         **shape.rows,
         "calls from `audit` to the flip": len(path),
+        "Python functions named by a participle": sum(
+            is_no_verb(name) for name, _ in python_functions()
+        ),
     }
     folders = {name: toolchain(name) for name in BESIDE}
     others = {name: counts(folder).rows for name, folder in folders.items() if folder}

@@ -29,14 +29,14 @@ Names = dict[tuple[str, str], set[pathlib.Path]]
 STRING = re.compile(r'"(?:[^"\\\n]|\\.)*"')
 
 
-def without_comments(text: str) -> str:
+def remove_comments(text: str) -> str:
     """Returns a text without comments, and with empty strings: `--` may stand in a string."""
     return re.sub(r"(?:--|//)[^\n]*", "", STRING.sub('""', text))
 
 
 def words_of(text: str) -> Words:
     """Returns the words of a text outside of comments and `use` lines."""
-    lines = without_comments(text).splitlines()
+    lines = remove_comments(text).splitlines()
     return set(WORD.findall("\n".join(
         line for line in lines if not line.startswith(("use ", "pub use "))
     )))
@@ -77,7 +77,7 @@ def read_all() -> dict[pathlib.Path, str]:
     }
 
 
-def naming(texts: typing.Mapping[pathlib.Path, str]) -> Names:
+def find_naming_files(texts: typing.Mapping[pathlib.Path, str]) -> Names:
     """Returns the files that name each file of lemmas, by its crate and its name."""
     found: Names = collections.defaultdict(set)
     for path, text in texts.items():
@@ -95,18 +95,18 @@ def lemma_files(texts: typing.Mapping[pathlib.Path, str]) -> typing.Iterator[pat
             yield path
 
 
-def uncited() -> list[tuple[str, str]]:
+def find_uncited() -> list[tuple[str, str]]:
     """Returns each lemma that nothing cites: its file and its name."""
     texts = read_all()
     words = {path: words_of(text) for path, text in texts.items()}
-    names = naming(texts)
+    names = find_naming_files(texts)
     found = []
     for path in lemma_files(texts):
         parts = paragraphs(texts[path])
         own = [words_of(part) for part in parts]
         others = names[crate_of(path), path.stem] - {path}
         for place, part in enumerate(parts):
-            declared = DECLARED.findall(without_comments(part))
+            declared = DECLARED.findall(remove_comments(part))
             if len(declared) != 1 or part.lstrip().startswith("module"):
                 continue
             near = any(declared[0] in each for at, each in enumerate(own) if at != place)
@@ -131,7 +131,7 @@ def unused_imports() -> list[tuple[str, str]]:
         if path.suffix != ".antt":
             continue
         imports = IMPORTS.findall(text)
-        rest = without_comments(IMPORTS.sub("", text))
+        rest = remove_comments(IMPORTS.sub("", text))
         for name in (name.strip() for names in imports for name in names.split(",")):
             if not is_used(name.split(" as ")[-1].lstrip("#"), rest):
                 found.append((str(path.relative_to(CRATES)), name))
@@ -139,7 +139,7 @@ def unused_imports() -> list[tuple[str, str]]:
 
 
 def main() -> None:
-    for path, name in uncited() + unused_imports():
+    for path, name in find_uncited() + unused_imports():
         print(path, name)
 
 

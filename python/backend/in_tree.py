@@ -62,7 +62,7 @@ def entry_points() -> str:
     )
 
 
-def about() -> dict[str, str]:
+def describe_wheel() -> dict[str, str]:
     """The files that say what a wheel is."""
     return {
         INFO + "/METADATA": metadata(),
@@ -123,7 +123,7 @@ def build_wheel(
     config_settings: Settings = None,
     metadata_directory: typing.Optional[str] = None,
 ) -> str:
-    return wheel(wheel_directory, {**sources(), **about()})
+    return wheel(wheel_directory, {**sources(), **describe_wheel()})
 
 
 def build_editable(
@@ -131,7 +131,7 @@ def build_editable(
     config_settings: Settings = None,
     metadata_directory: typing.Optional[str] = None,
 ) -> str:
-    return wheel(wheel_directory, {PACKAGE + "_here.pth": f"{HERE}\n", **about()})
+    return wheel(wheel_directory, {PACKAGE + "_here.pth": f"{HERE}\n", **describe_wheel()})
 
 
 def build_sdist(sdist_directory: str, config_settings: Settings = None) -> str:

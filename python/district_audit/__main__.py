@@ -7,7 +7,7 @@ import sys
 from . import __version__
 from .errors import ProgramMissing
 from .manifest import verify_command
-from .program import found
+from .program import find_program
 
 
 def main() -> int:
@@ -25,7 +25,7 @@ def main() -> int:
     status = 0
     for which, what in (("audit", "the auditor"), ("slots", "audit_slots, which shows progress")):
         try:
-            print(f"{what}: {found(which)}")
+            print(f"{what}: {find_program(which)}")
         except ProgramMissing as why:
             print(f"{what}: {why}")
             status = 1 if which == "audit" else status

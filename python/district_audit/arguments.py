@@ -17,7 +17,7 @@ import typing
 from .errors import TypeRefused, ValueRefused
 from .graphs import is_whole
 
-# The arguments of a call by their names: each has a type of its own, which `tested` looks at.
+# The arguments of a call by their names: each has a type of its own, which `test_words` looks at.
 Words = typing.Mapping[str, object]
 Call = typing.TypeVar("Call", bound=typing.Callable[..., object])
 
@@ -531,7 +531,7 @@ OF_CALLS: dict[str, dict[str, tuple[str, str]]] = {
 }
 
 
-def documented(function: Call) -> Call:
+def document(function: Call) -> Call:
     """Puts a section `Parameters` in place of the line PARAMETERS of a docstring."""
     if function.__doc__:
         found = ["Parameters", "----------"]
@@ -559,7 +559,7 @@ def documented(function: Call) -> Call:
 # ---- refusing
 
 
-def shown(value: object) -> str:
+def shorten(value: object) -> str:
     """Returns a value as it was written, cut where it is long."""
     text = repr(value)
     return text if len(text) <= 60 else text[:57] + "..."
@@ -575,7 +575,7 @@ def refuse(
     line: str = "",
 ) -> typing.NoReturn:
     """Raises a refusal in Python's terms, with the line that the program would write."""
-    said = f"{command}({name}={shown(given)}): {allowed}" + (f"; {hint}" if hint else "")
+    said = f"{command}({name}={shorten(given)}): {allowed}" + (f"; {hint}" if hint else "")
     raise kind(said, name, given, allowed, hint, line or f"words: bad value for {word(name)}")
 
 
@@ -696,7 +696,7 @@ def tested_elections(
 # ---- testing
 
 
-def tested(command: str, named: Words) -> None:
+def test_words(command: str, named: Words) -> None:
     """Refuses what the program would refuse, in its order: unknown, missing, then bad arguments.
 
     `read_trace` calls no program. It has those arguments of `trace` that the head of the text is
@@ -742,7 +742,7 @@ def test_value(command: str, row: Argument, named: Words) -> None:
         "ask": test_ask,
         "ids": test_ids,
     }[row.kind](command, row, value)
-    why = beside_others(command, row.name, named)
+    why = find_conflict(command, row.name, named)
     if why and row.name == "ends" and number(named, "ends") == 0:
         test_sum(command, row, named)
     if why:
@@ -804,7 +804,7 @@ def test_key(command: str, row: Argument, value: object) -> None:
     elif not isinstance(value, str):
         refuse(TypeRefused, command, row.name, value, row.allowed)
     elif not re.fullmatch("[0-9a-fA-F]{64}", value):
-        hint = f"key=key_of({shown(value)}) makes a key of any text"
+        hint = f"key=key_of({shorten(value)}) makes a key of any text"
         refuse(ValueRefused, command, row.name, value, row.allowed, hint)
 
 
@@ -904,7 +904,7 @@ def flag(named: Words, name: str) -> bool:
 
 def test_sum(command: str, row: Argument, named: Words) -> None:
     """Refuses too few or too many trajectories where `ends` is left out."""
-    why = beside_others(command, "ends", named)
+    why = find_conflict(command, "ends", named)
     if why:
         refuse(
             ValueRefused, command, "walks", named.get("walks", 1), *why,
@@ -912,7 +912,7 @@ def test_sum(command: str, row: Argument, named: Words) -> None:
         )
 
 
-def beside_others(command: str, name: str, named: Words) -> tuple[str, str] | None:
+def find_conflict(command: str, name: str, named: Words) -> tuple[str, str] | None:
     """Returns what is asked of a value beside the others, and a hint, where it is not met."""
     test = BESIDE.get(name)
     return test(named) if test is not None and command in TABLE[name].commands else None
@@ -988,7 +988,7 @@ def part_beside(named: Words) -> Why:
     return f"part is from 0 to parts - 1, which is {parts - 1}", ""
 
 
-def shown_by(named: Words) -> dict[str, str]:
+def format_shown(named: Words) -> dict[str, str]:
     """Returns the ids and the thinning of a trace, as the program takes them."""
     ids = named.get("ids", TABLE["ids"].default)
     walks, ends = number(named, "walks") or 0, number(named, "ends") or 0

@@ -19,16 +19,16 @@ from .arguments import (
     AsPrepared,
     Words,
     count_in,
-    documented,
+    document,
     plain_words,
     refuse,
-    shown_by,
-    tested,
+    format_shown,
+    test_words,
     tested_elections,
     text_in,
 )
 from .districts import Plan, plan_of
-from .elections import ElectionReports, folder_of, left_in
+from .elections import ElectionReports, folder_of, name_election
 from .errors import (
     CheckpointRefused,
     FrozenWalk,
@@ -44,8 +44,8 @@ from .errors import (
 )
 from .graphs import Foreign
 from .preparing import Preparation, Prepared, prepare
-from .program import Ended, PathLike, call, found
-from .report import Audited, PlanCheck, Report, Rules, in_batch
+from .program import Ended, PathLike, call, find_program
+from .report import Audited, PlanCheck, Report, Rules, join_batch
 from .results import PlanReports
 from .tables import Known, table_of
 from .values import test_labels_of
@@ -99,7 +99,7 @@ def words_in(arguments: Words) -> dict[str, object]:
     return {**words, **typing.cast(Words, arguments["unknown"])}
 
 
-def given(command: str, graph: object, words: Words) -> Given:
+def prepare_call(command: str, graph: object, words: Words) -> Given:
     """Returns the bytes and the words of a call, after all arguments were tested.
 
     A graph's object, and whatever comes with an assignment or a rule, is prepared. Bytes, a path
@@ -118,18 +118,18 @@ def given(command: str, graph: object, words: Words) -> Given:
         if "assignment" in rules:
             named.pop("district", None)
         graph = graph.data
-    tested(command, {**named, "district": "assignment"} if "assignment" in rules else named)
+    test_words(command, {**named, "district": "assignment"} if "assignment" in rules else named)
     if named.get("first") is not None and named.get("first") == named.get("second"):
         raise PrepareRefused(f"both parties' votes are the column {named['first']}")
     named = {name: value for name, value in named.items() if not is_default(name, value)}
     if command == "trace":
-        shown = shown_by(named)
+        shown = format_shown(named)
         named = {**{name: named[name] for name in named if name not in shown}, **shown}
     if isinstance(graph, (bytes, bytearray, memoryview, str, os.PathLike)) and not rules:
         data = bytes_of_graph(graph)
         test_labels_of(data, named)
     else:
-        prepared = prepared_for(graph, named, rules)
+        prepared = prepare_graph(graph, named, rules)
         data = prepared.data
         named.update(prepared.columns)
     return Given(data, words_of(command, named), named, rules)
@@ -186,7 +186,7 @@ def bytes_of_graph(graph: PathLike | bytes | bytearray | memoryview) -> bytes:
     return bytes(graph)
 
 
-def prepared_for(graph: object, named: Words, rules: Preparation) -> Prepared:
+def prepare_graph(graph: object, named: Words, rules: Preparation) -> Prepared:
     """Prepares a graph for a call, and warns of values that are others then."""
     try:
         population, first, second = (str(named[name]) for name in ("pop", "first", "second"))
@@ -212,12 +212,12 @@ def prepared_for(graph: object, named: Words, rules: Preparation) -> Prepared:
     return prepared
 
 
-def raised(ended: Ended, asked: Given) -> Exception:
+def make_error(ended: Ended, asked: Given) -> Exception:
     """Returns the exception for a call that did not end with 0."""
     graph = asked.data.split(b"\n")[0] if asked.table else asked.data
-    said = naming.said_in_labels(ended.line, naming.labels_of(graph, asked.named), asked.table)
+    said = naming.translate(ended.line, naming.labels_of(graph, asked.named), asked.table)
     if ended.line == "graph: not JSON":
-        said = naming.where_no_json(graph)
+        said = naming.find_json_fault(graph)
     error = error_of(ended.status, ended.line, said)
     if isinstance(error, GraphRefused) and " has no whole number from 0 to " in ended.line:
         argument = "length=.." if " in attribute " in ended.line else 'numbers="nearest"'
@@ -271,7 +271,7 @@ def warn_of_few_moves(said: list[str], level: int) -> None:
 # ---- check
 
 
-@documented
+@document
 def check(
     graph: object,
     *,
@@ -327,18 +327,18 @@ def check(
         A value of the graph or of the assignment is refused, by the id of its unit.
     MemoryRefused, ReadFault, WriteFault, ProgramMissing
     """
-    asked = given("check", graph, words_in(locals()))
-    ended = call(found("audit", program), asked.words, asked.data)
+    asked = prepare_call("check", graph, words_in(locals()))
+    ended = call(find_program("audit", program), asked.words, asked.data)
     plan = plan_of(asked.data, asked.named) if ended.status in (0, 2) else None
     if ended.status == 0:
         answer = PlanCheck.parse(ended.text)
-        return answer if plan is None else answer.with_plan(plan)
-    error = raised(ended, asked)
+        return answer if plan is None else answer.add_plan(plan)
+    error = make_error(ended, asked)
     if plan is None or not isinstance(error, GraphRefused) or not plan.faults:
         raise error
     if not ended.line.startswith("plan: "):
         raise error
-    answer = PlanCheck.of_plan(plan, plan.edges, rules_of(plan, asked.named))
+    answer = PlanCheck.from_plan(plan, plan.edges, rules_of(plan, asked.named))
     if not strict:
         return answer
     error.faults, error.check = list(plan.faults), answer
@@ -365,7 +365,7 @@ def run(graph: object, *, elections: Elections, **words: Foreign) -> ElectionRep
     ...
 
 
-@documented
+@document
 def run(
     graph: object,
     *,
@@ -453,7 +453,7 @@ def run(
     """
     words = words_in(locals())
     if elections is None:
-        return walked(given("run", graph, words), folder, progress, program, slots)
+        return call_program(prepare_call("run", graph, words), folder, progress, program, slots)
     if first is not None or second is not None:
         refuse(
             TypeRefused, "run", "elections", elections,
@@ -463,16 +463,16 @@ def run(
     saves = str(save) != "0" or resume not in (False, None, "no")
     pairs = tested_elections(elections, saves)
     for name, columns in pairs.items():
-        asked = given("run", graph, {**words, "first": columns[0], "second": columns[1]})
+        asked = prepare_call("run", graph, {**words, "first": columns[0], "second": columns[1]})
         place = folder_of(folder, name) if saves else folder
         try:
-            reports.append((name, walked(asked, place, progress, program, slots)))
+            reports.append((name, call_program(asked, place, progress, program, slots)))
         except WorkLeft as error:
-            raise left_in(error, name, len(reports), len(pairs)) from None
-    return ElectionReports(in_batch("election", reports))
+            raise name_election(error, name, len(reports), len(pairs)) from None
+    return ElectionReports(join_batch("election", reports))
 
 
-@documented
+@document
 def make(
     *,
     size: int | None = None,
@@ -514,12 +514,13 @@ def make(
     As `run`.
     """
     named = plain_words("make", words_in(locals()))
-    tested("make", named)
+    test_words("make", named)
     named = {name: value for name, value in named.items() if not is_default(name, value)}
-    return walked(Given(b"", words_of("make", named), named), folder, progress, program, slots)
+    asked = Given(b"", words_of("make", named), named)
+    return call_program(asked, folder, progress, program, slots)
 
 
-def walked(
+def call_program(
     asked: Given,
     folder: PathLike | None,
     progress: bool | str,
@@ -527,7 +528,7 @@ def walked(
     slots: PathLike | None,
 ) -> Report:
     """Calls the program for a report, with its checkpoints in a folder."""
-    path = found("audit", program)
+    path = find_program("audit", program)
     place = pathlib.Path(folder) if folder is not None else pathlib.Path()
     if not place.is_dir():
         raise FileNotFoundError(f"folder={str(place)!r}: there is no such folder")
@@ -544,14 +545,14 @@ def walked(
     try:
         ended = call(path, asked.words, asked.data, folder, watch)
     except KeyboardInterrupt:
-        raise job.interrupted() from None
+        raise job.make_interrupted() from None
     finally:
         if watch is not None:
             watch.end()
     job.end(ended.status)
     if ended.status:
-        error = raised(ended, asked)
-        raise job.explained(error) if isinstance(error, CheckpointRefused) else error
+        error = make_error(ended, asked)
+        raise job.explain(error) if isinstance(error, CheckpointRefused) else error
     report = Report.parse(ended.text)
     if asked.data:
         report = dataclasses.replace(report, audited=asked.audited)
@@ -573,12 +574,12 @@ def watch_of(
     if kind == "steps" and asked.data:
         steps = count_in(asked.named, "steps" if walks_of(asked) else "hub_steps")
         words = words_of("trace", trace_words(asked.named, steps))
-        return bars.StepClock(total, steps, [found("audit", program), *words], asked.data)
+        return bars.StepClock(total, steps, [find_program("audit", program), *words], asked.data)
     if not saves:
         return bars.Clock(total)
     if slots is None:
         return bars.Watch(lambda: checkpoints.look_in(place, total), total, resumes, bars.new_bar())
-    path = found("slots", slots)
+    path = find_program("slots", slots)
     return bars.Watch(
         lambda: bars.look(path, asked.words, asked.data, place), total, resumes, bars.new_bar()
     )
@@ -631,7 +632,7 @@ class Job:
     def has_new_slots(self) -> bool:
         return checkpoints.slots_in(self.place) != self.slots
 
-    def interrupted(self) -> Interrupted:
+    def make_interrupted(self) -> Interrupted:
         """Returns what is raised where Ctrl-C stopped the run: it tells what is saved."""
         total = total_of(self.asked)
         if not self.saves:
@@ -658,7 +659,7 @@ class Job:
             str(self.place),
         )
 
-    def explained(self, error: CheckpointRefused) -> CheckpointRefused:
+    def explain(self, error: CheckpointRefused) -> CheckpointRefused:
         """Names the arguments in which another job differs, as far as they were kept."""
         if not error.line.startswith("checkpoint: other job"):
             return error
@@ -666,8 +667,8 @@ class Job:
             said = f"no arguments of that job are kept in {str(self.place.absolute())!r}"
             return CheckpointRefused(error.line, said)
         differs = checkpoints.differences(self.before, self.record)
-        told = "; ".join(differs) or "it differs in nothing that was kept"
-        other = CheckpointRefused(error.line, f"{told}; another folder keeps both jobs")
+        why = "; ".join(differs) or "it differs in nothing that was kept"
+        other = CheckpointRefused(error.line, f"{why}; another folder keeps both jobs")
         other.differs = differs
         return other
 
@@ -675,7 +676,7 @@ class Job:
 # ---- several plans
 
 
-@documented
+@document
 def plans(
     graph: object,
     table: object,
@@ -745,15 +746,15 @@ def plans(
     """
     if districts not in ("same", "any"):
         raise PrepareRefused(f'districts is "same" or "any", and not {districts!r}')
-    asked = given("plans", graph, words_in(locals()))
+    asked = prepare_call("plans", graph, words_in(locals()))
     audited = asked.audited
-    text = table_of(table, Known.of(asked.data, asked.named.get("district")), districts)
+    text = table_of(table, Known.read(asked.data, asked.named.get("district")), districts)
     line = b"".join(asked.data.split(b"\n"))
     shown_table = text.decode("utf-8", "surrogateescape")
     asked = dataclasses.replace(asked, data=line + b"\n" + text, table=shown_table)
-    ended = call(found("audit", program), asked.words, asked.data)
+    ended = call(find_program("audit", program), asked.words, asked.data)
     if ended.status:
-        raise raised(ended, asked)
+        raise make_error(ended, asked)
     reports = PlanReports(
         (name, dataclasses.replace(report, audited=audited))
         for name, report in Report.parse_plans(ended.text)

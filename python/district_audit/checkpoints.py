@@ -14,7 +14,7 @@ import pathlib
 import typing
 
 from .arguments import TABLE, Words
-from .graphs import in_order, plain
+from .graphs import sort_labels, plain
 from .progress import Look
 
 SLOTS = ("audit-0.ckpt", "audit-1.ckpt")
@@ -150,7 +150,7 @@ def aspects_of(data: bytes, named: Words) -> dict[str, str]:
                 labels = [plain(node[named[name]]) for node in nodes]
                 if None in labels:
                     return {}
-                ordered = in_order(typing.cast("list[int | str]", labels))
+                ordered = sort_labels(typing.cast("list[int | str]", labels))
                 number = {label: at for at, label in enumerate(ordered)}
                 found[what] = digest_of([number[label] for label in labels if label is not None])
     except (ValueError, KeyError, TypeError):

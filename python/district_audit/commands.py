@@ -15,7 +15,7 @@ from .arguments import MOST_CUT_LENGTH
 from .errors import MissingExtra, PrepareRefused, ProgramMissing, ReportRefused
 from .preparing import Prepared
 from .preparing import prepare as prepare_graph
-from .program import found, stop
+from .program import find_program, stop
 from .report import Report
 from .values import test_labels_of
 
@@ -226,10 +226,10 @@ def total_of(words: typing.Sequence[str]) -> int:
 def run(words: typing.Sequence[str] | None = None) -> int:
     """district-audit-run; answers the status."""
     given = list(sys.argv[1:] if words is None else words)
-    return called_with(given)
+    return call_with(given)
 
 
-def called_with(words: list[str]) -> int:
+def call_with(words: list[str]) -> int:
     """Runs the program with these words; returns the status."""
     if words[:1] in ([], ["-h"], ["--help"]):
         print(RUN, file=sys.stderr)
@@ -238,7 +238,7 @@ def called_with(words: list[str]) -> int:
         words.insert(0, "run")
     saves = value_of(words, "--save", "0") != "0"
     try:
-        program = found("audit")
+        program = find_program("audit")
     except ProgramMissing as why:
         print(f"district-audit-run: {why}", file=sys.stderr)
         return 127
@@ -251,7 +251,7 @@ def called_with(words: list[str]) -> int:
         watch = bars.Watch(
             lambda: checkpoints.look_in(pathlib.Path(), total), total, is_resumed, bars.PlainBar()
         )
-    return passed_through([program, *words], data, watch, saves)
+    return pass_through([program, *words], data, watch, saves)
 
 
 def warn_of_labels(data: bytes, words: typing.Sequence[str]) -> None:
@@ -265,12 +265,12 @@ def warn_of_labels(data: bytes, words: typing.Sequence[str]) -> None:
             print(f"district-audit-run: warning: {fault}", file=sys.stderr)
 
 
-def passed_through(command: list[str], data: bytes, watch: bars.Watch | None, saves: bool) -> int:
+def pass_through(command: list[str], data: bytes, watch: bars.Watch | None, saves: bool) -> int:
     """Runs the program on our own outputs, and adds lines on standard error alone."""
     signal.signal(signal.SIGTERM, lambda number, _frame: sys.exit(128 + number))
     with subprocess.Popen(command, stdin=subprocess.PIPE, stderr=subprocess.PIPE) as process:
         try:
-            note = noted(process, data, watch)
+            note = read_note(process, data, watch)
         except SystemExit:
             stop(process)
             raise
@@ -289,13 +289,13 @@ def passed_through(command: list[str], data: bytes, watch: bars.Watch | None, sa
             "district": value_of(command[1:], "--district", ""),
             "region": value_of(command[1:], "--region", ""),
         }
-        said = naming.said_in_labels(line, naming.labels_of(data, names))
+        said = naming.translate(line, naming.labels_of(data, names))
         if said:
             print("district-audit-run: " + said, file=sys.stderr)
     return process.returncode if process.returncode >= 0 else 128 - process.returncode
 
 
-def noted(process: subprocess.Popen[bytes], data: bytes, watch: bars.Watch | None) -> bytes:
+def read_note(process: subprocess.Popen[bytes], data: bytes, watch: bars.Watch | None) -> bytes:
     """Returns the program's standard error, and shows its progress meanwhile."""
     first: bytes | None = data
     while True:

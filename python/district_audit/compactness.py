@@ -37,7 +37,7 @@ class Shapes:
         self.by_unit: dict[object, Foreign] = dict(geometries.items())
         self.measures: Measures | None = None
 
-    def of(self, plan: Plan) -> Measures:
+    def measure(self, plan: Plan) -> Measures:
         """Returns what was measured of a plan's units. ValueError where a unit has no shape."""
         if self.measures is None or self.measures.table is not plan.table:
             self.measures = Measures(plan.table, self.by_unit)
@@ -94,7 +94,7 @@ def by_district(sample: Sample, shapes: Shapes, name: str,
                 compute: typing.Callable[[Measures, set[int]], float]) -> dict[Foreign, float]:
     """Returns a number of each district by its label, computed anew where a district changed."""
     plan = sample.plan
-    measures = shapes.of(plan)
+    measures = shapes.measure(plan)
     members = plan.tally(("members", id(shapes)),
                          lambda: Members(plan.districts, plan.district_count))
     for district, units in enumerate(members.units):

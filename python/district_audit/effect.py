@@ -155,14 +155,14 @@ def head_at(walks: int, most: int, top: int, of: int, scale: int, up: bool) -> i
     The chance is at most one half, so that the first term, (1 - chance)^walks, is at least
     2^-walks and keeps its leading digits. If the scale is of^walks, every division is exact.
     """
-    term = divided(scale * (of - top) ** walks, of**walks, up)
+    term = divide(scale * (of - top) ** walks, of**walks, up)
     total = term
     for count in range(1, most + 1):
-        term = divided(term * (walks - count + 1) * top, count * (of - top), up)
+        term = divide(term * (walks - count + 1) * top, count * (of - top), up)
         total += term
     return total
 
 
-def divided(top: int, of: int, up: bool) -> int:
+def divide(top: int, of: int, up: bool) -> int:
     """Returns top/of, rounded up or down."""
     return -(-top // of) if up else top // of

@@ -35,7 +35,7 @@ def folder_of(folder: PathLike | None, name: str) -> pathlib.Path:
     return place / name
 
 
-def left_in(error: WorkLeft, name: str, ended: int, count: int) -> WorkLeft:
+def name_election(error: WorkLeft, name: str, ended: int, count: int) -> WorkLeft:
     """Names the election in which work is left; `ended` of `count` elections have no work left."""
     left = WorkLeft(
         error.line,

@@ -25,7 +25,7 @@ from .exhibit_districts import (
     graph_of,
     refuse_missing_columns,
 )
-from .exhibit_figures import escaped
+from .exhibit_figures import escape
 from .report import MOST_REGIONS, MOST_SPLITS, Report
 
 PathLike = typing.Union[str, "os.PathLike[str]"]
@@ -113,11 +113,11 @@ def page(plans: Named, options: Options) -> str:
     parties = parties_of(options, columns)
     scores = list(dict.fromkeys(ask.split(":")[0] for ask in first.asks))
     parts = [
-        f"<h1>{escaped(options.title)}</h1>",
-        f"<p>{escaped(texts.subject(first, parties, [name for name, _ in plans]))}</p>",
-        *(f"<p>{escaped(note)}</p>" for note in options.notes),
+        f"<h1>{escape(options.title)}</h1>",
+        f"<p>{escape(texts.subject(first, parties, [name for name, _ in plans]))}</p>",
+        *(f"<p>{escape(note)}</p>" for note in options.notes),
         heading("What was asked"),
-        asked(first, parties, scores),
+        list_asks(first, parties, scores),
         heading("How it was done"),
         *paragraphs(texts.methods(first)),
         heading("Results"),
@@ -133,7 +133,7 @@ def page(plans: Named, options: Options) -> str:
     return (
         '<!DOCTYPE html>\n<html lang="en"><head><meta charset="utf-8">'
         '<meta http-equiv="Content-Security-Policy" content="default-src \'none\'; '
-        f"style-src 'unsafe-inline'\"><title>{escaped(options.title)}</title>"
+        f"style-src 'unsafe-inline'\"><title>{escape(options.title)}</title>"
         f"<style>{STYLE}</style></head><body>\n{body}\n</body></html>\n"
     )
 
@@ -187,15 +187,15 @@ def parties_of(options: Options, columns: typing.Mapping[str, str]) -> tuple[str
 
 
 def heading(words: str) -> str:
-    return f"<h2>{escaped(words)}</h2>"
+    return f"<h2>{escape(words)}</h2>"
 
 
 def paragraphs(found: typing.Iterable[str]) -> list[str]:
-    return [f"<p>{escaped(words)}</p>" for words in found]
+    return [f"<p>{escape(words)}</p>" for words in found]
 
 
 def items(found: typing.Iterable[str]) -> str:
-    return f"<ul>{''.join(f'<li>{escaped(words)}</li>' for words in found)}</ul>"
+    return f"<ul>{''.join(f'<li>{escape(words)}</li>' for words in found)}</ul>"
 
 
 def table(
@@ -208,7 +208,7 @@ def table(
 
     def cells(tag: str, row: typing.Sequence[object]) -> str:
         marks = ("" if place < plain else ' class="n"' for place in range(len(row)))
-        return "".join(f"<{tag}{mark}>{escaped(cell)}</{tag}>" for mark, cell in zip(marks, row))
+        return "".join(f"<{tag}{mark}>{escape(cell)}</{tag}>" for mark, cell in zip(marks, row))
 
     body = "".join(f"<tr>{cells('td', row)}</tr>" for row in rows)
     mark = f' class="{kind}"' if kind else ""
@@ -219,11 +219,11 @@ def table(
 # ---- sections
 
 
-def asked(report: Report, parties: tuple[str, str], scores: typing.Sequence[str]) -> str:
+def list_asks(report: Report, parties: tuple[str, str], scores: typing.Sequence[str]) -> str:
     """Returns the definitions of the scores and the questions."""
     rows = [(ask, texts.question(ask, parties)) for ask in report.asks]
     defined = "".join(
-        f"<dt><b>{escaped(score)}</b></dt><dd>{escaped(texts.definition(score, parties))}</dd>"
+        f"<dt><b>{escape(score)}</b></dt><dd>{escape(texts.definition(score, parties))}</dd>"
         for score in scores
     )
     return f"<dl>{defined}</dl>{table(('ask', 'question'), rows, plain=2)}"
@@ -242,12 +242,12 @@ def results(
     parts: list[str] = []
     number = 1
     for place, (name, report) in enumerate(plans):
-        enacted = {score: texts.shown(score, value) for score, value in starts_of(report).items()}
-        parts += [f"<h3>Plan {escaped(name)}</h3>"] if len(plans) > 1 else []
+        enacted = {score: texts.show(score, value) for score, value in starts_of(report).items()}
+        parts += [f"<h3>Plan {escape(name)}</h3>"] if len(plans) > 1 else []
         if graph is not None and place == 0:
             parts += district_table(report, districts_of(report, graph), parties, graph.is_exact)
         parts += paragraphs(texts.findings(report, enacted, parties))
-        parts += [result_table(report), *paragraphs([texts.together(report, len(plans))])]
+        parts += [result_table(report), *paragraphs([texts.warn_of_many(report, len(plans))])]
         if options.epsilon is not None and options.alpha is not None and report.walks:
             parts += effect_table(report.effect(options.epsilon, options.alpha))
         drawn = drawings(report, enacted, parties, number, name if len(plans) > 1 else "")
@@ -261,7 +261,7 @@ def result_table(report: Report) -> str:
     rows: list[tuple[object, ...]] = []
 
     def value(score: str, start: object, fraction: Fraction) -> tuple[str, str]:
-        return str(start), texts.shown(score, fraction)
+        return str(start), texts.show(score, fraction)
 
     is_long = report.setting.walks > figures.MOST_ROWS
     for walk in () if is_long else report.walks:
@@ -428,7 +428,7 @@ def provenance(
     text = "".join(f"plan {name}\n{one}" if len(plans) > 1 else str(one) for name, one in plans)
     hashes = [
         ("key of all draws", report.key),
-        ("SHA-256 of the report", hashlib.sha256(encoded(text)).hexdigest()),
+        ("SHA-256 of the report", hashlib.sha256(encode(text)).hexdigest()),
     ]
     if report.source is not None:
         what = "graph and table" if is_of_plans(plans) else "graph"
@@ -438,7 +438,7 @@ def provenance(
         hashes.append((f"SHA-256 of the graph of Table 1, {size} bytes", digest))
     command = options.command or command_of(report, columns, is_of_plans(plans))
     rows = [
-        f"<tr><td>{escaped(what)}</td><td><code>{escaped(value)}</code></td></tr>"
+        f"<tr><td>{escape(what)}</td><td><code>{escape(value)}</code></td></tr>"
         for what, value in hashes
     ]
     return [
@@ -475,13 +475,13 @@ def reports_in_full(text: str) -> list[str]:
     ]
 
 
-def encoded(words: str) -> bytes:
+def encode(words: str) -> bytes:
     """Returns the bytes of a text of the program, which may have been read with surrogates."""
     return words.encode("utf-8", "surrogateescape")
 
 
 def lines(words: str) -> str:
-    return "\n".join(escaped(line) for line in words.split("\n"))
+    return "\n".join(escape(line) for line in words.split("\n"))
 
 
 def command_of(report: Report, columns: typing.Mapping[str, str], is_of_plans: bool) -> str:

@@ -6,7 +6,7 @@ import os
 import typing
 
 from .errors import PrepareRefused
-from .graphs import Label, Raw, in_order, is_whole, plain, raw_of
+from .graphs import Label, Raw, sort_labels, is_whole, plain, raw_of
 from .lengths import lengths_of
 from .preparing import Preparation, Prepared, flag_of, prepare
 from .report import HALF_SHARE, Report
@@ -192,7 +192,7 @@ def districts_of(report: Report, graph: Graph) -> list[District]:
     by_label: dict[Label, list[dict[str, object]]] = {}
     for node in raw.nodes:
         by_label.setdefault(labels[node.get("id")], []).append(node)
-    found = [district_of(label, by_label[label], columns) for label in in_order(by_label)]
+    found = [district_of(label, by_label[label], columns) for label in sort_labels(by_label)]
     edges = {frozenset(pair) for pair in raw.pairs if pair[0] != pair[1]}
     cut = sum(len({labels[end] for end in edge}) == 2 for edge in edges)
     has_length = report.rules.cut_length is not None

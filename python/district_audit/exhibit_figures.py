@@ -24,7 +24,7 @@ HATCH = (
 )
 
 
-def escaped(value: object) -> str:
+def escape(value: object) -> str:
     """Returns a text for HTML: markup escaped, and invisible characters shown as code points."""
     shown = "".join(
         f"\\u{ord(one):04x}" if unicodedata.category(one) in ("Cc", "Cf", "Cs", "Co") else one
@@ -36,7 +36,7 @@ def escaped(value: object) -> str:
 def text(x: float, y: float, words: object, anchor: str = "start", more: str = "") -> str:
     return (
         f'<text x="{x:.1f}" y="{y:.1f}"'
-        f' text-anchor="{anchor}"{more and " " + more}>{escaped(words)}</text>'
+        f' text-anchor="{anchor}"{more and " " + more}>{escape(words)}</text>'
     )
 
 
@@ -53,11 +53,11 @@ def rectangle(x: float, y: float, width: float, height: float, fill: str) -> str
 
 def figure(number: int, title: str, caption: str, height: float, parts: list[str]) -> str:
     """Returns a numbered figure with its title above and its caption below."""
-    name, drawn = escaped(title), "".join(parts)
+    name, drawn = escape(title), "".join(parts)
     return (
         f'<figure><figcaption class="title"><b>Figure {number}.</b> {name}</figcaption>'
         f'<svg viewBox="0 0 {WIDTH} {math.ceil(height)}" role="img" aria-label="{name}">{HATCH}'
-        f"{drawn}</svg><figcaption>{escaped(caption)}</figcaption></figure>"
+        f"{drawn}</svg><figcaption>{escape(caption)}</figcaption></figure>"
     )
 
 
@@ -101,7 +101,7 @@ def walks_figure(number: int, title: str, rows: list[Row]) -> str:
     least = min(part for row in rows for part, _ in row.points)
     decades = max(2, math.ceil(-math.log10(least)))
 
-    def at(value: float) -> float:
+    def scale(value: float) -> float:
         place = 1 + min(math.log10(value), math.log10(2)) / decades
         return LEFT + (RIGHT - LEFT) * 0.86 * place
 
@@ -109,26 +109,28 @@ def walks_figure(number: int, title: str, rows: list[Row]) -> str:
     parts = []
     # Labels that would run into each other are left out.
     longest = CHARACTER * len(f"1/{10 ** decades:,}")
-    every = math.ceil(longest / (at(1.0) - at(0.1)))
+    every = math.ceil(longest / (scale(1.0) - scale(0.1)))
     for power in range(decades + 1):
         value = 10.0**-power
-        parts.append(line(at(value), 12, at(value), bottom, 'stroke="#999" stroke-width="0.7"'))
+        parts.append(
+            line(scale(value), 12, scale(value), bottom, 'stroke="#999" stroke-width="0.7"')
+        )
         if power % every == 0:
             label = "1" if power == 0 else f"1/{10 ** power:,}"
-            parts.append(text(at(value), bottom + 16, label, "middle"))
-    parts.append(line(at(0.05), 12, at(0.05), bottom, 'stroke="#000" stroke-dasharray="5 4"'))
-    parts.append(text(at(0.05), 9, "0.05", "middle"))
+            parts.append(text(scale(value), bottom + 16, label, "middle"))
+    parts.append(line(scale(0.05), 12, scale(0.05), bottom, 'stroke="#000" stroke-dasharray="5 4"'))
+    parts.append(text(scale(0.05), 9, "0.05", "middle"))
     for place, row in enumerate(rows):
         y = 32 + 26.0 * place
         parts.append(text(LEFT - 8, y + 4, row.label, "end"))
         parts.append(text(RIGHT + 8, y + 4, row.words))
         for part, bound in row.points:
-            size = at(bound)
+            size = scale(bound)
             parts.append(
                 f'<path d="M {size:.1f} {y - 6:.1f} l 6 6 l -6 6 l -6 -6 z" fill="#fff"'
                 ' stroke="#000"/>'
             )
-            parts.append(f'<circle cx="{at(part):.1f}" cy="{y:.1f}" r="4.5" fill="#000"/>')
+            parts.append(f'<circle cx="{scale(part):.1f}" cy="{y:.1f}" r="4.5" fill="#000"/>')
     caption = (
         "Filled circle: the fraction of the visited plans that are at least as extreme as "
         "the enacted plan. Open diamond: the bound, which says nothing at 1 and above. The "

@@ -43,7 +43,7 @@ def decimal(value: Fraction | int, places: int, has_sign: bool = False) -> str:
     return sign + (f"{whole}.{rest:0{places}}" if places else str(whole))
 
 
-def shown(score: str, value: Fraction) -> str:
+def show(score: str, value: Fraction) -> str:
     """Returns the value of a score as people read it: a number, or percent."""
     if score in ("seats", "cut-edges", "cut-length"):
         return str(value)
@@ -52,7 +52,7 @@ def shown(score: str, value: Fraction) -> str:
     raise ValueError(f"unknown score {score}")
 
 
-def counted(count: int, what: str) -> str:
+def plural(count: int, what: str) -> str:
     return f"{count:,} {what}{'' if count == 1 else 's'}"
 
 
@@ -127,8 +127,8 @@ def subject(report: Report, parties: Parties, names: typing.Sequence[str]) -> st
         )
     return (
         "This page presents a report of the district plan auditor about a map of"
-        f" {counted(report.units, 'voting unit')} with {counted(report.edges, 'pair')} of"
-        f" neighbors, {report.population:,} people and {counted(report.districts, 'district')}. The"
+        f" {plural(report.units, 'voting unit')} with {plural(report.edges, 'pair')} of"
+        f" neighbors, {report.population:,} people and {plural(report.districts, 'district')}. The"
         f" parties compared are {parties[0]} and {parties[1]}.{plans}"
     )
 
@@ -141,7 +141,7 @@ def one_of_several(report: Report) -> str:
     batch = report.batch
     if batch is None:
         return ""
-    many = counted(len(batch.names), batch.kind)
+    many = plural(len(batch.names), batch.kind)
     others = f"; the others: {', '.join(batch.others)}" if batch.others else ""
     if batch.kind == "election":
         return f" The report is on election {batch.name}, one of {many} of one call{others}."
@@ -164,18 +164,18 @@ def legality(report: Report) -> str:
         " of the ideal"
     ]
     said += (
-        [f"has at most {counted(rules.max_cut, 'cut edge')}"] if rules.max_cut is not None else []
+        [f"has at most {plural(rules.max_cut, 'cut edge')}"] if rules.max_cut is not None else []
     )
     if rules.max_split is not None and rules.max_split < report.districts:
         said.append(
-            f"each of the {counted(rules.regions or 0, 'region')} lies in at most"
-            f" {counted(rules.max_split, 'district')}"
+            f"each of the {plural(rules.regions or 0, 'region')} lies in at most"
+            f" {plural(rules.max_split, 'district')}"
         )
     if rules.max_splits is not None and rules.max_splits < MOST_SPLITS:
-        said.append(f"regions are split at most {counted(rules.max_splits, 'time')} in all")
+        said.append(f"regions are split at most {plural(rules.max_splits, 'time')} in all")
     if rules.max_split_regions is not None and rules.max_split_regions < MOST_REGIONS:
         said.append(
-            f"at most {counted( rules.max_split_regions, 'region')} may lie in more than one"
+            f"at most {plural( rules.max_split_regions, 'region')} may lie in more than one"
             " district"
         )
     if rules.group_districts is not None:
@@ -185,10 +185,10 @@ def legality(report: Report) -> str:
             else f"more than {decimal(Fraction(rules.group_share, 100), 2)} percent"
         )
         said.append(
-            f"the group has {share} in at least {counted(rules.group_districts, 'district')}"
+            f"the group has {share} in at least {plural(rules.group_districts, 'district')}"
         )
     if rules.frozen is not None:
-        keep = "1 unit keeps" if rules.frozen == 1 else f"{counted(rules.frozen, 'unit')} keep"
+        keep = "1 unit keeps" if rules.frozen == 1 else f"{plural(rules.frozen, 'unit')} keep"
         said.append(f"{keep} the districts of the enacted plan")
     if rules.max_length is not None:
         said.append(f"the boundaries between districts have a length of at most {rules.max_length}")
@@ -208,7 +208,7 @@ def methods(report: Report) -> list[str]:
     ]
     if setting.walks:
         found.append(
-            f"Outlier walks: {counted(setting.walks, 'walk')} of {counted(setting.steps, 'step')},"
+            f"Outlier walks: {plural(setting.walks, 'walk')} of {plural(setting.steps, 'step')},"
             " from the enacted plan. For each question the program counts how many of the"
             f" {setting.steps + 1:,} plans visited on a walk, the enacted plan among them, are at"
             " least as extreme as the enacted plan."
@@ -216,7 +216,7 @@ def methods(report: Report) -> list[str]:
     if setting.ends:
         many = "1 trajectory" if setting.ends == 1 else f"{setting.ends:,} trajectories"
         found.append(
-            f"Parallel test: from a plan that lies {counted(setting.hub_steps, 'step')} from the"
+            f"Parallel test: from a plan that lies {plural(setting.hub_steps, 'step')} from the"
             f" enacted plan, {many} of as many steps are walked. The enacted plan is ranked among"
             " their last plans; equal ones count against it."
         )
@@ -227,7 +227,7 @@ def methods(report: Report) -> list[str]:
     if report.serial:
         found.append(
             "Serial test: the enacted plan is placed at random in one run of"
-            f" {counted(setting.steps, 'step')}, which is walked from it forward and backward. The"
+            f" {plural(setting.steps, 'step')}, which is walked from it forward and backward. The"
             " enacted plan is ranked among all plans of the run."
         )
     return found
@@ -308,7 +308,7 @@ def findings(report: Report, enacted: typing.Mapping[str, str], parties: Parties
         numbers = [number for name, number in numbers_of(report) if name == ask]
         found.append(
             f"{question(ask, parties)} The enacted plan has {enacted[score]}. The least of its"
-            f" {counted(len(numbers), 'number')} here is {min(numbers)}."
+            f" {plural(len(numbers), 'number')} here is {min(numbers)}."
         )
     return found
 
@@ -322,7 +322,7 @@ def numbers_of(report: Report) -> list[tuple[str, Decimal]]:
     ]
 
 
-def together(report: Report, plans: int = 1) -> str:
+def warn_of_many(report: Report, plans: int = 1) -> str:
     """Returns the warning about several numbers, with Bonferroni's product.
 
     `plans` is the number of plans on the page.
@@ -335,7 +335,7 @@ def together(report: Report, plans: int = 1) -> str:
     said, their = f"The table has {count_of_numbers(len(numbers))}.", "their number"
     if whole > len(numbers):
         what = "plan" if report.batch is None else report.batch.kind
-        many = counted(plans if report.batch is None else len(report.batch.names), what)
+        many = plural(plans if report.batch is None else len(report.batch.names), what)
         once = (
             " (those on cut edges are the same in each, and count once)"
             if what == "election" and any(ask.startswith("cut-") for ask in report.asks)

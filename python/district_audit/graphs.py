@@ -50,23 +50,23 @@ class Raw(typing.NamedTuple):
     """The attributes of each pair, as its length."""
 
 
-def shown(ids: typing.Iterable[object], everything: bool = False) -> str:
+def list_ids(ids: typing.Iterable[object], everything: bool = False) -> str:
     """Some ids, or all."""
-    told = [as_json(one) for one in ids]
+    texts = [as_json(one) for one in ids]
     some = (
-        told
-        if everything or len(told) <= SHOWN
-        else told[:SHOWN] + [f"and {len(told) - SHOWN} more"]
+        texts
+        if everything or len(texts) <= SHOWN
+        else texts[:SHOWN] + [f"and {len(texts) - SHOWN} more"]
     )
     return ", ".join(some)
 
 
 def as_json(value: object) -> str:
     """A value in one line, for people."""
-    return json.dumps(value, ensure_ascii=False, default=of_numpy)
+    return json.dumps(value, ensure_ascii=False, default=from_numpy)
 
 
-def of_numpy(value: object) -> object:
+def from_numpy(value: object) -> object:
     """A number of numpy as Python's, and anything else that JSON does not have as a text."""
     if type(value).__name__ in ("bool_", "bool"):
         return bool(value)
@@ -83,20 +83,20 @@ def raw_of(graph: object) -> Raw:
     MissingExtra where that takes networkx.
     """
     if isinstance(graph, (bytes, bytearray, memoryview)):
-        return of_root(parsed(bytes(graph), "the graph"), "the graph")
+        return read_root(parse(bytes(graph), "the graph"), "the graph")
     if isinstance(graph, (str, os.PathLike)):
-        return of_file(os.fspath(graph))
+        return read_file(os.fspath(graph))
     if isinstance(graph, dict):
-        return of_root(graph, "the graph")
+        return read_root(graph, "the graph")
     if hasattr(graph, "nodes") and hasattr(graph, "adjacency"):
-        return of_object(typing.cast(GraphLike, graph))
+        return read_object(typing.cast(GraphLike, graph))
     raise PrepareRefused(
         "a graph is an object with nodes(data=True) and adjacency(), a path, or bytes, and this is"
         f" {type(graph).__name__}"
     )
 
 
-def of_object(graph: GraphLike) -> Raw:
+def read_object(graph: GraphLike) -> Raw:
     """An object of networkx or of GerryChain."""
     nodes = [{**attributes, "id": node} for node, attributes in graph.nodes(data=True)]
     edges = [
@@ -125,12 +125,12 @@ def attributes_of(
     return [found if isinstance(found, typing.Mapping) else {}]
 
 
-def of_file(name: str) -> Raw:
+def read_file(name: str) -> Raw:
     """A file; GraphML and GML are read by networkx."""
     if name.endswith((".graphml", ".gml")):
         networkx = extra("networkx")
         try:
-            return of_object(
+            return read_object(
                 networkx.read_graphml(name)
                 if name.endswith(".graphml")
                 else networkx.read_gml(name)
@@ -142,17 +142,17 @@ def of_file(name: str) -> Raw:
             data = file.read()
     except OSError as error:
         raise PrepareRefused(f"{name} cannot be read: {error}") from error
-    return of_root(parsed(data, name), name)
+    return read_root(parse(data, name), name)
 
 
-def parsed(data: bytes, name: str) -> object:
+def parse(data: bytes, name: str) -> object:
     try:
         return json.loads(data.decode("utf-8-sig"))
     except ValueError as error:
         raise PrepareRefused(f"{name} cannot be read: {error}") from error
 
 
-def of_root(root: object, name: str) -> Raw:
+def read_root(root: object, name: str) -> Raw:
     """The root object of networkx's adjacency or node-link layout."""
     nodes = root.get("nodes") if isinstance(root, dict) else None
     if (
@@ -246,7 +246,7 @@ def as_text(value: object) -> str:
     return json.dumps(value, default=str)
 
 
-def renamed(values: typing.Sequence[object]) -> tuple[typing.Callable[[object], Label], bool]:
+def make_renaming(values: typing.Sequence[object]) -> tuple[typing.Callable[[object], Label], bool]:
     """A function from raw ids or labels to those that are written, and whether they were changed:
     all to texts where one has to be.
     """
@@ -255,7 +255,7 @@ def renamed(values: typing.Sequence[object]) -> tuple[typing.Callable[[object], 
     return as_text, True
 
 
-def in_order(labels: typing.Iterable[Label]) -> list[Label]:
+def sort_labels(labels: typing.Iterable[Label]) -> list[Label]:
     """Different labels as the auditor numbers them from 0: in rising order, whole numbers before
     texts.
     """

@@ -8,7 +8,7 @@ import functools
 import typing
 
 from .decimals import percent_down
-from .graphs import SHOWN, Label, Row, as_json, in_order, shown
+from .graphs import SHOWN, Label, Row, as_json, sort_labels, list_ids
 from .report import HALF_SHARE
 
 if typing.TYPE_CHECKING:
@@ -55,12 +55,12 @@ class Judged:
         self.members: dict[Label, list[Label]] = {}
         for unit, row in rows.items():
             self.members.setdefault(row[choices.district], []).append(unit)
-        self.districts = in_order(self.members)
+        self.districts = sort_labels(self.members)
         self.number = {label: i for i, label in enumerate(self.districts)}
         self.regions = (
-            in_order(row[choices.region] for row in rows.values()) if choices.region else []
+            sort_labels(row[choices.region] for row in rows.values()) if choices.region else []
         )
-        self.shown = functools.partial(shown, everything=choices.show_all)
+        self.shown = functools.partial(list_ids, everything=choices.show_all)
         self.tell_parts()
         self.judge_districts()
         self.judge_sizes()
@@ -73,7 +73,7 @@ class Judged:
         if choices.freeze:
             self.judge_frozen(choices.freeze)
 
-    def named(self, district: Label) -> str:
+    def name_district(self, district: Label) -> str:
         return f"district {as_json(district)}"
 
     def number_of(self, district: Label) -> str:
@@ -81,7 +81,7 @@ class Judged:
         number = self.number[district]
         return "" if district == number else f" (the auditor's district {number})"
 
-    def ordered(self, units: typing.Iterable[Label]) -> list[Label]:
+    def sort_units(self, units: typing.Iterable[Label]) -> list[Label]:
         return sorted(units, key=self.place.__getitem__)
 
     def tell_parts(self) -> None:
@@ -100,7 +100,7 @@ class Judged:
         )
         small = [part for part in parts[1:] if len(part) > 1]
         for part in small[:SHOWN]:
-            self.notes.append(f"a part of {len(part)} units: {self.shown(self.ordered(part))}")
+            self.notes.append(f"a part of {len(part)} units: {self.shown(self.sort_units(part))}")
         if len(small) > SHOWN:
             self.notes.append(f"and {len(small) - SHOWN} further small parts")
         for part in parts:
@@ -116,9 +116,9 @@ class Judged:
         for label, members in self.members.items():
             for part in parts_of(members, self.neighbours)[1:]:
                 self.refusals.append(
-                    f"{self.named(label)} is in several parts; {len(part)} of its"
+                    f"{self.name_district(label)} is in several parts; {len(part)} of its"
                     f" {len(members)} units lie apart:"
-                    f" {self.shown(self.ordered(part))}{self.number_of(label)}"
+                    f" {self.shown(self.sort_units(part))}{self.number_of(label)}"
                 )
         total = sum(row[choices.population] for row in self.rows.values())
         if self.members:
@@ -131,7 +131,7 @@ class Judged:
                 people = sum(self.rows[unit][choices.population] for unit in members)
                 if not low <= people <= high:
                     self.refusals.append(
-                        f"{self.named(label)} has {people} people, outside {low} to {high}"
+                        f"{self.name_district(label)} has {people} people, outside {low} to {high}"
                         f" (slack={choices.slack}){self.number_of(label)}"
                     )
         edges = sum(len(those) for those in self.neighbours.values()) // 2
@@ -166,12 +166,12 @@ class Judged:
         over = [label for label, districts in split.items() if len(districts) > choices.max_split]
         if over:
             numbers = [i for i, label in enumerate(self.regions) if label in set(over)]
-            told = ", ".join(map(str, numbers[:SHOWN])) + (
+            listed = ", ".join(map(str, numbers[:SHOWN])) + (
                 f" and {len(numbers) - SHOWN} more" if len(numbers) > SHOWN else ""
             )
             self.refusals.append(
                 f"regions that lie in more than {choices.max_split} districts: {len(over)}:"
-                f" {self.shown(over)} (the auditor's numbers: {told})"
+                f" {self.shown(over)} (the auditor's numbers: {listed})"
             )
         self.judge_splits(
             {label: len(districts) for label, districts in split.items() if len(districts) > 1}
@@ -184,7 +184,7 @@ class Judged:
         splits = sum(split.values()) - len(split)
         self.notes.append(
             f"{len(split)} regions lie in more than one district, with {splits} splits in"
-            f" all{': ' + self.shown(in_order(split)) if split else ''}"
+            f" all{': ' + self.shown(sort_labels(split)) if split else ''}"
         )
         if splits > self.choices.max_splits:
             self.refusals.append(f"{splits} splits of regions, more than {self.choices.max_splits}")
@@ -226,7 +226,7 @@ class Judged:
         """The total length of the edges between districts."""
         district = self.choices.district
         cut = [
-            lengths.of(unit, other)
+            lengths.get(unit, other)
             for unit, those in self.neighbours.items()
             for other in those
             if self.place[unit] < self.place[other]

@@ -7,7 +7,7 @@ import json
 import re
 import typing
 
-from .graphs import as_json, in_order, plain
+from .graphs import as_json, sort_labels, plain
 
 # The words before a number in the program's lines, and what they count.
 COUNTED = re.compile(r"\b(units?|nodes?|district|region) ([0-9]+)(?: and ([0-9]+))?")
@@ -34,7 +34,7 @@ def labels_of(data: bytes, columns: typing.Mapping[str, object]) -> Labels:
     def column(name: object) -> typing.Sequence[object]:
         labels = [plain(node.get(name)) for node in nodes] if name else [None]
         known = [label for label in labels if label is not None]
-        return in_order(known) if len(known) == len(labels) else []
+        return sort_labels(known) if len(known) == len(labels) else []
 
     return Labels(
         [node.get("id") for node in nodes], column(columns.get("district")),
@@ -42,7 +42,7 @@ def labels_of(data: bytes, columns: typing.Mapping[str, object]) -> Labels:
     )
 
 
-def where_no_json(data: bytes) -> str:
+def find_json_fault(data: bytes) -> str:
     """Returns the line and column where bytes are no JSON to the program, and why; '' where
     unknown.
 
@@ -90,7 +90,7 @@ def plan_labels(table: str, name: str) -> typing.Sequence[object]:
     return [label.decode("utf-8", "surrogateescape") for label in in_bytes]
 
 
-def said_in_labels(line: str, labels: Labels, table: str = "") -> str:
+def translate(line: str, labels: Labels, table: str = "") -> str:
     """Returns the meaning of a line's numbers, as 'region 5 is "Kings"; unit 2 is "v"'; '' where
     nothing is known, or the label is the number.
 

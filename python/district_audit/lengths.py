@@ -43,7 +43,7 @@ class Lengths(typing.NamedTuple):
         """By how much their sum was changed."""
         return sum((self.whole[edge] - self.exact[edge] for edge in self.exact), Fraction(0))
 
-    def of(self, one: Label, other: Label) -> int:
+    def get(self, one: Label, other: Label) -> int:
         """The length of an edge; 0 for units that were joined."""
         return self.whole.get(frozenset((one, other)), 0)
 
@@ -89,15 +89,15 @@ def lengths_of(
             continue
         if exact.setdefault(edge, found) != found:
             faults.append(
-                f"{name}: {column} is {shown(exact[edge])} in one place and {shown(found)} in"
-                " another"
+                f"{name}: {column} is {show_length(exact[edge])} in one place and"
+                f" {show_length(found)} in another"
             )
     if faults:
         raise PrepareRefused(f"{len(faults)} lengths of edges are refused", faults)
     return Lengths({edge: round(length) for edge, length in exact.items()}, exact)
 
 
-def shown(length: Fraction) -> str:
+def show_length(length: Fraction) -> str:
     """A length in digits."""
     return str(length.numerator) if length.denominator == 1 else repr(float(length))
 

@@ -18,10 +18,10 @@ import sys
 import typing
 
 from .arguments import ONE_ELECTION, refuse
-from .calls import given, walked
+from .calls import prepare_call, call_program
 from .errors import ProgramMissing, ReportRefused, TypeRefused
 from .graphs import Json
-from .program import PathLike, found
+from .program import PathLike, find_program
 from .report import Report
 
 FORMAT = "district-audit manifest 1"
@@ -43,7 +43,7 @@ class File:
     size: int
 
     @classmethod
-    def of(cls, path: PathLike) -> File:
+    def measure(cls, path: PathLike) -> File:
         """Returns what the file at a path is. Raises OSError."""
         digest, size = hashlib.sha256(), 0
         with open(path, "rb") as file:
@@ -67,7 +67,7 @@ class File:
         return cls(name, digest, size)
 
 
-def with_names(pairs: typing.Iterable[tuple[str, object]]) -> dict[str, object]:
+def rename_fields(pairs: typing.Iterable[tuple[str, object]]) -> dict[str, object]:
     """Returns fields by their names in a manifest, where a size is `bytes`."""
     return {"bytes" if name == "size" else name: value for name, value in pairs}
 
@@ -91,7 +91,7 @@ class Manifest:
 
     def __str__(self) -> str:
         """Returns the manifest as JSON, in lines."""
-        values = dataclasses.asdict(self, dict_factory=with_names)
+        values = dataclasses.asdict(self, dict_factory=rename_fields)
         return json.dumps({"format": FORMAT, **values}, indent=1) + "\n"
 
     @classmethod
@@ -106,10 +106,10 @@ class Manifest:
             raise ManifestRefused(f"a manifest has exactly these names: {', '.join(sorted(names))}")
         if value.pop("format") != FORMAT:
             raise ManifestRefused(f"the format is not {FORMAT!r}")
-        return cls.of_values(value)
+        return cls.from_values(value)
 
     @classmethod
-    def of_values(cls, value: dict[str, Json]) -> Manifest:
+    def from_values(cls, value: dict[str, Json]) -> Manifest:
         """Returns the manifest with these values. Raises ManifestRefused."""
         command = value["command"]
         is_text = isinstance(command, list) and all(isinstance(word, str) for word in command)
@@ -131,7 +131,7 @@ class Manifest:
         )
 
 
-def now() -> str:
+def read_clock() -> str:
     return datetime.datetime.now(datetime.timezone.utc).isoformat(timespec="seconds")
 
 
@@ -145,12 +145,12 @@ def write(path: pathlib.Path, data: bytes) -> None:
 def graph_file(graph: object, data: bytes, report: pathlib.Path) -> File:
     """Returns the file whose bytes went to the program, which is written where there is none."""
     if isinstance(graph, (str, os.PathLike)):
-        file = File.of(graph)
+        file = File.measure(graph)
         if file.sha256 == hashlib.sha256(data).hexdigest():
             return file
     path = report.with_name(report.name + GRAPH_SUFFIX)
     write(path, data)
-    return File.of(path)
+    return File.measure(path)
 
 
 def audit_to_file(
@@ -180,17 +180,17 @@ def audit_to_file(
             TypeRefused, "audit_to_file", "elections", words["elections"],
             "audit_to_file writes the report of one election", ONE_ELECTION,
         )
-    path, call = pathlib.Path(report), given("run", graph, words)
-    tool = File.of(found("audit", program))
-    started = now()
-    done = walked(call, folder, progress, program, slots)
-    ended = now()
+    path, call = pathlib.Path(report), prepare_call("run", graph, words)
+    tool = File.measure(find_program("audit", program))
+    started = read_clock()
+    done = call_program(call, folder, progress, program, slots)
+    ended = read_clock()
     read = graph_file(graph, call.data, path)
     write(path, str(done).encode("utf-8", "surrogateescape"))
     from . import __version__
 
     made = Manifest(
-        tuple(call.words), read, File.of(path), tool, __version__, started, ended,
+        tuple(call.words), read, File.measure(path), tool, __version__, started, ended,
         os.cpu_count() or 1,
     )
     write(path.with_name(path.name + SUFFIX), str(made).encode("utf-8"))
@@ -208,12 +208,12 @@ class Checked(typing.NamedTuple):
     line: str
 
 
-def compared(what: str, wanted: File, path: pathlib.Path | None) -> Checked:
+def compare(what: str, wanted: File, path: pathlib.Path | None) -> Checked:
     """Compares a file with what a manifest says of it; `path` is None where none is known."""
     if path is None or not path.exists():
         where = "no file is named" if path is None else f"{path} is not there"
         return Checked(what, None, f"{what} {wanted.name}: not checked, {where} (--{what} FILE)")
-    came = File.of(path)
+    came = File.measure(path)
     if came.sha256 == wanted.sha256 and came.size == wanted.size:
         return Checked(what, True, f"{what} {path}: agrees, sha256 {wanted.sha256}")
     return Checked(
@@ -266,9 +266,9 @@ def verify(
         for what, path in named.items()
     }
     found_files = [
-        compared("report", made.report, paths["report"]),
-        compared("graph", made.graph, paths["graph"]),
-        compared("program", made.program, paths["program"]),
+        compare("report", made.report, paths["report"]),
+        compare("graph", made.graph, paths["graph"]),
+        compare("program", made.program, paths["program"]),
     ]
     text = paths["report"]
     if found_files[0].agrees and text is not None:
@@ -283,10 +283,10 @@ def status_of(checked: typing.Sequence[Checked]) -> int:
     return 0 if needed and all(one.agrees is not False for one in checked) else 1
 
 
-def installed() -> str | None:
+def find_installed() -> str | None:
     """Returns the path of the installed program, if there is one."""
     try:
-        return found("audit")
+        return find_program("audit")
     except ProgramMissing:
         return None
 
@@ -309,7 +309,8 @@ def verify_command(words: typing.Sequence[str]) -> int:
     parser.add_argument("--program", help="the program; by default the one that is installed")
     named = parser.parse_args(words)
     try:
-        checked = verify(named.manifest, named.graph, named.report, named.program or installed())
+        program = named.program or find_installed()
+        checked = verify(named.manifest, named.graph, named.report, program)
     except (ManifestRefused, ReportRefused, OSError, UnicodeDecodeError) as why:
         print(f"verify: {why}", file=sys.stderr)
         return 2

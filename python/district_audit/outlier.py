@@ -12,7 +12,7 @@ from decimal import Decimal
 from fractions import Fraction
 
 from .graphs import Foreign, is_missing
-from .report import TAILS, bound_of, rounded_up
+from .report import TAILS, bound_of, round_up
 
 
 @dataclasses.dataclass(frozen=True)
@@ -148,4 +148,4 @@ def rank_test(values: typing.Iterable[Foreign], tail: str) -> RankTest:
     endpoints have to be used, and the score has to be a function of the plan alone.
     """
     rank, total = count_tail(values, tail)
-    return RankTest(tail, rank, total, rounded_up(rank, total))
+    return RankTest(tail, rank, total, round_up(rank, total))

@@ -45,7 +45,7 @@ Parties = typing.Optional[typing.Sequence[str]]
 Scores = typing.Union[None, str, typing.Sequence[str]]
 
 
-def only(report: Report, scores: Scores) -> Report:
+def select_scores(report: Report, scores: Scores) -> Report:
     """Returns a report with the lines of some scores, or questions, alone."""
     if scores is None:
         return report
@@ -150,24 +150,24 @@ def percent(count: int, whole: int) -> str:
     return f"{part:.1f} %" if part >= 0.05 else "< 0.1 %"
 
 
-def so_many(count: int, what: str) -> str:
+def count_text(count: int, what: str) -> str:
     return f"{count} {what}{'' if count == 1 else 's'}"
 
 
-def about(report: Report, parties: Parties = None) -> str:
+def compose_head(report: Report, parties: Parties = None) -> str:
     """The head of the picture: the map, its rules, what was walked, the key, and what was read."""
     both = f"\nfirst party {parties[0]}, second party {parties[1]}" if parties else ""
     rules, setting, source = report.rules, report.setting, report.source
-    limits = "".join("; " + said for said in rules.told())
-    limits += "".join("\n" + said for said in ["; ".join(rules.told_further())] if said)
+    limits = "".join("; " + said for said in rules.describe())
+    limits += "".join("\n" + said for said in ["; ".join(rules.describe_more())] if said)
     ends = (
-        f"{so_many(setting.ends, 'end')} of {so_many(setting.hub_steps, 'step')}"
+        f"{count_text(setting.ends, 'end')} of {count_text(setting.hub_steps, 'step')}"
         if setting.ends
         else "no ends"
     )
     ends += f", a test stops after {setting.stop} in its tail" if setting.stop else ""
     walks = (
-        f"{so_many(setting.walks, 'walk')} of {so_many(setting.steps, 'step')}"
+        f"{count_text(setting.walks, 'walk')} of {count_text(setting.steps, 'step')}"
         if setting.walks
         else "no walks"
     )
@@ -286,7 +286,7 @@ def panels_of(walks: list[Row], tests: list[Test]) -> list[Panel]:
     return panels
 
 
-def composed(panels: list[Panel], head: str, title: str | None = None) -> Figure:
+def compose(panels: list[Panel], head: str, title: str | None = None) -> Figure:
     """Returns a figure of panels, one below the other, under a title and lines of words."""
     from matplotlib.backends.backend_agg import FigureCanvasAgg
     from matplotlib.figure import Figure
@@ -319,7 +319,7 @@ def draw(
     MissingExtra where matplotlib is not installed.
     """
     extra("matplotlib")
-    report, both = only(report, scores), named_parties(parties)
+    report, both = select_scores(report, scores), named_parties(parties)
     panels = panels_of(walk_rows(report.walks, both), test_rows(report, both))
     shift = report.shift
     if ax is not None:
@@ -330,7 +330,7 @@ def draw(
     if shift is not None and any(shift.counts):
         histogram = shift
         panels.append(Panel(2, 0.5, lambda axes: draw_shift(axes, histogram, both)))
-    return composed(panels, about(report, both), title)
+    return compose(panels, compose_head(report, both), title)
 
 
 def draw_named(
@@ -350,7 +350,7 @@ def draw_named(
     both = named_parties(parties)
     walks, tests = [], []
     for name, report in reports:
-        part = only(report, scores)
+        part = select_scores(report, scores)
         walks += [
             row._replace(label=f"{name}: {row.label.removesuffix(', walk 0')}")
             for row in walk_rows(part.walks, both, 1)
@@ -359,13 +359,13 @@ def draw_named(
     first = reports[0][1]
     names = ", ".join(name for name, _ in reports)
     head = (
-        f"{so_many(len(reports), what)}: {names}\n{first.units} units,"
-        f" {so_many(first.setting.walks, 'walk')} of {so_many(first.setting.steps, 'step')},"
-        f" {so_many(first.setting.ends, 'end')} of {so_many(first.setting.hub_steps, 'step')}"
+        f"{count_text(len(reports), what)}: {names}\n{first.units} units,"
+        f" {count_text(first.setting.walks, 'walk')} of {count_text(first.setting.steps, 'step')},"
+        f" {count_text(first.setting.ends, 'end')} of {count_text(first.setting.hub_steps, 'step')}"
         f" each\nkey {first.key}"
     )
     head += f"\nfirst party {both[0]}, second party {both[1]}" if both else ""
-    return composed(panels_of(walks, tests), head, title)
+    return compose(panels_of(walks, tests), head, title)
 
 
 def save(figure: Figure, name: str) -> None:

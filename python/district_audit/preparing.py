@@ -18,7 +18,7 @@ from .arguments import (
     RULES,
     TABLE,
     count_in,
-    documented,
+    document,
     plain_words,
     test_count,
     test_names,
@@ -37,12 +37,12 @@ from .graphs import (
     hashable,
     is_missing,
     is_whole,
-    of_numpy,
+    from_numpy,
     raw_of,
-    renamed,
-    shown,
+    make_renaming,
+    list_ids,
 )
-from .values import alike_in, faults_in, kind_of, repeated, why_no_label
+from .values import find_alike, faults_in, kind_of, find_repeated, why_no_label
 
 MOST_BYTES, MOST_VALUE, MOST_CUT_LENGTH = 67_108_864, 1_000_000_000, TABLE["max_length"].most
 
@@ -128,7 +128,7 @@ class Change:
         moved = f", which changes the column's sum by {self.moved:.6g}" if self.moved else ""
         return (
             f"{self.what}: {len(self.units)} unit{'s' if len(self.units) > 1 else ''}{moved}:"
-            f" {shown(self.units, everything)}"
+            f" {list_ids(self.units, everything)}"
         )
 
     def __str__(self) -> str:
@@ -207,7 +207,7 @@ class Prepared:
         return "".join(parts)
 
 
-@documented
+@document
 def prepare(
     graph: object,
     *,
@@ -381,7 +381,7 @@ def free_name(taken: typing.Collection[str | None]) -> str:
 # ---- columns
 
 
-def asked_for(nodes: list[Node], choices: Choices) -> None:
+def refuse_unknown(nodes: list[Node], choices: Choices) -> None:
     """Refuses a column that no unit has, or has a value in: most likely its name is misspelt."""
     frozen = [choices.freeze] if choices.freeze else []
     for column in (*choices.counted, *choices.labelled, *choices.keep, *frozen):
@@ -394,7 +394,7 @@ def asked_for(nodes: list[Node], choices: Choices) -> None:
             )
 
 
-def with_assignment(nodes: list[Node], choices: Choices) -> list[Node]:
+def assign(nodes: list[Node], choices: Choices) -> list[Node]:
     """The units with the districts of an assignment."""
     given: Foreign = choices.assignment
     if given is None:
@@ -417,7 +417,7 @@ def with_assignment(nodes: list[Node], choices: Choices) -> list[Node]:
     found = [{**node, choices.district: left.pop(hashable(node.get("id")), None)} for node in nodes]
     if left:
         raise PrepareRefused(
-            f"the assignment names an unknown unit: {shown(left)}{hint_of_kind(left, nodes)}"
+            f"the assignment names an unknown unit: {list_ids(left)}{hint_of_kind(left, nodes)}"
         )
     return found
 
@@ -434,7 +434,7 @@ def test_units(pairs: typing.Sequence[tuple[object, object]]) -> None:
         if not is_missing(unit) and kind_of(unit) is None
     ]
     if not faults:
-        faults = [f"unit {as_json(unit)} has several districts" for unit in repeated(ids)]
+        faults = [f"unit {as_json(unit)} has several districts" for unit in find_repeated(ids)]
     if faults:
         raise PrepareRefused(f"{len(faults)} units of the assignment are refused", faults)
 
@@ -495,7 +495,7 @@ def flag_of(value: object) -> bool | int | None:
     """Returns true, false or a whole number as the program takes it for a frozen unit, else None.
     """
     try:
-        plain = json.loads(json.dumps(value, default=of_numpy, allow_nan=False))
+        plain = json.loads(json.dumps(value, default=from_numpy, allow_nan=False))
     except (TypeError, ValueError):
         return None
     if isinstance(plain, float) and plain.is_integer():
@@ -527,7 +527,7 @@ class Rows:
             self.flag(name, node.get(self.choices.freeze), self.choices.freeze, row)
         for column in self.choices.keep:
             if column in node:
-                self.kept(name, node[column], column, row)
+                self.keep(name, node[column], column, row)
         if all(stays):
             self.rows[name] = row
 
@@ -545,7 +545,7 @@ class Rows:
             return
         row[column] = plain
 
-    def kept(self, name: Label, value: object, column: str, row: Row) -> None:
+    def keep(self, name: Label, value: object, column: str, row: Row) -> None:
         """Writes a value that is kept and not audited; a missing one as null, which is a change."""
         if is_missing(value):
             row[column] = None
@@ -554,7 +554,7 @@ class Rows:
             )
             return
         try:
-            row[column] = json.loads(json.dumps(value, default=of_numpy, allow_nan=False))
+            row[column] = json.loads(json.dumps(value, default=from_numpy, allow_nan=False))
         except ValueError:
             self.faults.append(
                 f"unit {as_json(name)}: {column}, which is {as_json(value)}, cannot be kept: JSON"
@@ -745,7 +745,7 @@ def names_of(raw: Raw, changes: Changes) -> tuple[list[Label], typing.Callable[[
         raise PrepareRefused(
             f"node {next(place for place, one in enumerate(ids) if is_missing(one))} has no id"
         )
-    name_of, changed = renamed(ids + [end for pair in raw.pairs for end in pair])
+    name_of, changed = make_renaming(ids + [end for pair in raw.pairs for end in pair])
     if changed:
         changes.add("ids: some are neither texts nor whole numbers, so all are written as texts")
     names = [name_of(one) for one in ids]
@@ -758,12 +758,12 @@ def names_of(raw: Raw, changes: Changes) -> tuple[list[Label], typing.Callable[[
         raise PrepareRefused(f"{len(faults)} ids are refused", faults)
     twice = [name for name, count in collections.Counter(names).items() if count > 1]
     if twice:
-        raise PrepareRefused(f"several units have the same id: {shown(twice)}")
-    twice = typing.cast(list[Label], repeated(names))
+        raise PrepareRefused(f"several units have the same id: {list_ids(twice)}")
+    twice = typing.cast(list[Label], find_repeated(names))
     if twice:
         raise PrepareRefused(
             'several units have ids that differ only in their kind, as 1 and "1" do:'
-            f" {shown(twice)}"
+            f" {list_ids(twice)}"
         )
     return names, name_of
 
@@ -782,7 +782,7 @@ def labels_in(
             and len(there) < len(nodes)
             else []
         )
-        found[column], changed = renamed([*there, *filled])
+        found[column], changed = make_renaming([*there, *filled])
         if changed:
             changes.add(
                 f"labels in {column}: some are neither texts nor whole numbers, so all are written"
@@ -823,8 +823,8 @@ def prepare_raw(raw: Raw, choices: Choices) -> Prepared:
     changes = Changes()
     if raw.is_directed:
         changes.add("the graph is directed: each edge is read as one in both directions")
-    nodes = with_assignment(raw.nodes, choices)
-    asked_for(nodes, choices)
+    nodes = assign(raw.nodes, choices)
+    refuse_unknown(nodes, choices)
     if choices.length:
         lengths.test_column(choices.length, raw.attributes)
     names, name_of = names_of(raw, changes)
@@ -833,7 +833,7 @@ def prepare_raw(raw: Raw, choices: Choices) -> Prepared:
     for name, node in zip(names, nodes):
         taken.take(name, node)
     if not taken.faults and choices.region:
-        taken.faults += alike_in(
+        taken.faults += find_alike(
             [(name, row[choices.region]) for name, row in taken.rows.items()], choices.region
         )
     if taken.faults:
@@ -926,7 +926,7 @@ def data_of(
     """The graph in networkx's adjacency layout, as one line."""
 
     def entry(unit: Label, other: Label) -> dict[str, object]:
-        there = {} if length is None or found is None else {length: found.of(unit, other)}
+        there = {} if length is None or found is None else {length: found.get(unit, other)}
         return {**there, "id": other}
 
     try:

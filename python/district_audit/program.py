@@ -18,7 +18,7 @@ KNOWN = {
 }
 
 
-def found(which: str, given: PathLike | None = None) -> str:
+def find_program(which: str, given: PathLike | None = None) -> str:
     """The path of a program: the one that is given, or that the environment names, or that stands
     in the folders of PATH.
 
@@ -69,7 +69,7 @@ def call(
         stderr=subprocess.PIPE,
     ) as process:
         try:
-            text, note = spoken(process, data, meanwhile)
+            text, note = read_outputs(process, data, meanwhile)
         except BaseException:
             stop(process)
             raise
@@ -79,7 +79,7 @@ def call(
     )
 
 
-def spoken(
+def read_outputs(
     process: subprocess.Popen[bytes],
     data: bytes,
     meanwhile: typing.Callable[[subprocess.Popen[bytes]], None] | None,

@@ -114,11 +114,11 @@ class Look(typing.NamedTuple):
 
 def look(program: str, words: typing.Sequence[str], data: bytes, folder: PathLike | None) -> Look:
     """Asks once how far the run in a folder is; its words are those of the run."""
-    told = subprocess.run(
+    end = subprocess.run(
         [program, *words], cwd=folder, input=data, stdout=subprocess.PIPE,
         stderr=subprocess.DEVNULL, check=False,
     )
-    text = told.stdout.decode("utf-8", "replace")
+    text = end.stdout.decode("utf-8", "replace")
     found = re.search(r"^done: ([0-9]+) of ([0-9]+)$", text, re.MULTILINE)
     slots = "\n".join(line for line in text.splitlines() if line.startswith("slot "))
     return Look(slots, int(found[1]), int(found[2])) if found else Look(slots, None, None)
@@ -137,7 +137,7 @@ class Clock:
         self.has_shown = False
         self.done = 0
 
-    def said(self, seconds: float) -> str:
+    def describe(self, seconds: float) -> str:
         return (
             f"walking {self.total} trajectories for {seconds:.0f} s (save=1 shows how many are"
             " done)"
@@ -148,7 +148,7 @@ class Clock:
         if seconds < self.due:
             return
         self.due = seconds + 1 if self.is_terminal else 2 * seconds
-        text = self.said(seconds)
+        text = self.describe(seconds)
         self.stream.write(f"\r{text} " if self.is_terminal else text + "\n")
         self.stream.flush()
         self.has_shown = True
@@ -184,11 +184,11 @@ class StepClock(Clock):
             list(command), stdin=self.graph, stdout=self.text, stderr=subprocess.DEVNULL
         )
 
-    def said(self, seconds: float) -> str:
+    def describe(self, seconds: float) -> str:
         """Returns the step of the last whole line of the trace, in words."""
         step = self.step()
         if step is None:
-            return super().said(seconds)
+            return super().describe(seconds)
         done = f"{step} of {self.steps} steps in {seconds:.0f} s"
         return f"first of {self.total} trajectories: {done}"
 

@@ -93,7 +93,7 @@ class Rules:
     max_length: int | None = None
     """The greatest total length of the edges between districts; None: any length."""
 
-    def told(self) -> list[str]:
+    def describe(self) -> list[str]:
         """The limits on cut edges and on the districts of a region, in words."""
         said = [] if self.max_cut is None else [f"at most {self.max_cut} cut edges"]
         return said + (
@@ -102,7 +102,7 @@ class Rules:
             else [f"{self.regions} regions, each in at most {self.max_split or 0} districts"]
         )
 
-    def told_further(self) -> list[str]:
+    def describe_more(self) -> list[str]:
         """Those on splits in all, on split regions, on a group's majorities, on frozen units and on
         the length of cut edges.
         """
@@ -161,15 +161,15 @@ class Source:
     """The column of the edges' lengths; None: none was named."""
 
     def lines(self) -> list[str]:
-        words = ["columns", *map(quoted, (self.population, self.first, self.second, self.district))]
-        words += [] if self.region is None else ["region", quoted(self.region)]
+        words = ["columns", *map(quote, (self.population, self.first, self.second, self.district))]
+        words += [] if self.region is None else ["region", quote(self.region)]
         words += (
             []
             if self.group is None
-            else ["group", quoted(self.group), "of", quoted(self.group_of or "")]
+            else ["group", quote(self.group), "of", quote(self.group_of or "")]
         )
-        words += [] if self.freeze is None else ["freeze", quoted(self.freeze)]
-        words += [] if self.length is None else ["length", quoted(self.length)]
+        words += [] if self.freeze is None else ["freeze", quote(self.freeze)]
+        words += [] if self.length is None else ["length", quote(self.length)]
         return [f"source sha256 {self.sha256} bytes {self.size}", " ".join(words)]
 
     def is_of(self, data: bytes) -> bool:
@@ -222,7 +222,7 @@ class Batch:
         return [name for place, name in enumerate(self.names) if place != self.place]
 
 
-def in_batch(
+def join_batch(
     kind: str, pairs: typing.Iterable[tuple[str, Report]]
 ) -> list[tuple[str, Report]]:
     """Returns the reports of one call, each of which knows that there are others."""
@@ -234,7 +234,7 @@ def in_batch(
     ]
 
 
-def quoted(text: str) -> str:
+def quote(text: str) -> str:
     """A text as the program writes it: as JSON, with the shortest escapes."""
     return json.dumps(text, ensure_ascii=False)
 
@@ -402,7 +402,7 @@ class Reader:
     def next(self) -> str | None:
         return self.lines[self.place] if self.place < len(self.lines) else None
 
-    def begins(self, word: str) -> bool:
+    def is_at(self, word: str) -> bool:
         line = self.next()
         return line is not None and line.split(" ")[0] == word
 
@@ -472,7 +472,7 @@ class Head(typing.NamedTuple):
 
 def source_of(lines: Reader) -> Source | None:
     """Returns the source, if the text names one."""
-    if not lines.begins("source"):
+    if not lines.is_at("source"):
         return None
     sha256, count = lines.take(
         "source sha256 ([0-9a-f]{64}) bytes N".replace("N", NUMBER), "source sha256 H bytes n"
@@ -514,7 +514,7 @@ def columns_in(lines: Reader, said: str) -> tuple[list[str], list[str]]:
             name, end = None, at
         lines.ask_that(
             isinstance(name, str)
-            and quoted(name) == said[at:end]
+            and quote(name) == said[at:end]
             and said[end:end + 1] in ("", " "),
             "its names are not JSON texts",
         )
@@ -532,7 +532,7 @@ def has_rule(lines: Reader, word: str, is_named: bool | None) -> bool:
 
     Where the columns are told, it stands exactly where its column is named.
     """
-    is_there = lines.begins(word)
+    is_there = lines.is_at(word)
     if is_named is not None and is_there != is_named:
         refuse(
             lines.number,
@@ -550,7 +550,7 @@ def rules_of(
 ) -> dict[str, int]:
     """The rules that are set, by the names of their fields."""
     found: dict[str, int] = {}
-    if lines.begins("max-cut"):
+    if lines.is_at("max-cut"):
         (found["max_cut"],) = lines.numbers("max-cut N", "max-cut c")
         lines.ask_that(found["max_cut"] < MOST_CUT, "a limit at its default has no line")
     if has_rule(lines, "max-split", None if source is None else source.region is not None):
@@ -560,7 +560,7 @@ def rules_of(
             "the limit or the number of regions is out of range",
         )
         found.update(max_split=most, regions=regions)
-        if lines.begins("max-splits"):
+        if lines.is_at("max-splits"):
             splits, split_regions = lines.numbers(
                 "max-splits N max-split-regions N", "max-splits s max-split-regions k"
             )
@@ -578,7 +578,7 @@ def rules_of(
             "the count of majorities is below the limit, or above the number of districts",
         )
         found.update(group_districts=least, majorities=majorities)
-        if lines.begins("group-share"):
+        if lines.is_at("group-share"):
             (found["group_share"],) = lines.numbers("group-share N", "group-share p")
             lines.ask_that(
                 found["group_share"] <= MOST_SHARE and found["group_share"] != HALF_SHARE,
@@ -592,7 +592,7 @@ def rules_of(
         lines.ask_that(
             found["cut_length"] <= edges * MOST_LENGTH, "so few edges are not so long in all"
         )
-        if lines.begins("max-length"):
+        if lines.is_at("max-length"):
             (found["max_length"],) = lines.numbers("max-length N", "max-length l")
             lines.ask_that(
                 found["cut_length"] <= found["max_length"] < MOST_CUT_LENGTH,
@@ -643,7 +643,7 @@ def setting_of(lines: Reader) -> Setting:
         "a number is out of range",
     )
     stop = 0
-    if lines.begins("stop") and len((lines.next() or "").split(" ")) == 2:
+    if lines.is_at("stop") and len((lines.next() or "").split(" ")) == 2:
         (stop,) = lines.numbers("stop N", "stop h")
         lines.ask_that(
             1 <= stop <= MOST_TRAJECTORIES and ends >= 1,
@@ -652,7 +652,7 @@ def setting_of(lines: Reader) -> Setting:
     return Setting(walks, steps, ends, hub_steps, stop)
 
 
-def rounded_up(top: int, of: int) -> Decimal:
+def round_up(top: int, of: int) -> Decimal:
     """top/of, rounded up at nine places, as the report writes it."""
     whole, rest = divmod(-(-top * BILLION // of), BILLION)
     return Decimal(f"{whole}.{rest:09}")
@@ -675,9 +675,9 @@ class Tests:
     def __init__(self, lines: Reader, head: Head, setting: Setting) -> None:
         self.lines, self.head, self.setting = lines, head, setting
         self.starts: dict[str, Start] = {}
-        self.asks = self.asked()
+        self.asks = self.find_asks()
 
-    def asked(self) -> list[tuple[str, str]]:
+    def find_asks(self) -> list[tuple[str, str]]:
         """The questions, from the lines of the first trajectory, or of the first test where nothing
         is walked from the start.
         """
@@ -797,9 +797,9 @@ class Tests:
             "the numbers do not add up to the plans that are visited",
         )
         for tail, part in (("low", counts[:5]), ("high", counts[4:])):
-            told = [walk.count for walk in walks if walk.ask == "seats:" + tail]
+            visits = [walk.count for walk in walks if walk.ask == "seats:" + tail]
             self.lines.ask_that(
-                not told or sum(told) == sum(part),
+                not visits or sum(visits) == sum(part),
                 f"the numbers disagree with the lines on seats:{tail}",
             )
         return Shift(tuple(counts))
@@ -817,7 +817,7 @@ class Tests:
             late = 1 <= stop.top <= enough and stop.of == ends + 1 and stop.place == ends
             self.lines.ask_that(early or late, "no test stops at this place")
             self.lines.ask_that(
-                stop.p == rounded_up(stop.top, stop.of), "p is not that of the value"
+                stop.p == round_up(stop.top, stop.of), "p is not that of the value"
             )
             found.append(stop)
         return tuple(found)
@@ -856,12 +856,12 @@ class Tests:
         self.both_tails(found, [one.rank for one in found], of + 1)
         return tuple(found)
 
-    def rank_that_is(self, rank: int, told: int, of: int, p: Decimal) -> None:
-        self.lines.ask_that(told == of and 1 <= rank <= of, "the rank is out of range")
-        self.lines.ask_that(p == rounded_up(rank, of), "p is not that of the rank")
+    def rank_that_is(self, rank: int, total: int, of: int, p: Decimal) -> None:
+        self.lines.ask_that(total == of and 1 <= rank <= of, "the rank is out of range")
+        self.lines.ask_that(p == round_up(rank, of), "p is not that of the rank")
 
 
-def asked(test: str, line: Line) -> dict[str, object]:
+def make_cells(test: str, line: Line) -> dict[str, object]:
     """Returns what each row of a frame has: the test, the question, and the start's score."""
     return {
         "test": test,
@@ -875,7 +875,7 @@ def asked(test: str, line: Line) -> dict[str, object]:
 # ---- the texts
 
 
-def with_decimal(row: typing.Sequence[object]) -> list[object]:
+def add_decimal(row: typing.Sequence[object]) -> list[object]:
     """Returns a row whose score has its decimals beside the fraction, where it is no whole number.
     """
     return [
@@ -930,14 +930,14 @@ class PlanCheck:
         """Returns whether the program found the plan legal."""
         return not self.faults
 
-    def with_plan(self, plan: Plan) -> PlanCheck:
+    def add_plan(self, plan: Plan) -> PlanCheck:
         """Adds the districts to what the program wrote."""
         return dataclasses.replace(
             self, table=plan.districts, cut_edges=plan.cut_edges, cut_length=plan.cut_length
         )
 
     @classmethod
-    def of_plan(cls, plan: Plan, edges: int, rules: Rules) -> PlanCheck:
+    def from_plan(cls, plan: Plan, edges: int, rules: Rules) -> PlanCheck:
         """Returns what is known of a plan that the program refused."""
         units, population = (
             sum(getattr(one, name) for one in plan.districts) for name in ("units", "population")
@@ -1089,7 +1089,7 @@ class Report:
             found.append((name, cls.read(lines)))
         if not found:
             refuse(1, "there is no plan")
-        return in_batch("plan", found)
+        return join_batch("plan", found)
 
     @classmethod
     def read(cls, lines: Reader) -> Report:
@@ -1103,7 +1103,7 @@ class Report:
         shift = tests.shift(walks) if version == "2" else None
         stops = tests.stops() if setting.stop else ()
         ends = tests.ends() if setting.ends and not setting.stop else ()
-        serial = tests.serial() if lines.begins("serial") else ()
+        serial = tests.serial() if lines.is_at("serial") else ()
         lines.take("end", "end")
         return cls(key, *head, setting, walks, shift, stops, ends, serial, source)
 
@@ -1163,22 +1163,23 @@ class Report:
             rows.append(
                 dict(
                     walk=walk.number, moved=walk.moved, visited=walk.of, in_tail=walk.count,
-                    share=walk.part, bound=walk.bound, **asked("walk", walk),
+                    share=walk.part, bound=walk.bound, **make_cells("walk", walk),
                 )
             )
         for stop in self.stops:
             rows.append(
                 dict(
                     rank=stop.top, of=stop.of, stopped_after=stop.place, p=stop.p,
-                    **asked("stop", stop),
+                    **make_cells("stop", stop),
                 )
             )
         for one in self.ends:
-            rows.append(dict(rank=one.rank, of=one.of, p=one.p, **asked("ends", one)))
+            rows.append(dict(rank=one.rank, of=one.of, p=one.p, **make_cells("ends", one)))
         for run in self.serial:
             rows.append(
                 dict(
-                    rank=run.rank, of=run.of, start_place=run.place, p=run.p, **asked("serial", run)
+                    rank=run.rank, of=run.of, start_place=run.place, p=run.p,
+                    **make_cells("serial", run),
                 )
             )
         return rows
@@ -1352,7 +1353,8 @@ class Report:
     def _repr_html_(self) -> str:
         rules = self.rules
         limits = [
-            f"{rules.low} to {rules.high} people a district", *rules.told(), *rules.told_further()
+            f"{rules.low} to {rules.high} people a district", *rules.describe(),
+            *rules.describe_more(),
         ]
         about = (
             f"{self.units} units, {self.edges} edges, {self.districts} districts,"
@@ -1368,4 +1370,4 @@ class Report:
             if self.shift is None
             else table([self.shift.counts], ["seats " + word for word in SEATS])
         )
-        return f"<p>{html.escape(about)}</p>{table(map(with_decimal, self.rows()), COLUMNS)}{shift}"
+        return f"<p>{html.escape(about)}</p>{table(map(add_decimal, self.rows()), COLUMNS)}{shift}"

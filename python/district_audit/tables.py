@@ -9,8 +9,8 @@ import os
 import typing
 
 from .errors import PrepareRefused
-from .graphs import as_json, as_text, is_missing, plain, shown
-from .values import faults_in, kind_of, missing_in, repeated
+from .graphs import as_json, as_text, is_missing, plain, list_ids
+from .values import faults_in, kind_of, find_missing, find_repeated
 
 MOST_PLANS = 16
 
@@ -23,7 +23,7 @@ class Known:
     districts: int
 
     @classmethod
-    def of(cls, data: bytes, district: object) -> Known | None:
+    def read(cls, data: bytes, district: object) -> Known | None:
         """Reads this from the program's graph; None where the program will refuse the graph."""
         try:
             nodes = json.loads(data.decode("utf-8"))["nodes"]
@@ -56,7 +56,7 @@ def table_of(table: object, known: Known | None, districts: str) -> bytes:
         return data
     plans = plans_of(table)
     test(plans, known, districts)
-    return written(plans)
+    return write_csv(plans)
 
 
 def bytes_of(table: str | os.PathLike[str] | bytes | bytearray | memoryview) -> bytes:
@@ -106,12 +106,12 @@ def plans_of(table: object) -> list[Named]:
         )
     for name, _ in named:
         test_name(name)
-    twice = repeated(name for name, _ in named)
+    twice = find_repeated(name for name, _ in named)
     if twice:
-        raise PrepareRefused(f"several plans of the table have the same name: {shown(twice)}")
+        raise PrepareRefused(f"several plans of the table have the same name: {list_ids(twice)}")
     if not 1 <= len(named) <= MOST_PLANS:
         raise PrepareRefused(f"a table has 1 to {MOST_PLANS} plans, and this one has {len(named)}")
-    return [Named(str(name), assigned(plan, str(name))) for name, plan in named]
+    return [Named(str(name), read_assignment(plan, str(name))) for name, plan in named]
 
 
 def test_name(name: object) -> None:
@@ -126,7 +126,7 @@ def test_name(name: object) -> None:
         )
 
 
-def assigned(plan: object, name: str) -> list[tuple[object, object]]:
+def read_assignment(plan: object, name: str) -> list[tuple[object, object]]:
     """Returns the pairs of a plan: a dict, a Partition, its assignment, or a column of a frame."""
     while not hasattr(plan, "items") and hasattr(plan, "assignment"):
         plan = plan.assignment
@@ -155,7 +155,7 @@ def test(plans: list[Named], known: Known | None, districts: str) -> None:
     for name, labels in plans:
         of_plan = units_in(labels, known)
         label = "label"
-        of_plan += missing_in(labels, label) + faults_in(labels, label)
+        of_plan += find_missing(labels, label) + faults_in(labels, label)
         faults += [f"plan {name}: {fault}" for fault in of_plan]
     if faults:
         raise PrepareRefused(f"{len(faults)} values of the table of plans are refused", faults)
@@ -177,7 +177,7 @@ def units_in(labels: list[tuple[object, object]], known: Known | None) -> list[s
     ]
     if bad:
         return bad
-    found = [f"unit {as_json(unit)} has several labels" for unit in repeated(ids)]
+    found = [f"unit {as_json(unit)} has several labels" for unit in find_repeated(ids)]
     if known is None:
         return found
     there, wanted = {as_text(unit) for unit in ids}, {as_text(unit) for unit in known.units}
@@ -215,7 +215,7 @@ def test_count(name: str, count: int, known: Known) -> None:
 # ---- writing
 
 
-def padded(labels: typing.Sequence[object]) -> list[str]:
+def pad(labels: typing.Sequence[object]) -> list[str]:
     """Returns labels as texts. Whole numbers get zeros in front, to one width.
 
     The program orders the texts of a table by their bytes, and the numbers of a graph by value: so
@@ -227,11 +227,11 @@ def padded(labels: typing.Sequence[object]) -> list[str]:
     return [text.zfill(width) for text in found] if are_whole else found
 
 
-def written(plans: list[Named]) -> bytes:
+def write_csv(plans: list[Named]) -> bytes:
     """Returns plans, which have the same units, as CSV."""
     by_unit = [
         dict(
-            zip(map(as_text, (unit for unit, _ in labels)), padded([label for _, label in labels]))
+            zip(map(as_text, (unit for unit, _ in labels)), pad([label for _, label in labels]))
         )
         for _, labels in plans
     ]

@@ -28,7 +28,7 @@ COLUMNS = {
 }
 
 
-def compared(trace: Trace, named: Words, words: Words) -> tuple[str, ...]:
+def compare_head(trace: Trace, named: Words, words: Words) -> tuple[str, ...]:
     """Refuses a head that is not of the graph, and returns what could not be compared.
 
     `named` has the columns by the program's words, and `words` the arguments of the call. Warns of

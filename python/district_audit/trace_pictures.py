@@ -52,7 +52,7 @@ def new_figure(width: float, height: float) -> tuple[Figure, Axes]:
     return figure, axes
 
 
-def finished(figure: Figure, axes: Axes, title: str, name: str | None) -> Figure:
+def finish(figure: Figure, axes: Axes, title: str, name: str | None) -> Figure:
     """Returns the figure with its title, which is written where it has a name."""
     axes.set_title(title, fontsize=10, loc="left")
     if name is not None:
@@ -108,7 +108,7 @@ def histogram(values: typing.Iterable[typing.SupportsFloat], *,
     axes.set_ylabel(f"{plans} (of {len(found)})", fontsize=9)
     if title:
         title += "\n"
-    return finished(figure, axes, title, name)
+    return finish(figure, axes, title, name)
 
 
 def box_plot(rows: typing.Iterable[typing.Sequence[typing.SupportsFloat]], *,
@@ -153,7 +153,7 @@ def box_plot(rows: typing.Iterable[typing.Sequence[typing.SupportsFloat]], *,
                     "whiskers: 1 to 99 percent", fontsize=9)
     axes.set_ylabel(label, fontsize=9)
     axes.legend(loc="upper left", fontsize=8, frameon=False)
-    return finished(figure, axes, title, name)
+    return finish(figure, axes, title, name)
 
 
 def running(walks: typing.Mapping[Walk, typing.Sequence[tuple[int, typing.SupportsFloat]]], *,
@@ -192,4 +192,4 @@ def running(walks: typing.Mapping[Walk, typing.Sequence[tuple[int, typing.Suppor
     axes.set_xlabel("steps", fontsize=9)
     axes.set_ylabel(label, fontsize=9)
     axes.legend(loc="upper center", bbox_to_anchor=(0.5, -0.14), ncol=5, fontsize=8, frameon=False)
-    return finished(figure, axes, title, name)
+    return finish(figure, axes, title, name)

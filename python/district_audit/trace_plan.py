@@ -16,7 +16,7 @@ from .graphs import (
     as_json,
     as_text,
     hashable,
-    in_order,
+    sort_labels,
     is_missing,
     is_whole,
     plain,
@@ -78,7 +78,7 @@ class UnitTable:
         self.numbers = str(rules.get("numbers") or "error")
         self.missing = str(rules.get("missing") or "error")
         written_ids = [row["id"] for row in self.rows]
-        written = in_order(row[district] for row in self.rows)
+        written = sort_labels(row[district] for row in self.rows)
         number = {label: place for place, label in enumerate(written)}
         self.start = [number[row[district]] for row in self.rows]
         self.is_prepared = isinstance(graph, Prepared)

@@ -104,7 +104,7 @@ class ProgramLines:
             return
         self.note.seek(0)
         line = self.note.read().decode("utf-8", "surrogateescape").removesuffix("\n")
-        said = naming.said_in_labels(line, naming.labels_of(self.sent.data, self.sent.named))
+        said = naming.translate(line, naming.labels_of(self.sent.data, self.sent.named))
         raise error_of(status, line, said)
 
     def close(self) -> None:
@@ -125,7 +125,7 @@ class Trajectory(typing.NamedTuple):
     steps: int
     thin: int
 
-    def due(self, place: int) -> int:
+    def find_step(self, place: int) -> int:
         """Returns the step of the line at a place, from 0."""
         return min(place * self.thin, self.steps)
 
@@ -231,7 +231,7 @@ class Text:
                           "the sections must be in order of rising id")
         return one
 
-    def shown(self, form: re.Pattern[str], step: int) -> Shown:
+    def read_plan(self, form: re.Pattern[str], step: int) -> Shown:
         """Returns the next line of a plan, which has a form and has to be that of a step."""
         line = self.line(f"the plan after {step} steps")
         parts = form.fullmatch(line)

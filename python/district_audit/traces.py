@@ -15,12 +15,12 @@ from fractions import Fraction
 
 from . import progress as bars
 from . import scores as score_functions
-from .arguments import AS_PREPARED, AsPrepared, Words, documented, tested_elections
-from .calls import Given, few_moves, given, warn_of_few_moves, words_in
+from .arguments import AS_PREPARED, AsPrepared, Words, document, tested_elections
+from .calls import Given, few_moves, prepare_call, warn_of_few_moves, words_in
 from .errors import extra
 from .graphs import Foreign
-from .program import PathLike, found
-from .trace_head import compared
+from .program import PathLike, find_program
+from .trace_head import compare_head
 from .trace_plan import Plan, UnitTable, places_of
 from .trace_text import FileLines, Lines, ProgramLines, Shown, Text, Trajectory, plan_line
 
@@ -189,7 +189,7 @@ class Trace(typing.Iterator[Sample]):
                 for column in columns:
                     self.table.column(column)
             if is_read:
-                self.unchecked = compared(self, sent.named, words)
+                self.unchecked = compare_head(self, sent.named, words)
         except BaseException:
             lines.close()
             raise
@@ -279,7 +279,7 @@ class Trace(typing.Iterator[Sample]):
         """Reads on to the next sample; None at the end of the text."""
         while not self.is_closed:
             if self.place < self.trajectory.line_count:
-                shown = self.shown()
+                shown = self.read_plan()
                 if self.last or shown.step % self.trajectory.thin == 0:
                     self.plan.move(shown.units, shown.districts)
                     return Sample(self, self.plan, self.trajectory, shown)
@@ -297,10 +297,10 @@ class Trace(typing.Iterator[Sample]):
             self.begin(self.text.trajectory(line, self.head, self.trajectory))
         return None
 
-    def shown(self) -> Shown:
+    def read_plan(self) -> Shown:
         """Reads the next line of a plan."""
         one = self.trajectory
-        shown = self.text.shown(self.form, one.due(self.place))
+        shown = self.text.read_plan(self.form, one.find_step(self.place))
         self.judge(one, self.before, shown)
         self.before, self.place = shown, self.place + 1
         if self.bar is not None:
@@ -391,25 +391,27 @@ def functions_of(scores: Scores, elections: Elections, length: str = "") -> dict
         elif score in score_functions.OF_PLANS:
             chosen[score] = score_functions.OF_PLANS[score]
         elif score == "cut_length":
-            chosen[score] = of_length(length)
+            chosen[score] = make_length_score(length)
         elif score not in score_functions.OF_VOTES:
             known = (*score_functions.OF_PLANS, "cut_length", *score_functions.OF_VOTES)
             raise ValueError(f"there is no score {score}; by name there are {', '.join(known)}")
         elif not elections:
             chosen[score] = score_functions.OF_VOTES[score]
         else:
-            chosen.update((f"{score} {name}", of_election(score, name)) for name in elections)
+            chosen.update(
+                (f"{score} {name}", make_election_score(score, name)) for name in elections
+            )
     return chosen
 
 
-def of_length(column: str) -> Score:
+def make_length_score(column: str) -> Score:
     """Returns the score of the lengths of cut edges in a column. ValueError where none is named."""
     if not column:
         raise ValueError('the score cut_length needs lengths: trace(.., length="shared_perim")')
     return lambda sample: score_functions.cut_length(sample, column)
 
 
-def of_election(score: str, election: str) -> Score:
+def make_election_score(score: str, election: str) -> Score:
     """Returns a score of votes for one election."""
     function = score_functions.OF_VOTES[score]
     return lambda sample: function(sample, election)
@@ -464,7 +466,7 @@ class Bar:
 
 # ---- the calls
 
-@documented
+@document
 def trace(
     graph: object,
     *,
@@ -544,18 +546,19 @@ def trace(
     GraphChanged
         Values of a graph were changed where it was prepared.
     """
-    words = with_elections("trace", words_in(locals()), elections)
+    words = add_elections("trace", words_in(locals()), elections)
     if words["ask"] is None and words["scores"] is None:
         words["ask"] = "cut-edges:low"
-    sent = given("trace", graph, words)
+    sent = prepare_call("trace", graph, words)
     shown_ids = [int(one) for one in str(sent.named["ids"]).split("-")]
-    return Trace(ProgramLines(found("audit", program), sent), sent, graph, words,
+    return Trace(ProgramLines(find_program("audit", program), sent), sent, graph, words,
                  ids=(shown_ids[0], shown_ids[-1]), elections=elections, last=last,
                  progress=progress)
 
 
-def with_elections(command: str, words: Words, elections: Elections | None
-                   ) -> dict[str, object]:
+def add_elections(
+    command: str, words: Words, elections: Elections | None
+) -> dict[str, object]:
     """Returns the words, with the columns of the first election where none are named."""
     named = dict(words)
     if elections is not None:
@@ -565,7 +568,7 @@ def with_elections(command: str, words: Words, elections: Elections | None
     return named
 
 
-@documented
+@document
 def read_trace(
     text: PathLike,
     graph: object,
@@ -638,6 +641,6 @@ def read_trace(
         As for `trace`.
     """
     words = words_in(locals())
-    sent = given("read_trace", graph, with_elections("read_trace", words, elections))
+    sent = prepare_call("read_trace", graph, add_elections("read_trace", words, elections))
     return Trace(FileLines(open(os.fspath(text), "rb")), sent, graph, words, elections=elections,
                  last=last, is_read=True)

@@ -82,7 +82,7 @@ def look_of(text: str) -> str:
     return ("-" if found[1] == "-" and found[2] != "0" else "") + found[2]
 
 
-def missing_in(labels: Pairs, column: str) -> list[str]:
+def find_missing(labels: Pairs, column: str) -> list[str]:
     """Returns a line for each unit whose label is missing."""
     return [f"unit {as_json(unit)} has no {column}" for unit, label in labels if is_missing(label)]
 
@@ -101,10 +101,10 @@ def faults_in(labels: Pairs, column: str) -> list[str]:
         for unit, label, said in why
         if said
     ]
-    return found or mixed_in(there, column) or alike_in(there, column)
+    return found or find_mixed(there, column) or find_alike(there, column)
 
 
-def mixed_in(labels: Pairs, column: str) -> list[str]:
+def find_mixed(labels: Pairs, column: str) -> list[str]:
     """Returns a line for each unit whose label is of another kind than most labels are."""
     by_kind: dict[str, list[tuple[object, object]]] = {}
     for unit, label in labels:
@@ -121,7 +121,7 @@ def mixed_in(labels: Pairs, column: str) -> list[str]:
     ]
 
 
-def alike_in(labels: Pairs, column: str) -> list[str]:
+def find_alike(labels: Pairs, column: str) -> list[str]:
     """Returns a line for each unit whose label differs from another only in how it is written."""
     by_look: dict[str, dict[str, list[object]]] = {}
     for unit, label in labels:
@@ -158,12 +158,12 @@ def test_labels_of(data: bytes, columns: typing.Mapping[str, object]) -> None:
             continue
         labels = [(unit, node.get(column)) for unit, node in zip(units, nodes)]
         if all(plain(label) is not None for _, label in labels):
-            faults += missing_in(labels, column) + faults_in(labels, column)
+            faults += find_missing(labels, column) + faults_in(labels, column)
     if faults:
         raise PrepareRefused(f"{len(faults)} labels of the graph are refused", faults)
 
 
-def repeated(ids: typing.Iterable[object]) -> list[object]:
+def find_repeated(ids: typing.Iterable[object]) -> list[object]:
     """Returns the ids that stand there more than once as texts, each once, as they came first."""
     first: dict[str, object] = {}
     twice: dict[str, object] = {}

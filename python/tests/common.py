@@ -30,7 +30,7 @@ COLUMNS: Words = dict(population="pop", first="a", second="b", district="d")
 WALK: Words = dict(WORDS, key=KEY, walks=12, steps=8, ask="gap:low")
 
 
-def lacking(what: str) -> typing.NoReturn:
+def fail_or_skip(what: str) -> typing.NoReturn:
     """Fails where the variable CI is set; elsewhere skips the test, which is counted."""
     if os.environ.get("CI"):
         raise AssertionError(f"{what} is missing, and CI is set")
@@ -38,17 +38,17 @@ def lacking(what: str) -> typing.NoReturn:
 
 
 def needs(module: str) -> types.ModuleType:
-    """The module, or what `lacking` does."""
+    """The module, or what `fail_or_skip` does."""
     if importlib.util.find_spec(module) is None:
-        lacking(module)
+        fail_or_skip(module)
     return importlib.import_module(module)
 
 
-def built(crate: str, variable: str) -> str:
+def build_program(crate: str, variable: str) -> str:
     """The real program that the test command leaves in out/, or the one that a variable names."""
     path = os.environ.get(variable) or str(TOP / "crates" / crate / "out" / crate)
     if not os.access(path, os.X_OK):
-        lacking(f"the program of crates/{crate}")
+        fail_or_skip(f"the program of crates/{crate}")
     return path
 
 
@@ -59,7 +59,7 @@ def slots(folder: pathlib.Path) -> str:
     if os.environ.get("DISTRICT_AUDIT_SLOTS"):
         return os.environ["DISTRICT_AUDIT_SLOTS"]
     link = pathlib.Path(folder) / "audit_slots"
-    link.symlink_to(built("audit_folders", "DISTRICT_AUDIT_SLOTS"))
+    link.symlink_to(build_program("audit_folders", "DISTRICT_AUDIT_SLOTS"))
     return str(link)
 
 
@@ -79,7 +79,7 @@ class ProgramCase(FolderCase):
 
     def setUp(self) -> None:
         super().setUp()
-        self.program = built("audit_program", "DISTRICT_AUDIT")
+        self.program = build_program("audit_program", "DISTRICT_AUDIT")
 
     def with_little_memory(self) -> str:
         """A program that gets too little memory; a build with the address sanitizer reserves
@@ -166,7 +166,7 @@ def anything(value: object) -> Value:
     return value
 
 
-def found_in(form: str, text: str) -> re.Match[str]:
+def find_in(form: str, text: str) -> re.Match[str]:
     """Returns where a text has a form, which it has to have."""
     found = re.search(form, text)
     assert found is not None, f"{form} is not in the text"

@@ -49,9 +49,9 @@ def faults_of(folder: pathlib.Path, name: str, text: str) -> list[str]:
     run("pdftotext", str(pdf), str(folder / (name + ".txt")))
     sheets = sorted(folder.glob(name + "-*.ppm"))
     faults = [fault for sheet in sheets for fault in gray_faults(sheet)]
-    printed = squeezed((folder / (name + ".txt")).read_text(encoding="utf-8"))
+    printed = squeeze((folder / (name + ".txt")).read_text(encoding="utf-8"))
     words = [word for word in Page(text.split("<body>")[1]).words if word.strip()]
-    lost = [word for word in words if not all(squeezed(part) in printed for part in word.split())]
+    lost = [word for word in words if not all(squeeze(part) in printed for part in word.split())]
     return (
         faults
         + [f"{pdf.name} lost {word!r}" for word in lost]
@@ -59,7 +59,7 @@ def faults_of(folder: pathlib.Path, name: str, text: str) -> list[str]:
     )
 
 
-def squeezed(text: str) -> str:
+def squeeze(text: str) -> str:
     """A text without white space and without breaks within long words."""
     return re.sub(r"\s", "", text)
 

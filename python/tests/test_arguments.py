@@ -18,7 +18,7 @@ BASE: common.Words = dict(common.COLUMNS, slack=5000, key=common.KEY, steps=8, a
 class Refusals(common.ProgramCase):
     """None of these calls the program: it is one that does not exist."""
 
-    def refused(
+    def refuse(
         self,
         said: str,
         kind: type[Exception] = ValueError,
@@ -248,7 +248,7 @@ class Refusals(common.ProgramCase):
             ),
         ):
             with self.subTest(given=given):
-                error = self.refused(said, kind, **{**BASE, **anything(given)})
+                error = self.refuse(said, kind, **{**BASE, **anything(given)})
                 name = next(iter(anything(given))) if len(anything(given)) == 1 else error.argument
                 self.assertIn(error.argument, {name, "pop", "population", "walks"})
 
@@ -276,7 +276,7 @@ class Refusals(common.ProgramCase):
             }[call]
             base = {name: value for name, value in BASE.items() if name not in needed}
             with self.subTest(call=call):
-                self.refused(said, TypeError, call=anything(call), **{**base, **anything(given)})
+                self.refuse(said, TypeError, call=anything(call), **{**base, **anything(given)})
 
     def test_values_of_numpy_are_those_of_python(self) -> None:
         numpy = common.needs("numpy")
@@ -362,7 +362,7 @@ class Program(common.ProgramCase):
         The graph is no JSON, so the program walks nothing.
         """
         try:
-            arguments.tested(command, named)
+            arguments.test_words(command, named)
             own = ""
         except district_audit.ArgumentRefused as why:
             own = why.line

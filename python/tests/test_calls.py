@@ -27,7 +27,7 @@ ROUGH: common.Words = dict(GRID, district="CD")
 Refusal = typing.TypeVar("Refusal", bound=district_audit.AuditError)
 
 
-def interruptible() -> None:
+def allow_interrupts() -> None:
     """In a child: an interrupt ends it, also where the tests themselves run in the background,
     where it is ignored.
     """
@@ -321,7 +321,7 @@ class Calls(common.ProgramCase):
 class Exceptions(common.ProgramCase):
     """One type for each status of the program, each with the program's line."""
 
-    def refused(
+    def refuse(
         self,
         kind: type[Refusal],
         line: str,
@@ -340,7 +340,7 @@ class Exceptions(common.ProgramCase):
         return error
 
     def test_1_words(self) -> None:
-        error = self.refused(
+        error = self.refuse(
             district_audit.WordsRefused, "words: bad value for --slack",
             **anything({**common.WORDS, "slack": 10001}),
         )
@@ -354,11 +354,11 @@ class Exceptions(common.ProgramCase):
                 ),
             ),
         )
-        self.refused(
+        self.refuse(
             district_audit.WordsRefused, "words: unknown name --hub-stops", hub_stops=3,
             **common.WORDS,
         )
-        self.refused(
+        self.refuse(
             district_audit.WordsRefused, "words: --key is missing", call=district_audit.run,
             ask="gap:low", **common.WORDS,
         )
@@ -366,8 +366,8 @@ class Exceptions(common.ProgramCase):
     def test_2_graph_in_the_users_labels(self) -> None:
         root = common.example("cycle.json")
         district_of = [node["d"] for node in root["nodes"]]
-        self.refused(district_audit.GraphRefused, "graph: not JSON", graph=b"[", **common.WORDS)
-        error = self.refused(
+        self.refuse(district_audit.GraphRefused, "graph: not JSON", graph=b"[", **common.WORDS)
+        error = self.refuse(
             district_audit.GraphRefused,
             "graph: node 2 has no whole number from 0 to 1000000000 in column a",
             graph=json.dumps(
@@ -384,7 +384,7 @@ class Exceptions(common.ProgramCase):
         self.assertEqual(error.labels, f"node 2 is {json.dumps(root['nodes'][2]['id'])}")
         crossed = {node["id"]: name for node, name in zip(root["nodes"], "QRQR")}
         words = {name: column for name, column in common.WORDS.items() if name != "district"}
-        error = self.refused(
+        error = self.refuse(
             district_audit.GraphRefused, "plan: district 0 has no path from unit 0 to unit 2",
             graph=common.StandInGraph(root), assignment=crossed, **words,
         )
@@ -398,7 +398,7 @@ class Exceptions(common.ProgramCase):
         for node, name in zip(root["nodes"], ("Kings", "Kings", "Queens", "Queens")):
             node["county"] = name
             node["d"] = {"Kings": "x", "Queens": "y"}[name] if node is not root["nodes"][1] else "y"
-        error = self.refused(
+        error = self.refuse(
             district_audit.GraphRefused, "plan: region 0 lies in 2 districts, more than 1",
             graph=json.dumps(root).encode(), region="county", max_split=1, **common.WORDS,
         )
@@ -425,7 +425,7 @@ class Exceptions(common.ProgramCase):
         )
         with warnings.catch_warnings():
             warnings.simplefilter("ignore", district_audit.GraphChanged)
-            error = self.refused(
+            error = self.refuse(
                 district_audit.GraphRefused,
                 f"plan: region {number} lies in {most} districts, more than {most - 1}",
                 graph=common.StandInGraph(common.example("ny8.json")),
@@ -453,7 +453,7 @@ class Exceptions(common.ProgramCase):
             (dict(region="county", max_splits=995001), "--max-splits"),
             (dict(source="maybe"), "--source"),
         ):
-            self.refused(
+            self.refuse(
                 district_audit.WordsRefused, "words: bad value for " + why, **words,
                 **anything(said),
             )
@@ -468,11 +468,11 @@ class Exceptions(common.ProgramCase):
                 "the group has a majority in 2 districts, fewer than 3",
             ),
         ):
-            error = self.refused(
+            error = self.refuse(
                 district_audit.GraphRefused, "plan: " + why, **words, **anything(said)
             )
             self.assertEqual(error.labels, "")
-        self.refused(
+        self.refuse(
             district_audit.GraphRefused, "graph: node 0 has no column bvapp", **words, group="bvapp"
         )
 
@@ -497,18 +497,18 @@ class Exceptions(common.ProgramCase):
             ],
             "adjacency": [[] for _ in range(100000)],
         }
-        error = self.refused(
+        error = self.refuse(
             district_audit.MemoryRefused, "memory", graph=json.dumps(graph).encode(),
             program=self.with_little_memory(), **common.WORDS,
         )
         self.assertIsInstance(error, MemoryError)
 
     def test_4_and_5_reading_and_writing(self) -> None:
-        self.refused(
+        self.refuse(
             district_audit.ReadFault, "read fault", program=self.wrapper("exec PROGRAM </"),
             **common.WORDS,
         )
-        self.refused(
+        self.refuse(
             district_audit.WriteFault, "write fault",
             program=self.wrapper("exec PROGRAM >/dev/full"), **common.WORDS,
         )
@@ -518,16 +518,16 @@ class Exceptions(common.ProgramCase):
         words: common.Words = dict(
             common.WALK, call=district_audit.run, folder=self.folder, save=2, resume=True
         )
-        self.refused(district_audit.CheckpointUnreadable, "checkpoint load fault", **words)
+        self.refuse(district_audit.CheckpointUnreadable, "checkpoint load fault", **words)
         (self.folder / "audit-0.ckpt").rmdir()
         (self.folder / "audit-1.ckpt").write_bytes(b"")
-        self.refused(
+        self.refuse(
             district_audit.CheckpointRefused, "checkpoint: slot 0 absent, slot 1 too short", **words
         )
 
     def test_7_work_left(self) -> None:
         words: common.Words = dict(common.WALK, folder=self.folder, save=2, budget=5)
-        error = self.refused(
+        error = self.refuse(
             district_audit.WorkLeft, "stopped: 5 of 12 done", call=district_audit.run, **words
         )
         self.assertEqual((error.done, error.total), (5, 12))
@@ -539,7 +539,7 @@ class Exceptions(common.ProgramCase):
     def test_9_saving(self) -> None:
         # No byte can be written to a file.
         program = self.wrapper("trap '' XFSZ; ulimit -f 0; exec PROGRAM")
-        error = self.refused(
+        error = self.refuse(
             district_audit.SaveFault, "checkpoint save fault", program=program,
             call=district_audit.run, folder=self.folder, save=2, **common.WALK,
         )
@@ -705,7 +705,7 @@ class Progress(common.ProgramCase):
             stderr=subprocess.PIPE,
             text=True,
             start_new_session=True,
-            preexec_fn=interruptible,
+            preexec_fn=allow_interrupts,
             env={"PYTHONPATH": str(common.TOP / "python"), "PATH": "/usr/bin:/bin"},
         ) as process:
             end = time.monotonic() + 60
@@ -745,13 +745,13 @@ class Kept(common.ProgramCase):
 
     WORDS: common.Words = dict(common.WALK, save=1)
 
-    def left(self, **words: common.Value) -> None:
+    def leave_work(self, **words: common.Value) -> None:
         with self.assertRaises(district_audit.WorkLeft):
             district_audit.run(
                 CYCLE, program=self.program, folder=self.folder, budget=5, **{**self.WORDS, **words}
             )
 
-    def refused(
+    def refuse(
         self, graph: object = CYCLE, **words: common.Value
     ) -> district_audit.CheckpointRefused:
         with self.assertRaises(district_audit.CheckpointRefused) as caught:
@@ -762,7 +762,7 @@ class Kept(common.ProgramCase):
         return caught.exception
 
     def test_another_job_is_explained_by_what_differs(self) -> None:
-        self.left()
+        self.leave_work()
         for words, differs in (
             (dict(steps=9), ["steps was 8 and is 9"]),
             (dict(walks=11, ends=2), ["walks was 12 and is 11", "ends was 0 and is 2"]),
@@ -772,7 +772,7 @@ class Kept(common.ProgramCase):
             (dict(max_cut=3), ["max_cut was 400000 and is 3"]),
         ):
             with self.subTest(words=words):
-                error = self.refused(**anything(words))
+                error = self.refuse(**anything(words))
                 self.assertEqual(error.differs, differs)
                 self.assertIn("; ".join(differs) + "; another folder keeps both jobs", str(error))
                 self.assertTrue(error.line.startswith("checkpoint: other job "))
@@ -783,40 +783,40 @@ class Kept(common.ProgramCase):
         self.assertEqual(report, district_audit.run(CYCLE, program=self.program, **common.WALK))
 
     def test_another_graph_is_explained_by_its_part(self) -> None:
-        self.left()
+        self.leave_work()
         for column, what in (
             ("pop", "the populations differ"), ("a", "the votes of the first party differ"),
             ("b", "the votes of the second party differ"),
         ):
             root = common.example("cycle.json")
             root["nodes"][0][column] += 1
-            self.assertEqual(self.refused(json.dumps(root).encode()).differs, [what])
+            self.assertEqual(self.refuse(json.dumps(root).encode()).differs, [what])
         root = common.example("cycle.json")
         labels = [node["d"] for node in root["nodes"]]
         for place, node in enumerate(root["nodes"]):
             node["d"] = labels[place - 1]
-        self.assertEqual(self.refused(json.dumps(root).encode()).differs, ["the districts differ"])
+        self.assertEqual(self.refuse(json.dumps(root).encode()).differs, ["the districts differ"])
         root = common.example("cycle.json")
         root["adjacency"][0].append({"id": root["nodes"][2]["id"]})
-        self.assertEqual(self.refused(json.dumps(root).encode()).differs, ["the neighbors differ"])
+        self.assertEqual(self.refuse(json.dumps(root).encode()).differs, ["the neighbors differ"])
 
     def test_where_nothing_was_kept(self) -> None:
-        self.left()
+        self.leave_work()
         (self.folder / checkpoints.RECORD).unlink()
-        error = self.refused(steps=9)
+        error = self.refuse(steps=9)
         self.assertEqual(error.differs, ())
         self.assertIn("no arguments of that job are kept in", str(error))
 
     def test_slots_are_read_as_the_program_reads_them(self) -> None:
-        self.left()
+        self.leave_work()
         slots = checkpoints.slots_in(self.folder)
         self.assertEqual(anything(checkpoints.newest_of(slots)).done, 5)
         for name in checkpoints.SLOTS:
             data = (self.folder / name).read_bytes()
             slot = anything(checkpoints.slot_of(data))
-            told = progress.look(common.slots(self.folder), [], b"", self.folder).slots
+            looked = progress.look(common.slots(self.folder), [], b"", self.folder).slots
             self.assertIn(
-                f"generation {slot.generation} outcomes {slot.done} digest {slot.digest}", told
+                f"generation {slot.generation} outcomes {slot.done} digest {slot.digest}", looked
             )
             for place in range(0, len(data), 7):
                 self.assertIsNone(
@@ -828,7 +828,7 @@ class Kept(common.ProgramCase):
     def test_steps_within_a_walk(self) -> None:
         """The steps rise, end at the walk's, and the report is the same."""
         words = {**common.WALK, "walks": 1, "steps": 300_000}
-        sent = calls.given("run", CYCLE, anything(words))
+        sent = calls.prepare_call("run", CYCLE, anything(words))
         named = calls.trace_words(sent.named, 300_000)
         self.assertEqual(named["thin"], 3000)
         command = [self.program, *words_of("trace", named)]
@@ -838,7 +838,7 @@ class Kept(common.ProgramCase):
         while (not seen or seen[-1] != 300_000) and time.monotonic() < limit:
             step = clock.step()
             seen += [] if step is None else [step]
-        self.assertIn("300000 of 300000 steps in 7 s", clock.said(7))
+        self.assertIn("300000 of 300000 steps in 7 s", clock.describe(7))
         half = ["printf", "trace id 0 steps 9 thin 3\\n0 0 0\\n3 1 0 1:1\\n6 1"]
         other = progress.StepClock(1, 9, half, b"", io.StringIO())
         other.process.wait()
@@ -901,7 +901,7 @@ class Commands(common.ProgramCase):
         "--key", common.KEY, "--steps", "8", "--ask", "gap:low",
     ]
 
-    def called(
+    def call(
         self, *words: str, graph: typing.Union[pathlib.Path, bytes] = CYCLE
     ) -> subprocess.CompletedProcess[bytes]:
         return subprocess.run(
@@ -929,47 +929,47 @@ class Commands(common.ProgramCase):
             check=True,
         ).stdout
         for words in (self.WORDS, ["run", *self.WORDS]):
-            told = self.called(*words)
-            self.assertEqual((told.returncode, told.stdout, told.stderr), (0, direct, b""))
-        told = self.called(*self.WORDS, "--walks", "12", "--save", "2", "--budget", "5")
+            answer = self.call(*words)
+            self.assertEqual((answer.returncode, answer.stdout, answer.stderr), (0, direct, b""))
+        answer = self.call(*self.WORDS, "--walks", "12", "--save", "2", "--budget", "5")
         self.assertEqual(
-            (told.returncode, told.stdout, told.stderr), (7, b"", b"stopped: 5 of 12 done\n")
+            (answer.returncode, answer.stdout, answer.stderr), (7, b"", b"stopped: 5 of 12 done\n")
         )
-        told = self.called(
+        answer = self.call(
             "make", "--size", "1", "--slack", "5000", "--key", common.KEY, "--ask", "gap:low",
             graph=b"",
         )
-        self.assertEqual((told.returncode, told.stdout[:16]), (0, b"district-audit 1"))
+        self.assertEqual((answer.returncode, answer.stdout[:16]), (0, b"district-audit 1"))
 
     def test_refusals_are_said_in_labels_too(self) -> None:
         root = common.example("cycle.json")
         for node, name in zip(root["nodes"], "QRQR"):
             node["d"] = name
-        told = self.called(*self.WORDS, graph=json.dumps(root).encode())
-        first, second = told.stderr.decode().splitlines()
+        answer = self.call(*self.WORDS, graph=json.dumps(root).encode())
+        first, second = answer.stderr.decode().splitlines()
         self.assertEqual(
-            (told.returncode, first), (2, "plan: district 0 has no path from unit 0 to unit 2")
+            (answer.returncode, first), (2, "plan: district 0 has no path from unit 0 to unit 2")
         )
         self.assertIn('district-audit-run: district 0 is "Q"; ', second)
         root = common.example("counties.json")
         for node, name in zip(root["nodes"], ("Kings", "Kings", "Queens", "Queens")):
             node.update(county=name, d="y")
         root["nodes"][0]["d"] = "x"
-        told = self.called(
+        answer = self.call(
             "check", *self.WORDS[:8], "--slack", "5000", "--region", "county", "--max-split", "1",
             graph=json.dumps(root).encode(),
         )
-        self.assertEqual((told.returncode, told.stdout), (2, b""))
+        self.assertEqual((answer.returncode, answer.stdout), (2, b""))
         self.assertEqual(
-            told.stderr.decode().splitlines(),
+            answer.stderr.decode().splitlines(),
             [
                 "plan: region 0 lies in 2 districts, more than 1",
                 'district-audit-run: region 0 is "Kings"',
             ],
         )
-        told = self.called("check", *self.WORDS[:10])
+        answer = self.call("check", *self.WORDS[:10])
         self.assertEqual(
-            (told.returncode, told.stdout[:13], told.stderr), (0, b"plan-check 1\n", b"")
+            (answer.returncode, answer.stdout[:13], answer.stderr), (0, b"plan-check 1\n", b"")
         )
 
     def test_ctrl_c_and_a_signal_to_end(self) -> None:
@@ -993,7 +993,7 @@ class Commands(common.ProgramCase):
                 stdout=subprocess.PIPE,
                 stderr=subprocess.PIPE,
                 start_new_session=True,
-                preexec_fn=interruptible,
+                preexec_fn=allow_interrupts,
                 env={
                     "PYTHONPATH": str(common.TOP / "python"),
                     "PATH": "/usr/bin:/bin",

@@ -66,10 +66,10 @@ class Tables(common.ProgramCase):
         )
         self.assertAlmostEqual(frame["first_share"][0], 7074 / 13808, places=12)
         self.assertEqual(plan.to_frame(exact=True)["first_share"][0], Fraction(7074, 13808))
-        bare = district_audit.check(
+        plain = district_audit.check(
             common.EXAMPLES / "data" / "cycle.json", program=self.program, **common.WORDS
         ).to_frame()
-        self.assertTrue(bare["group"].isna().all() and bare["regions"].isna().all())
+        self.assertTrue(plain["group"].isna().all() and plain["regions"].isna().all())
 
     def test_pages_and_short_texts(self) -> None:
         plan = district_audit.check(

@@ -45,7 +45,7 @@ def exact_tail(walks: int, least: int, x: Fraction) -> Surd:
     )
 
 
-def reaches(billionths: int, pair: Surd, x: Fraction) -> bool:
+def can_reach(billionths: int, pair: Surd, x: Fraction) -> bool:
     """Returns whether a number of billionths is at least a + b sqrt(x), by signs and squares."""
     left, root = Fraction(billionths, 10**9) - pair[0], pair[1]
     if root >= 0:
@@ -214,8 +214,8 @@ class TailTests(unittest.TestCase):
                 found = effect.tail_billionths(walks, least, square)
                 tail = exact_tail(walks, least, square)
                 with self.subTest(walks=walks, least=least, square=square):
-                    self.assertTrue(reaches(found, tail, square))
-                    self.assertFalse(reaches(found - 1, tail, square))
+                    self.assertTrue(can_reach(found, tail, square))
+                    self.assertFalse(can_reach(found - 1, tail, square))
 
 
 class TheoremTests(unittest.TestCase):
@@ -314,8 +314,8 @@ class ReportTests(unittest.TestCase):
         found = self.report.effect(Fraction(2, 100001), "1/10")["cut-edges:low"]
         square = Fraction(4, 100001) * 10
         tail = (-square, Fraction(2))
-        self.assertTrue(reaches(int(found.p.scaleb(9)), tail, square))
-        self.assertFalse(reaches(int(found.p.scaleb(9)) - 1, tail, square))
+        self.assertTrue(can_reach(int(found.p.scaleb(9)), tail, square))
+        self.assertFalse(can_reach(int(found.p.scaleb(9)) - 1, tail, square))
         self.assertEqual(found.p, Decimal("0.039599805"))
 
     def test_numbers_are_taken_exactly_in_each_form(self) -> None:

@@ -240,7 +240,7 @@ class ExhibitTests(FolderCase):
                 page = Page(text)
                 self.assertEqual(page.tags, plain.tags)
                 self.assertEqual(page.faults, [])
-                self.assertGreaterEqual(page.text.count(" ".join(shown(label).split())), 8)
+                self.assertGreaterEqual(page.text.count(" ".join(show_label(label).split())), 8)
                 text.encode("utf-8")
 
     def test_columns_districts_and_plans_are_escaped(self) -> None:
@@ -324,7 +324,7 @@ class ExhibitTests(FolderCase):
         first, last = graph["nodes"][0], graph["nodes"][-1]
         self.assertNotEqual(first["CD"], last["CD"])
 
-        def refused(why: str, change: typing.Callable[[common.Root], object]) -> None:
+        def refuse(why: str, change: typing.Callable[[common.Root], object]) -> None:
             other = json.loads(json.dumps(graph))
             change(other)
             with self.assertRaisesRegex(ValueError, why):
@@ -333,12 +333,12 @@ class ExhibitTests(FolderCase):
                 )
             self.assertFalse((self.folder / "x.html").exists())
 
-        refused("people", lambda other: other["nodes"][0].update(TOTPOP=1))
-        refused("districts", lambda other: other["nodes"][0].update(CD="new"))
-        refused("gap", lambda other: other["nodes"][0].update(DEM=other["nodes"][0]["DEM"] + 1))
-        refused("edges", lambda other: other["adjacency"][0].append({"id": last["id"]}))
-        refused("whole number", lambda other: other["nodes"][0].update(REP=1.5))
-        refused("label", lambda other: other["nodes"][0].pop("CD"))
+        refuse("people", lambda other: other["nodes"][0].update(TOTPOP=1))
+        refuse("districts", lambda other: other["nodes"][0].update(CD="new"))
+        refuse("gap", lambda other: other["nodes"][0].update(DEM=other["nodes"][0]["DEM"] + 1))
+        refuse("edges", lambda other: other["adjacency"][0].append({"id": last["id"]}))
+        refuse("whole number", lambda other: other["nodes"][0].update(REP=1.5))
+        refuse("label", lambda other: other["nodes"][0].pop("CD"))
         with self.assertRaisesRegex(ValueError, "names of the columns"):
             report.exhibit(self.folder / "x.html", graph=EXAMPLES / "data" / "grid.json")
 
@@ -386,7 +386,7 @@ class ExhibitTests(FolderCase):
         from district_audit import exhibit_text as texts
 
         calls: list[typing.Callable[[], str]] = [
-            lambda: texts.shown("ratio", Fraction(1)),
+            lambda: texts.show("ratio", Fraction(1)),
             lambda: texts.definition("ratio", ("Blue", "Green")),
             lambda: texts.question("ratio:low", ("Blue", "Green")),
         ]
@@ -407,7 +407,7 @@ class ExhibitTests(FolderCase):
         self.assertEqual(texts.decimal(Fraction(1, 8), 2, True), "+0.13")
 
 
-def shown(label: str) -> str:
+def show_label(label: str) -> str:
     """A label as a page shows it: what cannot be seen is a code point."""
     for hidden in "\u202e\x07\udc80":
         label = label.replace(hidden, f"\\u{ord(hidden):04x}")
@@ -633,7 +633,7 @@ class ProgramTests(ProgramCase):
         self.assertIn("The enacted plan has 10.", text)
         self.assertIn("--length side", text)
 
-    def ruled(self) -> tuple[bytes, Report, dict[str, str]]:
+    def audit_rules(self) -> tuple[bytes, Report, dict[str, str]]:
         """Returns a graph, a report of it with each rule but without its source, and the columns.
 
         `keep` freezes units 0 and 1 and `few` unit 0; each side is 2 long, and each `other` 3. The
@@ -657,7 +657,7 @@ class ProgramTests(ProgramCase):
         return data, Report.parse(str(report)), columns
 
     def test_columns_of_rules_are_compared(self) -> None:
-        data, report, columns = self.ruled()
+        data, report, columns = self.audit_rules()
         path = self.folder / "x.html"
         for word, wrong, why in (
             ("freeze", "few", "'few' is not .* 1 frozen units, and the report 2"),
@@ -677,7 +677,7 @@ class ProgramTests(ProgramCase):
         """The column `mixed` has the report's 6 regions. Each lies in all 4 districts, which makes
         6 times 3 splits.
         """
-        data, report, columns = self.ruled()
+        data, report, columns = self.audit_rules()
         root = json.loads(data)
         for place, node in enumerate(root["nodes"]):
             node["mixed"] = place % 6
@@ -695,7 +695,7 @@ class ProgramTests(ProgramCase):
         self.assertFalse(path.exists())
 
     def test_missing_columns_of_rules_are_asked_for(self) -> None:
-        data, report, columns = self.ruled()
+        data, report, columns = self.audit_rules()
         path = self.folder / "x.html"
         few = {word: name for word, name in columns.items() if word not in ("freeze", "length")}
         why = "freeze .the report has frozen 2., length .the report has cut-length 64.: give"
@@ -712,7 +712,7 @@ class ProgramTests(ProgramCase):
         report.exhibit(path, columns=columns)
         self.assertNotIn("COLUMN_OF", path.read_text(encoding="utf-8"))
 
-    def turned(self) -> tuple[pathlib.Path, bytes, district_audit.PlanReports]:
+    def audit_turned(self) -> tuple[pathlib.Path, bytes, district_audit.PlanReports]:
         """Returns a graph, a table of a plan with as many cut edges, and the reports of both."""
         path = EXAMPLES / "data" / "cycle.json"
         table = b"id,turned\nw,1\nx,2\ny,2\nz,1\n"
@@ -721,7 +721,7 @@ class ProgramTests(ProgramCase):
 
     def test_another_plan_than_the_graphs_own_gets_no_table(self) -> None:
         """Both plans cut two edges, so that no asked score tells them apart."""
-        graph, _, plans = self.turned()
+        graph, _, plans = self.audit_turned()
         path = self.folder / "x.html"
         read = Report.parse_plans("".join(f"plan {name}\n{report}" for name, report in plans))
         for pairs in (list(plans), read):
@@ -748,7 +748,7 @@ class ProgramTests(ProgramCase):
         self.assertIn("1 2 2 0.0 0.000 5 2 71.42", text)
 
     def test_the_command_of_one_of_several_plans(self) -> None:
-        graph, table, plans = self.turned()
+        graph, table, plans = self.audit_turned()
         path = self.folder / "x.html"
         plans["turned"].exhibit(path)
         page = Page(path.read_text(encoding="utf-8"))

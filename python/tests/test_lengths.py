@@ -47,7 +47,7 @@ def prepare_root(root: object, **more: common.Value) -> district_audit.Prepared:
     return district_audit.prepare(root, **{**COLUMNS, **more})
 
 
-def written(prepared: district_audit.Prepared) -> dict[tuple[int, int], object]:
+def read_lengths(prepared: district_audit.Prepared) -> dict[tuple[int, int], object]:
     adjacency = json.loads(prepared.data)["adjacency"]
     return {(u, one["id"]): one["shared_perim"] for u, row in enumerate(adjacency) for one in row}
 
@@ -56,7 +56,7 @@ class Preparing(unittest.TestCase):
     def test_whole_lengths_stay(self) -> None:
         prepared = prepare_root(graph(9, 7.0, 5, 0))
         self.assertEqual(
-            written(prepared),
+            read_lengths(prepared),
             {
                 (0, 1): 9, (1, 0): 9, (1, 2): 7, (2, 1): 7, (2, 3): 5, (3, 2): 5, (3, 0): 0,
                 (0, 3): 0,
@@ -68,7 +68,7 @@ class Preparing(unittest.TestCase):
 
     def test_fractions_become_the_nearest_halves_the_even_one(self) -> None:
         prepared = prepare_root(graph(100.5, 101.5, 7.49, 1e6))
-        self.assertEqual([written(prepared)[pair] for pair in RING], [100, 102, 7, 1_000_000])
+        self.assertEqual([read_lengths(prepared)[pair] for pair in RING], [100, 102, 7, 1_000_000])
         (change,) = prepared.changes
         self.assertTrue(change.is_of_values)
         self.assertIn("3 of 4 made whole by `nearest`, halves the even one", str(change))
@@ -117,7 +117,7 @@ class Preparing(unittest.TestCase):
 
     def test_joined_units_have_no_length(self) -> None:
         prepared = prepare_root(graph(9, 7, 5, 3), join=[(0, 2)])
-        self.assertEqual((written(prepared)[0, 2], written(prepared)[2, 0]), (0, 0))
+        self.assertEqual((read_lengths(prepared)[0, 2], read_lengths(prepared)[2, 0]), (0, 0))
 
     def test_without_a_column_nothing_is_written(self) -> None:
         root = graph(9, None, -5, "x")
@@ -136,7 +136,7 @@ class Preparing(unittest.TestCase):
             made.add_node(node["id"], **{k: v for k, v in node.items() if k != "id"})
         for (u, v), length in zip(RING, (9.25, 7, 5, 3)):
             made.add_edge(u, v, shared_perim=length)
-        self.assertEqual([written(prepare_root(made))[pair] for pair in RING], [9, 7, 5, 3])
+        self.assertEqual([read_lengths(prepare_root(made))[pair] for pair in RING], [9, 7, 5, 3])
 
     def test_command(self) -> None:
         root = graph(9.5, 7, 5, 3)
@@ -173,7 +173,7 @@ class Reading(unittest.TestCase):
         self.assertEqual((check.rules.cut_length, check.rules.max_length), (10, 12))
         self.assertEqual(str(check), self.TEXT)
         self.assertEqual(
-            check.rules.told_further(), ["cut edges have a length of at most 12 in all"]
+            check.rules.describe_more(), ["cut edges have a length of at most 12 in all"]
         )
 
     def test_lines_that_cannot_be(self) -> None:

@@ -28,13 +28,13 @@ def digest(path: pathlib.Path) -> str:
 class Manifests(common.ProgramCase):
     """Runs of the real program that leave a manifest."""
 
-    def audited(self, graph: object = CYCLE, **words: common.Value) -> pathlib.Path:
+    def audit(self, graph: object = CYCLE, **words: common.Value) -> pathlib.Path:
         """Makes a run and returns the path of its manifest."""
         report = self.folder / "report"
         district_audit.audit_to_file(report, graph, program=self.program, **{**WALK, **words})
         return self.folder / "report.manifest.json"
 
-    def verified(self, *words: object) -> tuple[int, str]:
+    def verify(self, *words: object) -> tuple[int, str]:
         """Returns the status and the text of the command."""
         out = io.StringIO()
         with contextlib.redirect_stdout(out), contextlib.redirect_stderr(out):
@@ -43,7 +43,7 @@ class Manifests(common.ProgramCase):
 
     def test_what_a_manifest_says(self) -> None:
         before = datetime.datetime.now(datetime.timezone.utc).replace(microsecond=0)
-        value = json.loads(self.audited().read_text(encoding="utf-8"))
+        value = json.loads(self.audit().read_text(encoding="utf-8"))
         report = self.folder / "report"
         self.assertEqual(value["format"], "district-audit manifest 1")
         self.assertEqual(value["command"][0], "run")
@@ -66,7 +66,7 @@ class Manifests(common.ProgramCase):
 
     def test_the_words_make_the_report_again(self) -> None:
         """The words with the graph on standard input write the report, byte for byte."""
-        value = json.loads(self.audited().read_text(encoding="utf-8"))
+        value = json.loads(self.audit().read_text(encoding="utf-8"))
         done = subprocess.run(
             [self.program, *value["command"]], input=CYCLE.read_bytes(), capture_output=True,
             check=True,
@@ -75,18 +75,18 @@ class Manifests(common.ProgramCase):
 
     def test_a_graph_that_is_no_file_is_kept(self) -> None:
         prepared = district_audit.prepare(CYCLE, **common.COLUMNS)
-        path = self.audited(prepared)
+        path = self.audit(prepared)
         self.assertEqual((self.folder / "report.graph.json").read_bytes(), prepared.data)
-        self.assertEqual(self.verified(path, "--program", self.program)[0], 0)
+        self.assertEqual(self.verify(path, "--program", self.program)[0], 0)
 
     def test_all_that_is_there_agrees(self) -> None:
-        path = self.audited(source=True)
-        status, text = self.verified(path, "--graph", CYCLE, "--program", self.program)
+        path = self.audit(source=True)
+        status, text = self.verify(path, "--graph", CYCLE, "--program", self.program)
         self.assertEqual((status, text.splitlines()[-1]), (0, "4 agree, 0 differ, 0 not checked"))
 
     def test_each_changed_file_is_found(self) -> None:
         """One byte more in the graph, in the report or in the program."""
-        path = self.audited()
+        path = self.audit()
         files: common.Words = {
             "graph": CYCLE,
             "report": self.folder / "report",
@@ -97,46 +97,46 @@ class Manifests(common.ProgramCase):
             other.write_bytes(file.read_bytes() + b" ")
             named = {**files, what: other}
             words = [word for name, one in named.items() for word in (f"--{name}", one)]
-            status, text = self.verified(path, *words)
+            status, text = self.verify(path, *words)
             self.assertEqual(status, 1, what)
             self.assertIn(f"{what} {other}: DIFFERS", text)
             self.assertIn(" 1 differ, 0 not checked", text)
 
     def test_a_changed_digit_of_the_report_is_found(self) -> None:
-        path = self.audited()
+        path = self.audit()
         report = self.folder / "report"
         report.write_text(report.read_text().replace("moved ", "moved 1", 1))
-        self.assertEqual(self.verified(path, "--graph", CYCLE)[0], 1)
+        self.assertEqual(self.verify(path, "--graph", CYCLE)[0], 1)
 
     def test_a_missing_file_is_no_agreement(self) -> None:
-        path = self.audited()
-        status, text = self.verified(path)
+        path = self.audit()
+        status, text = self.verify(path)
         self.assertEqual(status, 1)
         self.assertIn("graph cycle.json: not checked", text)
         (self.folder / "report").unlink()
-        status, text = self.verified(path, "--graph", CYCLE)
+        status, text = self.verify(path, "--graph", CYCLE)
         self.assertEqual(status, 1)
         self.assertIn("report report: not checked", text)
 
     def test_words_that_are_not_the_reports(self) -> None:
         """The right hashes of a report with another key, or of another source, are no agreement."""
-        path = self.audited(source=True)
+        path = self.audit(source=True)
         made = manifest.Manifest.parse(path.read_text(encoding="utf-8"))
         key = "1" * 64
         path.write_text(str(made).replace("0" * 64, key), encoding="utf-8")
-        status, text = self.verified(path, "--graph", CYCLE)
+        status, text = self.verify(path, "--graph", CYCLE)
         self.assertEqual(status, 1)
         self.assertIn("another key", text)
         other = self.folder / "other.json"
         other.write_bytes(CYCLE.read_bytes() + b"\n")
-        wrong = dataclasses.replace(made, graph=manifest.File.of(other))
+        wrong = dataclasses.replace(made, graph=manifest.File.measure(other))
         path.write_text(str(wrong), encoding="utf-8")
-        status, text = self.verified(path)
+        status, text = self.verify(path)
         self.assertEqual(status, 1)
         self.assertIn("another source", text)
 
     def test_no_manifest_and_no_report(self) -> None:
-        path = self.audited()
+        path = self.audit()
         text = path.read_text(encoding="utf-8")
         value = json.loads(text)
         broken = [
@@ -157,21 +157,21 @@ class Manifests(common.ProgramCase):
         ]
         for one in broken:
             path.write_text(one, encoding="utf-8")
-            self.assertEqual(self.verified(path, "--graph", CYCLE)[0], 2, one[:80])
-        self.assertEqual(self.verified(self.folder / "nothing")[0], 2)
+            self.assertEqual(self.verify(path, "--graph", CYCLE)[0], 2, one[:80])
+        self.assertEqual(self.verify(self.folder / "nothing")[0], 2)
         made = manifest.Manifest.parse(text)
         (self.folder / "report").write_text("no report\n")
-        wrong = dataclasses.replace(made, report=manifest.File.of(self.folder / "report"))
+        wrong = dataclasses.replace(made, report=manifest.File.measure(self.folder / "report"))
         path.write_text(str(wrong), encoding="utf-8")
-        self.assertEqual(self.verified(path, "--graph", CYCLE)[0], 2)
+        self.assertEqual(self.verify(path, "--graph", CYCLE)[0], 2)
 
     def test_a_failed_run_leaves_nothing(self) -> None:
         with self.assertRaises(district_audit.WordsRefused):
-            self.audited(walks=0)
+            self.audit(walks=0)
         self.assertEqual(list(self.folder.iterdir()), [])
 
     def test_the_command(self) -> None:
-        path = self.audited()
+        path = self.audit()
         call = [sys.executable, "-m", "district_audit", "verify"]
         where = {
             **os.environ,

@@ -78,7 +78,7 @@ NEWER_ARGUMENTS = {
 }
 
 
-def of_types_alone(tree: ast.Module) -> set[ast.AST]:
+def find_type_nodes(tree: ast.Module) -> set[ast.AST]:
     """The parts of a module that no run looks at: annotations, where `from __future__ import
     annotations` stands, and what only type checkers read.
     """
@@ -104,7 +104,7 @@ def of_types_alone(tree: ast.Module) -> set[ast.AST]:
 
 def newer_than_3_9(tree: ast.Module) -> typing.Iterator[tuple[int, str]]:
     """Each use, in a module, of what Python 3.9 does not have, with its line."""
-    passed = of_types_alone(tree)
+    passed = find_type_nodes(tree)
     for node in ast.walk(tree):
         if node in passed:
             continue
@@ -161,13 +161,13 @@ class Package(common.FolderCase):
     def test_versions_agree(self) -> None:
         text = (PYTHON / "pyproject.toml").read_text(encoding="utf-8")
         self.assertEqual(
-            common.found_in('(?m)^version = "(.*)"$', text)[1], district_audit.__version__
+            common.find_in('(?m)^version = "(.*)"$', text)[1], district_audit.__version__
         )
-        told = subprocess.run(
+        answer = subprocess.run(
             [sys.executable, "-m", "district_audit", "--version"], cwd=PYTHON,
             stdout=subprocess.PIPE, text=True, check=True,
         ).stdout
-        self.assertEqual(told, f"district_audit {district_audit.__version__}\n")
+        self.assertEqual(answer, f"district_audit {district_audit.__version__}\n")
 
     def test_a_fresh_environment_installs_it_and_fetches_nothing(self) -> None:
         """pip gets no index and an address that nobody has, so any fetch fails."""
@@ -181,11 +181,11 @@ class Package(common.FolderCase):
             "PIP_RETRIES": "0",
             "PIP_DISABLE_PIP_VERSION_CHECK": "1",
         }
-        told = subprocess.run(
+        answer = subprocess.run(
             [python, "-m", "pip", "install", str(PYTHON)], env=alone, stdout=subprocess.PIPE,
             stderr=subprocess.STDOUT, text=True, check=False,
         )
-        self.assertEqual(told.returncode, 0, told.stdout)
+        self.assertEqual(answer.returncode, 0, answer.stdout)
         made = subprocess.run(
             [python, "-c", "import district_audit; print(district_audit.__file__)"],
             cwd=self.folder,
@@ -266,13 +266,13 @@ for call in (report.to_frame, report.plot, lambda: district_audit.prepare("x.gml
         print(why.name, why.extra, why, sep="|")
 """
         )
-        told = subprocess.run(
+        answer = subprocess.run(
             [sys.executable, "-c", script, common.readme_report()],
             env={**os.environ, "PYTHONPATH": str(PYTHON)}, stdout=subprocess.PIPE, text=True,
             check=True,
         ).stdout
         self.assertEqual(
-            told.splitlines(),
+            answer.splitlines(),
             [
                 (
                     "pandas|frames|pandas is missing, which makes tables: it is the extra `frames`"
@@ -296,7 +296,7 @@ for call in (report.to_frame, report.plot, lambda: district_audit.prepare("x.gml
             .split("[project.optional-dependencies]\n")[1]
             .split("\n\n")[0]
         )
-        for name, extra in (line.split("|")[:2] for line in told.splitlines()):
+        for name, extra in (line.split("|")[:2] for line in answer.splitlines()):
             self.assertIn(f'{extra} = ["{name}"]', extras.splitlines())
 
     def test_the_commands_tell_what_is_missing_in_one_line(self) -> None:
@@ -318,12 +318,12 @@ for call in (report.to_frame, report.plot, lambda: district_audit.prepare("x.gml
                 HIDDEN
                 + f"from district_audit import commands\nsys.exit(commands.{command}({words!r}))"
             )
-            told = subprocess.run(
+            answer = subprocess.run(
                 [sys.executable, "-c", script], env={**os.environ, "PYTHONPATH": str(PYTHON)},
                 stderr=subprocess.PIPE, text=True, check=False,
             )
             self.assertEqual(
-                (told.returncode, len(told.stderr.splitlines()), told.stderr[: len(said)]),
+                (answer.returncode, len(answer.stderr.splitlines()), answer.stderr[: len(said)]),
                 (status, 1, said),
             )
 
@@ -380,11 +380,11 @@ except common.unittest.SkipTest:
 """
         places = os.pathsep.join((str(PYTHON / "tests"), str(PYTHON)))
         for ci, wanted in (("1", "fails\n"), ("", "skips\n")):
-            told = subprocess.run(
+            answer = subprocess.run(
                 [sys.executable, "-c", script], env={**os.environ, "CI": ci, "PYTHONPATH": places},
                 stdout=subprocess.PIPE, text=True, check=True,
             ).stdout
-            self.assertEqual(told, wanted)
+            self.assertEqual(answer, wanted)
 
 
 if __name__ == "__main__":

@@ -45,7 +45,7 @@ def prepare_root(root: object, **said: common.Value) -> Prepared:
 
 
 class Changes(unittest.TestCase):
-    def refused(self, why: str, root: object, **said: common.Value) -> PrepareRefused:
+    def refuse(self, why: str, root: object, **said: common.Value) -> PrepareRefused:
         with self.assertRaises(PrepareRefused) as caught:
             prepare_root(root, **said)
         self.assertIn(why, "\n".join([str(caught.exception), *caught.exception.faults]))
@@ -69,15 +69,15 @@ class Changes(unittest.TestCase):
             (caught.exception.why, len(caught.exception.faults)), ("16 values are refused", 16)
         )
         prepared = prepare(rough, **ROUGH, numbers="nearest", missing="zero")
-        told = [str(change) for change in prepared.changes]
+        changes = [str(change) for change in prepared.changes]
         self.assertIn(
             (
                 "column TOTPOP: fractions made whole by `nearest`: 14 units, which changes the"
                 " column's sum by -7: 0, 7, 16, 25, 34, 43, 52, 59, 61, 68, and 4 more"
             ),
-            told,
+            changes,
         )
-        self.assertIn("column DEM: missing values made 0: 1 unit: 42", told)
+        self.assertIn("column DEM: missing values made 0: 1 unit: 42", changes)
         self.assertEqual(
             (prepared.notes, prepared.refusals, prepared.warnings),
             (["100 units, 180 edges, 5 districts, 10000 people"], [], []),
@@ -98,24 +98,24 @@ class Changes(unittest.TestCase):
                 self.assertEqual(json.loads(prepared.data)["nodes"][0]["a"], whole)
         for value in (-1, 10**9 + 1, True, "x", [1], "inf"):
             with self.subTest(value=value):
-                self.refused("1 values are refused", square(a=[value, 2, 3, 4]), numbers="nearest")
+                self.refuse("1 values are refused", square(a=[value, 2, 3, 4]), numbers="nearest")
 
     def test_a_column_that_no_unit_has_is_refused_whatever_is_said(self) -> None:
         for missing in ("error", "zero", "drop"):
-            self.refused(
+            self.refuse(
                 "no unit has a column popp; the columns are a, b, d, pop", square(),
                 population="popp", missing=missing,
             )
-        self.refused("no unit has a column county", square(), region="county", missing="drop")
-        self.refused("no unit has a column area", square(), keep=["area"])
+        self.refuse("no unit has a column county", square(), region="county", missing="drop")
+        self.refuse("no unit has a column area", square(), keep=["area"])
         root = square()
         for node in root["nodes"]:
             node["a"] = None
-        self.refused("no unit has a value in the column a", root, missing="zero")
+        self.refuse("no unit has a value in the column a", root, missing="zero")
 
     def test_missing_regions_have_three_answers(self) -> None:
         root = square(county=["k", None, None, "k"])
-        why = self.refused(
+        why = self.refuse(
             'unit "t" has no county (choose fill_region=LABEL, own_region=True or missing="drop")',
             root,
             region="county",
@@ -130,7 +130,7 @@ class Changes(unittest.TestCase):
         )
         self.assertEqual(len(prepare_root(root, region="county", own_region=True).regions), 3)
         self.assertEqual(prepare_root(root, region="county", missing="drop").units, ["s", "v"])
-        self.refused(
+        self.refuse(
             'unit "t" has no d (choose missing="drop")', square(d=["x", None, "y", "y"]),
             missing="zero",
         )
@@ -204,8 +204,8 @@ class Changes(unittest.TestCase):
                 "units 2 and 3 were neighbors already",
             ],
         )
-        self.refused('"9", which is to be joined, is not a unit', root, join=[("9", "1")])
-        self.refused("1 cannot be joined to itself", root, join=[(1, 1)])
+        self.refuse('"9", which is to be joined, is not a unit', root, join=[("9", "1")])
+        self.refuse("1 cannot be joined to itself", root, join=[(1, 1)])
 
     def test_real_maps(self) -> None:
         """Counties of North Carolina with whole floats, and tracts of upstate New York with
@@ -390,18 +390,18 @@ class Changes(unittest.TestCase):
         )
 
     def test_columns_of_a_group_are_judged_as_the_others(self) -> None:
-        self.refused("no unit has a column bvap", square(), group="bvap")
-        self.refused("no unit has a column vap", square(g=[1, 1, 1, 1]), group="g", group_of="vap")
-        self.refused("group_of is given, and no group is", square(), group_of="a")
-        self.refused(
+        self.refuse("no unit has a column bvap", square(), group="bvap")
+        self.refuse("no unit has a column vap", square(g=[1, 1, 1, 1]), group="g", group_of="vap")
+        self.refuse("group_of is given, and no group is", square(), group_of="a")
+        self.refuse(
             'unit "t" has no g (choose missing="zero" or "drop")', square(g=[1, None, 1, 1]),
             group="g",
         )
-        self.refused(
+        self.refuse(
             'unit "t": w, which is 1000000001, is not from 0 to 1000000000',
             square(g=[1] * 4, w=[1, 10**9 + 1, 1, 1]), group="g", group_of="w",
         )
-        self.refused('unit "s": g, which is 0.5, is not whole', square(g=[0.5, 1, 1, 1]), group="g")
+        self.refuse('unit "s": g, which is 0.5, is not whole', square(g=[0.5, 1, 1, 1]), group="g")
         prepared = prepare_root(square(g=[1, None, 1, 1]), group="g", missing="zero")
         self.assertIn(
             'column g: missing values made 0: 1 unit: "t"',
@@ -448,9 +448,9 @@ class Changes(unittest.TestCase):
             ['edges from a unit to itself, left out: 1 unit: "s"'],
         )
         root["adjacency"][0].append({"id": "w"})
-        self.refused('an edge names "w", which is not a unit', root)
-        self.refused("4 nodes and 3 adjacency entries", {**square(), "adjacency": [[], [], []]})
-        self.refused(
+        self.refuse('an edge names "w", which is not a unit', root)
+        self.refuse("4 nodes and 3 adjacency entries", {**square(), "adjacency": [[], [], []]})
+        self.refuse(
             "there is neither a list `adjacency` nor one of `links` or `edges`",
             {"nodes": square()["nodes"]},
         )
@@ -461,11 +461,11 @@ class Changes(unittest.TestCase):
         self.assertEqual(prepare_root(links).data, prepare_root(square()).data)
 
     def test_ids(self) -> None:
-        self.refused(
+        self.refuse(
             'several units have the same id: "s"',
             {"nodes": [{"id": "s", "pop": 1, "a": 1, "b": 1, "d": 1}] * 2, "adjacency": [[], []]},
         )
-        self.refused(
+        self.refuse(
             "node 0 has no id", {"nodes": [{"pop": 1, "a": 1, "b": 1, "d": 1}], "adjacency": [[]]}
         )
         root = square()
@@ -487,7 +487,7 @@ class Changes(unittest.TestCase):
             with self.subTest(graph=graph), self.assertRaises(PrepareRefused) as caught:
                 prepare(graph, **common.COLUMNS)
             self.assertIn(why, str(caught.exception))
-        self.refused(
+        self.refuse(
             "numbers is one of error, nearest, floor, and not 'round'", square(), numbers="round"
         )
 

@@ -45,7 +45,7 @@ class Prepared(common.ProgramCase):
         )
         yield lambda prepared, **words: district_audit.trace(prepared, **walk, **words)
 
-    def closed(self, made: object) -> None:
+    def close(self, made: object) -> None:
         if isinstance(made, district_audit.Trace):
             made.close()
 
@@ -66,7 +66,7 @@ class Prepared(common.ProgramCase):
                 " max_splits=None for 995000", str(caught.exception)
             )
             for good in (rules, {**rules, "max_length": 40}, dict.fromkeys(rules)):
-                self.closed(call(prepared, **anything(good)))
+                self.close(call(prepared, **anything(good)))
 
     def test_a_tolerance_stands_for_the_slack(self) -> None:
         prepared = district_audit.prepare(ring(), **self.COLUMNS, tolerance=0.5)

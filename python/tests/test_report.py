@@ -8,7 +8,7 @@ from fractions import Fraction
 from unittest import mock
 
 import common
-from common import anything, found_in
+from common import anything, find_in
 from district_audit import PlanCheck, Report, ReportRefused, Rules, Source, Start
 from district_audit import report as reading
 from district_audit.picture import percent
@@ -103,8 +103,8 @@ class RoundTrip(unittest.TestCase):
         head = text.split("\n")[1:3] + text.split("\n")[4:9]
         check = "\n".join(["plan-check 1", *head, "end", ""])
         self.assertEqual(str(PlanCheck.parse(check)), check)
-        bare = "\n".join(["plan-check 1", *head[2:], "end", ""])
-        self.assertEqual((str(PlanCheck.parse(bare)), PlanCheck.parse(bare).source), (bare, None))
+        less = "\n".join(["plan-check 1", *head[2:], "end", ""])
+        self.assertEqual((str(PlanCheck.parse(less)), PlanCheck.parse(less).source), (less, None))
 
     def test_rules_one_by_one(self) -> None:
         """Either limit of splits, with the other at its end; a group with the limit 0; the names of
@@ -205,7 +205,7 @@ class Values(unittest.TestCase):
             "at most 3 regions in more than one district",
             "the group has a majority in 2 districts, and has to have one in 2",
         ]
-        self.assertEqual(report.rules.told() + report.rules.told_further(), said)
+        self.assertEqual(report.rules.describe() + report.rules.describe_more(), said)
         for words in (
             *said,
             (
@@ -215,7 +215,7 @@ class Values(unittest.TestCase):
         ):
             self.assertIn(words, report._repr_html_())
         self.assertEqual(
-            Rules(500, 1, 3, None, 200, 6, 995000, 0).told_further(),
+            Rules(500, 1, 3, None, 200, 6, 995000, 0).describe_more(),
             ["at most 0 regions in more than one district"],
         )
 
@@ -252,7 +252,7 @@ class Values(unittest.TestCase):
 
 
 class Pictures(common.FolderCase):
-    def drawn(self, text: str) -> tuple[common.Value, str]:
+    def draw(self, text: str) -> tuple[common.Value, str]:
         common.needs("matplotlib")
         report = Report.parse(text)
         figure = report.plot(str(self.folder / "picture"))
@@ -262,7 +262,7 @@ class Pictures(common.FolderCase):
         return figure, svg
 
     def test_rows_and_head(self) -> None:
-        _, svg = self.drawn(common.readme_report())
+        _, svg = self.draw(common.readme_report())
         for words in (
             "cut-edges low, walk 1", "rank 1 of 100, p 0.010000000",
             "2 of 100001, bound 0.006324524", "4500 to 5500 people a district (slack 10 %)",
@@ -275,9 +275,9 @@ class Pictures(common.FolderCase):
             for _, _, text in texts()
             if "\nmax-split " in text and text.startswith("district-audit")
         )
-        regions = found_in("max-split ([0-9]+) regions ([0-9]+)", text)
+        regions = find_in("max-split ([0-9]+) regions ([0-9]+)", text)
         self.assertIn(
-            f"{regions[2]} regions, each in at most {regions[1]} districts", self.drawn(text)[1]
+            f"{regions[2]} regions, each in at most {regions[1]} districts", self.draw(text)[1]
         )
         text = next(
             text
@@ -285,7 +285,7 @@ class Pictures(common.FolderCase):
             if "\nmax-cut " in text and text.startswith("district-audit")
         )
         self.assertIn(
-            f"at most {found_in('max-cut ([0-9]+)', text)[1]} cut edges", self.drawn(text)[1]
+            f"at most {find_in('max-cut ([0-9]+)', text)[1]} cut edges", self.draw(text)[1]
         )
         text = next(
             text
@@ -295,13 +295,13 @@ class Pictures(common.FolderCase):
             and text.startswith("district-audit")
         )
         steps, enough = (
-            found_in(f"\n{word} ([0-9]+)", text)[1] for word in ("walks 1 steps", "stop")
+            find_in(f"\n{word} ([0-9]+)", text)[1] for word in ("walks 1 steps", "stop")
         )
-        self.assertIn(f"1 walk of {steps} steps; ", self.drawn(text)[1])
-        self.assertIn(f"a test stops after {enough} in its tail", self.drawn(text)[1])
+        self.assertIn(f"1 walk of {steps} steps; ", self.draw(text)[1])
+        self.assertIn(f"a test stops after {enough} in its tail", self.draw(text)[1])
 
     def test_further_rules_and_the_source_have_lines_of_their_own(self) -> None:
-        figure, svg = self.drawn(common.groups_report())
+        figure, svg = self.draw(common.groups_report())
         lines = figure.texts[0].get_text().split("\n")
         self.assertEqual(
             lines[1],
@@ -325,7 +325,7 @@ class Pictures(common.FolderCase):
         panel.
         """
         for text in (common.readme_report(), common.groups_report()):
-            figure, _ = self.drawn(text)
+            figure, _ = self.draw(text)
             drawn_by = figure.canvas.get_renderer()
             head, first = figure.texts[0].get_window_extent(drawn_by), figure.axes[0].title
             self.assertGreater(head.y0, figure.axes[0].get_window_extent(drawn_by).y1 + 10)
@@ -345,7 +345,7 @@ class Pictures(common.FolderCase):
         text = text.replace(
             "count 59205 of 100001 bound 1.088158150", "count 100000 of 100001 bound 1.414206492"
         )
-        figure, svg = self.drawn(text)
+        figure, svg = self.draw(text)
         self.assertNotIn(
             "1e", svg.split("<defs>")[0] + " ".join(re.findall("<text[^>]*>([^<]*)</text>", svg))
         )
@@ -365,12 +365,12 @@ class Pictures(common.FolderCase):
             for _, _, text in texts()
             if "\nwalks 12 " in text and "gap low" in text and text.startswith("district-audit 1")
         )
-        self.assertIn("gap low, 12 walks", self.drawn(text)[1])
+        self.assertIn("gap low, 12 walks", self.draw(text)[1])
 
     def test_the_same_bytes_each_time(self) -> None:
-        first = self.drawn(common.readme_report())[1], (self.folder / "picture.png").read_bytes()
+        first = self.draw(common.readme_report())[1], (self.folder / "picture.png").read_bytes()
         self.assertEqual(
-            (self.drawn(common.readme_report())[1], (self.folder / "picture.png").read_bytes()),
+            (self.draw(common.readme_report())[1], (self.folder / "picture.png").read_bytes()),
             first,
         )
 
@@ -380,13 +380,13 @@ class Pictures(common.FolderCase):
             ("\nserial ", "serial test"),
         ):
             text = next(text for _, _, text in texts() if re.search(form, text))
-            self.assertIn(title, self.drawn(text)[1])
+            self.assertIn(title, self.draw(text)[1])
 
 
 class Refusals(unittest.TestCase):
     """Texts that the program cannot have written are refused, at the first line where it shows."""
 
-    def refused(self, number: int, text: str, kind: Kind = Report) -> None:
+    def refuse(self, number: int, text: str, kind: Kind = Report) -> None:
         with self.assertRaises(ReportRefused) as caught:
             kind.parse(text)
         self.assertEqual(caught.exception.number, number, str(caught.exception))
@@ -443,7 +443,7 @@ class Refusals(unittest.TestCase):
         ):
             with self.subTest(old=old, new=new):
                 self.assertIn(old, text)
-                self.refused(number, text.replace(old, new, 1 if old != "\n" else -1))
+                self.refuse(number, text.replace(old, new, 1 if old != "\n" else -1))
 
     def test_what_the_lines_say_together(self) -> None:
         """Tails that leave plans out, numbers of seats that are not those of the counts, tests that
@@ -489,7 +489,7 @@ class Refusals(unittest.TestCase):
         ):
             with self.subTest(old=old, new=new):
                 self.assertIn(old, nothing_moves)
-                self.refused(number, nothing_moves.replace(old, new, 1))
+                self.refuse(number, nothing_moves.replace(old, new, 1))
 
     def test_rules_and_sources_that_are_not_written(self) -> None:
         """For each row: the words, what stands there instead, and the number of the line that is
@@ -539,9 +539,9 @@ class Refusals(unittest.TestCase):
         ):
             with self.subTest(old=old, new=new):
                 self.assertIn(old, text)
-                self.refused(number, text.replace(old, new, 1))
+                self.refuse(number, text.replace(old, new, 1))
         origin = "".join(line + "\n" for line in text.split("\n")[1:3])
-        self.refused(3, text.replace(origin, "").replace("\nunits", "\n" + origin + "units"))
+        self.refuse(3, text.replace(origin, "").replace("\nunits", "\n" + origin + "units"))
 
     def test_both_tails_of_one_walk_hold_every_plan(self) -> None:
         text = next(
@@ -551,7 +551,7 @@ class Refusals(unittest.TestCase):
             and "walk 0 moved" in text
             and "gap high" in text
         )
-        found = found_in("gap high start [^ ]* count ([0-9]+) of ([0-9]+) bound [0-9.]+", text)
+        found = find_in("gap high start [^ ]* count ([0-9]+) of ([0-9]+) bound [0-9.]+", text)
         of = int(found[2])
         self.assertNotEqual(found[1], "1")
         changed = text.replace(
@@ -571,9 +571,9 @@ class Refusals(unittest.TestCase):
             " high 5250\nend\n"
         )
         self.assertEqual(str(PlanCheck.parse(text)), text)
-        self.refused(1, text.replace("check 1", "check 2"), PlanCheck)
-        self.refused(3, text.replace("low 4750", "low 4749"), PlanCheck)
-        self.refused(5, text + "end\n", PlanCheck)
+        self.refuse(1, text.replace("check 1", "check 2"), PlanCheck)
+        self.refuse(3, text.replace("low 4750", "low 4749"), PlanCheck)
+        self.refuse(5, text + "end\n", PlanCheck)
         with self.assertRaises(ReportRefused):
             Report.parse_plans("")
         with self.assertRaises(ReportRefused) as caught:

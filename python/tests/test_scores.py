@@ -94,7 +94,7 @@ class ScoreCase(common.FolderCase):
         path = self.folder / "trace"
         path.write_text(text, encoding="ascii")
         return district_audit.read_trace(
-            path, trace_model.written(root), **trace_model.COLUMNS, **more
+            path, trace_model.encode(root), **trace_model.COLUMNS, **more
         )
 
     def sample(self, rows: Rows = ROWS, **more: common.Value) -> district_audit.Sample:

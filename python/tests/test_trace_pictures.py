@@ -22,7 +22,7 @@ class Pictures(common.FolderCase):
         super().setUp()
         common.needs("matplotlib")
 
-    def saved(self, draw: typing.Callable[[str], object]) -> str:
+    def save(self, draw: typing.Callable[[str], object]) -> str:
         """The texts of a picture's SVG; both files are there, in grey alone, and the same each
         time."""
         both = []
@@ -43,7 +43,7 @@ class Pictures(common.FolderCase):
 
     def test_histogram(self) -> None:
         values = [Fraction(7, 2), *[Fraction(n % 11, 2) for n in range(100)]]
-        text = self.saved(
+        text = self.save(
             lambda name: trace_pictures.histogram(values, title="Title", label="Label", name=name)
         )
         for word in ("Title", "Label", "enacted plan 3.5", "plans (of 101)"):
@@ -59,7 +59,7 @@ class Pictures(common.FolderCase):
 
     def test_boxes(self) -> None:
         rows = [[Fraction(k, 100), Fraction(100 + k, 300)] for k in range(101)]
-        text = self.saved(
+        text = self.save(
             lambda name: trace_pictures.box_plot(
                 rows, enacted=[Fraction(1, 4), Fraction(3, 5)], title="Title", name=name
             )
@@ -95,7 +95,7 @@ class Pictures(common.FolderCase):
 
     def test_running(self) -> None:
         walks = {3: [(0, 5), (10, 7)], 4: [(0, 5), (10, 4)]}
-        text = self.saved(lambda name: trace_pictures.running(walks, label="Label", name=name))
+        text = self.save(lambda name: trace_pictures.running(walks, label="Label", name=name))
         for word in ("trajectory 3", "trajectory 4", "enacted plan 5", "Label", "steps"):
             self.assertIn(word, text)
         (axes,) = trace_pictures.running(walks).axes
@@ -103,7 +103,7 @@ class Pictures(common.FolderCase):
         many = {walk: [(0, 5), (10, walk)] for walk in range(9)}
         self.assertIn(
             "9 trajectories",
-            self.saved(lambda name: trace_pictures.running(many, enacted=2, name=name)),
+            self.save(lambda name: trace_pictures.running(many, enacted=2, name=name)),
         )
         for bad in ({}, {0: []}, {0: [(0, float("nan"))]}):
             with self.assertRaises(ValueError):

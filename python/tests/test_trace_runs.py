@@ -10,7 +10,7 @@ import district_audit
 import trace_model
 from district_audit import scores
 from tests.oracle import model
-from trace_model import TextCase, drawn_jobs, tracing_program
+from trace_model import TextCase, draw_jobs, tracing_program
 
 GRID: common.Words = dict(population="TOTPOP", first="DEM", second="REP", district="CD")
 # The number of jobs that are drawn for each of the tests against the model.
@@ -34,7 +34,7 @@ class AgainstTheModel(TextCase):
         wanted = [
             (number, step, *plans[step])
             for number in range(first, last + 1)
-            for plans in [trace_model.visited(job, number)]
+            for plans in [trace_model.visit(job, number)]
             for step in trace_model.shown_steps(len(plans) - 1, thin)
         ]
         samples = 0
@@ -83,17 +83,17 @@ class AgainstTheModel(TextCase):
             )
 
     def test_texts_of_drawn_jobs(self) -> None:
-        for root, words, job, first, last, thin in drawn_jobs(1, JOBS):
+        for root, words, job, first, last, thin in draw_jobs(1, JOBS):
             text = trace_model.text_of(job, first, last, thin)
             with self.subTest(words=words, ids=(first, last), thin=thin):
                 self.compare(self.read(text, root, words, last=True), root, job, first, last, thin)
 
     def test_the_program_on_drawn_jobs(self) -> None:
         program = tracing_program()
-        for root, words, job, first, last, thin in drawn_jobs(2, JOBS):
+        for root, words, job, first, last, thin in draw_jobs(2, JOBS):
             with self.subTest(words=words, ids=(first, last), thin=thin):
                 trace = district_audit.trace(
-                    trace_model.written(root), ids=(first, last), thin=thin, last=True,
+                    trace_model.encode(root), ids=(first, last), thin=thin, last=True,
                     program=program, **words,
                 )
                 self.compare(trace, root, job, first, last, thin)
@@ -133,7 +133,7 @@ class AgainstTheModel(TextCase):
             )
             job = trace_model.job_of({**prepared.columns, **words}, prepared.data)
             for number in (0, 1):
-                plans = trace_model.visited(job, number)
+                plans = trace_model.visit(job, number)
                 trace = district_audit.trace(
                     prepared, ids=number, thin=20, program=program, **words
                 )
@@ -289,7 +289,7 @@ class Tests(common.ProgramCase):
         words: common.Words = dict(
             trace_model.COLUMNS, slack=5000, key=common.KEY, program=self.program
         )
-        data = trace_model.written(trace_model.PATH)
+        data = trace_model.encode(trace_model.PATH)
         for kind, line, changed in (
             (district_audit.WordsRefused, "words: bad value for --slack", dict(slack=20000)),
             (district_audit.WordsRefused, "words: --first is missing", dict(first=None)),

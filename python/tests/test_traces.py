@@ -67,7 +67,7 @@ trace id 2 steps 2 thin 2\n0 0 1 -4 2:0 => trace id 2 steps 2 thin 2\n0 0 0 -16 
 class Reading(TextCase):
     """What is read of a text, and which texts are refused, at which line."""
 
-    def refused(self, number: int, text: typing.Union[str, bytes], **more: common.Value) -> str:
+    def refuse(self, number: int, text: typing.Union[str, bytes], **more: common.Value) -> str:
         with self.assertRaises(district_audit.TraceRefused) as caught:
             for _ in self.read(text, **more):
                 pass
@@ -103,7 +103,7 @@ class Reading(TextCase):
         with self.assertRaisesRegex(ValueError, "^unknown score ratio$"):
             denominator("ratio", 2, district_audit.Start(0, 1))
         words = dict(COLUMNS, slack=5000, key=common.KEY, ask="gap:low")
-        job = trace_model.job_of(words, trace_model.written(PATH))
+        job = trace_model.job_of(words, trace_model.encode(PATH))
         with self.assertRaisesRegex(ValueError, "^unknown score ratio$"):
             job.value(job.plan, "ratio")
 
@@ -146,12 +146,12 @@ class Reading(TextCase):
         """Wherever the text is cut off, it is refused, at the line that is missing or not whole."""
         for place in range(len(TEXT)):
             with self.subTest(place=place):
-                self.refused(TEXT[:place].count("\n") + 1, TEXT[:place])
+                self.refuse(TEXT[:place].count("\n") + 1, TEXT[:place])
 
     def test_what_stands_behind_the_end(self) -> None:
-        self.refused(TEXT.count("\n") + 1, TEXT + "\n")
-        self.refused(TEXT.count("\n") + 1, TEXT + "end\n")
-        self.refused(TEXT.count("\n") + 1, TEXT + "x")
+        self.refuse(TEXT.count("\n") + 1, TEXT + "\n")
+        self.refuse(TEXT.count("\n") + 1, TEXT + "end\n")
+        self.refuse(TEXT.count("\n") + 1, TEXT + "x")
 
     def test_wrong_lines(self) -> None:
         """Each change is refused at its line, and not at a later one."""
@@ -162,14 +162,14 @@ class Reading(TextCase):
                 changed = TEXT.replace(old, new, 1)
                 same = os.path.commonprefix([TEXT, changed])
                 number = same.count("\n") + 1
-                self.refused(number, changed)
+                self.refuse(number, changed)
 
     def test_a_trace_of_another_graph(self) -> None:
         other = json.loads(json.dumps(PATH))
         other["nodes"].append({"id": "v", "pop": 1, "a": 1, "b": 1, "d": "q"})
         other["adjacency"].append([{"id": "z"}])
-        self.assertIn("5", self.refused(8, TEXT, graph=other))
-        data = trace_model.written(PATH)
+        self.assertIn("5", self.refuse(8, TEXT, graph=other))
+        data = trace_model.encode(PATH)
         setting = dict(
             trace_model.COLUMNS, slack=5000, key=common.KEY, steps=4, ask="gap:low", source="yes"
         )
@@ -177,7 +177,7 @@ class Reading(TextCase):
         self.assertTrue(anything(self.read(text).head.source).is_of(data))
         self.assertIn(
             "SHA-256",
-            self.refused(
+            self.refuse(
                 text.split("\n").index("trace id 0 steps 4 thin 1") + 1, text,
                 graph={**PATH, "graph": [0]},
             ),
@@ -196,7 +196,7 @@ class Reading(TextCase):
         changes += [("key", "1" * 64), ("ask", ["seats:low"]), ("max_cut", 2)]
         for name, value in changes:
             with self.subTest(name=name):
-                why = self.refused(8, TEXT, words={**whole, name: value})
+                why = self.refuse(8, TEXT, words={**whole, name: value})
                 self.assertIn("is of another graph or job: ", why)
 
     def test_the_start_is_compared_with_the_graph(self) -> None:
@@ -221,7 +221,7 @@ class Reading(TextCase):
                     for place, node in enumerate(root["nodes"]):
                         node[key] = value[place] if isinstance(value, str) else value
             with self.subTest(name=name):
-                self.assertIn(why, self.refused(9, text, graph=root))
+                self.assertIn(why, self.refuse(9, text, graph=root))
         for old, new, why in (
             ("start 1/1", "start 2/1", "the enacted plan's cut-edges is 2 there and 1 here"),
             ("start 0/1", "start 1/1", "the enacted plan's seats is 1 there and 0 here"),
@@ -229,7 +229,7 @@ class Reading(TextCase):
             ("-16/32", "-32/64", "twice the votes is 64 there and 32 here"),
         ):
             with self.subTest(new=new):
-                self.assertIn(why, self.refused(9, text.replace(old, new)))
+                self.assertIn(why, self.refuse(9, text.replace(old, new)))
 
     def test_regions_and_majorities_are_compared(self) -> None:
         """Two regions, one of three units; the group has a majority in q alone, 3 of 4."""
@@ -249,7 +249,7 @@ class Reading(TextCase):
         ):
             with self.subTest(why=why):
                 words: common.Words = {**named, **anything(change)}
-                said = self.refused(10, text.replace(old, new), graph=root, words=words)
+                said = self.refuse(10, text.replace(old, new), graph=root, words=words)
                 self.assertIn(why, said)
 
     def test_a_share_and_frozen_units_are_compared(self) -> None:
@@ -267,7 +267,7 @@ class Reading(TextCase):
             ("frozen 2", "frozen 3", "the number of frozen units is 3 there and 2 here"),
         ):
             with self.subTest(new=new):
-                said = self.refused(11, text.replace(old, new), graph=root, words=named)
+                said = self.refuse(11, text.replace(old, new), graph=root, words=named)
                 self.assertIn(why, said)
         with self.assertWarns(district_audit.HeadNotCompared):
             trace = self.read(text, root, dict(named, freeze=None))
@@ -295,7 +295,7 @@ class Reading(TextCase):
             self.read(TEXT, words={"first": "a"})
 
     def test_columns_are_those_of_the_source(self) -> None:
-        data = trace_model.written(PATH)
+        data = trace_model.encode(PATH)
         setting = dict(COLUMNS, slack=5000, key=common.KEY, steps=4, ask="gap:low", source="yes")
         text = trace_model.text_of(trace_model.job_of(setting, data), 0, 0, 1)
         with self.assertWarns(district_audit.HeadNotCompared):
@@ -345,7 +345,7 @@ class Reading(TextCase):
             )
             file.write("end\n")
         self.assertGreater(path.stat().st_size, 200_000)
-        trace = district_audit.read_trace(path, trace_model.written(PATH), **trace_model.COLUMNS)
+        trace = district_audit.read_trace(path, trace_model.encode(PATH), **trace_model.COLUMNS)
         tracemalloc.start()
         try:
             count = sum(1 for sample in trace if sample.moves == sample.step)
@@ -455,13 +455,13 @@ class Programs(TextCase):
             ids=(0, 2), thin=2,
         )
         return district_audit.trace(
-            trace_model.written(PATH), program=self.program(line), **{**words, **more}
+            trace_model.encode(PATH), program=self.program(line), **{**words, **more}
         )
 
     def test_a_whole_text_and_status_0(self) -> None:
         trace = self.trace('cat > graph; echo "$@" > words; cat text')
         self.assertEqual(sum(1 for _ in trace), 7)
-        self.assertEqual((self.folder / "graph").read_bytes(), trace_model.written(PATH))
+        self.assertEqual((self.folder / "graph").read_bytes(), trace_model.encode(PATH))
         self.assertIn("--ids 0-2 --thin 2", (self.folder / "words").read_text(encoding="ascii"))
 
     def test_a_whole_text_and_another_status(self) -> None:

@@ -41,7 +41,7 @@ ALIKE = [
 ]
 
 
-def of_numpy() -> list[object]:
+def make_missing() -> list[object]:
     """Missing values of numpy and pandas, where these are installed."""
     numpy, pandas = common.needs("numpy"), common.needs("pandas")
     return [
@@ -66,7 +66,7 @@ def root_of(
     return {"nodes": nodes, "adjacency": adjacency}
 
 
-def with_one(label: object, place: int = 3) -> list[object]:
+def replace_label(label: object, place: int = 3) -> list[object]:
     """The labels of the plan, with another one in a place."""
     found = list(PLAN.values())
     found[place] = label
@@ -106,11 +106,11 @@ class Values(unittest.TestCase):
                 )
 
     def test_repeated(self) -> None:
-        self.assertEqual(values.repeated([1, "1", 2, 1.0, "x", "x"]), [1, "x"])
+        self.assertEqual(values.find_repeated([1, "1", 2, 1.0, "x", "x"]), [1, "x"])
 
 
 class Case(common.ProgramCase):
-    def refused(self, call: Call, *parts: str) -> PrepareRefused:
+    def refuse(self, call: Call, *parts: str) -> PrepareRefused:
         """A call is refused by a line that names the unit v and has these parts."""
         with self.assertRaises(PrepareRefused) as caught:
             call()
@@ -128,7 +128,7 @@ class Case(common.ProgramCase):
         """Each way by which labels of units come into the package."""
         plan = dict(zip(UNITS, labels))
         graph = common.StandInGraph(root_of(list(PLAN.values())))
-        bare = {name: column for name, column in WORDS.items() if name != "district"}
+        others = {name: column for name, column in WORDS.items() if name != "district"}
         columns = {name: column for name, column in common.COLUMNS.items() if name != "district"}
         said: common.Words = dict(program=self.program)
         return {
@@ -149,10 +149,10 @@ class Case(common.ProgramCase):
             ),
             "dict": lambda: district_audit.prepare(graph, **columns, assignment=plan),
             "assignment": lambda: district_audit.run(
-                graph, **said, **bare, assignment=common.StandInAssignment(plan)
+                graph, **said, **others, assignment=common.StandInAssignment(plan)
             ),
             "partition": lambda: district_audit.run(
-                graph, **said, **bare, assignment=common.StandInPartition(plan)
+                graph, **said, **others, assignment=common.StandInPartition(plan)
             ),
             "plans": lambda: district_audit.plans(
                 graph, {"one": PLAN, "two": plan}, **said, **WORDS
@@ -170,36 +170,36 @@ class Inputs(Case):
                 call()
 
     def test_missing_values(self) -> None:
-        for value in MISSING + of_numpy():
-            for name, call in self.calls(with_one(value)).items():
+        for value in MISSING + make_missing():
+            for name, call in self.calls(replace_label(value)).items():
                 with self.subTest(value=value, input=name):
-                    self.refused(call, "has no ")
+                    self.refuse(call, "has no ")
 
     def test_texts_of_missing_values(self) -> None:
         for value in TEXTS:
-            for name, call in self.calls([str(label) for label in with_one(value)]).items():
+            for name, call in self.calls([str(label) for label in replace_label(value)]).items():
                 with self.subTest(value=value, input=name):
-                    self.refused(call, "reads as a missing value")
+                    self.refuse(call, "reads as a missing value")
 
     def test_no_labels(self) -> None:
         for value in NO_LABELS + [common.needs("numpy").bool_(True)]:
-            for name, call in self.calls(with_one(value)).items():
+            for name, call in self.calls(replace_label(value)).items():
                 with self.subTest(value=value, input=name):
-                    self.refused(call, " is ")
+                    self.refuse(call, " is ")
 
     def test_mixed_kinds(self) -> None:
         numpy = common.needs("numpy")
         for value in MIXED + [numpy.float64(1), numpy.str_("1")]:
-            for name, call in self.calls(with_one(value)).items():
+            for name, call in self.calls(replace_label(value)).items():
                 with self.subTest(value=value, input=name):
-                    self.refused(call, "where 7 labels are whole numbers")
+                    self.refuse(call, "where 7 labels are whole numbers")
 
     def test_labels_that_look_alike(self) -> None:
         for one, other in ALIKE:
             labels = [one, one, one, other, "x", "x", "x", "x"]
             for name, call in self.calls(labels).items():
                 with self.subTest(labels=labels, input=name):
-                    self.refused(call, "only in how it is written")
+                    self.refuse(call, "only in how it is written")
 
     def test_numbers_of_numpy_are_whole_numbers_to_all(self) -> None:
         numpy = common.needs("numpy")
@@ -227,13 +227,13 @@ class Inputs(Case):
 
     def test_missing_counts(self) -> None:
         """A missing number is refused by unit id unless a rule is named."""
-        for value in MISSING + of_numpy():
+        for value in MISSING + make_missing():
             for column in ("pop", "a", "b", "g"):
                 with self.subTest(value=value, column=column):
                     root = root_of([0 if column != "pop" else 1] * 8, column)
                     root["nodes"][3][column] = value
                     more = {"group": "g"} if column == "g" else {}
-                    self.refused(
+                    self.refuse(
                         lambda: district_audit.prepare(
                             root, **anything({**common.COLUMNS, **more})
                         ),
@@ -242,12 +242,14 @@ class Inputs(Case):
 
     def test_a_rule_for_missing_values_is_no_rule_for_labels(self) -> None:
         self.assertEqual(
-            district_audit.prepare(root_of(with_one(None)), **common.COLUMNS, missing="drop").units,
+            district_audit.prepare(
+                root_of(replace_label(None)), **common.COLUMNS, missing="drop"
+            ).units,
             list("stuwxyz"),
         )
-        self.refused(
+        self.refuse(
             lambda: district_audit.prepare(
-                root_of(with_one("nan")), **common.COLUMNS, missing="drop"
+                root_of(replace_label("nan")), **common.COLUMNS, missing="drop"
             ),
             "reads as a missing value",
         )
@@ -276,7 +278,7 @@ class Files(Case):
             labels[3] = value
             data = json.dumps(root_of(labels)).encode()
             with self.subTest(value=value):
-                told = district_audit.program.call(
+                answer = district_audit.program.call(
                     self.program,
                     [
                         "check", "--pop", "pop", "--first", "a", "--second", "b", "--district", "d",
@@ -284,13 +286,13 @@ class Files(Case):
                     ],
                     data,
                 )
-                self.assertEqual(told.text.splitlines()[1], "units 8 edges 8 districts 3")
+                self.assertEqual(answer.text.splitlines()[1], "units 8 edges 8 districts 3")
                 for call in self.calls_of(data):
-                    self.refused(call, "d")
+                    self.refuse(call, "d")
 
     def test_regions(self) -> None:
         data = json.dumps(root_of(["k", "k", "k", "", "l", "l", "l", "l"], "county")).encode()
-        self.refused(
+        self.refuse(
             lambda: district_audit.check(
                 data, program=self.program, **common.COLUMNS, slack=5000, region="county"
             ),
@@ -302,7 +304,7 @@ class Files(Case):
         prepared = district_audit.prepare(
             root_of([1, 1, 1, "1", 2, 2, 2, 2], "other"), **common.COLUMNS, keep=["other"]
         )
-        self.refused(
+        self.refuse(
             lambda: district_audit.check(
                 prepared, program=self.program, district="other", slack=5000
             ),
@@ -311,7 +313,7 @@ class Files(Case):
 
     def test_the_command_warns(self) -> None:
         data = json.dumps(root_of([1, 1, 1, "1", 2, 2, 2, 2])).encode()
-        told = subprocess.run(
+        answer = subprocess.run(
             [
                 sys.executable,
                 "-c",
@@ -339,7 +341,7 @@ class Files(Case):
             },
         )
         self.assertEqual(
-            told.stderr.decode(),
+            answer.stderr.decode(),
             (
                 'district-audit-run: warning: unit "v": d, which is "1", is a text,'
                 " where 7 labels are whole numbers\n"
@@ -653,7 +655,7 @@ class Frames(UnitsCase):
                 (object, "float64", "Int64") if value is not self.pandas.NA else (object, "Int64")
             ):
                 with self.subTest(value=value, dtype=dtype):
-                    frame = self.frame(with_one(value), dtype=dtype)
+                    frame = self.frame(replace_label(value), dtype=dtype)
                     self.no('plan two: unit "v" has no label', lambda: self.plans(frame))
                     self.no('unit "v" has no assignment', lambda: self.prepare_with(frame["two"]))
         for dtype in ("string", "category"):
@@ -661,7 +663,7 @@ class Frames(UnitsCase):
             self.no('plan two: unit "v" has no label', lambda: self.plans(frame))
         self.no(
             "reads as a missing value",
-            lambda: self.plans(self.frame(with_one(float("nan"))).astype(str)),
+            lambda: self.plans(self.frame(replace_label(float("nan"))).astype(str)),
         )
 
     def test_good_frames_of_each_type(self) -> None:

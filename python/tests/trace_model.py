@@ -66,7 +66,7 @@ class Drawn(typing.NamedTuple):
     thin: int
 
 
-def drawn_graph(dice: random.Random) -> Root:
+def draw_graph(dice: random.Random) -> Root:
     """A connected graph with a legal plan of contiguous districts, columns of counties, a group and
     a second election, ids of both kinds, and the root object of its JSON."""
     rows, columns = dice.randint(2, 5), dice.randint(3, 6)
@@ -115,7 +115,7 @@ def drawn_graph(dice: random.Random) -> Root:
     }
 
 
-def drawn_words(dice: random.Random, steps: int = 120) -> Words:
+def draw_words(dice: random.Random, steps: int = 120) -> Words:
     """The words of a run, as keyword arguments of the package."""
     has_lengths = dice.random() < 0.4
     scores = [*SCORES, "cut-length"] if has_lengths else SCORES
@@ -150,7 +150,7 @@ def job_of(words: typing.Mapping[str, object], data: bytes) -> model.Job:
     return job
 
 
-def visited(job: model.Job, number: int) -> list[tuple[typing.Sequence[int], int]]:
+def visit(job: model.Job, number: int) -> list[tuple[typing.Sequence[int], int]]:
     """The plans and the moves of a trajectory: a list of both after each step, and how many
     steps."""
     setting, plan = job.setting, tuple(job.plan)
@@ -187,7 +187,7 @@ def text_of(job: model.Job, first: int, last: int, thin: int) -> str:
         for score, tail in setting.asks
     ]
     for number in range(first, last + 1):
-        plans = visited(job, number)
+        plans = visit(job, number)
         lines.append(f"trace id {number} steps {len(plans) - 1} thin {thin}")
         before: typing.Sequence[int] = start
         for step in shown_steps(len(plans) - 1, thin):
@@ -254,17 +254,17 @@ def scores_by_hand(root: Root, assignment: typing.Mapping[Value, Value]) -> dict
     return found
 
 
-def written(root: object) -> bytes:
+def encode(root: object) -> bytes:
     return json.dumps(root).encode("utf-8")
 
 
-def drawn_jobs(seed: int, count: int) -> typing.Iterator[Drawn]:
+def draw_jobs(seed: int, count: int) -> typing.Iterator[Drawn]:
     """Drawn graphs with words that the model takes, the model's job, and ids and a thinning."""
     dice = random.Random(seed)
     while count:
-        root, words = drawn_graph(dice), drawn_words(dice)
+        root, words = draw_graph(dice), draw_words(dice)
         try:
-            job = job_of(words, written(root))
+            job = job_of(words, encode(root))
         except model.Refused:
             continue
         first = dice.randrange(words["walks"] + words["ends"])
@@ -275,13 +275,13 @@ def drawn_jobs(seed: int, count: int) -> typing.Iterator[Drawn]:
 
 def tracing_program() -> str:
     """The real program, which has to know `trace` with `--ids`."""
-    program = common.built("audit_program", "DISTRICT_AUDIT")
-    told = subprocess.run(
+    program = common.build_program("audit_program", "DISTRICT_AUDIT")
+    answer = subprocess.run(
         [program, "trace", "--ids", "0"], stdin=subprocess.DEVNULL, stdout=subprocess.DEVNULL,
         stderr=subprocess.PIPE, text=True, check=False,
     )
-    if "unknown" in told.stderr:
-        common.lacking("the command `trace --ids` of the program")
+    if "unknown" in answer.stderr:
+        common.fail_or_skip("the command `trace --ids` of the program")
     return program
 
 
@@ -297,5 +297,5 @@ class TextCase(common.FolderCase):
     ) -> district_audit.Trace:
         path = self.folder / "trace"
         path.write_bytes(text if isinstance(text, bytes) else text.encode("utf-8"))
-        data = written(PATH if graph is None else graph)
+        data = encode(PATH if graph is None else graph)
         return district_audit.read_trace(path, data, **(words or COLUMNS), **more)

@@ -53,7 +53,7 @@ def spoil(chance: random.Random, folder: str) -> None:
         file.write_bytes(content)
 
 
-def intact(folder: str) -> list[bytes | None]:
+def read_valid(folder: str) -> list[bytes | None]:
     """Returns the bytes of each file, or None where it is not intact."""
     files = [pathlib.Path(folder, name) for name in SLOTS]
     return [
@@ -62,9 +62,9 @@ def intact(folder: str) -> list[bytes | None]:
     ]
 
 
-def age(folder: str) -> None:
+def downgrade(folder: str) -> None:
     """Writes all intact files in the first version of the format, without bins."""
-    for name, data in zip(SLOTS, intact(folder)):
+    for name, data in zip(SLOTS, read_valid(folder)):
         if data:
             generation = generation_and_count(data)[0]
             pathlib.Path(folder, name).write_bytes(
@@ -72,9 +72,9 @@ def age(folder: str) -> None:
             )
 
 
-def saved(folder: str, walks: int, shift: str) -> int:
+def count_saved(folder: str, walks: int, shift: str) -> int:
     """Returns the number of outcomes from which a run goes on, 0 if no file is valid."""
-    zero, one = intact(folder)
+    zero, one = read_valid(folder)
     if zero is None or one is None:
         newest = zero or one
     else:
@@ -142,10 +142,10 @@ def chain(
             "--workers", workers, "--parts", str(parts), "--part", str(chance.randrange(parts)),
         ]
         limit = chance.uniform(0.001, 0.03) if chance.random() < 0.6 else 60
-        before = saved(folder, audit.walks, shift)
+        before = count_saved(folder, audit.walks, shift)
         answer = run(audit.program, audit.words + more, audit.text, folder, limit)
         counts.runs += 1
-        left = saved(folder, audit.walks, shift)
+        left = count_saved(folder, audit.walks, shift)
         if resume == "yes" and left < before:
             return f"a resumed run left {left} of {before} outcomes", asked
         if answer is None:
@@ -161,7 +161,7 @@ def chain(
         if chance.random() < 0.1:
             spoil(chance, folder)
         if chance.random() < 0.1:
-            age(folder)
+            downgrade(folder)
 
 
 def main(

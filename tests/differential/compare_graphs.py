@@ -37,7 +37,7 @@ def rank(label: int | str) -> tuple[int, int | bytes]:
     return 0, label
 
 
-def expected(document: Json, pop: str, district: str, slack: int) -> str:
+def predict(document: Json, pop: str, district: str, slack: int) -> str:
     """Returns the check text, or the line that says why the plan is refused."""
     graph = read(document)
     units = list(graph.nodes)
@@ -66,7 +66,7 @@ def expected(document: Json, pop: str, district: str, slack: int) -> str:
     )
 
 
-def found(program: str, document: Json, columns: Sequence[str], slack: int) -> str:
+def call_check(program: str, document: Json, columns: Sequence[str], slack: int) -> str:
     words = [
         "check", "--pop", columns[0], "--first", columns[1], "--second", columns[2], "--district",
         columns[3], "--slack", str(slack),
@@ -77,7 +77,7 @@ def found(program: str, document: Json, columns: Sequence[str], slack: int) -> s
     return run.stdout + run.stderr
 
 
-def drawn(document: Json, district: str, chance: random.Random) -> Json:
+def draw_plan(document: Json, district: str, chance: random.Random) -> Json:
     """Returns the graph with a plan of five districts that grow from drawn units, and a few stray
     units.
     """
@@ -111,11 +111,11 @@ def main(
     cases = [(document, columns, slack)]
     cases += [(document, [column, pop, first, district], 10000) for column in columns[:3]]
     numbers = random.Random(1)
-    cases += [(drawn(document, district, numbers), columns, 10000) for _ in range(50)]
+    cases += [(draw_plan(document, district, numbers), columns, 10000) for _ in range(50)]
     answers = set()
     for case, names, allowed in cases:
-        wanted = expected(case, names[0], names[3], allowed)
-        got = found(program, case, names, allowed)
+        wanted = predict(case, names[0], names[3], allowed)
+        got = call_check(program, case, names, allowed)
         if got != wanted:
             sys.exit(f"not the same:\n{got}wanted:\n{wanted}")
         answers.add(wanted)

@@ -28,7 +28,7 @@ import typing
 from collections import Counter
 from collections.abc import Sequence
 
-from tests.parsers import add_draws, comparing
+from tests.parsers import add_draws, comparing_parser
 from tests.oracle import model
 from tests.places import package_command, package_environment
 
@@ -68,7 +68,7 @@ class Run:
     difference: str
 
 
-def prepared(maps: pathlib.Path, folder: pathlib.Path) -> list[Prepared]:
+def prepare_plans(maps: pathlib.Path, folder: pathlib.Path) -> list[Prepared]:
     """Prepares the plan of each line of the list of plans."""
     every = []
     for line in (maps / "plans").read_text(encoding="utf-8").splitlines():
@@ -124,7 +124,7 @@ def majorities_of(graph: Graph, column: str, group: str, whole: str) -> int:
     return sum(one > 0 for one in margin.values())
 
 
-def near(chance: random.Random, number: int) -> str:
+def draw_limit(chance: random.Random, number: int) -> str:
     """Returns a limit near the number that is there."""
     return str(max(0, number + chance.choice((-1, 0, 0, 0, 1, 3))))
 
@@ -146,7 +146,7 @@ def rule_words(chance: random.Random, graph: Graph, plan: Prepared) -> list[str]
         for name, number in zip(
             ("--max-splits", "--max-split-regions"), split_by(graph, column, region[0])
         ):
-            words += [name, near(chance, number)] if chance.random() < 0.5 else []
+            words += [name, draw_limit(chance, number)] if chance.random() < 0.5 else []
     if chance.random() < 0.4:
         group, whole = chance.sample(columns[1:6:2], 2)
         words += [
@@ -258,7 +258,7 @@ def main(program: str, maps: str, runs: int, seed: int, processes: int) -> int:
     moved: Counter[str] = Counter()
     wrong = 0
     with tempfile.TemporaryDirectory() as folder, multiprocessing.Pool(processes) as pool:
-        plans = prepared(pathlib.Path(maps), pathlib.Path(folder))
+        plans = prepare_plans(pathlib.Path(maps), pathlib.Path(folder))
         tasks = [(place, seed, program, plans[place % len(plans)]) for place in range(runs)]
         for one in pool.imap_unordered(one_run, tasks):
             ends[one.command, one.status] += 1
@@ -273,7 +273,7 @@ def main(program: str, maps: str, runs: int, seed: int, processes: int) -> int:
 
 
 def arguments() -> argparse.Namespace:
-    parser = comparing("compare_maps", __doc__)
+    parser = comparing_parser("compare_maps", __doc__)
     parser.add_argument("maps", help="the folder that `real_maps.sh fetch` makes")
     add_draws(parser, 400)
     return parser.parse_args()

@@ -58,14 +58,14 @@ def drawn_words(draw: random.Random) -> list[str]:
     return [*words, *shift, *max_cut]
 
 
-def called(folder: pathlib.Path, *words: str) -> subprocess.CompletedProcess[bytes]:
+def call(folder: pathlib.Path, *words: str) -> subprocess.CompletedProcess[bytes]:
     folder.mkdir(exist_ok=True)
     return subprocess.run(
         words, cwd=folder, stdin=subprocess.DEVNULL, capture_output=True, check=False
     )
 
 
-def killed(folder: pathlib.Path, seconds: float, *words: str) -> bool:
+def call_and_kill(folder: pathlib.Path, seconds: float, *words: str) -> bool:
     """Starts a program and kills it after some time; whether it had not ended by then."""
     folder.mkdir(exist_ok=True)
     process = subprocess.Popen(
@@ -94,7 +94,7 @@ def clear(folder: pathlib.Path, *words: str) -> None:
         list(folder.glob("*")) == [folder / "audit-0.ckpt"]
         and len((folder / "audit-0.ckpt").read_bytes()) < 84
     ):
-        answer = called(folder, *words)
+        answer = call(folder, *words)
         expect(answer, 8, "a run over a part of a first save")
         (folder / "audit-0.ckpt").unlink()
 
@@ -106,17 +106,17 @@ def walk_part(draw: random.Random, kills: int, folder: pathlib.Path, words: Sequ
     """
     count = 0
     for _ in range(draw.randint(0, kills)):
-        count += killed(folder, draw.choice((0.001, 0.003, 0.01, 0.03)), *words)
+        count += call_and_kill(folder, draw.choice((0.001, 0.003, 0.01, 0.03)), *words)
     clear(folder, *words)
     if draw.random() < 0.2:
-        answer = called(folder, *words, "--budget", str(draw.randint(1, 3)))
+        answer = call(folder, *words, "--budget", str(draw.randint(1, 3)))
         if answer.returncode not in (0, 7):
             raise Wrong(
                 f"a run with a budget ended with status {answer.returncode}:"
                 f" {answer.stderr[:200]!r}"
             )
         return count
-    answer = called(folder, *words)
+    answer = call(folder, *words)
     if answer.returncode not in (0, 7):
         raise Wrong(f"a part ended with status {answer.returncode}: {answer.stderr[:200]!r}")
     return count
@@ -127,7 +127,7 @@ def compare(
 ) -> int:
     """Compares the reports of one job, and returns the number of runs that were killed."""
     auditor = programs.auditor
-    whole = called(room / "whole", auditor, *words)
+    whole = call(room / "whole", auditor, *words)
     expect(whole, 0, "the run in one piece")
     count = 0
     for parts in PARTS:
@@ -145,9 +145,9 @@ def compare(
             )
         draw.shuffle(folders)
         gathered = room / f"all-{parts}"
-        end = called(gathered, programs.gatherer, *folders, *words)
+        end = call(gathered, programs.gatherer, *folders, *words)
         expect(end, 0, f"the gathering of {parts} parts")
-        report = called(gathered, auditor, *words, *saving)
+        report = call(gathered, auditor, *words, *saving)
         expect(report, 0, f"the run over {parts} gathered parts")
         if report.stdout != whole.stdout:
             raise Wrong(f"the report over {parts} parts is another")

@@ -76,7 +76,7 @@ def plan_of(chance: random.Random, units: int) -> list[int]:
     return [0 if at < first else 1 if at < second else 2 for at in range(units)]
 
 
-def quoted(chance: random.Random, field: str) -> str:
+def quote(chance: random.Random, field: str) -> str:
     if chance.random() < 0.2 or any(sign in field for sign in ',"\n\r'):
         return '"' + field.replace('"', '""') + '"'
     return field
@@ -97,7 +97,7 @@ def table_of(chance: random.Random, ids: Sequence[int | str]) -> bytes:
     broken = chance.randrange(14)
     break_records(chance, broken, records, count)
     end = chance.choice(("\n", "\r\n", "\r"))
-    lines = [",".join(quoted(chance, field) for field in record) for record in records]
+    lines = [",".join(quote(chance, field) for field in record) for record in records]
     if chance.random() < 0.1:
         lines.insert(chance.randrange(len(lines)), "")
     text = end.join(lines) + (end if chance.random() < 0.8 else "")

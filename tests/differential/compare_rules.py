@@ -32,7 +32,7 @@ import typing
 from collections import Counter
 from collections.abc import Sequence
 
-from tests.parsers import add_draws, comparing
+from tests.parsers import add_draws, comparing_parser
 from tests.oracle import model
 
 BASE = "--pop pop --first a --second b --district d".split()
@@ -87,7 +87,7 @@ def neighbours_of(chance: random.Random, wide: int, high: int) -> list[set[int]]
     return near
 
 
-def grown(chance: random.Random, near: Sequence[set[int]], count: int) -> list[int]:
+def grow_parts(chance: random.Random, near: Sequence[set[int]], count: int) -> list[int]:
     """Returns the part of each unit, of this number of parts that grow from drawn units."""
     part = dict(zip(chance.sample(range(len(near)), count), range(count)))
     while len(part) < len(near):
@@ -98,10 +98,10 @@ def grown(chance: random.Random, near: Sequence[set[int]], count: int) -> list[i
     return [part[unit] for unit in range(len(near))]
 
 
-def even(chance: random.Random, near: Sequence[set[int]], count: int) -> list[int]:
+def draw_even_parts(chance: random.Random, near: Sequence[set[int]], count: int) -> list[int]:
     """Returns parts that are drawn anew until none has more than 3/2 of its share."""
     while True:
-        parts = grown(chance, near, count)
+        parts = grow_parts(chance, near, count)
         if max(Counter(parts).values()) * 2 * count <= 3 * len(near):
             return parts
 
@@ -109,9 +109,9 @@ def even(chance: random.Random, near: Sequence[set[int]], count: int) -> list[in
 def drawn_graph(chance: random.Random) -> tuple[Graph, list[int]]:
     """Returns a graph, and another plan for its units."""
     near = neighbours_of(chance, chance.randint(4, 7), chance.randint(4, 7))
-    plan, other = (even(chance, near, chance.randint(2, 4)) for _ in range(2))
+    plan, other = (draw_even_parts(chance, near, chance.randint(2, 4)) for _ in range(2))
     regions = (
-        grown(chance, near, chance.randint(1, 9))
+        grow_parts(chance, near, chance.randint(1, 9))
         if chance.random() < 0.7
         else [2 * district + chance.randrange(2) for district in plan]
     )
@@ -170,7 +170,7 @@ def drawn_edges(chance: random.Random, near: Sequence[set[int]]) -> list[list[En
 # ---- words
 
 
-def there(graph: Graph, words: Sequence[str]) -> dict[str, int]:
+def measure_start(graph: Graph, words: Sequence[str]) -> dict[str, int]:
     """Returns the start plan's number for each rule, without limits; 1 for a refused graph."""
     try:
         job = model.job_of(
@@ -206,7 +206,7 @@ def drawn_rules(chance: random.Random, graph: Graph) -> list[str]:
     ]
     broken = chance.choice(names) if chance.random() < 1 / 8 else None
     words = columns[:]
-    for name, number in there(graph, columns).items():
+    for name, number in measure_start(graph, columns).items():
         more = (
             -1
             if name == broken
@@ -263,7 +263,7 @@ def audit_words(chance: random.Random, has_lengths: bool) -> list[str]:
     )
 
 
-def reached(words: Sequence[str], data: bytes, other: model.Plan) -> model.Plan:
+def reach_plan(words: Sequence[str], data: bytes, other: model.Plan) -> model.Plan:
     """Returns a plan that a walk under these words reaches, so that it keeps the rules; the other
     one where the graph is refused.
     """
@@ -282,7 +282,7 @@ def table_of(graph: Graph, other: model.Plan) -> bytes:
     return "\n".join(["id,other,own", *rows, ""]).encode()
 
 
-def changed(chance: random.Random, words: Sequence[str]) -> list[str]:
+def change_rule(chance: random.Random, words: Sequence[str]) -> list[str]:
     """Returns the words with one number of a rule changed, where they have one."""
     limits = (*RULES, "--group-share")
     more, places = list(words), [at for at, name in enumerate(words) if name in limits]
@@ -309,7 +309,9 @@ def calls_of(
                 ["plans", *words],
                 data
                 + b"\n"
-                + table_of(graph, reached(words, data, other) if chance.random() < 0.8 else other),
+                + table_of(
+                    graph, reach_plan(words, data, other) if chance.random() < 0.8 else other
+                ),
             )
         ]
     if kind < 0.7:
@@ -319,7 +321,7 @@ def calls_of(
             else []
         )
         return [(["run", *words, *stop], data)]
-    second = changed(chance, words) if chance.random() < 0.3 else words
+    second = change_rule(chance, words) if chance.random() < 0.3 else words
     return [
         (["run", *words, "--save", "1", "--budget", str(chance.randint(0, 3))], data),
         (["run", *second, "--save", "2", "--resume", "yes"], data),
@@ -329,7 +331,7 @@ def calls_of(
 # ---- runs
 
 
-def without(words: Sequence[str], name: str | None) -> list[str]:
+def remove_rule(words: Sequence[str], name: str | None) -> list[str]:
     """Returns the words of a walk without the rule, without files."""
     pairs = [
         (one, value)
@@ -339,12 +341,12 @@ def without(words: Sequence[str], name: str | None) -> list[str]:
     return [words[0], *(word for pair in pairs for word in pair)]
 
 
-def turned(words: Sequence[str], data: bytes) -> tuple[list[str], list[str]]:
+def find_effects(words: Sequence[str], data: bytes) -> tuple[list[str], list[str]]:
     """Returns which rules the words set, and which of them change what the walks find."""
     is_set = [name for name in (*RULES, *OTHERS) if name in words]
     every = [
         line
-        for line in model.audit(without(words, None), data, [None, None]).out.splitlines()
+        for line in model.audit(remove_rule(words, None), data, [None, None]).out.splitlines()
         if " moved " in line
     ]
     return is_set, [
@@ -353,7 +355,7 @@ def turned(words: Sequence[str], data: bytes) -> tuple[list[str], list[str]]:
         if every
         != [
             line
-            for line in model.audit(without(words, name), data, [None, None]).out.splitlines()
+            for line in model.audit(remove_rule(words, name), data, [None, None]).out.splitlines()
             if " moved " in line
         ]
     ]
@@ -398,7 +400,7 @@ def one_run(task: tuple[int, int, str]) -> Run:
             )
             slots = found.slots
     if ends[-1][0] == "run" and ends[-1][1] == 0:
-        rules = turned(*calls[-1])
+        rules = find_effects(*calls[-1])
     return Run(ends, *rules, difference)
 
 
@@ -435,7 +437,7 @@ def main(program: str, runs: int = 300, seed: int = 1, processes: int = 4) -> in
 
 
 def arguments() -> argparse.Namespace:
-    parser = comparing("compare_rules", __doc__)
+    parser = comparing_parser("compare_rules", __doc__)
     add_draws(parser, 300)
     return parser.parse_args()
 

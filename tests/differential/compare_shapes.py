@@ -26,7 +26,7 @@ from tests.differential.compare_walks import (
     Trajectories,
     drawn_graph,
     drawn_plan,
-    found,
+    call_run,
     report,
 )
 
@@ -81,7 +81,7 @@ def torus(chance: random.Random) -> networkx.Graph:
     return graph
 
 
-def ringed(chance: random.Random) -> networkx.Graph:
+def add_rings(chance: random.Random) -> networkx.Graph:
     """Returns a drawn graph of which some units have a ring round them that alone touches them, and
     now and then a ring round that.
     """
@@ -106,11 +106,11 @@ SHAPES = {
     "complete": complete,
     "torus": torus,
     "holes": drawn_graph,
-    "ringed": ringed,
+    "ringed": add_rings,
 }
 
 
-def numbered(chance: random.Random, graph: networkx.Graph) -> networkx.Graph:
+def renumber(chance: random.Random, graph: networkx.Graph) -> networkx.Graph:
     """Returns the graph with its units numbered in a drawn order."""
     names = list(graph)
     chance.shuffle(names)
@@ -123,7 +123,7 @@ def numbered(chance: random.Random, graph: networkx.Graph) -> networkx.Graph:
 
 def drawn_job(chance: random.Random, shape: str) -> Job:
     while True:
-        graph = numbered(chance, SHAPES[shape](chance))
+        graph = renumber(chance, SHAPES[shape](chance))
         districts = chance.randint(2, min(5, len(graph) // 2))
         people, first, second = ([chance.randint(low, 9) for _ in graph] for low in (1, 0, 0))
         first[0] += 1
@@ -144,7 +144,7 @@ def main(program: str, graphs: int = 50, seed: int = 1, steps: int = 2000) -> in
         job = drawn_job(chance, shape)
         asked = Trajectories(1, steps, 3, steps // 10, ASKS)
         wanted = report(job, asked)
-        answer = found(program, job, asked, chance.randint(1, 4))
+        answer = call_run(program, job, asked, chance.randint(1, 4))
         tried[shape] += 1
         same[shape] += answer == wanted
         moves[shape] += int(

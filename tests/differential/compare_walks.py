@@ -157,7 +157,7 @@ class Job:
             margins[plan[unit]] += 2 * part - whole
         return len([margin for margin in margins if margin > 0])
 
-    def obeys_rules(self, plan: Plan) -> bool:
+    def is_within_rules(self, plan: Plan) -> bool:
         return (
             self.cut_edges(plan) <= self.max_cut
             and self.widest(plan) <= self.max_split
@@ -174,9 +174,9 @@ class Job:
             amount = 10000 * self.districts * sum(self.people[u] for u in members)
             if not (10000 - self.slack) * self.total <= amount <= (10000 + self.slack) * self.total:
                 return False
-        return self.obeys_rules(plan)
+        return self.is_within_rules(plan)
 
-    def after(self, plan: Plan, draw: int) -> Plan:
+    def try_step(self, plan: Plan, draw: int) -> Plan:
         pairs = self.units * self.districts
         if draw >= 2**64 // pairs * pairs:
             return plan
@@ -187,7 +187,7 @@ class Job:
     def walk(self, plan: Plan, stream: int, steps: int) -> tuple[list[Plan], int]:
         visited, moved = [plan], 0
         for _, draw in zip(range(steps), draws(self.key, stream)):
-            following = self.after(plan, draw)
+            following = self.try_step(plan, draw)
             moved += following != plan
             plan = following
             visited.append(plan)
@@ -290,7 +290,7 @@ def report_of(job: Job, asked: Trajectories, found: Sequence[Outcome]) -> str:
         *([f"max-split {job.max_split} regions {len(set(job.regions))}"] if job.regions else []),
         *(
             [f"max-splits {job.max_splits} max-split-regions {job.max_split_regions}"]
-            if limits_splits(job)
+            if has_split_limits(job)
             else []
         ),
         *(
@@ -318,7 +318,7 @@ def report_of(job: Job, asked: Trajectories, found: Sequence[Outcome]) -> str:
         )
     for place, (_, tail) in enumerate(asks if job.stop else []):
         inside = [is_inside(values[place], start[place], tail) for _, values, _ in found[walks:]]
-        lines.append(f"stop {words[place]} {stopped(inside, job.stop)}")
+        lines.append(f"stop {words[place]} {format_stop(inside, job.stop)}")
     for place, (_, tail) in enumerate(asks if ends and not job.stop else []):
         rank = 1 + sum(
             is_inside(values[place], start[place], tail) for _, values, _ in found[walks:]
@@ -354,14 +354,14 @@ def origin_of(
     ]
 
 
-def limits_splits(job: Job) -> bool:
+def has_split_limits(job: Job) -> bool:
     return bool(job.regions) and (job.max_splits, job.max_split_regions) != (
         MOST_SPLITS,
         MOST_REGIONS,
     )
 
 
-def stopped(inside: Sequence[bool], enough: int) -> str:
+def format_stop(inside: Sequence[bool], enough: int) -> str:
     """Returns the place at which a test stops: the last end in the tail that it needs, or the last
     end.
     """
@@ -516,7 +516,7 @@ def trajectory_words(asked: Trajectories) -> list[str]:
     return [word for name, number in zip(names, asked[:4]) for word in (name, str(number))]
 
 
-def found(program: str, job: Job, asked: Trajectories, workers: int) -> str:
+def call_run(program: str, job: Job, asked: Trajectories, workers: int) -> str:
     words = [
         "run", "--pop", "POP", "--first", "A", "--second", "B", "--district", "CD", "--slack",
         str(job.slack), "--key", job.key.hex(), "--workers", str(workers), "--ask",
@@ -561,7 +561,7 @@ def main(program: str, graphs: int = 20, seed: int = 1) -> int:
         chance.shuffle(asks)
         asked = Trajectories(*numbers, asks)
         wanted = report(job, asked)
-        answer = found(program, job, asked, chance.randint(1, 4))
+        answer = call_run(program, job, asked, chance.randint(1, 4))
         moved += sum(
             int(line.split()[3]) for line in wanted.splitlines() if line.startswith("walk ")
         )

@@ -304,7 +304,7 @@ def broken_json(data: bytes, chance: random.Random) -> bytes:
     return text.encode()
 
 
-def sealed_anew(data: bytes, chance: random.Random) -> bytes:
+def reseal(data: bytes, chance: random.Random) -> bytes:
     """Returns a checkpoint of which numbers are changed, and the digest at its end is right."""
     front = bytearray(data[:-32])
     for _ in range(chance.choice((1, 1, 2))):
@@ -315,19 +315,19 @@ def sealed_anew(data: bytes, chance: random.Random) -> bytes:
                 (0, 1, 2, 3, 4, 8, 9, 10, 16, 20, 21, 32, 100000, 100001, 2**31, 2**32 - 1)
             ),
         )
-    return model.sealed(bytes(front))
+    return model.seal(bytes(front))
 
 
-def aged(data: bytes) -> bytes:
+def downgrade(data: bytes) -> bytes:
     """Returns a good checkpoint in the first version of the format."""
-    return model.checkpoint(data[12:44], data[47], model.outcomes_in(model.decoded(data)), 1)
+    return model.checkpoint(data[12:44], data[47], model.outcomes_in(model.decode(data)), 1)
 
 
-def with_histogram(data: bytes, chance: random.Random) -> bytes:
+def replace_histogram(data: bytes, chance: random.Random) -> bytes:
     """Returns a good checkpoint of which one outcome has other bins: none, some that add up as they
     have to, or that do so but for a multiple of 2^32.
     """
-    found = model.outcomes_in(model.decoded(data))
+    found = model.outcomes_in(model.decode(data))
     if not found:
         return data
     one = chance.choice(sorted(found))
@@ -359,10 +359,10 @@ def broken_slot(data: bytes | None, chance: random.Random) -> bytes | None:
         )
     kind = chance.random()
     if kind < 0.2:
-        return with_histogram(data, chance)
+        return replace_histogram(data, chance)
     if kind < 0.3:
-        data = aged(data)
-    return sealed_anew(data, chance) if chance.random() < 0.5 else broken_bytes(data, chance, ())
+        data = downgrade(data)
+    return reseal(data, chance) if chance.random() < 0.5 else broken_bytes(data, chance, ())
 
 
 def broken_words(good: Sequence[str], chance: random.Random) -> list[str]:
@@ -409,7 +409,7 @@ def broken_words(good: Sequence[str], chance: random.Random) -> list[str]:
 # ---- one run
 
 
-def drawn(chance: random.Random, graphs: Sequence[bytes]) -> Call:
+def draw_call(chance: random.Random, graphs: Sequence[bytes]) -> Call:
     """Draws a call: words, a graph and slots, some of them broken."""
     data, words = chance.choice(graphs), good_words(chance)
     slots: list[bytes | None] = [None, None]
@@ -425,7 +425,7 @@ def drawn(chance: random.Random, graphs: Sequence[bytes]) -> Call:
                 )
                 start = [*start[:4], "--resume", "yes"]
         if chance.random() < 0.15:
-            slots = [slot and aged(slot) for slot in slots]
+            slots = [slot and downgrade(slot) for slot in slots]
         words += saving(chance)
         if kind in ("slots", "all"):
             for at in chance.choice(((0,), (1,), (0, 1))):
@@ -513,7 +513,7 @@ def work(program: str, runs: int, seed: int) -> Found:
     chance, graphs, found = random.Random(seed), good_graphs(), Found()
     folder = tempfile.mkdtemp()
     for _ in range(runs):
-        call = drawn(chance, graphs)
+        call = draw_call(chance, graphs)
         if not is_small(call.words):
             call = call._replace(data=b"")
             if call.words and call.words[0] == "make":

@@ -15,7 +15,7 @@ from tests.golden.named_cases import (
     check_order,
     compare_with_model,
     lines_of,
-    repeated,
+    find_repeated,
     stdout_parts,
 )
 from tests.places import CASES
@@ -26,7 +26,7 @@ def check_file(checks: Checks, file: str) -> None:
     names = [line.name for line in lines_of(CASES / "data" / file)]
     checks.is_true(f"{file}/has_lines", names, "a line at least", names)
     checks.is_equal(f"{file}/unnamed", [name for name in names if not NAME.fullmatch(name)], [])
-    checks.is_equal(f"{file}/repeated", repeated(names), [])
+    checks.is_equal(f"{file}/repeated", find_repeated(names), [])
 
 
 def check_stdout(checks: Checks) -> None:
@@ -34,7 +34,7 @@ def check_stdout(checks: Checks) -> None:
     parts = stdout_parts()
     names = [part.name for part in parts]
     checks.is_equal("stdout/unnamed", [name for name in names if not NAME.fullmatch(name)], [])
-    checks.is_equal("stdout/repeated", repeated(names), [])
+    checks.is_equal("stdout/repeated", find_repeated(names), [])
     lines = [line for file in FILES for line in lines_of(CASES / "data" / file)]
     named = {line.name for line in lines}
     in_files = [name for name in names if name in named]

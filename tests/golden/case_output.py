@@ -24,7 +24,7 @@ def check_program(checks: Checks, program: pathlib.Path) -> None:
         folder = pathlib.Path(room) / "data"
         shutil.copytree(CASES / "data", folder)
         end = run([program], folder=folder)
-    checks.ended("program/ends", end)
+    checks.has_status("program/ends", end)
     compare(checks, "program", parts_of(end.out), stdout_parts())
 
 
@@ -34,7 +34,7 @@ def main() -> int:
     if os.access(program, os.X_OK):
         check_program(checks, program.resolve())
     else:
-        checks.missing("program", f"the program {program}")
+        checks.count_missing("program", f"the program {program}")
     compare_with_model(checks, "plain_cases", ["cases", "graphs"], GREAT)
     return checks.finish()
 

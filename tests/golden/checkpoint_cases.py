@@ -33,9 +33,9 @@ from tests.oracle.checkpoints import (
     outcomes_in,
     record,
     records,
-    sealed,
+    seal,
 )
-from tests.differential.compare_graphs import expected
+from tests.differential.compare_graphs import predict
 from tests.golden.named_cases import is_question, lines_of
 from tests.differential.compare_walks import (
     NO_BINS,
@@ -99,7 +99,7 @@ class Keeper:
         return is_good
 
 
-def looked(setting: Setting, wanted: bytes, data: bytes | None) -> Slot:
+def check_slot(setting: Setting, wanted: bytes, data: bytes | None) -> Slot:
     """Returns the state of a slot for the job with this digest."""
     if data is None:
         return Slot("absent")
@@ -120,7 +120,7 @@ def newest(slots: Sequence[Slot]) -> int | None:
     return intact[0] if intact else None
 
 
-def taken_up(setting: Setting, job: Job, found: Mapping[int, Outcome]) -> dict[int, Outcome]:
+def select_usable(setting: Setting, job: Job, found: Mapping[int, Outcome]) -> dict[int, Outcome]:
     """Returns the outcomes from which a run goes on; only those with a histogram, if it asks for
     one.
     """
@@ -131,7 +131,7 @@ def taken_up(setting: Setting, job: Job, found: Mapping[int, Outcome]) -> dict[i
     }
 
 
-def resumed(slots: Sequence[Slot], wanted: bytes) -> tuple[Mapping[int, Outcome], str]:
+def resume(slots: Sequence[Slot], wanted: bytes) -> tuple[Mapping[int, Outcome], str]:
     """Returns the outcomes of the newest slot, and the note that refuses them or an empty one."""
     if all(slot.fault == "absent" for slot in slots):
         return {}, ""
@@ -172,7 +172,7 @@ def bad_name(setting: Setting) -> str | None:
     return None if is_number(part) and int(part) < int(parts) else "--part"
 
 
-def saved_in_turn(
+def save_in_turn(
     every: int,
     slots: Sequence[Slot],
     keeper: Keeper,
@@ -196,7 +196,7 @@ def saved_in_turn(
     return all(answers.values())
 
 
-def begun(setting: Setting, job: Job, every: Mapping[int, Outcome]) -> list[int]:
+def find_begun(setting: Setting, job: Job, every: Mapping[int, Outcome]) -> list[int]:
     """Returns the ids that are walked where tests stop early: all walks, and ends in rounds of 64,
     128 and so on until each test has stopped.
     """
@@ -212,24 +212,26 @@ def begun(setting: Setting, job: Job, every: Mapping[int, Outcome]) -> list[int]
         count = min(setting.ends, 2 * count + 64)
 
 
-def walked(setting: Setting, job: Job, slots: Sequence[Slot], keeper: Keeper, room: int) -> End:
+def predict_run(
+    setting: Setting, job: Job, slots: Sequence[Slot], keeper: Keeper, room: int
+) -> End:
     """Returns how a run ends over the slots that it looked at, if it did."""
     wanted, is_resumed = digest(job, setting), setting.given.get("--resume") == "yes"
-    before, refusal = resumed(slots, wanted) if is_resumed else ({}, "")
+    before, refusal = resume(slots, wanted) if is_resumed else ({}, "")
     if refusal:
         return End(8, [], "", refusal)
-    found = taken_up(setting, job, before)
+    found = select_usable(setting, job, before)
     every = dict(enumerate(outcomes(job, setting.trajectories())))
     if job.stop:
         text = report_of(job, setting.trajectories(), [every[number] for number in sorted(every)])
-        return End(0, begun(setting, job, every), text, "")
+        return End(0, find_begun(setting, job, every), text, "")
     parts, part = int(setting.given.get("--parts", "1")), int(setting.given.get("--part", "0"))
     todo = [number for number in every if number not in found and number % parts == part][
         : int(setting.given.get("--budget", "100000"))
     ]
     posts = [{number: every[number] for number in todo[:count]} for count in range(len(todo) + 1)]
     founds = [{**found, **post} for post in posts]
-    is_saved = saved_in_turn(int(setting.given.get("--save", "0")), slots, keeper, wanted, founds)
+    is_saved = save_in_turn(int(setting.given.get("--save", "0")), slots, keeper, wanted, founds)
     found = {**found, **posts[-1]}
     text = ""
     if len(found) == setting.total:
@@ -256,7 +258,7 @@ def audit(words: Sequence[str], text: str, keeper: Keeper, room: int) -> End:
         return End(
             0,
             [],
-            expected(
+            predict(
                 json.loads(text), setting.given["--pop"], setting.given["--district"], setting.slack
             ),
             "",
@@ -266,11 +268,11 @@ def audit(words: Sequence[str], text: str, keeper: Keeper, room: int) -> End:
         loaded = keeper.load_all()
         if loaded is None:
             return End(6, [], "", "checkpoint load fault")
-        slots = [looked(setting, digest(job, setting), data) for data in loaded]
-    return walked(setting, job, slots, keeper, room)
+        slots = [check_slot(setting, digest(job, setting), data) for data in loaded]
+    return predict_run(setting, job, slots, keeper, room)
 
 
-def shown(number: int, data: bytes | None) -> str:
+def show_slot(number: int, data: bytes | None) -> str:
     if data is None:
         return f"slot {number} absent"
     found = records(data)
@@ -313,7 +315,7 @@ def text_of(
     keeper = Keeper(slots, int(load), save)
     end = audit(words, (folder / file).read_text(), keeper, int(room))
     lines = [line, f"status {end.status}", line_of_ids(end.ids), end.out + end.note]
-    lines += [shown(number, data) for number, data in enumerate(keeper.slots)]
+    lines += [show_slot(number, data) for number, data in enumerate(keeper.slots)]
     return "\n".join(part.removesuffix("\n") for part in lines) + "\n", keeper.slots
 
 
@@ -326,7 +328,7 @@ def parts_of(words: str, text: str) -> tuple[bytes, dict[int, Outcome], dict[int
     return digest(job, setting), plain, dict(enumerate(outcomes(job, setting.trajectories())))
 
 
-def damaged(words: str, text: str) -> dict[str, bytes]:
+def make_damaged(words: str, text: str) -> dict[str, bytes]:
     """Checkpoints of twelve walks on the cycle of four units: with one fault alone, and some good
     ones.
     """
@@ -335,7 +337,7 @@ def damaged(words: str, text: str) -> dict[str, bytes]:
     front = checkpoint(own, 0, five)[:-32]
     moved, values, _ = every[0]
 
-    def of_one(
+    def make_single(
         number: int, moves: int, counts: Sequence[int], bins: Sequence[int] = NO_BINS
     ) -> bytes:
         return checkpoint(own, 0, {number: Outcome(moves, counts, bins)})
@@ -343,21 +345,21 @@ def damaged(words: str, text: str) -> dict[str, bytes]:
     some = {number: every[number] for number in (1, 3, 11)}
     return {
         "too_short": checkpoint(own, 0, {})[:-1],
-        "bad_magic": sealed(b"DISTCKPS" + front[8:]),
-        "bad_version": sealed(front[:8] + struct.pack(">I", 3) + front[12:]),
+        "bad_magic": seal(b"DISTCKPS" + front[8:]),
+        "bad_version": seal(front[:8] + struct.pack(">I", 3) + front[12:]),
         "bad_generation": checkpoint(own, 3, five),
-        "bad_count": sealed(front[:48] + struct.pack(">I", 6) + front[52:]),
-        "bad_width": sealed(front[:8] + struct.pack(">I", 1) + front[12:]),
-        "bad_order": sealed(
+        "bad_count": seal(front[:48] + struct.pack(">I", 6) + front[52:]),
+        "bad_width": seal(front[:8] + struct.pack(">I", 1) + front[12:]),
+        "bad_order": seal(
             front[:48] + struct.pack(">I", 2) + 2 * (record(0, moved, values) + bytes(36))
         ),
-        "unfit_id": of_one(12, moved, values),
-        "unfit_moves": of_one(0, 9, values),
-        "unfit_visits": of_one(0, moved, [10]),
-        "unfit_value": of_one(0, moved, [*values, 1]),
-        "unfit_zero": of_one(0, moved, [0]),
-        "unfit_second": of_one(0, moved, [1, 1]),
-        "unfit_bins": of_one(0, moved, values, [0, 0, 0, 7, 3, 0, 0, 0, 0]),
+        "unfit_id": make_single(12, moved, values),
+        "unfit_moves": make_single(0, 9, values),
+        "unfit_visits": make_single(0, moved, [10]),
+        "unfit_value": make_single(0, moved, [*values, 1]),
+        "unfit_zero": make_single(0, moved, [0]),
+        "unfit_second": make_single(0, moved, [1, 1]),
+        "unfit_bins": make_single(0, moved, values, [0, 0, 0, 7, 3, 0, 0, 0, 0]),
         "five": checkpoint(own, 1, five),
         "ten": checkpoint(own, 0, ten),
         "gaps": checkpoint(own, 2, some),
@@ -387,7 +389,7 @@ def write_files(folder: pathlib.Path) -> None:
     )
     ends = words.replace("--walks 12", "--walks 3 --ends 5 --hub-steps 8")
     text = (folder / "cycle.json").read_text()
-    for name, data in {**damaged(words, text), **damaged_ends(ends, text)}.items():
+    for name, data in {**make_damaged(words, text), **damaged_ends(ends, text)}.items():
         (folder / f"{name}.hex").write_text(data.hex() + "\n")
 
 

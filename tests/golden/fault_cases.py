@@ -18,7 +18,7 @@ import pathlib
 from collections.abc import Iterable, Sequence
 
 from tests.oracle import model
-from tests.golden.checkpoint_cases import End, Keeper, audit, line_of_ids, shown, slot_of
+from tests.golden.checkpoint_cases import End, Keeper, audit, line_of_ids, show_slot, slot_of
 from tests.golden.named_cases import lines_of
 
 ROOM = 4000
@@ -42,7 +42,7 @@ def calls_for(count: int, most: int) -> int:
     return -(-count // most)
 
 
-def lined(parts: Iterable[str]) -> str:
+def join_lines(parts: Iterable[str]) -> str:
     """Returns the parts that are not empty, each ended by a line feed."""
     return "".join(part.removesuffix("\n") + "\n" for part in parts if part)
 
@@ -56,7 +56,8 @@ def audit_plans(words: Sequence[str], text: str, failing_write: int, most: int) 
     out, writes = "", 0
     for name, job in model.jobs_of(setting, text.encode()):
         ids += range(setting.total)
-        for piece in ("plan ", name, "\n", model.report(job, model.asked(job, job.digest()))):
+        report = model.report(job, model.select_outcomes(job, job.digest()))
+        for piece in ("plan ", name, "\n", report):
             if writes < failing_write <= writes + calls_for(len(piece), most):
                 return End(
                     5, ids, out + piece[: most * (failing_write - 1 - writes)], "write fault"
@@ -109,7 +110,7 @@ def run_once(folder: pathlib.Path, case: FaultCase, number: int) -> tuple[str, i
             end = End(5, end.ids, end.out[: most * (number - 1)], "write fault")
     lines = [f"run {number}", f"status {end.status}", line_of_ids(end.ids), end.out + end.note]
     return (
-        lined([*lines, *(shown(place, data) for place, data in enumerate(keeper.slots))]),
+        join_lines([*lines, *(show_slot(place, data) for place, data in enumerate(keeper.slots))]),
         end.status,
     )
 
@@ -122,7 +123,7 @@ def run_surely(folder: pathlib.Path, zero: str, one: str, file: str, *words: str
     )
     in_pieces = IN_PIECES.get(words[0])
     end = in_pieces(words, text, 0, ROOM) if in_pieces else audit(words, text, keeper, ROOM)
-    return lined([f"status {end.status}", line_of_ids(end.ids), end.note])
+    return join_lines([f"status {end.status}", line_of_ids(end.ids), end.note])
 
 
 def main(folder: str) -> None:

@@ -38,7 +38,7 @@ def is_question(words: typing.Sequence[str]) -> bool:
     return list(words) in (["--help"], ["--version"])
 
 
-def modeled(file: str) -> list[Case]:
+def read_modeled(file: str) -> list[Case]:
     """Returns the lines of a file of cases that a plain program can answer."""
     lines = lines_of(CASES / "data" / file)
     if file not in WORDS_BEFORE:
@@ -61,7 +61,7 @@ def stdout_parts() -> list[Case]:
     return parts_of((CASES / "stdout").read_text())
 
 
-def repeated(names: typing.Sequence[str]) -> list[str]:
+def find_repeated(names: typing.Sequence[str]) -> list[str]:
     """Returns the names that occur more than once."""
     return sorted({name for name in names if names.count(name) > 1})
 
@@ -109,9 +109,9 @@ def compare_with_model(
     text about the program.
     """
     end = run([sys.executable, "-m", f"tests.golden.{model}", CASES / "data"])
-    if not checks.ended(f"{model}/ends", end):
+    if not checks.has_status(f"{model}/ends", end):
         return
-    names = {line.name for file in files for line in modeled(file)}
+    names = {line.name for file in files for line in read_modeled(file)}
     names.difference_update(left_out)
     came = [part for part in stdout_parts() if part.name in names]
     compare(checks, model, came, parts_of(end.out))

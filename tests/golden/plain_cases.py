@@ -64,7 +64,7 @@ def is_great(words: Sequence[str]) -> bool:
     return setting is not None and setting.command == "make" and setting.size > 2
 
 
-def ended(words: Sequence[str], data: bytes, fails: int, room: int) -> End:
+def predict_end(words: Sequence[str], data: bytes, fails: int, room: int) -> End:
     """Returns the end of a call whose read with this number fails."""
     end = model.audit(words, graph_of(words, data), [None, None])
     if fails and end.status != 1 and words[0] != "make" and fails <= -(-len(data) // 100) + 1:
@@ -74,10 +74,10 @@ def ended(words: Sequence[str], data: bytes, fails: int, room: int) -> End:
     return End(end.status, end.out, end.note)
 
 
-def plain(folder: pathlib.Path, line: str) -> str:
+def answer_case(folder: pathlib.Path, line: str) -> str:
     """Returns the output of the rest of a line of `cases`."""
     fails, room, wanted, file, *words = line.split()
-    end = ended(words, (folder / file).read_bytes(), int(fails), int(room))
+    end = predict_end(words, (folder / file).read_bytes(), int(fails), int(room))
     setting = model.Setting(words) if int(wanted) else None
     begun = (
         f"waited, announced {setting.total}: {' '.join(map(str, range(setting.total)))}\n"
@@ -87,10 +87,10 @@ def plain(folder: pathlib.Path, line: str) -> str:
     return f"{line}\nstatus {end.status}\n{begun}{end.out}{end.note}"
 
 
-def checked(line: str) -> str:
+def answer_graph(line: str) -> str:
     """Returns the output of the rest of a line of `graphs`."""
     data = bytes.fromhex(line[4:]) if line.startswith("hex ") else line.encode()
-    end = ended(CHECK, data, 0, 1000)
+    end = predict_end(CHECK, data, 0, 1000)
     return f"{line}\nstatus {end.status}\n{end.out}{end.note}"
 
 
@@ -99,9 +99,9 @@ def main(folder: str) -> None:
     for name, line in lines_of(data / "cases"):
         words = line.split()[4:]
         if not is_great(words) and not is_question(words):
-            print(f"case {name}\n{plain(data, line)}", end="")
+            print(f"case {name}\n{answer_case(data, line)}", end="")
     for name, line in lines_of(data / "graphs"):
-        print(f"case {name}\n{checked(line)}", end="")
+        print(f"case {name}\n{answer_graph(line)}", end="")
 
 
 def arguments() -> argparse.Namespace:

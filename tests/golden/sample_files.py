@@ -17,10 +17,10 @@ CYCLE = "--pop pop --first a --second b --district d --slack 5000 --steps 8".spl
 GRID = "--pop TOTPOP --first DEM --second REP --district CD --slack 1000 --steps 100".split()
 
 
-def written(checks: Checks, python: str, module: str, path: pathlib.Path) -> None:
+def check_written(checks: Checks, python: str, module: str, path: pathlib.Path) -> None:
     """A file has to be what this module writes."""
     end = run([python, "-m", module])
-    checks.ended(f"{module.rpartition('.')[2]}_ends", end)
+    checks.has_status(f"{module.rpartition('.')[2]}_ends", end)
     checks.is_same_text(
         f"{module.rpartition('.')[2]}_writes_{path.name}", end.out, path.read_text()
     )
@@ -41,12 +41,12 @@ def main() -> int:
     auditor = parser.parse_args().auditor
     checks = Checks("sample_files")
     for name in ("grid", "rough"):
-        written(checks, sys.executable, f"tests.golden.write_{name}", DATA / f"{name}.json")
+        check_written(checks, sys.executable, f"tests.golden.write_{name}", DATA / f"{name}.json")
     pandas = python_with("pandas")
     if pandas:
-        written(checks, pandas, "tests.golden.write_plans", EXAMPLES / "plans.csv")
+        check_written(checks, pandas, "tests.golden.write_plans", EXAMPLES / "plans.csv")
     else:
-        checks.missing("write_plans", "pandas")
+        checks.count_missing("write_plans", "pandas")
     plans_of_table(checks, auditor)
     words = ["run", *CYCLE, "--ask", "gap:low,gap:high", "--key", KEY]
     end = run(

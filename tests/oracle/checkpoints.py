@@ -29,7 +29,7 @@ from tests.differential.compare_walks import (
     Outcome,
     Trajectories,
     draws,
-    limits_splits,
+    has_split_limits,
     origin_of,
     outcomes,
 )
@@ -162,7 +162,7 @@ def digest(job: Job, setting: Setting) -> bytes:
     """Returns the SHA-256 of all that the outcomes depend on."""
     edges = sorted(tuple(sorted(edge)) for edge in job.graph.edges)
     has_rules = job.max_cut < NO_LIMIT or job.regions or job.group
-    version = 3 if job.group or limits_splits(job) else 2 if has_rules else 1
+    version = 3 if job.group or has_split_limits(job) else 2 if has_rules else 1
     parts = [
         f"district-job {version}".encode(),
         struct.pack(">3I", job.units, len(edges), job.districts),
@@ -180,7 +180,7 @@ def digest(job: Job, setting: Setting) -> bytes:
     parts += [struct.pack(">I", job.max_cut)] if has_rules else []
     parts += [struct.pack(f">{1 + job.units}I", job.max_split, *job.regions)] if job.regions else []
     parts += (
-        [struct.pack(">2I", job.max_splits, job.max_split_regions)] if limits_splits(job) else []
+        [struct.pack(">2I", job.max_splits, job.max_split_regions)] if has_split_limits(job) else []
     )
     parts += [struct.pack(">I", job.group_districts)] if job.group else []
     parts += [struct.pack(">2Q", *unit) for unit in zip(*job.group)]
@@ -191,7 +191,7 @@ def record(number: int, moved: int, values: Sequence[int]) -> bytes:
     return struct.pack(">IQ4q", number, moved, *values, *[0] * (4 - len(values)))
 
 
-def sealed(front: bytes) -> bytes:
+def seal(front: bytes) -> bytes:
     return front + hashlib.sha256(front).digest()
 
 
@@ -202,7 +202,7 @@ def checkpoint(job_digest: bytes, generation: int, found: Mapping[int, Outcome])
     head = (
         b"DISTCKPT" + struct.pack(">I", 2) + job_digest + struct.pack(">2I", generation, len(found))
     )
-    return sealed(
+    return seal(
         head
         + b"".join(
             record(number, *found[number][:2]) + struct.pack(">9I", *found[number][2])
@@ -216,7 +216,7 @@ def old_checkpoint(job_digest: bytes, generation: int, found: Mapping[int, Outco
     head = (
         b"DISTCKPT" + struct.pack(">I", 1) + job_digest + struct.pack(">2I", generation, len(found))
     )
-    return sealed(head + b"".join(record(number, *found[number][:2]) for number in sorted(found)))
+    return seal(head + b"".join(record(number, *found[number][:2]) for number in sorted(found)))
 
 
 def records(data: bytes) -> list[tuple[int, ...]] | None:
@@ -258,7 +258,7 @@ def fault(data: bytes) -> str | None:
         "bad order": found is not None and any(
             one[0] >= other[0] for one, other in zip(found, found[1:])
         ),
-        "bad digest": sealed(data[:-32]) != data,
+        "bad digest": seal(data[:-32]) != data,
     }
     return next((name for name, applies in faults.items() if applies), None)
 

@@ -249,7 +249,7 @@ class Setting:
             value[name] = words[at + 1]
         return value
 
-    def of(self, name: str) -> int:
+    def get(self, name: str) -> int:
         return int(number(self.value[name]) or 0)
 
     def is_good(self, name: str) -> bool:
@@ -259,7 +259,7 @@ class Setting:
         if name not in RANGES:
             return self.is_good_text(name, text)
         low, high = RANGES[name]
-        return number(text) is not None and low <= self.of(name) <= high and self.fits_others(name)
+        return number(text) is not None and low <= self.get(name) <= high and self.fits_others(name)
 
     def is_good_text(self, name: str, text: str) -> bool:
         """Returns whether the value of a name without a range is good."""
@@ -273,7 +273,7 @@ class Setting:
                 return False
             return is_known and len(asks) <= 4 and len(set(asks)) == len(asks)
         if name == "--serial" and text == "yes":
-            plans = self.of("--steps") + 1
+            plans = self.get("--steps") + 1
             return plans & plans - 1 == 0
         if name in ("--resume", "--shift", "--serial", "--source"):
             return text in ("yes", "no")
@@ -281,26 +281,26 @@ class Setting:
             first, last = ids_of(text)
             if first is None or last is None:
                 return False
-            return bool(first <= last < self.of("--walks") + self.of("--ends"))
+            return bool(first <= last < self.get("--walks") + self.get("--ends"))
         return name != "--district" or self.command != "plans" or "\n" not in text
 
     def fits_others(self, name: str) -> bool:
         """Returns whether a number within its range is good beside the other values."""
-        total = self.of("--walks") + self.of("--ends")
+        total = self.get("--walks") + self.get("--ends")
         if name == "--ends":
             return 1 <= total <= 100000
         if name == "--budget":
-            return self.value["--save"] != "0" or total <= self.of("--budget")
-        if name == "--stop" and self.of("--stop"):
-            saves = self.of("--save") != 0 or self.value["--resume"] == "yes"
-            return self.of("--ends") >= 1 and not saves
+            return self.value["--save"] != "0" or total <= self.get("--budget")
+        if name == "--stop" and self.get("--stop"):
+            saves = self.get("--save") != 0 or self.value["--resume"] == "yes"
+            return self.get("--ends") >= 1 and not saves
         if name == "--parts":
-            return self.of("--parts") == 1 or self.of("--save") >= 1
-        return name != "--part" or self.of("--part") < self.of("--parts")
+            return self.get("--parts") == 1 or self.get("--save") >= 1
+        return name != "--part" or self.get("--part") < self.get("--parts")
 
     def numbers(self) -> None:
         value = self.value
-        self.slack, self.max_cut = self.of("--slack"), self.of("--max-cut")
+        self.slack, self.max_cut = self.get("--slack"), self.get("--max-cut")
         self.columns = (
             tuple(value[name] for name in BASE)
             if self.command != "make"
@@ -311,11 +311,11 @@ class Setting:
             (value["--group"], value["--group-of"] or self.columns[0]) if value["--group"] else ()
         )
         self.max_split, self.max_splits, self.max_split_regions, self.group_districts = (
-            self.of(name)
+            self.get(name)
             for name in ("--max-split", "--max-splits", "--max-split-regions", "--group-districts")
         )
-        self.group_share, self.freeze = self.of("--group-share"), value["--freeze"]
-        self.length, self.max_length = value["--length"], self.of("--max-length")
+        self.group_share, self.freeze = self.get("--group-share"), value["--freeze"]
+        self.length, self.max_length = value["--length"], self.get("--max-length")
         self.asks: list[Ask] = []
         if self.command == "check":
             self.total, self.save, self.stop, self.resume, self.shift, self.serial = (
@@ -324,18 +324,18 @@ class Setting:
             return
         self.key = bytes.fromhex(value["--key"])
         self.walks, self.steps, self.ends, self.hub_steps = (
-            self.of(name) for name in ("--walks", "--steps", "--ends", "--hub-steps")
+            self.get(name) for name in ("--walks", "--steps", "--ends", "--hub-steps")
         )
         self.total = self.walks + self.ends
         self.asks = [ALL_ASKS[ask] for ask in value["--ask"].split(",")]
         self.budget, self.save, self.workers, self.stop = (
-            self.of(name) for name in ("--budget", "--save", "--workers", "--stop")
+            self.get(name) for name in ("--budget", "--save", "--workers", "--stop")
         )
-        self.parts, self.part = self.of("--parts"), self.of("--part")
+        self.parts, self.part = self.get("--parts"), self.get("--part")
         self.resume, self.shift, self.serial = (
             value[name] == "yes" for name in ("--resume", "--shift", "--serial")
         )
-        self.size = self.of("--size") if self.command == "make" else 0
+        self.size = self.get("--size") if self.command == "make" else 0
 
 
 # ---- the graph
@@ -345,7 +345,7 @@ class NotJson(Exception):
     pass
 
 
-def whole(text: str) -> int | float:
+def parse_whole(text: str) -> int | float:
     """Returns a whole number of 64 bits, or a float, as serde_json keeps it."""
     if len(text) < 25 and text != "-0":
         value = int(text)
@@ -382,11 +382,12 @@ def has_lone_surrogate(data: bytes) -> bool:
     return any(re.search("[\ud800-\udfff]", json.loads(text)) for text in STRING.findall(data))
 
 
-def parsed(data: bytes) -> object:
+def parse(data: bytes) -> object:
     """Returns the value of a JSON text, or raises NotJson."""
     try:
         value: object = json.loads(
-            data.decode("utf-8"), parse_int=whole, parse_float=fraction, parse_constant=no_constant
+            data.decode("utf-8"), parse_int=parse_whole, parse_float=fraction,
+            parse_constant=no_constant,
         )
     except (ValueError, RecursionError) as error:
         raise NotJson from error
@@ -547,7 +548,7 @@ def columns_of(
     return [[row[place] for row in rows] for place in range(len(names))], labels, frozen
 
 
-def numbered(labels: Sequence[Label]) -> tuple[int, list[int]]:
+def number_labels(labels: Sequence[Label]) -> tuple[int, list[int]]:
     """Returns the number of labels, and each one's place among them in rising order, numbers before
     texts.
     """
@@ -566,19 +567,19 @@ def regions_of(nodes: Sequence[Entry], column: str) -> list[int]:
     for at, node in enumerate(nodes):
         if not is_id(node[column]):
             refuse(f"node {at} has no usable label in column {column}")
-    count, regions = numbered([node[column] for node in nodes])
+    count, regions = number_labels([node[column] for node in nodes])
     if count > MOST_REGIONS:
         refuse(f"{count} regions, more than 5000")
     return regions
 
 
-def reading(data: bytes, setting: Setting) -> Graph:
+def read_graph(data: bytes, setting: Setting) -> Graph:
     """Returns the parts of a graph that words ask for, or refuses it."""
     freeze = [setting.freeze] if setting.freeze else []
     if len(data) > MOST_INPUT:
         refuse(f"more than {MOST_INPUT} bytes")
     try:
-        root = parsed(data)
+        root = parse(data)
     except NotJson:
         refuse("not JSON")
     values, rows = shape(root)
@@ -589,7 +590,7 @@ def reading(data: bytes, setting: Setting) -> Graph:
     (people, first, second, *both), labels, frozen = columns_of(
         nodes, setting.columns, setting.group, freeze
     )
-    districts, plan = numbered(labels)
+    districts, plan = number_labels(labels)
     if not 2 <= districts <= 200:
         refuse(f"{districts} districts, not 2 to 200")
     lengths = lengths_of(places, adjacency, edges, setting.length)
@@ -641,7 +642,7 @@ def plans_of(data: bytes, ids: Sequence[bytes]) -> list[TablePlan]:
             refuse_table(f"unit {unit} is missing")
     made = []
     for plan, name in enumerate(names):
-        districts, start = numbered([rows[one][plan + 1] for one in ids])
+        districts, start = number_labels([rows[one][plan + 1] for one in ids])
         if not 2 <= districts <= 200:
             refuse_table(f"plan {plan} has {districts} districts, not 2 to 200")
         made.append(TablePlan(name.decode("ascii"), districts, start))
@@ -753,7 +754,7 @@ class Job:
                 )
         for district in range(self.districts):
             members = {u for u, d in enumerate(self.plan) if d == district}
-            lost = members - self.reached(members)
+            lost = members - self.find_reached(members)
             if lost:
                 raise Refused(
                     2,
@@ -824,7 +825,7 @@ class Job:
             sums[district] += amount
         return sums
 
-    def reached(self, members: set[int]) -> set[int]:
+    def find_reached(self, members: set[int]) -> set[int]:
         """Returns the members to which paths within them lead from the least one."""
         found, todo = {min(members)}, [min(members)]
         while todo:
@@ -870,7 +871,7 @@ class Job:
             for part, all_of_it in zip(members, whole)
         )
 
-    def meets_rules(self, plan: Plan) -> bool:
+    def is_within_rules(self, plan: Plan) -> bool:
         setting = self.setting
         return (
             self.cut(plan) <= setting.max_cut
@@ -891,9 +892,9 @@ class Job:
             return False
         for district in range(self.districts):
             members = {u for u, d in enumerate(plan) if d == district}
-            if not members or self.reached(members) != members:
+            if not members or self.find_reached(members) != members:
                 return False
-        return self.meets_rules(plan)
+        return self.is_within_rules(plan)
 
     def walk(self, plan: Plan, stream: int, steps: int) -> tuple[list[Plan], int]:
         """Returns the plans visited, and the moves."""
@@ -933,7 +934,7 @@ class Job:
             "gap": 2 * (sum(self.first) + sum(self.second)),
         }[score]
 
-    def limits_splits(self) -> bool:
+    def has_split_limits(self) -> bool:
         """Returns whether there are regions whose splits, or whose split ones, are limited."""
         return bool(self.regions) and (
             self.setting.max_splits < MOST_SPLITS or self.setting.max_split_regions < MOST_REGIONS
@@ -941,7 +942,7 @@ class Job:
 
     def digest(self) -> bytes:
         setting = self.setting
-        further = self.limits_splits() or self.group
+        further = self.has_split_limits() or self.group
         limited = setting.max_cut < MOST_CUT or self.regions or self.group or self.frozen
         has_share = self.group and setting.group_share != 5000
         version = 4 if has_share or self.frozen else 3 if further else 2 if limited else 1
@@ -971,7 +972,7 @@ class Job:
         )
         parts += (
             [struct.pack(">2I", setting.max_splits, setting.max_split_regions)]
-            if self.limits_splits()
+            if self.has_split_limits()
             else []
         )
         parts += [struct.pack(">I", setting.group_districts)] if self.group else []
@@ -1034,7 +1035,7 @@ def outcomes(job: Job, key: typing.Hashable) -> list[Outcome]:
     return found
 
 
-def asked(job: Job, key: typing.Hashable) -> list[Outcome]:
+def select_outcomes(job: Job, key: typing.Hashable) -> list[Outcome]:
     """Returns the outcomes, with histograms only where the job asks for them."""
     return [
         Outcome(moved, values, bins if job.setting.shift else NO_BINS)
@@ -1096,7 +1097,7 @@ def head(job: Job) -> list[str]:
     )
     lines += (
         [f"max-splits {setting.max_splits} max-split-regions {setting.max_split_regions}"]
-        if job.limits_splits()
+        if job.has_split_limits()
         else []
     )
     lines += (
@@ -1113,7 +1114,7 @@ def head(job: Job) -> list[str]:
     )
 
 
-def quoted(text: str) -> str:
+def quote(text: str) -> str:
     """Returns a text as JSON writes it, with the shortest escapes, and only where JSON wants one.
     """
     return json.dumps(text, ensure_ascii=False)
@@ -1124,13 +1125,13 @@ def origin_lines(job: Job) -> list[str]:
     if job.origin is None:
         return []
     setting = job.setting
-    words = ["columns", *(quoted(column) for column in setting.columns)]
-    words += ["region", quoted(setting.region)] if setting.region else []
+    words = ["columns", *(quote(column) for column in setting.columns)]
+    words += ["region", quote(setting.region)] if setting.region else []
     words += (
-        ["group", quoted(setting.group[0]), "of", quoted(setting.group[1])] if setting.group else []
+        ["group", quote(setting.group[0]), "of", quote(setting.group[1])] if setting.group else []
     )
-    words += ["freeze", quoted(setting.freeze)] if setting.freeze else []
-    words += ["length", quoted(setting.length)] if setting.length else []
+    words += ["freeze", quote(setting.freeze)] if setting.freeze else []
+    words += ["length", quote(setting.length)] if setting.length else []
     return [f"source sha256 {job.origin.sha256.hex()} bytes {job.origin.length}", " ".join(words)]
 
 
@@ -1199,7 +1200,7 @@ def report(job: Job, found: Sequence[Outcome]) -> str:
 # ---- checkpoints
 
 
-def sealed(front: bytes) -> bytes:
+def seal(front: bytes) -> bytes:
     return front + hashlib.sha256(front).digest()
 
 
@@ -1213,7 +1214,7 @@ def checkpoint(
     for one, (moved, values, bins) in sorted(found.items()):
         records.append(struct.pack(">IQ4q", one, moved, *values, *[0] * (4 - len(values))))
         records += [struct.pack(">9I", *bins)] if version == 2 else []
-    return sealed(
+    return seal(
         b"DISTCKPT"
         + struct.pack(">I", version)
         + digest
@@ -1233,7 +1234,7 @@ class Slot:
     records: Sequence[Record] = ()
 
 
-def decoded(data: bytes | None) -> Slot:
+def decode(data: bytes | None) -> Slot:
     """Returns a slot as it is, whatever the job."""
     fault = size_fault(data)
     if data is None or fault:
@@ -1248,7 +1249,7 @@ def decoded(data: bytes | None) -> Slot:
     ]
     if any(one[0] >= other[0] for one, other in zip(records, records[1:])):
         return Slot("bad order")
-    if sealed(data[:-32]) != data:
+    if seal(data[:-32]) != data:
         return Slot("bad digest")
     return Slot(None, data[12:44], generation, records)
 
@@ -1287,8 +1288,8 @@ def fits(setting: Setting, one: Record) -> bool:
     )
 
 
-def looked(setting: Setting, digest: bytes, data: bytes | None) -> Slot:
-    slot = decoded(data)
+def check_slot(setting: Setting, digest: bytes, data: bytes | None) -> Slot:
+    slot = decode(data)
     if (
         slot.fault is None
         and slot.job == digest
@@ -1379,12 +1380,12 @@ def trace_text(job: Job, first: int, last: int, thin: int) -> str:
     return "\n".join([*lines, "end", ""])
 
 
-def asked_trace(job: Job) -> str:
+def ask_trace(job: Job) -> str:
     """Returns the trace of the trajectories that the words ask for, by good words."""
     first, last = ids_of(job.setting.value["--ids"])
     if first is None or last is None:
         raise ValueError("the range of ids is no range")
-    return trace_text(job, first, last, job.setting.of("--thin"))
+    return trace_text(job, first, last, job.setting.get("--thin"))
 
 
 # ---- the whole call
@@ -1393,12 +1394,12 @@ def asked_trace(job: Job) -> str:
 def run(job: Job, slots: Slots) -> End:
     setting, digest = job.setting, job.digest()
     uses_slots = setting.save or setting.resume
-    seen = [looked(setting, digest, data) for data in slots] if uses_slots else []
+    seen = [check_slot(setting, digest, data) for data in slots] if uses_slots else []
     found = initial_outcomes(seen, digest, setting) if setting.resume else {}
     todo = [one for one in range(setting.part, setting.total, setting.parts) if one not in found][
         : setting.budget
     ]
-    every = asked(job, digest) if todo else []
+    every = select_outcomes(job, digest) if todo else []
     after, counts, slot, generation = list(slots), [], 0, 0
     if setting.save:
         at = newest(seen)
@@ -1423,7 +1424,7 @@ def origin_of(setting: Setting, data: bytes) -> Origin | None:
 
 
 def job_of(setting: Setting, graph: bytes) -> Job:
-    return Job(setting, reading(graph, setting), origin_of(setting, graph))
+    return Job(setting, read_graph(graph, setting), origin_of(setting, graph))
 
 
 def jobs_of(setting: Setting, data: bytes) -> list[tuple[str, Job]]:
@@ -1433,8 +1434,8 @@ def jobs_of(setting: Setting, data: bytes) -> list[tuple[str, Job]]:
     graph, _, table = data.partition(b"\n")
     if len(data) > MOST_INPUT:
         refuse(f"more than {MOST_INPUT} bytes")
-    read, origin = reading(graph, setting), origin_of(setting, data)
-    nodes = entries_of(shape(parsed(graph))[0], "node")
+    read, origin = read_graph(graph, setting), origin_of(setting, data)
+    nodes = entries_of(shape(parse(graph))[0], "node")
     plans = plans_of(table, [str(node["id"]).encode("utf-8") for node in nodes])
     jobs = [(setting.columns[3], Job(setting, read, origin))]
     for name, districts, plan in plans:
@@ -1454,7 +1455,7 @@ def audit(words: Sequence[str], graph: bytes, slots: Slots) -> End:
             return End(
                 0,
                 "".join(
-                    f"plan {name}\n{report(job, asked(job, job.digest()))}"
+                    f"plan {name}\n{report(job, select_outcomes(job, job.digest()))}"
                     for name, job in jobs_of(setting, graph)
                 ),
                 "",
@@ -1464,7 +1465,7 @@ def audit(words: Sequence[str], graph: bytes, slots: Slots) -> End:
         if setting.command == "check":
             return End(0, check_text(job), "", list(slots))
         if setting.command == "trace":
-            return End(0, asked_trace(job), "", list(slots))
+            return End(0, ask_trace(job), "", list(slots))
         return run(job, slots)
     except Refused as refusal:
         return End(refusal.status, "", refusal.note + "\n", list(slots))

@@ -33,15 +33,15 @@ from tests.system.folder_room import (
     WITH_LOOK,
     WITH_RUN,
     Room,
-    as_nobody_can_write,
+    forbid_writes,
     case,
-    damaged,
+    make_damaged,
     folder_of,
     run_cases,
-    saved,
-    some,
-    traced,
-    with_value,
+    make_slot,
+    pick,
+    traced_case,
+    replace_value,
 )
 
 
@@ -51,8 +51,8 @@ from tests.system.folder_room import (
 @case
 def slots_of_another_folder(room: Room) -> None:
     """The folder in the words is looked at, not the working folder."""
-    here = folder_of(some(range(2)))
-    other = Folder((saved(some(range(5))), saved(some(range(7)), 1)))
+    here = folder_of(pick(range(2)))
+    other = Folder((make_slot(pick(range(5))), make_slot(pick(range(7)), 1)))
     room.slots(["../p"], {".": here, "../p": other})
     room.slots(["../p", *RUN], {".": here, "../p": other})
     room.slots([str(room.here), *RUN], {".": here, str(room.here): here})
@@ -65,7 +65,7 @@ def slots_of_another_folder(room: Room) -> None:
 def slots_of_no_folder(room: Room) -> None:
     """In a folder that does not exist both slots are absent."""
     room.slots(
-        ["../nowhere", *RUN], {".": folder_of(some(range(2)))},
+        ["../nowhere", *RUN], {".": folder_of(pick(range(2)))},
         said="slot 0: absent\nslot 1: absent\nnewest: none\ndone: 0 of 12\n",
     )
 
@@ -75,7 +75,7 @@ def slots_of_a_file(room: Room) -> None:
     """A file in place of a folder is a failed load, not two absent slots."""
     for words in WITH_RUN:
         place = room.tools["audit_slots"]
-        end = room.ended([place, "../audit_slots", *words], {".": Folder()})
+        end = room.find_end([place, "../audit_slots", *words], {".": Folder()})
         room.compare(
             "a file in place of a folder", end, model.End(6, "", LOAD_FAULT, [None, None]),
             {".": Folder()},
@@ -85,7 +85,7 @@ def slots_of_a_file(room: Room) -> None:
 @case
 def slots_unreadable_is_not_absent(room: Room) -> None:
     """A slot that cannot be read is a failed load, whichever it is and whatever the other holds."""
-    good = saved(some(range(4)))
+    good = make_slot(pick(range(4)))
     for kind in KINDS:
         for at in (0, 1):
             for other in (None, good):
@@ -101,11 +101,12 @@ def slots_refuses_words_before_it_reads(room: Room) -> None:
     bad = Folder(unreadable=(0, 1))
     for name, value in (("--walks", "012"), ("--ask", "gap"), ("--key", "0")):
         room.slots(
-            ["../p", *with_value(name, value)], {"../p": bad}, said=f"words: bad value for {name}\n"
+            ["../p", *replace_value(name, value)], {"../p": bad},
+            said=f"words: bad value for {name}\n",
         )
     room.slots(["../p", "nothing"], {"../p": bad}, said="words: unknown command nothing\n")
     room.slots(["../p", *RUN], {"../p": bad}, graph=b"{", said="graph: not JSON\n")
-    room.slots(["../p", *with_value("--slack", "0")], {"../p": bad}, graph=CYCLE)
+    room.slots(["../p", *replace_value("--slack", "0")], {"../p": bad}, graph=CYCLE)
     room.slots(["../p", *RUN], {"../p": bad}, said=LOAD_FAULT)
 
 
@@ -123,24 +124,24 @@ def slots_refuses_commands_that_save_nothing(room: Room) -> None:
 @case
 def slots_each_fault_is_named(room: Room) -> None:
     """Each damaged slot by its fault, beside a good one and alone."""
-    good = saved(some(range(4)))
-    for data in damaged().values():
+    good = make_slot(pick(range(4)))
+    for data in make_damaged().values():
         for slots in ((data, good), (good, data), (data, None), (None, data), (data, data)):
             room.slots(RUN, {".": Folder(slots)})
-    room.slots(RUN, {".": Folder((saved(some(range(4)), 0, OTHER), None))})
-    room.slots(RUN, {".": Folder((saved(some(range(4))), saved(some(range(3)), 1, OTHER)))})
+    room.slots(RUN, {".": Folder((make_slot(pick(range(4)), 0, OTHER), None))})
+    room.slots(RUN, {".": Folder((make_slot(pick(range(4))), make_slot(pick(range(3)), 1, OTHER)))})
 
 
 @case
 def slots_of_a_locked_folder(room: Room) -> None:
     """It takes no lock: a run in the folder is not in the way."""
-    room.slots(["../p", *RUN], {"../p": folder_of(some(range(3)), is_locked=True)})
+    room.slots(["../p", *RUN], {"../p": folder_of(pick(range(3)), is_locked=True)})
 
 
 @case
 def slots_text_cannot_be_written(room: Room) -> None:
-    folders = {".": folder_of(some(range(2)))}
-    end = room.ended([room.tools["audit_slots"], *RUN], folders, out="/dev/full")
+    folders = {".": folder_of(pick(range(2)))}
+    end = room.find_end([room.tools["audit_slots"], *RUN], folders, out="/dev/full")
     room.compare(
         "audit_slots to a full device", end,
         model.End(5, "", "write fault\n", list(folders["."].slots)), folders,
@@ -156,14 +157,14 @@ def neither_slots_nor_gather(room: Room) -> None:
     said = model.End(1, "", "words: neither slots nor gather\n", [None, None])
     calls: list[list[str]] = [[], ["slot"], ["Gather"], LOOK, RUN, ["../p", "slots"]]
     for words in calls:
-        end = room.ended([room.folders_program, *words], {".": Folder()})
+        end = room.find_end([room.folders_program, *words], {".": Folder()})
         room.compare(f"audit_folders {' '.join(words)}", end, said, {".": Folder()})
 
 
 @case
 def gather_asks_for_a_folder(room: Room) -> None:
     """No folder is refused before the words of the run; with `--look yes` none is needed."""
-    own = {".": folder_of(some(range(3)))}
+    own = {".": folder_of(pick(range(3)))}
     calls: list[list[str]] = [
         RUN, ["--look", "no", *RUN], ["run", "--nothing"], ["check"], [], ["--look", "no"],
     ]
@@ -193,7 +194,7 @@ def gather_refuses_words_before_it_reads(room: Room) -> None:
     for look in WITH_LOOK:
         for name, value in (("--walks", "012"), ("--ask", "gap"), ("--key", "0")):
             room.gather(
-                [*look, "../p", *with_value(name, value)], folders,
+                [*look, "../p", *replace_value(name, value)], folders,
                 said=f"words: bad value for {name}\n",
             )
         room.gather([*look, "../p", *RUN], folders, graph=b"{", said="graph: not JSON\n")
@@ -214,12 +215,12 @@ def gather_refuses_commands_that_save_nothing(room: Room) -> None:
 @case
 def gather_of_a_file(room: Room) -> None:
     """A file in place of a folder is a slot that cannot be read; others are still looked at."""
-    folders = {".": Folder(), "../p": folder_of(some(range(2)))}
+    folders = {".": Folder(), "../p": folder_of(pick(range(2)))}
     tool = room.tools["audit_gather"]
-    end = room.ended([tool, "../audit_slots", "../p", *RUN], folders)
+    end = room.find_end([tool, "../audit_slots", "../p", *RUN], folders)
     said = "gather: folder ../audit_slots: a slot cannot be read\n"
     room.compare("a file in place of a folder", end, model.End(10, "", said, [None, None]), folders)
-    end = room.ended([tool, *LOOK, "../audit_slots", "../p", *RUN], folders)
+    end = room.find_end([tool, *LOOK, "../audit_slots", "../p", *RUN], folders)
     said = (
         "working folder: no checkpoint\nfolder ../audit_slots: a slot cannot be read\n"
         "folder ../p: 2 outcomes, 2 new\ndone: 2 of 12\n"
@@ -235,13 +236,13 @@ def gather_of_a_file(room: Room) -> None:
 @case
 def gather_unreadable_is_not_absent(room: Room) -> None:
     """A slot that cannot be read is reported as unreadable, and never as no checkpoint."""
-    good = saved(some(range(4)))
+    good = make_slot(pick(range(4)))
     said = "gather: folder ../p: a slot cannot be read\n"
     for kind in KINDS:
         for at in (0, 1):
             for other in (None, good):
                 folder = Folder((None, other) if at == 0 else (other, None), unreadable=(at,))
-                folders = {"../p": folder, "../q": folder_of(some(range(2)))}
+                folders = {"../p": folder, "../q": folder_of(pick(range(2)))}
                 room.gather(["../q", "../p", *RUN], folders, kind=kind, said=said)
                 room.gather([*LOOK, "../p", "../q", *RUN], folders, kind=kind)
                 own = {".": folder, "../q": folders["../q"]}
@@ -252,16 +253,16 @@ def gather_unreadable_is_not_absent(room: Room) -> None:
 @case
 def gather_one_slot_is_damaged(room: Room) -> None:
     """It is said where the other slot is there and is no checkpoint that can be taken."""
-    good = saved(some(range(4)))
-    for data in damaged().values():
+    good = make_slot(pick(range(4)))
+    for data in make_damaged().values():
         for slots in ((data, good), (good, data)):
-            folders = {"../p": Folder(slots), "../q": folder_of(some(range(6)))}
+            folders = {"../p": Folder(slots), "../q": folder_of(pick(range(6)))}
             for words in (["../p", "../q", *RUN], [*LOOK, "../p", *RUN]):
                 room.gather(words, folders)
             room.gather(["../q", *RUN], {".": Folder(slots), "../q": folders["../q"]})
     room.gather(
         ["../p", *RUN],
-        {"../p": Folder((damaged()["bad digest"], good))},
+        {"../p": Folder((make_damaged()["bad digest"], good))},
         said=(
             "working folder: no checkpoint\n"
             "folder ../p: 4 outcomes, 4 new, one slot is damaged\ndone: 4 of 12\n"
@@ -272,15 +273,15 @@ def gather_one_slot_is_damaged(room: Room) -> None:
 @case
 def gather_an_older_slot_is_not_damaged(room: Room) -> None:
     """Nothing is said of an absent slot, an older checkpoint, or an older one of another job."""
-    newest = saved(some(range(4)), 1)
-    for older in (None, saved(some(range(2))), saved(some(range(2)), 0, OTHER)):
+    newest = make_slot(pick(range(4)), 1)
+    for older in (None, make_slot(pick(range(2))), make_slot(pick(range(2)), 0, OTHER)):
         room.gather(
             ["../p", *RUN],
             {"../p": Folder((older, newest))},
             said="working folder: no checkpoint\nfolder ../p: 4 outcomes, 4 new\ndone: 4 of 12\n",
         )
     room.gather(
-        ["../p", *RUN], {"../p": Folder((newest, saved(some(range(2)), 2, OTHER)))},
+        ["../p", *RUN], {"../p": Folder((newest, make_slot(pick(range(2)), 2, OTHER)))},
         said="gather: folder ../p: another job's checkpoint\n",
     )
 
@@ -288,16 +289,16 @@ def gather_an_older_slot_is_not_damaged(room: Room) -> None:
 @case
 def gather_each_reason_in_turn(room: Room) -> None:
     """Each folder that cannot be gathered has a line of its own, in the order of the words."""
-    bad = damaged()["bad digest"]
+    bad = make_damaged()["bad digest"]
     folders = {
-        ".": Folder((saved(some(range(2)), 0, OTHER), None)),
-        "../p": folder_of(some(range(3))),
+        ".": Folder((make_slot(pick(range(2)), 0, OTHER), None)),
+        "../p": folder_of(pick(range(3))),
         "../empty": Folder(),
-        "../other": Folder((saved(some(range(2)), 0, OTHER), None)),
+        "../other": Folder((make_slot(pick(range(2)), 0, OTHER), None)),
         "../bad": Folder((bad, bad)),
-        "../locked": folder_of(some(range(3)), is_locked=True),
-        "../unread": Folder((None, saved(some(range(3)))), unreadable=(0,)),
-        "../differs": folder_of(some(range(3), 1)),
+        "../locked": folder_of(pick(range(3)), is_locked=True),
+        "../unread": Folder((None, make_slot(pick(range(3)))), unreadable=(0,)),
+        "../differs": folder_of(pick(range(3), 1)),
     }
     names = [name for name in folders if name != "."]
     room.gather(
@@ -321,8 +322,8 @@ def gather_each_reason_in_turn(room: Room) -> None:
 @case
 def gather_three_folders_differ_at_different_ids(room: Room) -> None:
     """The least id of which the folder differs, and the first folder that differs at that id."""
-    later, least = folder_of(some((5, 6))), folder_of(some((2, 3)))
-    folders = {"../p": later, "../q": least, "../r": folder_of(some((2, 5), 2, 5))}
+    later, least = folder_of(pick((5, 6))), folder_of(pick((2, 3)))
+    folders = {"../p": later, "../q": least, "../r": folder_of(pick((2, 5), 2, 5))}
     room.gather(
         ["../p", "../q", "../r", *RUN], folders, said="gather: outcome 2 differs in ../q and ../r\n"
     )
@@ -338,7 +339,7 @@ def gather_three_folders_differ_at_different_ids(room: Room) -> None:
 @case
 def gather_names_the_first_that_differs(room: Room) -> None:
     """Of those gathered before it, the working folder is the first."""
-    one, other = folder_of(some((0,))), folder_of(some((0,), 0))
+    one, other = folder_of(pick((0,))), folder_of(pick((0,), 0))
     room.gather(
         ["../p", "../q", *RUN], {".": one, "../p": other, "../q": one},
         said="gather: outcome 0 differs in . and ../p\n",
@@ -355,7 +356,7 @@ def gather_names_the_first_that_differs(room: Room) -> None:
             "gather: outcome 0 differs in ../p and ../r\n"
         ),
     )
-    plain, binned = some((0,)), some((0,), found=BINNED)
+    plain, binned = pick((0,)), pick((0,), found=BINNED)
     bins = list(binned[0].bins)
     at = next(place for place, count in enumerate(bins) if count)
     bins[at], bins[at - 1] = bins[at] - 1, bins[at - 1] + 1
@@ -370,7 +371,7 @@ def gather_names_the_first_that_differs(room: Room) -> None:
 @case
 def gather_does_not_read_a_locked_folder(room: Room) -> None:
     """A locked folder has no part in what is said of others."""
-    one, other = some((0,)), some((0,), 0)
+    one, other = pick((0,)), pick((0,), 0)
     locked = folder_of(one, is_locked=True)
     said = "gather: folder ../p: a run holds it\n"
     room.gather(
@@ -394,11 +395,11 @@ def gather_does_not_read_a_locked_folder(room: Room) -> None:
 @case
 def gather_the_working_folder_among_the_folders(room: Room) -> None:
     """It is read though this process holds its lock, by whatever name, and has nothing new."""
-    own = folder_of(some(range(3)))
+    own = folder_of(pick(range(3)))
     for name in (".", "../here", str(room.here), "./", "../p/../here"):
         room.gather(
             [name, "../p", *RUN],
-            {".": own, "../p": folder_of(some(range(2, 6))), name: own},
+            {".": own, "../p": folder_of(pick(range(2, 6))), name: own},
             said=(
                 "working folder: 3 outcomes\n"
                 f"folder {name}: 3 outcomes, 0 new\n"
@@ -414,22 +415,22 @@ def gather_the_working_folder_among_the_folders(room: Room) -> None:
 @case
 def gather_text_cannot_be_written(room: Room) -> None:
     """The save stands where only the text cannot be written."""
-    own, words = folder_of(some(range(3))), ["../p", *RUN]
-    folders = {".": own, "../p": folder_of(some(range(2, 6)))}
+    own, words = folder_of(pick(range(3))), ["../p", *RUN]
+    folders = {".": own, "../p": folder_of(pick(range(2, 6)))}
     wanted = folder_model.gather(words, CYCLE, folders)
     command = [room.tools["audit_gather"], *words]
-    end = room.ended(command, folders, out="/dev/full")
+    end = room.find_end(command, folders, out="/dev/full")
     room.compare(
         "audit_gather to a full device", end, model.End(5, "", "write fault\n", wanted.slots),
         folders,
     )
-    end = room.ended(["sh", "-c", 'exec "$@" >&-', "sh", *command], folders)
+    end = room.find_end(["sh", "-c", 'exec "$@" >&-', "sh", *command], folders)
     room.compare(
         "audit_gather to a closed output", end, model.End(5, "", "write fault\n", wanted.slots),
         folders,
     )
     look = [room.tools["audit_gather"], *LOOK, *words]
-    end = room.ended(look, folders, out="/dev/full")
+    end = room.find_end(look, folders, out="/dev/full")
     room.compare(
         "a look to a full device", end, model.End(5, "", "write fault\n", list(own.slots)), folders
     )
@@ -439,31 +440,31 @@ def gather_text_cannot_be_written(room: Room) -> None:
 def gather_save_fails(room: Room) -> None:
     """If the save fails, nothing is printed, and the newest slot of the working folder stays."""
     command = [room.tools["audit_gather"], "../p", *RUN]
-    newest = saved(some(range(3)), 1)
+    newest = make_slot(pick(range(3)), 1)
     cases: list[tuple[Folder, list[Optional[bytes]]]] = [
         (Folder(), [b"", None]), (Folder((None, newest)), [b"", newest]),
-        (Folder((saved(some(range(2))), newest)), [b"", newest]),
+        (Folder((make_slot(pick(range(2))), newest)), [b"", newest]),
     ]
     for own, after in cases:
-        folders = {".": own, "../p": folder_of(some(range(2, 6)))}
-        end = room.ended(command, folders, prepared=as_nobody_can_write)
+        folders = {".": own, "../p": folder_of(pick(range(2, 6)))}
+        end = room.find_end(command, folders, prepared=forbid_writes)
         room.compare("a save that has no room", end, model.End(9, "", SAVE_FAULT, after), folders)
 
 
 @case
 def gather_saves_where_the_next_is_due(room: Room) -> None:
     """In the slot that is not the newest, with the next generation."""
-    other = folder_of(some(range(2, 6)))
+    other = folder_of(pick(range(2, 6)))
     for generation in (0, 1, 2):
-        last, next_one = saved(some(range(3)), generation), (generation + 1) % 3
+        last, next_one = make_slot(pick(range(3)), generation), (generation + 1) % 3
         for slots in (
-            (last, None), (None, last), (last, saved(some(range(4)), next_one)),
-            (saved(some(range(4)), next_one), last),
+            (last, None), (None, last), (last, make_slot(pick(range(4)), next_one)),
+            (make_slot(pick(range(4)), next_one), last),
         ):
             room.gather(["../p", *RUN], {".": Folder(slots), "../p": other})
     room.gather(
         ["../p", "../q", *RUN],
-        {"../p": folder_of(some((0, 1), found=BINNED)), "../q": folder_of(some((1, 2)))},
+        {"../p": folder_of(pick((0, 1), found=BINNED)), "../q": folder_of(pick((1, 2)))},
     )
 
 
@@ -493,18 +494,18 @@ def unlocked_reads(trace: str) -> list[str]:
     return plain
 
 
-@traced
+@traced_case
 def gather_reads_each_slot_under_the_lock(room: Room) -> None:
     """Both slots of each folder are opened while it is locked; a look takes no lock."""
     folders = {
-        ".": Folder((saved(some(range(2))), saved(some(range(3)), 1))),
-        "../p": Folder((saved(some(range(4))), saved(some(range(5)), 1))),
-        "../q": Folder((saved(some(range(4, 8))), saved(some(range(4, 9)), 1))),
+        ".": Folder((make_slot(pick(range(2))), make_slot(pick(range(3)), 1))),
+        "../p": Folder((make_slot(pick(range(4))), make_slot(pick(range(5)), 1))),
+        "../q": Folder((make_slot(pick(range(4, 8))), make_slot(pick(range(4, 9)), 1))),
     }
     trace = room.top / "trace"
     before = ["strace", "-f", "-qq", "-o", str(trace), "-e", "trace=openat,flock,close"]
     for words, opened in ((["../p", "../q", *RUN], 6), ([*LOOK, "../p", *RUN], 4)):
-        end = room.ended([*before, room.tools["audit_gather"], *words], folders)
+        end = room.find_end([*before, room.tools["audit_gather"], *words], folders)
         room.expect(f"the status of {' '.join(words)}", end.status, 0)
         calls = trace.read_text()
         count = len(

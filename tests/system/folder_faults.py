@@ -26,22 +26,22 @@ from tests.system.folder_room import (
     RUN,
     SAVE_FAULT,
     Room,
-    named,
+    name_call,
     run_cases,
-    saved,
+    make_slot,
     folder_of,
-    some,
-    traced,
+    pick,
+    traced_case,
 )
 
 
 ERRORS = ("EACCES", "EIO", "EMFILE", "ELOOP", "ENOTDIR")
 # A gathering: the working folder and the two others have two slots each, and slot 1 is the newest.
-OWN = Folder((saved(some(range(2))), saved(some(range(3)), 1)))
+OWN = Folder((make_slot(pick(range(2))), make_slot(pick(range(3)), 1)))
 FOLDERS = {
     ".": OWN,
-    "../p": Folder((saved(some(range(4))), saved(some(range(5)), 1))),
-    "../q": Folder((saved(some(range(4, 7))), saved(some(range(4, 9)), 1))),
+    "../p": Folder((make_slot(pick(range(4))), make_slot(pick(range(5)), 1))),
+    "../q": Folder((make_slot(pick(range(4, 7))), make_slot(pick(range(4, 9)), 1))),
 }
 GATHER = ["../p", "../q", *RUN]
 DONE = folder_model.gather(GATHER, CYCLE, FOLDERS)
@@ -49,12 +49,12 @@ UNTOUCHED = list(OWN.slots)
 Slots = Sequence[Optional[bytes]]
 
 
-def refused(status: int, note: str, slots: Slots = UNTOUCHED) -> model.End:
+def refuse(status: int, note: str, slots: Slots = UNTOUCHED) -> model.End:
     return model.End(status, "", note, list(slots))
 
 
-def unread(name: str) -> model.End:
-    return refused(10, f"gather: folder {name}: a slot cannot be read\n")
+def refuse_unread(name: str) -> model.End:
+    return refuse(10, f"gather: folder {name}: a slot cannot be read\n")
 
 
 def fails(
@@ -72,12 +72,12 @@ def fails(
         "strace", "-f", "-qq", "-o", "/dev/null", "-P", path, "-P", str(room.path(path)), "-e",
         f"trace={call}", "-e", f"inject={call}:{what}",
     ]
-    end = room.ended([*trace, room.tools[tool], *words], folders)
+    end = room.find_end([*trace, room.tools[tool], *words], folders)
     note = "".join(
         line for line in end.note.splitlines(True) if not line.startswith("strace: Requested path ")
     )
     room.compare(
-        f"{named(tool, words)} with {call} of {path}: {what}", end._replace(note=note), wanted,
+        f"{name_call(tool, words)} with {call} of {path}: {what}", end._replace(note=note), wanted,
         folders,
     )
 
@@ -96,24 +96,24 @@ def slots_fail(room: Room, path: str, call: str, what: str, wanted: model.End) -
 # ---- slots that cannot be read
 
 
-@traced
+@traced_case
 def slots_opening_fails(room: Room) -> None:
     """A slot that is there and cannot be opened is a failed load, whatever the error."""
     for name in NAMES:
         for error in ERRORS:
-            slots_fail(room, name, "openat", f"error={error}", refused(6, LOAD_FAULT))
-        slots_fail(room, name, "statx", "error=EIO", refused(6, LOAD_FAULT))
+            slots_fail(room, name, "openat", f"error={error}", refuse(6, LOAD_FAULT))
+        slots_fail(room, name, "statx", "error=EIO", refuse(6, LOAD_FAULT))
 
 
-@traced
+@traced_case
 def slots_reading_fails(room: Room) -> None:
     """A slot that was opened and cannot be read is a failed load."""
     for name in NAMES:
         for when in (1, 2):
-            slots_fail(room, name, "read", f"error=EIO:when={when}", refused(6, LOAD_FAULT))
+            slots_fail(room, name, "read", f"error=EIO:when={when}", refuse(6, LOAD_FAULT))
 
 
-@traced
+@traced_case
 def slots_interrupted(room: Room) -> None:
     """An interrupted opening or read is made again."""
     wanted = folder_model.slots(["../p", *RUN], CYCLE, FOLDERS)
@@ -125,35 +125,36 @@ def slots_interrupted(room: Room) -> None:
             )
 
 
-@traced
+@traced_case
 def slots_out_of_memory(room: Room) -> None:
     """Out of memory is reported as such, also where the system says it."""
     for name in NAMES:
-        slots_fail(room, name, "openat", "error=ENOMEM", refused(3, "memory\n"))
+        slots_fail(room, name, "openat", "error=ENOMEM", refuse(3, "memory\n"))
 
 
-@traced
+@traced_case
 def gather_opening_fails(room: Room) -> None:
     """A slot of a folder that cannot be opened is named in the folder's line."""
     for name in NAMES:
         for error in ERRORS:
-            gather_fails(room, f"../q/{name}", "openat", f"error={error}", unread("../q"))
-        gather_fails(room, f"../p/{name}", "statx", "error=EIO", unread("../p"))
+            gather_fails(room, f"../q/{name}", "openat", f"error={error}", refuse_unread("../q"))
+        gather_fails(room, f"../p/{name}", "statx", "error=EIO", refuse_unread("../p"))
 
 
-@traced
+@traced_case
 def gather_reading_fails(room: Room) -> None:
     """A slot of a folder that was opened and cannot be read is named in the folder's line."""
     for folder in ("../p", "../q"):
         for name in NAMES:
             for when in (1, 2):
                 gather_fails(
-                    room, f"{folder}/{name}", "read", f"error=EIO:when={when}", unread(folder)
+                    room, f"{folder}/{name}", "read", f"error=EIO:when={when}",
+                    refuse_unread(folder),
                 )
                 gather_fails(room, f"{folder}/{name}", "read", f"error=EINTR:when={when}", DONE)
 
 
-@traced
+@traced_case
 def gather_reading_fails_in_a_look(room: Room) -> None:
     """With `--look yes` the other folders are still told of."""
     words = [*LOOK, *GATHER]
@@ -163,38 +164,38 @@ def gather_reading_fails_in_a_look(room: Room) -> None:
         fails(room, "audit_gather", words, f"../p/{name}", "read", "error=EIO", wanted)
 
 
-@traced
+@traced_case
 def gather_own_slots_fail(room: Room) -> None:
     """A slot of the working folder that cannot be read is a failed load, and nothing is saved."""
     for name in NAMES:
         for call in ("openat", "read", "statx"):
-            gather_fails(room, name, call, "error=EIO", refused(6, LOAD_FAULT))
-        gather_fails(room, name, "openat", "error=ENOMEM", refused(3, "memory\n"))
+            gather_fails(room, name, call, "error=EIO", refuse(6, LOAD_FAULT))
+        gather_fails(room, name, "openat", "error=ENOMEM", refuse(3, "memory\n"))
 
 
-@traced
+@traced_case
 def gather_out_of_memory(room: Room) -> None:
     """Out of memory while a folder is read is status 3, not a slot that cannot be read."""
     for folder in ("../p", "../q"):
         for name in NAMES:
-            gather_fails(room, f"{folder}/{name}", "openat", "error=ENOMEM", refused(3, "memory\n"))
+            gather_fails(room, f"{folder}/{name}", "openat", "error=ENOMEM", refuse(3, "memory\n"))
 
 
 # ---- locks
 
 
-@traced
+@traced_case
 def gather_lock_is_taken(room: Room) -> None:
     """A folder whose lock is taken is not read, at whichever of its slots that is seen."""
-    locked = refused(10, "gather: folder ../p: a run holds it\n")
+    locked = refuse(10, "gather: folder ../p: a run holds it\n")
     for error in ("EAGAIN", "EAGAIN:when=1"):
         gather_fails(room, "../p/.", "flock", f"error={error}", locked)
     gather_fails(
-        room, ".", "flock", "error=EAGAIN", refused(6, "checkpoint: another run holds the folder\n")
+        room, ".", "flock", "error=EAGAIN", refuse(6, "checkpoint: another run holds the folder\n")
     )
 
 
-@traced
+@traced_case
 def gather_without_locks(room: Room) -> None:
     """Folders on a file system without locks are read without them."""
     for error in ("EOPNOTSUPP", "ENOLCK", "EINVAL"):
@@ -205,52 +206,54 @@ def gather_without_locks(room: Room) -> None:
 # ---- the save of a gathering
 
 
-def torn(data: bytes) -> list[Optional[bytes]]:
+def tear_slot(data: bytes) -> list[Optional[bytes]]:
     """Returns the working folder's slots after a save that left these bytes in slot 0."""
     return [data, OWN.slots[1]]
 
 
-@traced
+@traced_case
 def gather_save_is_not_written(room: Room) -> None:
     """A save that fails is status 9 without a text, and the newest slot stays as it was."""
     for error in ("ENOSPC", "EIO", "EFBIG", "EDQUOT"):
-        gather_fails(room, NAMES[0], "write", f"error={error}", refused(9, SAVE_FAULT, torn(b"")))
+        gather_fails(
+            room, NAMES[0], "write", f"error={error}", refuse(9, SAVE_FAULT, tear_slot(b""))
+        )
     gather_fails(room, NAMES[0], "write", "error=EINTR:when=1", DONE)
 
 
-@traced
+@traced_case
 def gather_save_is_not_synced(room: Room) -> None:
     """A save of which the system does not say that it is stored is no save."""
-    gather_fails(room, NAMES[0], "fsync", "error=EIO", refused(9, SAVE_FAULT, DONE.slots))
+    gather_fails(room, NAMES[0], "fsync", "error=EIO", refuse(9, SAVE_FAULT, DONE.slots))
     gather_fails(room, NAMES[0], "fsync", "error=EINTR:when=1", DONE)
 
 
-@traced
+@traced_case
 def gather_newest_slot_is_never_synced(room: Room) -> None:
     """Before its save it waits for the slot that may be the newest; else nothing is written."""
-    gather_fails(room, NAMES[1], "fsync", "error=EIO", refused(9, SAVE_FAULT))
+    gather_fails(room, NAMES[1], "fsync", "error=EIO", refuse(9, SAVE_FAULT))
 
 
-@traced
+@traced_case
 def gather_folder_is_never_synced(room: Room) -> None:
     """Before its save it waits for the folder, too, unless the system cannot store folders."""
-    gather_fails(room, ".", "fsync", "error=EIO", refused(9, SAVE_FAULT))
+    gather_fails(room, ".", "fsync", "error=EIO", refuse(9, SAVE_FAULT))
     for error in ("EINVAL", "EOPNOTSUPP"):
         gather_fails(room, ".", "fsync", f"error={error}", DONE)
 
 
-@traced
+@traced_case
 def gather_new_slot_is_refused(room: Room) -> None:
     """Nothing is saved if no file can be made."""
-    own = {**FOLDERS, ".": folder_of(some(range(3)))}
+    own = {**FOLDERS, ".": folder_of(pick(range(3)))}
     for error in ("EACCES", "EROFS", "ENOSPC"):
         fails(
             room, "audit_gather", GATHER, NAMES[1], "openat", f"error={error}",
-            refused(9, SAVE_FAULT, own["."].slots), own,
+            refuse(9, SAVE_FAULT, own["."].slots), own,
         )
 
 
-@traced
+@traced_case
 def gather_text_fails(room: Room) -> None:
     """The save stands where the text cannot be written: the first write is that of the save."""
     for error in ("EIO", "ENOSPC", "EPIPE"):
@@ -258,7 +261,7 @@ def gather_text_fails(room: Room) -> None:
             "strace", "-f", "-qq", "-o", "/dev/null", "-e", "trace=write", "-e",
             f"inject=write:error={error}:when=2",
         ]
-        end = room.ended([*trace, room.tools["audit_gather"], *GATHER], FOLDERS)
+        end = room.find_end([*trace, room.tools["audit_gather"], *GATHER], FOLDERS)
         room.compare(
             f"a text that is not written: {error}", end,
             model.End(5, "", "write fault\n", DONE.slots), FOLDERS,

@@ -35,7 +35,7 @@ class Finding(NamedTuple):
 
 def outcomes_of(data: bytes) -> Outcomes:
     """Returns the outcomes of a checkpoint by id."""
-    return model.outcomes_in(model.decoded(data))
+    return model.outcomes_in(model.decode(data))
 
 
 def differ(one: Outcome, other: Outcome) -> bool:
@@ -45,7 +45,7 @@ def differ(one: Outcome, other: Outcome) -> bool:
     return one[:2] != other[:2] or (both_have_histograms and one.bins != other.bins)
 
 
-def merged(one: Outcome, other: Outcome) -> Outcome:
+def merge(one: Outcome, other: Outcome) -> Outcome:
     """Returns the outcome with bins, where one of two has them."""
     return one if any(one.bins) else other
 
@@ -71,7 +71,7 @@ def job_of(words: Sequence[str], graph: bytes) -> model.Job:
 # ---- audit_slots
 
 def slot_line(place: int, data: Optional[bytes]) -> str:
-    slot = model.decoded(data)
+    slot = model.decode(data)
     if slot.fault is not None:
         return f"slot {place}: {slot.fault}"
     assert data is not None
@@ -82,7 +82,7 @@ def slot_line(place: int, data: Optional[bytes]) -> str:
 
 def done_line(job: model.Job, slots: Sequence[Optional[bytes]]) -> str:
     digest = job.digest()
-    seen = [model.looked(job.setting, digest, data) for data in slots]
+    seen = [model.check_slot(job.setting, digest, data) for data in slots]
     at = model.newest(seen)
     if all(slot.fault == "absent" for slot in seen):
         return f"done: 0 of {job.setting.total}"
@@ -104,7 +104,7 @@ def slots(words: Sequence[str], graph: bytes, folders: Mapping[str, Folder]) -> 
             raise model.Refused(6, "checkpoint load fault")
     except model.Refused as refusal:
         return model.End(refusal.status, "", refusal.note + "\n", list(own.slots))
-    newest = model.newest([model.decoded(data) for data in folder.slots])
+    newest = model.newest([model.decode(data) for data in folder.slots])
     lines = [slot_line(place, data) for place, data in enumerate(folder.slots)]
     lines.append("newest: none" if newest is None else f"newest: slot {newest}")
     lines += [done_line(job, folder.slots)] if job else []
@@ -113,14 +113,14 @@ def slots(words: Sequence[str], graph: bytes, folders: Mapping[str, Folder]) -> 
 
 # ---- audit_gather
 
-def found_in(job: model.Job, folder: Folder, asks_lock: bool) -> Finding:
+def look_into(job: model.Job, folder: Folder, asks_lock: bool) -> Finding:
     """Returns what is found in a folder by itself."""
     if asks_lock and folder.is_locked:
         return Finding(None, "a run holds it")
     if folder.unreadable:
         return Finding(None, "a slot cannot be read")
     digest = job.digest()
-    seen = [model.looked(job.setting, digest, data) for data in folder.slots]
+    seen = [model.check_slot(job.setting, digest, data) for data in folder.slots]
     at = model.newest(seen)
     if all(slot.fault == "absent" for slot in seen):
         return Finding(None, "no checkpoint")
@@ -135,7 +135,7 @@ def found_in(job: model.Job, folder: Folder, asks_lock: bool) -> Finding:
     return Finding(outcomes, f"{len(outcomes)} outcomes", is_damaged)
 
 
-def beside(finding: Finding) -> str:
+def describe_damage(finding: Finding) -> str:
     return ", one slot is damaged" if finding.damaged else ""
 
 
@@ -156,40 +156,40 @@ class Gathering:
         self.parts.append((name, outcomes))
         for one, outcome in outcomes.items():
             known = self.together.get(one)
-            self.together[one] = outcome if known is None else merged(known, outcome)
+            self.together[one] = outcome if known is None else merge(known, outcome)
         return None
 
 
-def gathered(
+def gather_folders(
     job: model.Job, names: Sequence[str], folders: Mapping[str, Folder], looks: bool
 ) -> tuple[Gathering, list[str], list[str]]:
     """Returns what is gathered, a line for each folder, the working one first, and the refusals."""
-    gathering, own = Gathering(), found_in(job, folders.get(".", Folder()), False)
-    lines = [f"working folder: {own.text}{beside(own)}"]
+    gathering, own = Gathering(), look_into(job, folders.get(".", Folder()), False)
+    lines = [f"working folder: {own.text}{describe_damage(own)}"]
     is_refused = own.outcomes is None and own.text != "no checkpoint"
     refusals = lines[:] if is_refused else []
     if own.outcomes is not None:
         gathering.add(".", own.outcomes)
     for name in names:
-        finding = found_in(job, folders.get(name, Folder()), not looks)
+        finding = look_into(job, folders.get(name, Folder()), not looks)
         if finding.outcomes is None:
             lines.append(f"folder {name}: {finding.text}")
             refusals.append(lines[-1])
             continue
         new = len(set(finding.outcomes) - set(gathering.together))
         refusal = gathering.add(name, finding.outcomes)
-        line = f"folder {name}: {finding.text}, {new} new{beside(finding)}"
+        line = f"folder {name}: {finding.text}, {new} new{describe_damage(finding)}"
         lines.append(refusal or line)
         refusals += [refusal] if refusal else []
     return gathering, lines, refusals
 
 
-def saved(
+def save(
     job: model.Job, slots_before: Sequence[Optional[bytes]], outcomes: Outcomes
 ) -> list[Optional[bytes]]:
     """Returns the slots of the working folder after the save of these outcomes."""
     digest = job.digest()
-    seen = [model.looked(job.setting, digest, data) for data in slots_before]
+    seen = [model.check_slot(job.setting, digest, data) for data in slots_before]
     at = model.newest(seen)
     slot, generation = (0, 0) if at is None else (1 - at, (seen[at].generation + 1) % 3)
     after = list(slots_before)
@@ -215,10 +215,10 @@ def gather(words: Sequence[str], graph: bytes, folders: Mapping[str, Folder]) ->
             raise model.Refused(6, "checkpoint load fault")
     except model.Refused as refusal:
         return model.End(refusal.status, "", refusal.note + "\n", list(own.slots))
-    gathering, lines, refusals = gathered(job, names, folders, looks)
+    gathering, lines, refusals = gather_folders(job, names, folders, looks)
     if refusals and not looks:
         note = "".join(f"gather: {line}\n" for line in refusals)
         return model.End(REFUSED, "", note, list(own.slots))
-    after = list(own.slots) if looks else saved(job, own.slots, gathering.together)
+    after = list(own.slots) if looks else save(job, own.slots, gathering.together)
     lines.append(f"done: {len(gathering.together)} of {job.setting.total}")
     return model.End(0, "\n".join([*lines, ""]), "", after)

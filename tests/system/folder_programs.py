@@ -13,7 +13,7 @@ import typing
 
 from tests.checks import Checks, End, run
 from tests.oracle import model
-from tests.places import DATA, linked, package_command, package_environment
+from tests.places import DATA, link_programs, package_command, package_environment
 
 COLUMNS = "--pop TOTPOP --first DEM --second REP --district CD".split()
 JOB = ["run", *COLUMNS, "--key", "0" * 64, *"--walks 6 --steps 100 --ask cut-edges:low".split()]
@@ -29,7 +29,7 @@ class Room:
 
     def __init__(self, checks: Checks, auditor: pathlib.Path, room: pathlib.Path) -> None:
         self.checks, self.auditor, self.room = checks, auditor, room
-        self.both, self.slots, self.gatherer = linked(room)
+        self.both, self.slots, self.gatherer = link_programs(room)
         self.folder = room / "run"
         self.folder.mkdir()
         words = ["--numbers", "nearest", "--missing", "zero", "--out", room / "graph.json"]
@@ -37,7 +37,7 @@ class Room:
             [*package_command("prepare"), DATA / "rough.json", *COLUMNS, *words],
             more=package_environment(),
         )
-        checks.ended("graph_is_prepared", end)
+        checks.has_status("graph_is_prepared", end)
         self.graph = (room / "graph.json").read_bytes()
 
     def slot(self, number: int) -> pathlib.Path:
@@ -65,7 +65,7 @@ def try_slots(room: Room) -> None:
     none = "slot 0: absent\nslot 1: absent\nnewest: none\n"
     room.says("no_slot", none + "done: 0 of 6\n", *WORDS)
     end = room.run(room.auditor, *WORDS, "--save", "2", "--budget", "4")
-    room.checks.ended("run_is_halted", end, 7)
+    room.checks.has_status("run_is_halted", end, 7)
     room.says("slots_without_words", FOUR)
     room.says("slots_of_a_run", FOUR + "done: 4 of 6\n", *WORDS)
     room.says(
@@ -80,7 +80,7 @@ def try_slots(room: Room) -> None:
         *WORDS,
     )
     end = run([room.slots, "check", "--pop", "TOTPOP"])
-    room.checks.ended("words_of_a_check", end, 1)
+    room.checks.has_status("words_of_a_check", end, 1)
 
 
 def try_long_slot(room: Room) -> None:
@@ -93,7 +93,7 @@ def try_long_slot(room: Room) -> None:
     room.checks.has_line(
         "longest_slot", end.out, "\nslot 1: version 2 generation 1 outcomes 100000 digest "
     )
-    room.checks.ended("longest_slot_ends", end)
+    room.checks.has_status("longest_slot_ends", end)
     with open(room.slot(1), "ab") as file:
         file.write(b"x")
     room.says(

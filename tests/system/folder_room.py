@@ -34,7 +34,7 @@ KINDS = ("folder", "loop", "pipe", "link to nothing", "device")
 LOAD_FAULT, SAVE_FAULT = "checkpoint load fault\n", "checkpoint save fault\n"
 
 
-def with_value(name: str, value: str) -> list[str]:
+def replace_value(name: str, value: str) -> list[str]:
     """Returns the words of the run with another value of a name that they have."""
     at = RUN.index(name)
     return [*RUN[:at + 1], value, *RUN[at + 2:]]
@@ -44,45 +44,45 @@ def with_value(name: str, value: str) -> list[str]:
 
 JOB = model.job_of(model.Setting(RUN), CYCLE)
 DIGEST = JOB.digest()
-OTHER = model.job_of(model.Setting(with_value("--slack", "9000")), CYCLE).digest()
-PLAIN: Outcomes = dict(enumerate(model.asked(JOB, DIGEST)))
+OTHER = model.job_of(model.Setting(replace_value("--slack", "9000")), CYCLE).digest()
+PLAIN: Outcomes = dict(enumerate(model.select_outcomes(JOB, DIGEST)))
 BINNED: Outcomes = dict(enumerate(model.outcomes(JOB, DIGEST)))
 
 
-def changed(outcome: model.Outcome) -> model.Outcome:
+def alter(outcome: model.Outcome) -> model.Outcome:
     """Returns another outcome that the job can have: the number of moves differs."""
     return outcome._replace(moved=outcome.moved ^ 1)
 
 
-def some(ids: Sequence[int], *others: int, found: Optional[Outcomes] = None) -> Outcomes:
+def pick(ids: Sequence[int], *others: int, found: Optional[Outcomes] = None) -> Outcomes:
     """Returns the outcomes with these ids; those of `others` are changed."""
     found = PLAIN if found is None else found
-    return {one: changed(found[one]) if one in others else found[one] for one in ids}
+    return {one: alter(found[one]) if one in others else found[one] for one in ids}
 
 
-def saved(outcomes: Outcomes, generation: int = 0, digest: bytes = DIGEST) -> bytes:
+def make_slot(outcomes: Outcomes, generation: int = 0, digest: bytes = DIGEST) -> bytes:
     return model.checkpoint(digest, generation, outcomes)
 
 
 def folder_of(outcomes: Outcomes, is_locked: bool = False) -> Folder:
     """Returns a folder whose slot 0 has these outcomes, and whose slot 1 is absent."""
-    return Folder((saved(outcomes), None), is_locked=is_locked)
+    return Folder((make_slot(outcomes), None), is_locked=is_locked)
 
 
-def damaged() -> dict[str, bytes]:
+def make_damaged() -> dict[str, bytes]:
     """Returns slots that hold no checkpoint of this job, each with one fault."""
-    good = saved(some(range(4)), 1)
+    good = make_slot(pick(range(4)), 1)
     front = good[:-32]
     return {
         "empty": b"",
         "too short": good[:83],
         "too long": bytes(model.MOST_SLOT + 1),
-        "bad magic": model.sealed(b"DISTCKPS" + front[8:]),
-        "bad version": model.sealed(front[:8] + bytes([0, 0, 0, 3]) + front[12:]),
-        "bad generation": saved(some(range(4)), 3),
+        "bad magic": model.seal(b"DISTCKPS" + front[8:]),
+        "bad version": model.seal(front[:8] + bytes([0, 0, 0, 3]) + front[12:]),
+        "bad generation": make_slot(pick(range(4)), 3),
         "bad count": good + b"x",
         "bad digest": good[:-1] + bytes([good[-1] ^ 1]),
-        "unfit": saved({0: PLAIN[0]._replace(moved=9)}, 1),
+        "unfit": make_slot({0: PLAIN[0]._replace(moved=9)}, 1),
     }
 
 
@@ -95,7 +95,7 @@ class End(NamedTuple):
     files: Mapping[str, Sequence[Optional[bytes]]]
 
 
-def as_nobody_can_write() -> None:
+def forbid_writes() -> None:
     """Lets the process write no byte to any file."""
     signal.signal(signal.SIGXFSZ, signal.SIG_IGN)
     resource.setrlimit(resource.RLIMIT_FSIZE, (0, 0))
@@ -184,7 +184,7 @@ class Room:
             preexec_fn=prepared, timeout=60, check=False,
         )
 
-    def ended(
+    def find_end(
         self,
         command: Sequence[str],
         folders: Mapping[str, Folder],
@@ -217,7 +217,8 @@ class Room:
                                      ("note", end.note, wanted.note),
                                      ("files", dict(end.files), files)):
             if came != expected:
-                self.wrong.append(f"{what}: {part}: expected {shown(expected)}, came {shown(came)}"
+                self.wrong.append(f"{what}: {part}: expected {shorten(expected)},"
+                                  f" came {shorten(came)}"
                                   + (f" ({end.note.strip()})" if part == "status" else ""))
                 return
 
@@ -234,10 +235,10 @@ class Room:
         folders = {".": Folder(), **folders}
         models = {"audit_slots": folder_model.slots, "audit_gather": folder_model.gather}
         wanted = models[tool](words, graph, folders)
-        what = named(tool, words)
+        what = name_call(tool, words)
         if said is not None and said not in (wanted.out, wanted.note):
             self.wrong.append(f"{what}: the model says {wanted.out + wanted.note!r}, not {said!r}")
-        end = self.ended([self.tools[tool], *words], folders, graph, kind)
+        end = self.find_end([self.tools[tool], *words], folders, graph, kind)
         self.compare(what, end, wanted, folders)
 
     def slots(
@@ -262,16 +263,16 @@ class Room:
 
     def expect(self, what: str, came: object, expected: object) -> None:
         if came != expected:
-            self.wrong.append(f"{what}: expected {shown(expected)}, came {shown(came)}")
+            self.wrong.append(f"{what}: expected {shorten(expected)}, came {shorten(came)}")
 
 
-def named(tool: str, words: Sequence[str]) -> str:
+def name_call(tool: str, words: Sequence[str]) -> str:
     """Returns a call as a short text: the words of the usual run are its first one."""
     short = [*words[:-len(RUN)], "run .."] if list(words[-len(RUN):]) == RUN else words
     return " ".join([tool, *short])
 
 
-def shown(value: object) -> str:
+def shorten(value: object) -> str:
     """Returns a value as a text that is short enough to read; files by their lengths."""
     if isinstance(value, dict):
         return str({name: [None if data is None else f"{len(data)} bytes, sum {sum(data)}"
@@ -290,7 +291,7 @@ def case(function: Case) -> Case:
     return function
 
 
-def traced(function: Case) -> Case:
+def traced_case(function: Case) -> Case:
     """Adds a case that needs strace."""
     TRACED.add(function.__name__)
     return case(function)

@@ -22,10 +22,10 @@ run() {
     shift 4
     mkdir -p "$folder"
     (cd "$folder" && "$program" "${words[@]}" "$@" <"$graph" >"$room/$name.out" 2>"$room/$name.note")
-    ended $? "$name" "$wanted" "$note"
+    expect_end $? "$name" "$wanted" "$note"
 }
 
-ended() {
+expect_end() {
     same_text "run_$2" "status $3, note: $4" "status $1, note: $(cat "$room/$2.note")"
 }
 
@@ -41,7 +41,7 @@ gather() {
 }
 
 # The folder $1 has to hold these files.
-holds() {
+expect_files() {
     checks_of_files=$((checks_of_files + 1))
     same_text "files_${checks_of_files}_$1" "$2" "$(ls "$1" | tr '\n' ' ')"
 }
@@ -127,16 +127,16 @@ for part in 0 1 2; do
         1) wait "$started" ;;
         2) wait "$two" ;;
     esac
-    ended $? part-$part 7 "stopped: 8 of 24 done"
+    expect_end $? part-$part 7 "stopped: 8 of 24 done"
     empty_file report_part-$part part-$part.out
 done
 gather parts all 0 $'working folder: no checkpoint\nfolder ../part-0: 8 outcomes, 8 new\nfolder ../part-1: 8 outcomes, 8 new\nfolder ../part-2: 8 outcomes, 8 new\ndone: 24 of 24' \
     ../part-0 ../part-1 ../part-2
-holds all "audit-0.ckpt "
+expect_files all "audit-0.ckpt "
 run gathered all 0 "" --save 1 --resume yes
 run whole once 0 "" --workers 4
 [ -s whole.out ]
-judge report_whole $? "a report" "nothing"
+check report_whole $? "a report" "nothing"
 same_report gathered whole
 
 # ---- a small job: what folders may hold
@@ -165,30 +165,30 @@ hold small-0
 gather look look 0 $'working folder: no checkpoint\nfolder ../small-0: 4 outcomes, 4 new\nfolder ../half: 2 outcomes, 2 new\nfolder ../empty: no checkpoint\nfolder ../other: another job\'s checkpoint\nfolder ../small-0/: 4 outcomes, 0 new\ndone: 6 of 12' \
     --look yes ../small-0 ../half ../empty ../other ../small-0/
 let_go
-holds look ""
+expect_files look ""
 
 # These folders are gathered: each that cannot be is named.
 gather refused refused 10 $'gather: folder ../empty: no checkpoint\ngather: folder ../other: another job\'s checkpoint\ngather: folder ../nowhere: no checkpoint' \
     ../small-0 ../half ../empty ../other ../nowhere
-holds refused ""
+expect_files refused ""
 empty_file text_refused refused.out
 
 # A folder that a run holds, and the working folder that a run holds.
 hold small-0
 gather locked refused 10 'gather: folder ../small-0: a run holds it' ../small-0 ../small-1
 let_go
-holds refused ""
+expect_files refused ""
 mkdir busy
 hold busy
 gather busy busy 6 'checkpoint: another run holds the folder' ../small-0 ../small-1
 let_go
-holds busy ""
+expect_files busy ""
 
 # A slot that is damaged beside an intact one, and one without.
 cp -r small-1 bad && printf x >>bad/audit-0.ckpt
 cp -r half worse && printf x >worse/audit-0.ckpt && printf x >worse/audit-1.ckpt
 gather worse refused 10 'gather: folder ../worse: no slot is intact' ../small-0 ../bad ../worse
-holds refused ""
+expect_files refused ""
 newest=$(cd bad && "$gatherer" --look yes . "${words[@]}" <"$graph" | tail -n 1)
 gather bad some 0 $'working folder: no checkpoint\nfolder ../small-0: 4 outcomes, 4 new\nfolder ../bad: '"${newest:6:1}"$' outcomes, '"${newest:6:1}"$' new, one slot is damaged\ndone: '$((4 + ${newest:6:1}))' of 12' \
     ../small-0 ../bad
@@ -219,7 +219,7 @@ for name in sys.argv[1:]:
     open(name, "wb").write(sealed(bytes(data[:-32])))
 END
 gather differs refused 10 'gather: outcome 1 differs in ../small-1 and ../wrong' ../small-0 ../small-1 ../small-2 ../wrong
-holds refused ""
+expect_files refused ""
 gather wrong-alone look 0 $'working folder: no checkpoint\nfolder ../wrong: 4 outcomes, 4 new\ndone: 4 of 12' --look yes ../wrong
 
 # Gathered twice, and the working folder among the folders: nothing is new.
@@ -229,15 +229,15 @@ gather again all-small 0 $'working folder: 6 outcomes\nfolder .: 6 outcomes, 0 n
 run again all-small 0 "" --save 1 --resume yes
 same_report again small
 
-# Of a bare outcome and a whole one the whole one is taken.
-run binned once 0 "" --shift yes
-run bare bare 7 "stopped: 4 of 12 done" --save 1 --parts 3 --part 0
+# Of an outcome without a histogram and one with it, the one with it is taken.
+run histogram once 0 "" --shift yes
+run no-histogram no-histogram 7 "stopped: 4 of 12 done" --save 1 --parts 3 --part 0
 run whole-0 whole-0 7 "stopped: 4 of 12 done" --save 1 --parts 3 --part 0 --shift yes
 run whole-1 whole-1 7 "stopped: 4 of 12 done" --save 1 --parts 3 --part 1 --shift yes
-gather shift shift 0 $'working folder: no checkpoint\nfolder ../bare: 4 outcomes, 4 new\nfolder ../whole-0: 4 outcomes, 0 new\nfolder ../whole-1: 4 outcomes, 4 new\ndone: 8 of 12' \
-    ../bare ../whole-0 ../whole-1
+gather shift shift 0 $'working folder: no checkpoint\nfolder ../no-histogram: 4 outcomes, 4 new\nfolder ../whole-0: 4 outcomes, 0 new\nfolder ../whole-1: 4 outcomes, 4 new\ndone: 8 of 12' \
+    ../no-histogram ../whole-0 ../whole-1
 run shift shift 0 "" --save 1 --resume yes --shift yes
-same_report shift binned
+same_report shift histogram
 
 # Words that are refused.
 words=()

@@ -48,7 +48,7 @@ slot 0 1044 third
 slot 1 884 third
 run whole 0 ""
 [ -s "$room/whole.out" ]
-judge whole/report $? "a report" "nothing"
+check whole/report $? "a report" "nothing"
 same_report third whole
 
 # Leaves the checkpoint of the first version in slot 0, and nothing in slot 1.
@@ -66,8 +66,8 @@ begin_old
 run tally 7 "stopped: 5 of 12 done" --save 2 --budget 5 --resume yes --shift yes
 slot 1 484 tally
 run rest 0 "" --save 2 --resume yes --shift yes
-run binned 0 "" --shift yes
-same_report rest binned
-run bare 0 "" --save 2 --resume yes
-same_report bare whole
+run histogram 0 "" --shift yes
+same_report rest histogram
+run no_histogram 0 "" --save 2 --resume yes
+same_report no_histogram whole
 finish

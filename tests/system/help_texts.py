@@ -26,12 +26,12 @@ def main() -> int:
         end = run(
             [sys.executable, "-m", str(path.relative_to(TOP))[:-3].replace("/", "."), "--help"]
         )
-        checks.ended(f"{path.stem}_ends", end)
+        checks.has_status(f"{path.stem}_ends", end)
         first = path.read_text().split('"""')[1].split()[:6]
         checks.has_line(f"{path.stem}_help", " ".join(end.out.split()), " ".join(first))
     checks.is_true("scripts_with_words", len(scripts) >= 20, "at least 20 scripts", len(scripts))
     end = run([sys.executable, "-m", "tests.differential.fuzz"])
-    checks.ended("fuzz_without_words_ends", end, 2)
+    checks.has_status("fuzz_without_words_ends", end, 2)
     checks.is_equal("fuzz_without_words_prints", end.out, "")
     checks.is_true("fuzz_without_words_says", end.note.startswith("usage: "), "usage: ..", end.note)
     return checks.finish()

@@ -33,7 +33,7 @@ def tree(room: pathlib.Path, auditor: pathlib.Path) -> pathlib.Path:
     return room / "scripts" / "install.sh"
 
 
-def origin(
+def check_origin(
     checks: Checks, script: pathlib.Path, folder: pathlib.Path, room: pathlib.Path
 ) -> None:
     """Checks what is printed and stored: outside of git, at a commit, with a change."""
@@ -45,7 +45,7 @@ def origin(
     tree = script.parent.parent
     git = ["git", "-C", tree, "-c", "user.name=a", "-c", "user.email=a@b"]
 
-    def installed(name: str, commit: str) -> None:
+    def check_install(name: str, commit: str) -> None:
         end = run([script, folder, "built"], more=paths)
         digest = hashlib.sha256((folder / "district-audit").read_bytes()).hexdigest()
         wanted = [f"sha256 {digest}", f"checkout {commit}", "kit a-kit logic 0123", "proved yes"]
@@ -55,14 +55,14 @@ def origin(
         shown = "".join(f"  {line}\n" for line in wanted)
         checks.is_equal(f"{name}_printed", end.out, f"{folder / 'district-audit'}\n{shown}")
 
-    installed("outside_of_git", "unknown")
+    check_install("outside_of_git", "unknown")
     (tree / ".gitignore").write_text("out/\n")
     for words in (["init", "-q"], ["add", "-A"], ["commit", "-q", "-m", "one"]):
-        checks.ended(f"git_{words[0]}", run([*git, *words], more=paths))
+        checks.has_status(f"git_{words[0]}", run([*git, *words], more=paths))
     commit = run([*git, "rev-parse", "HEAD"]).out.strip()
-    installed("at_a_commit", commit)
+    check_install("at_a_commit", commit)
     (tree / "crates" / "more.rt").write_text("// a change\n")
-    installed("with_a_change", f"{commit} with changes")
+    check_install("with_a_change", f"{commit} with changes")
 
 
 def main() -> int:
@@ -73,16 +73,16 @@ def main() -> int:
     with tempfile.TemporaryDirectory() as name:
         room = pathlib.Path(name)
         script, folder = tree(room / "tree", auditor), room / "bin"
-        checks.ended("installs", run([script, folder, "slots", "gather", "built"]))
+        checks.has_status("installs", run([script, folder, "slots", "gather", "built"]))
         end = run([folder / "district-audit", "check", *CYCLE], (DATA / "cycle.json").read_bytes())
         checks.is_equal("installed_auditor_checks", end.out + end.note, CHECKED)
         for which in ("audit_slots", "audit_gather"):
             checks.is_true(f"leaves_{which}", os.access(folder / which, os.X_OK), "a program")
             checks.is_true(f"origin_of_{which}", (folder / f"{which}.origin").exists(), "a file")
         end = run([script, folder, "gathers", "built"])
-        checks.ended("refuses_an_unknown_word", end, 1)
+        checks.has_status("refuses_an_unknown_word", end, 1)
         checks.has_line("names_the_unknown_word", end.note, "the word gathers is unknown")
-        origin(checks, script, folder, room)
+        check_origin(checks, script, folder, room)
     return checks.finish()
 
 

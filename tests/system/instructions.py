@@ -73,7 +73,7 @@ def example(name: str) -> bytes:
     return (DATA / name).read_bytes()
 
 
-def prepared(name: str, *words: str) -> bytes:
+def prepare(name: str, *words: str) -> bytes:
     """Returns an example map as prepare.py prepares it."""
     with tempfile.TemporaryDirectory() as room:
         out = pathlib.Path(room) / name
@@ -135,7 +135,7 @@ def walks() -> dict[str, Run]:
         "walk_mean_median": Run([*MADE, *steps, "--ask", "mean-median:low"]),
         "walk_gap_and_seats": Run([*MADE, *steps, "--ask", "gap:high,seats:low", "--shift", "yes"]),
         "walk_with_rules": Run(
-            [*SMALL, "--steps", "100000", *cut, *rules], with_counties(square(40, False))
+            [*SMALL, "--steps", "100000", *cut, *rules], add_counties(square(40, False))
         ),
         "walk_a_serial_test": Run([*MADE, "--steps", "65535", *cut, "--serial", "yes"]),
         "parallel_test": Run(
@@ -174,16 +174,16 @@ def searches() -> dict[str, Run]:
     """Returns the walks whose searches are counted."""
     nc, ny8 = ("BIR74", "NWBIR74", "WBIR74", "PLAN11"), ("POP8", "OWNING", "OTHERS", "PLAN8")
     return {
-        "searches_on_a_grid": searching(GRID, example("grid.json")),
-        "searches_on_nc": searching(named(*nc), prepared("nc.json", *named(*nc)[1:9])),
-        "searches_on_ny8": searching(
-            named(*ny8), prepared("ny8.json", *named(*ny8)[1:9], "--numbers", "nearest")
+        "searches_on_a_grid": make_search(GRID, example("grid.json")),
+        "searches_on_nc": make_search(make_words(*nc), prepare("nc.json", *make_words(*nc)[1:9])),
+        "searches_on_ny8": make_search(
+            make_words(*ny8), prepare("ny8.json", *make_words(*ny8)[1:9], "--numbers", "nearest")
         ),
-        "searches_with_corners": searching(SMALL, square(24, True)),
+        "searches_with_corners": make_search(SMALL, square(24, True)),
     }
 
 
-def with_counties(graph: bytes) -> bytes:
+def add_counties(graph: bytes) -> bytes:
     """Returns a graph whose units are in counties, by tens."""
     root = json.loads(graph)
     for node in root["nodes"]:
@@ -191,14 +191,14 @@ def with_counties(graph: bytes) -> bytes:
     return json.dumps(root).encode()
 
 
-def named(population: str, first: str, second: str, district: str) -> list[str]:
+def make_words(population: str, first: str, second: str, district: str) -> list[str]:
     return [
         "run", "--pop", population, "--first", first, "--second", second, "--district", district,
         "--slack", "1000", *KEY,
     ]
 
 
-def searching(words: list[str], graph: bytes) -> Run:
+def make_search(words: list[str], graph: bytes) -> Run:
     return Run([*words, "--steps", "100000", "--ask", "cut-edges:low"], graph, steps=100000)
 
 
@@ -283,7 +283,7 @@ def busy_threads(room: Room) -> tuple[int, int]:
 Result = tuple[str, Optional[bool], str]
 
 
-def judged(name: str, came: Counted, recorded: dict[str, dict[str, float]]) -> Result:
+def compare_run(name: str, came: Counted, recorded: dict[str, dict[str, float]]) -> Result:
     """Compares what a run took with its numbers; None says that there are none."""
     wanted = recorded.get(name)
     said = f"{came.instructions} instructions"
@@ -329,7 +329,7 @@ def record(room: Room, chosen: dict[str, Run]) -> int:
     return 0
 
 
-def compared(room: Room, chosen: dict[str, Run], names: Sequence[str]) -> Iterator[Result]:
+def compare_runs(room: Room, chosen: dict[str, Run], names: Sequence[str]) -> Iterator[Result]:
     """Makes the runs and compares each; without a number only those that are named are made."""
     recorded: dict[str, dict[str, float]] = {}
     if RECORD.exists():
@@ -342,13 +342,13 @@ def compared(room: Room, chosen: dict[str, Run], names: Sequence[str]) -> Iterat
         elif name not in recorded and name not in names:
             yield name, None, "no numbers are recorded; --record writes them"
         else:
-            yield judged(name, room.count(name, run), recorded)
+            yield compare_run(name, room.count(name, run), recorded)
 
 
 def compare(room: Room, chosen: dict[str, Run], names: Sequence[str]) -> int:
     """Prints a line for each run, and their count; the status of the script."""
     results = []
-    for name, is_good, line in compared(room, chosen, names):
+    for name, is_good, line in compare_runs(room, chosen, names):
         front = {None: "skipped ", True: "", False: "FAILED "}[is_good]
         print(f"{front}{name}: {line}", flush=True)
         results.append(is_good)

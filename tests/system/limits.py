@@ -101,7 +101,9 @@ def moves(units: int, steps: int) -> int:
 # ---- what they print
 
 
-def checked(units: int, edges: int, districts: int, low: int, high: int, more: str = "") -> End:
+def expect_check(
+    units: int, edges: int, districts: int, low: int, high: int, more: str = ""
+) -> End:
     return End(
         0,
         (
@@ -112,11 +114,13 @@ def checked(units: int, edges: int, districts: int, low: int, high: int, more: s
     )
 
 
-def refused(note: str) -> End:
+def refuse(note: str) -> End:
     return End(2, "", f"graph: {note}\n")
 
 
-def walked(units: int = UNITS, regions: int = 5000, steps: int = STEPS, moved: int = MOVES) -> End:
+def expect_walk(
+    units: int = UNITS, regions: int = 5000, steps: int = STEPS, moved: int = MOVES
+) -> End:
     head = (
         f"district-audit 1\nkey {KEY}\nunits {units} edges {2 * units - 3} districts 2\npopulation"
         f" {units} slack 10000 low 0 high {units}\nmax-split 2 regions {regions}\nmax-splits 5000"
@@ -130,7 +134,7 @@ def walked(units: int = UNITS, regions: int = 5000, steps: int = STEPS, moved: i
     return End(0, head + line + "end\n", "")
 
 
-def stopped() -> End:
+def expect_stop() -> End:
     """Returns the place at which each test stops, if all ends have the start's value."""
     lines = [
         "seats low start 1/1", "mean-median high start 0/4000000000", "gap low start 0/4",
@@ -153,35 +157,35 @@ def cases() -> Iterator[tuple[str, list[str], bytes, End]]:
     """Yields the name of each input, the words, the input, and its end."""
     most = 67108864
     for more in (0, 1):
-        own = checked(4, 4, 2, 1, 3) if not more else refused("more than 67108864 bytes")
+        own = expect_check(4, 4, 2, 1, 3) if not more else refuse("more than 67108864 bytes")
         yield f"{most + more} bytes", CHECK, CYCLE + b" " * (most + more - len(CYCLE)), own
     one_line = CYCLE.replace(b"\n", b"")
     yield f"{most + 1} bytes of several plans", [
         "plans", *CHECK[1:], "--key", KEY, "--ask", "gap:low",
-    ], one_line + b"\n" * (most + 1 - len(one_line)), refused("more than 67108864 bytes")
-    yield "100000 units", CHECK, path(100000, lambda at: at // 50000), checked(
+    ], one_line + b"\n" * (most + 1 - len(one_line)), refuse("more than 67108864 bytes")
+    yield "100000 units", CHECK, path(100000, lambda at: at // 50000), expect_check(
         100000, 99999, 2, 25000, 75000
     )
-    yield "100001 units", CHECK, path(100001, lambda at: at // 50001), refused(
+    yield "100001 units", CHECK, path(100001, lambda at: at // 50001), refuse(
         "100001 units, more than 100000"
     )
-    yield "400000 edges", CHECK, dense(400000), checked(895, 400000, 2, 224, 671)
-    yield "400001 edges", CHECK, dense(400001), refused("400001 edges, more than 400000")
-    yield "200 districts", CHECK, path(200, lambda at: at), checked(200, 199, 200, 1, 1)
-    yield "201 districts", CHECK, path(201, lambda at: at), refused("201 districts, not 2 to 200")
-    yield "one district", CHECK, path(200, lambda at: 0), refused("1 districts, not 2 to 200")
+    yield "400000 edges", CHECK, dense(400000), expect_check(895, 400000, 2, 224, 671)
+    yield "400001 edges", CHECK, dense(400001), refuse("400001 edges, more than 400000")
+    yield "200 districts", CHECK, path(200, lambda at: at), expect_check(200, 199, 200, 1, 1)
+    yield "201 districts", CHECK, path(201, lambda at: at), refuse("201 districts, not 2 to 200")
+    yield "one district", CHECK, path(200, lambda at: 0), refuse("1 districts, not 2 to 200")
     for count in (5000, 5001):
         own = (
-            checked(5000, 4999, 2, 1250, 3750, "max-split 200 regions 5000\n")
+            expect_check(5000, 4999, 2, 1250, 3750, "max-split 200 regions 5000\n")
             if count == 5000
-            else refused("5001 regions, more than 5000")
+            else refuse("5001 regions, more than 5000")
         )
         yield f"{count} regions", [*CHECK, "--region", "id"], path(count, halves_of(count)), own
     for most, note in ((199, ""), (198, "plan: 199 splits of regions, more than 198\n")):
         own = (
             End(2, "", note)
             if note
-            else checked(
+            else expect_check(
                 200,
                 199,
                 200,
@@ -200,7 +204,7 @@ def cases() -> Iterator[tuple[str, list[str], bytes, End]]:
         own = (
             End(2, "", note)
             if note
-            else checked(
+            else expect_check(
                 400,
                 399,
                 2,
@@ -217,7 +221,7 @@ def cases() -> Iterator[tuple[str, list[str], bytes, End]]:
         ), own
     yield "200 majorities", [
         *CHECK, "--group", "a", "--group-of", "b", "--group-districts", "200",
-    ], path(200, lambda at: at), checked(200, 199, 200, 1, 1, "group-districts 200 of 200\n")
+    ], path(200, lambda at: at), expect_check(200, 199, 200, 1, 1, "group-districts 200 of 200\n")
     yield "100000 ends", [
         "run", *COLUMNS, "5000", "--key", KEY, "--walks", "0", "--steps", "1", "--ends", str(ENDS),
         "--hub-steps", "1", "--ask", "seats:low,mean-median:high,gap:low,cut-edges:high", "--stop",
@@ -225,8 +229,8 @@ def cases() -> Iterator[tuple[str, list[str], bytes, End]]:
     ], graph(
         [{"id": at, "pop": 1, "a": 1 - at, "b": at, "d": at + 1} for at in range(2)],
         [[{"id": 1}], [{"id": 0}]],
-    ), stopped()
-    yield "three million steps", walk("r", STEPS), two_hubs(), walked()
+    ), expect_stop()
+    yield "three million steps", walk("r", STEPS), two_hubs(), expect_walk()
 
 
 def walk(region: str, steps: int) -> list[str]:
@@ -238,7 +242,7 @@ def walk(region: str, steps: int) -> list[str]:
     ]
 
 
-def ended(program: str, words: Sequence[str], given: bytes) -> End:
+def find_end(program: str, words: Sequence[str], given: bytes) -> End:
     try:
         end = subprocess.run(
             [program, *words], input=given, capture_output=True, timeout=SECONDS, check=False
@@ -257,12 +261,12 @@ def times(program: str) -> tuple[float, str]:
     least: dict[str, float] = {}
     for region, regions in [("few", 5), ("r", 5000)] * TRIES:
         before = resource.getrusage(resource.RUSAGE_CHILDREN).ru_utime
-        found = ended(program, walk(region, FEW_STEPS), given)
+        found = find_end(program, walk(region, FEW_STEPS), given)
         least[region] = min(
             least.get(region, SECONDS),
             resource.getrusage(resource.RUSAGE_CHILDREN).ru_utime - before,
         )
-        if found != walked(FEW_UNITS, regions, FEW_STEPS, FEW_MOVES):
+        if found != expect_walk(FEW_UNITS, regions, FEW_STEPS, FEW_MOVES):
             return 0, f"a million steps in {regions} regions: {str(found)[:300]}"
     return least["r"] / least["few"], ""
 
@@ -273,7 +277,7 @@ def main(program: str) -> int:
         return 0
     count, wrong, program = 0, 0, os.path.abspath(program)
     for name, words, given, wanted in cases():
-        found, count = ended(program, words, given), count + 1
+        found, count = find_end(program, words, given), count + 1
         if found != wanted:
             print(f"WRONG: {name}: {str(found)[:300]} and not {str(wanted)[:300]}")
             wrong += 1

@@ -17,18 +17,18 @@ def main() -> int:
     checks = Checks("measures")
     words = [sys.executable, "-m", "bench.cost_table", auditor, "--most", "900", "--steps", "1000"]
     end = run(words)
-    checks.ended("cost_table_ends", end)
+    checks.has_status("cost_table_ends", end)
     rows = [
         line.replace(" ", "").split("|") for line in end.out.splitlines() if line.startswith("|")
     ]
     checks.is_equal("cost_table_has_five_graphs", ["|".join(row[2:5]) for row in rows[-5:]], SIZES)
     words = [sys.executable, "-m", "bench.cost_table", "workers", auditor, "--plain", auditor]
     end = run([*words, "--steps", "1000"])
-    checks.ended("cost_table_of_workers_ends", end)
+    checks.has_status("cost_table_of_workers_ends", end)
     rows = re.findall(r"^\| .* \| [0-9.]* \| [0-9.]* \| [0-9.]* \|$", end.out, re.M)
     checks.is_true("cost_table_of_workers_has_two_rows", len(rows) == 2, "2 rows", end.out)
     end = run([sys.executable, "-m", "bench.plans_cost", auditor, "100", "1"])
-    checks.ended("plans_cost_ends", end)
+    checks.has_status("plans_cost_ends", end)
     return checks.finish()
 
 

@@ -20,7 +20,7 @@ def main() -> int:
         taken = {"PYTHONPATH": name}
         end = run([NEEDS, "look"], more={**taken, "CI": "1"})
         said = end.out + end.note
-        checks.ended("fails_with_ci", end, 1)
+        checks.has_status("fails_with_ci", end, 1)
         checks.is_true(
             "names_what_is_missing",
             re.search("missing: networkx.*apt-get install -y .*python3-networkx", said),
@@ -34,7 +34,7 @@ def main() -> int:
             said,
         )
         end = run([NEEDS, "look"], more={**taken, "CI": ""})
-        checks.ended("passes_without_ci", end)
+        checks.has_status("passes_without_ci", end)
         checks.is_true(
             "counts_as_skipped",
             re.search(r"^needs\.sh: .* 0 failed, [1-9][0-9]* skipped$", end.out, re.M),
@@ -42,7 +42,7 @@ def main() -> int:
             end.out,
         )
         end = run([NEEDS, "python", "networkx"], more={**taken, "CI": ""})
-        checks.ended("finds_no_python", end, 1)
+        checks.has_status("finds_no_python", end, 1)
     return checks.finish()
 
 

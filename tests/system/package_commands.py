@@ -27,13 +27,13 @@ def prepare(file: str, *words: object) -> End:
 
 def try_prepare(checks: Checks, auditor: pathlib.Path, room: pathlib.Path) -> None:
     end = prepare("rough.json", *COLUMNS, "--out", room / "none.json")
-    checks.ended("prepare_refuses_rough_values", end, 2)
+    checks.has_status("prepare_refuses_rough_values", end, 2)
     checks.is_true("prepare_writes_no_refused_file", not (room / "none.json").exists(), "no file")
     checks.has_line("prepare_counts_refused_values", end.note, "not written: 16 values are refused")
     graph = room / "graph.json"
     rules = ["--numbers", "nearest", "--missing", "zero"]
     end = prepare("rough.json", *COLUMNS, *rules, "--out", graph)
-    checks.ended("prepare_rounds_rough_values", end)
+    checks.has_status("prepare_rounds_rough_values", end)
     checks.is_true(
         "prepare_tells_what_it_changed",
         re.search(
@@ -47,10 +47,10 @@ def try_prepare(checks: Checks, auditor: pathlib.Path, room: pathlib.Path) -> No
     checks.is_same_text("auditor_reads_what_prepare_wrote", end.out + end.note, CHECKED)
     rules = ["--numbers", "floor", "--missing", "drop"]
     end = prepare("rough.json", *COLUMNS, *rules, "--out", room / "holes.json")
-    checks.ended("prepare_drops_units", end)
+    checks.has_status("prepare_drops_units", end)
     checks.has_line("prepare_drops_edges_of_units", end.note, "99 units, 176 edges")
     end = prepare("apart.json", *SMALL, "--out", room / "apart.json")
-    checks.ended("prepare_finds_what_would_be_refused", end, 1)
+    checks.has_status("prepare_finds_what_would_be_refused", end, 1)
     for name, part in (
         ("unit_without_neighbor", 'units without a neighbor: 1: "v"'),
         ("district_in_parts", "district 1 is in several parts"),
@@ -79,15 +79,15 @@ def try_picture(checks: Checks, auditor: pathlib.Path, room: pathlib.Path) -> No
         "seats:low,cut-edges:low",
     ]
     end = run([auditor, *words], (room / "graph.json").read_bytes())
-    checks.ended("auditor_audits_what_prepare_wrote", end)
+    checks.has_status("auditor_audits_what_prepare_wrote", end)
     (room / "report").write_text(end.out)
     python = python_with("matplotlib")
     if python is None:
-        checks.missing("picture", "matplotlib")
+        checks.count_missing("picture", "matplotlib")
         return
     command = package_command("picture", python)
     end = run([*command, room / "report", room / "picture"], more=package_environment())
-    if not checks.ended("picture_draws_a_report", end):
+    if not checks.has_status("picture_draws_a_report", end):
         return
     front = (room / "picture.png").read_bytes()[:8]
     checks.is_equal("picture_writes_png", front, b"\x89PNG\r\n\x1a\n")
@@ -99,7 +99,7 @@ def try_picture(checks: Checks, auditor: pathlib.Path, room: pathlib.Path) -> No
     )
     (room / "no_report").write_text(CHECKED)
     end = run([*command, room / "no_report", room / "none"], more=package_environment())
-    checks.ended("picture_refuses_what_is_no_report", end, 2)
+    checks.has_status("picture_refuses_what_is_no_report", end, 2)
 
 
 def try_script(checks: Checks, auditor: pathlib.Path, room: pathlib.Path) -> None:
@@ -108,11 +108,11 @@ def try_script(checks: Checks, auditor: pathlib.Path, room: pathlib.Path) -> Non
     checks.is_true("audit_script_is_short", len(lines) <= 30, "at most 30 lines", len(lines))
     python = python_with("networkx", "matplotlib")
     if python is None:
-        checks.missing("audit_script", "networkx or matplotlib")
+        checks.count_missing("audit_script", "networkx or matplotlib")
         return
     words = [python, EXAMPLES / "audit.py", room / "audit"]
     end = run(words, more={**package_environment(), "DISTRICT_AUDIT": str(auditor)})
-    if not checks.ended("audit_script_ends", end):
+    if not checks.has_status("audit_script_ends", end):
         return
     checks.has_line("audit_script_says_what_there_is", end.out, "units 300 edges 563 districts 6\n")
     checks.has_line("audit_script_says_what_was_found", end.out, "walk 1, cut-edges:low: ")

@@ -74,7 +74,7 @@ def try_edit(kit: Kit, room: pathlib.Path, edit: Edit) -> End:
 def check_refusal(checks: Checks, edit: Edit, end: End) -> None:
     """Checks that this function was refused, and no other."""
     name, text = f"{edit.crate}/{edit.name}", end.out + end.note
-    checks.ended(f"{name}_status", end, 1)
+    checks.has_status(f"{name}_status", end, 1)
     refused = re.search(rf"^fn {edit.crate}::{edit.only}: (not proved$|no proof: )", text, re.M)
     checks.is_true(f"{name}_refused", refused, f"{edit.only} is not proved", text[-1500:])
     counts = [(int(one), int(proved)) for one, proved in COUNTS.findall(text)]

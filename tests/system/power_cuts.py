@@ -111,14 +111,14 @@ class Replay:
             return
         call, said, answer = found[1], found[2], int(found[3])
         if call == "openat":
-            yield from self.opened(said, answer)
+            yield from self.open(said, answer)
             return
         digits = re.match(r"\d+", said)
         number = int(digits[0]) if digits else -1
         if call == "close":
-            yield from self.closed(number)
+            yield from self.close(number)
         elif call in ("fsync", "fdatasync") and answer == 0:
-            yield from self.synced(call, number)
+            yield from self.sync(call, number)
         elif call == "write" and number in self.files and answer >= 0:
             yield Step("write", self.files[number], self.at[number], bytes_in(said)[:answer])
             self.at[number] += answer
@@ -127,7 +127,7 @@ class Replay:
         elif answer >= 0 and call not in ("fsync", "fdatasync", *HARMLESS):
             self.refuse_unknown(line, said, number)
 
-    def opened(self, said: str, answer: int) -> Iterator[Step]:
+    def open(self, said: str, answer: int) -> Iterator[Step]:
         name = bytes_in(said).decode() if answer >= 0 else ""
         if name == ".":
             self.folders.add(answer)
@@ -142,14 +142,14 @@ class Replay:
         if "O_TRUNC" in said:
             yield Step("cut", file)
 
-    def closed(self, number: int) -> Iterator[Step]:
+    def close(self, number: int) -> Iterator[Step]:
         if number in self.files:
             yield Step("close", self.files.pop(number))
         else:
             self.folders.discard(number)
             self.read.pop(number, None)
 
-    def synced(self, call: str, number: int) -> Iterator[Step]:
+    def sync(self, call: str, number: int) -> Iterator[Step]:
         file = self.files.get(number, self.read.get(number))
         if file is not None:
             yield Step("sync", file)
@@ -170,18 +170,18 @@ def calls_of(text: str) -> Iterator[Step]:
         yield from replay.steps(line)
 
 
-def placed(folder: pathlib.Path, slots: model.Slots) -> None:
+def place(folder: pathlib.Path, slots: model.Slots) -> None:
     folder.mkdir()
     for name, data in zip(NAMES, slots):
         if data is not None:
             (folder / name).write_bytes(data)
 
 
-def traced(
+def trace(
     program: str, folder: pathlib.Path, words: Sequence[str], slots: model.Slots
 ) -> list[Step]:
     """Returns the calls of a run over files with these bytes."""
-    placed(folder, slots)
+    place(folder, slots)
     trace = folder.with_suffix(".trace")
     subprocess.run(
         [
@@ -229,7 +229,7 @@ class File:
     def change(self, step: Step) -> None:
         assert self.now is not None
         self.pending.append(step)
-        self.now = after(self.now, [step])
+        self.now = apply(self.now, [step])
 
     def sync(self) -> None:
         assert self.now is not None
@@ -248,11 +248,11 @@ class File:
             [step for step in steps if draw.random() < 0.5]
             for _ in range(drawn if len(steps) > 2 else 0)
         ]
-        found: set[bytes | None] = {after(self.stored, some) for some in chosen}
+        found: set[bytes | None] = {apply(self.stored, some) for some in chosen}
         return found if self.is_named else found | {None}
 
 
-def after(data: bytes, steps: Sequence[Step]) -> bytes:
+def apply(data: bytes, steps: Sequence[Step]) -> bytes:
     """Returns the bytes after these steps: cuts to a length, writes at a place, and lengths without
     bytes of their own.
     """
@@ -306,10 +306,10 @@ class Disk:
         elif call.what == "close":
             self.done = outcomes(file.now)
 
-    def now(self) -> State:
+    def read_state(self) -> State:
         return self.files[0].now, self.files[1].now
 
-    def stored(self) -> tuple[tuple[bool, bool], ...]:
+    def read_stored(self) -> tuple[tuple[bool, bool], ...]:
         """Returns whether each file and its name is stored for sure."""
         return tuple((not file.pending, file.is_named) for file in self.files)
 
@@ -325,13 +325,13 @@ class Disk:
 
 def outcomes(data: bytes | None) -> int:
     """Returns the number of outcomes of a file, 0 if it is no checkpoint."""
-    slot = model.decoded(data)
+    slot = model.decode(data)
     return 0 if slot.fault else len(slot.records)
 
 
 def outcomes_in(slots: State) -> int:
     """Returns the number of outcomes of the newest file."""
-    newest = model.newest([model.decoded(data) for data in slots])
+    newest = model.newest([model.decode(data) for data in slots])
     return 0 if newest is None else outcomes(slots[newest])
 
 
@@ -350,7 +350,7 @@ class States:
     kills: int
 
 
-def listed(
+def list_states(
     disk: Disk, calls: Sequence[Step], draw: random.Random, drawn: int, found: dict[State, int]
 ) -> None:
     """Lists what may be stored before, between and after these calls: for each state the most
@@ -368,19 +368,19 @@ def all_states(program: str, folder: pathlib.Path, draw: random.Random, drawn: i
     found: dict[State, int] = {}
     later: dict[State, int] = {}
     tried = set()
-    first = traced(program, folder / "first", SAVED, (None, None))
-    listed(Disk(), first, draw, drawn, found)
+    first = trace(program, folder / "first", SAVED, (None, None))
+    list_states(Disk(), first, draw, drawn, found)
     for count in range(1, len(first) + 1):
         disk = Disk()
         for call in first[:count]:
             disk.take(call)
-        mark = disk.now(), disk.stored()
+        mark = disk.read_state(), disk.read_stored()
         if mark in tried:
             continue
         tried.add(mark)
-        listed(
-            disk, traced(program, folder / f"killed {count}", RESUMED, disk.now()), draw, drawn,
-            later,
+        list_states(
+            disk, trace(program, folder / f"killed {count}", RESUMED, disk.read_state()), draw,
+            drawn, later,
         )
     return States(found, later, len(first), len(tried))
 
@@ -391,9 +391,9 @@ def drawn_states(states: Iterable[State], count: int, draw: random.Random) -> li
     return ordered if len(ordered) <= count else draw.sample(ordered, count)
 
 
-def judged(program: str, folder: pathlib.Path, slots: State, wanted: model.End) -> str | None:
+def find_fault(program: str, folder: pathlib.Path, slots: State, wanted: model.End) -> str | None:
     """Returns what is wrong if a run goes on from this state, or None."""
-    placed(folder, slots)
+    place(folder, slots)
     end = subprocess.run(
         [program, *RESUMED], input=CYCLE, cwd=folder, capture_output=True, timeout=60, check=False
     )
@@ -407,23 +407,23 @@ def judged(program: str, folder: pathlib.Path, slots: State, wanted: model.End) 
     return None
 
 
-def named(slots: State) -> str:
+def describe(slots: State) -> str:
     return (
         f"files of {' and '.join('no' if data is None else str(len(data)) for data in slots)} bytes"
     )
 
 
-def lost_in(states: dict[State, int]) -> list[str]:
+def find_lost(states: dict[State, int]) -> list[str]:
     """Returns the states in which a save is lost."""
     left = [(slots, outcomes_in(slots), kept) for slots, kept in states.items()]
     return [
-        f"{named(slots)}: {one} outcomes are left of {kept} that were saved"
+        f"{describe(slots)}: {one} outcomes are left of {kept} that were saved"
         for slots, one, kept in left
         if one < kept
     ]
 
 
-def resumed(
+def resume(
     program: str, folder: pathlib.Path, chosen: Sequence[State], report: str
 ) -> tuple[dict[int, int], list[str]]:
     """Returns the numbers of states that ended with the report and that were refused, and what is
@@ -434,14 +434,14 @@ def resumed(
     for number, slots in enumerate(chosen):
         wanted = model.audit(RESUMED, CYCLE, list(slots))
         if wanted.status not in ends or wanted.status == 0 and wanted.out != report:
-            wrong.append(f"{named(slots)}: the model ends with status {wanted.status}")
+            wrong.append(f"{describe(slots)}: the model ends with status {wanted.status}")
             continue
         ends[wanted.status] += 1
         runs.append((folder / f"state {number}", slots, wanted))
     with ThreadPoolExecutor(os.cpu_count()) as pool:
-        for (_, slots, _), why in zip(runs, pool.map(lambda run: judged(program, *run), runs)):
+        for (_, slots, _), why in zip(runs, pool.map(lambda run: find_fault(program, *run), runs)):
             if why:
-                wrong.append(f"{named(slots)}: {why}")
+                wrong.append(f"{describe(slots)}: {why}")
     return ends, wrong
 
 
@@ -456,9 +456,9 @@ def main(program: str, states: int = 0, seed: int = 1) -> int:
         every = all_states(program, folder, draw, 60)
         found, later = every.first, every.later
         most = (states + 1) // 2 or len(found) + len(later)
-        wrong = lost_in(found) + lost_in(later)
+        wrong = find_lost(found) + find_lost(later)
         chosen = drawn_states(found, most, draw) + drawn_states(later, most, draw)
-        ends, wrongs = resumed(program, folder, chosen, model.audit(WHOLE, CYCLE, [None, None]).out)
+        ends, wrongs = resume(program, folder, chosen, model.audit(WHOLE, CYCLE, [None, None]).out)
         wrong += wrongs
     for one in wrong[:20]:
         print("WRONG:", one)

@@ -48,7 +48,7 @@ def default_of(text: str) -> str:
     return known.get(text, "default " + text.strip("`"))
 
 
-def documented(command: str) -> list[tuple[str, str, str]]:
+def read_documented(command: str) -> list[tuple[str, str, str]]:
     """Returns name, values and default of each argument of a command, by the table."""
     rows = []
     for line in (TOP / "docs" / "user" / "FORMATS.md").read_text().splitlines():
@@ -97,7 +97,7 @@ def check_commands(checks: Checks, auditor: str) -> None:
     """Compares the arguments of each command with the table."""
     for command in COMMANDS:
         text = is_answered(checks, f"{command}_help", auditor, command, "--help")
-        checks.is_equal(f"{command}_arguments", shown_arguments(text), documented(command))
+        checks.is_equal(f"{command}_arguments", shown_arguments(text), read_documented(command))
         lines = text.splitlines()
         checks.is_true(f"{command}_lines", len(lines) <= 40, "at most 40 lines", len(lines))
         longest = max(map(len, lines))
@@ -120,8 +120,8 @@ def check_usages(checks: Checks, programs: dict[str, str]) -> None:
         checks.is_true(
             f"{name}_usage", text.startswith(f"usage: {name} "), f"usage: {name} ..", text[:40]
         )
-        told_statuses = [int(number) for number in re.findall(r"^ +(\d+)  ", text, re.M)]
-        checks.is_equal(f"{name}_statuses", told_statuses, list(statuses[name]))
+        printed_statuses = [int(number) for number in re.findall(r"^ +(\d+)  ", text, re.M)]
+        checks.is_equal(f"{name}_statuses", printed_statuses, list(statuses[name]))
     text = ask(programs["district-audit"], "--help")[0].out
     checks.is_equal("commands", re.findall(r"^  ([a-z]+) +\S", text, re.M), list(COMMANDS))
 

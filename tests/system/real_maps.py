@@ -98,7 +98,7 @@ class Source(typing.NamedTuple):
     """A list of neighbours that the package has; it names units by their places, from 1."""
 
 
-def in_two(people: str, share: Callable[[Row], float], part: str, rest: str) -> Derive:
+def split_in_two(people: str, share: Callable[[Row], float], part: str, rest: str) -> Derive:
     """Returns what makes two columns: how many of a number of people a share of them is, as a
     float, and how many are left.
     """
@@ -139,7 +139,7 @@ SOURCES = {
         "OTHERS",
         None,
         (2, 8),
-        in_two("TotPop90", share_of_black, "BLACK", "OTHERS"),
+        split_in_two("TotPop90", share_of_black, "BLACK", "OTHERS"),
     ),
     "stl": Source(
         "examples/stl/stl_hom", "FIPS", "NAME", "PO8893", "HC7984", "HC8893", "STATE_NAME", (2, 5),
@@ -167,7 +167,7 @@ SOURCES = {
         (2, 8),
         lambda row: {
             "COUNTY": row["AREAKEY"][:5],
-            **in_two("POP8", share_of_owners, "OWNING", "OTHERS")(row),
+            **split_in_two("POP8", share_of_owners, "OWNING", "OTHERS")(row),
         },
     ),
     "boston": Source(
@@ -361,7 +361,7 @@ def joins_of(near: Sequence[set[int]], middles: Sequence[Sequence[float]]) -> li
     return found
 
 
-def made(unit: object, what: str, low: int, high: int) -> int:
+def make_number(unit: object, what: str, low: int, high: int) -> int:
     """Returns a whole number from low to high - 1 that follows from a unit's id."""
     digest = hashlib.sha256(f"{what} {unit}".encode()).digest()
     return low + int.from_bytes(digest[:8], "big") % (high - low)
@@ -476,7 +476,7 @@ def clean(value: object) -> object:
     return value.decode("latin1") if isinstance(value, bytes) else value
 
 
-def rounded(value: float | None) -> int:
+def round_number(value: float | None) -> int:
     """Returns a number as `prepare` writes it with `--numbers nearest --missing zero`."""
     return 0 if value is None else round(value)
 
@@ -524,12 +524,14 @@ class RealMap:
             ("pop", source.people, 1000, 9000), ("first", source.first, 100, 2000),
             ("second", source.second, 100, 2000),
         ):
-            node[self.columns[what]] = clean(row[column]) if column else made(unit, what, low, high)
+            node[self.columns[what]] = (
+                clean(row[column]) if column else make_number(unit, what, low, high)
+            )
         return {**node, "id": unit}
 
     def plan_of(self, districts: int) -> Plan | None:
         """Draws a plan, and writes it into a column of the nodes; None if none is found."""
-        people = [rounded(node[self.columns["pop"]]) for node in self.nodes]
+        people = [round_number(node[self.columns["pop"]]) for node in self.nodes]
         for tolerance in TOLERANCES:
             plan = partition(
                 self.near, people, districts, 0.8 * tolerance / 10000, f"{self.name} {districts}"
@@ -595,7 +597,7 @@ def make(packages: pathlib.Path, folder: pathlib.Path, names: Sequence[str]) -> 
     (folder / "plans").write_text("".join(line + "\n" for line in lines), encoding="utf-8")
 
 
-def published(packages: pathlib.Path) -> int:
+def compare_published(packages: pathlib.Path) -> int:
     """Returns the number of maps with exactly the edges of the packages' lists of neighbors, and
     the others.
     """
@@ -637,7 +639,7 @@ def main(words: argparse.Namespace) -> int:
         import shapefile  # noqa: F401
         import shapely.geometry  # noqa: F401
     elif words.command == "published":
-        return published(pathlib.Path(words.packages))
+        return compare_published(pathlib.Path(words.packages))
     else:
         make(pathlib.Path(words.packages), pathlib.Path(words.out), words.names)
     return 0

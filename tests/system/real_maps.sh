@@ -40,7 +40,7 @@ block() {
 }
 
 # Below the heading $1 that page has a command and its report: the command prints it, and it is the plain model's last text.
-printed() {
+check_page() {
     block "$1" 2 >"$room/page"
     block "$1" 1 >"$room/command"
     (
@@ -52,36 +52,36 @@ printed() {
     same_file "${1%.json}/page_command" "$room/text" "$room/page" "the report of examples/README.md"
     same_file "${1%.json}/page_report" "$room/page" "$room/model_text" "the plain model's report"
     [ -s "$room/page" ]
-    judge "${1%.json}/page_has_a_report" $? "a report in examples/README.md" "nothing"
+    check "${1%.json}/page_has_a_report" $? "a report in examples/README.md" "nothing"
 }
 
-kept_maps() {
+check_example_maps() {
     local columns=(--pop BIR74 --first NWBIR74 --second WBIR74 --district PLAN11)
-    prepare "$data/nc.json" "${columns[@]}" --slack 1000 --out "$room/nc.json" 2>"$room/told"
-    judge nc/prepared $? "status 0" "$(tail -n 1 "$room/told")"
+    prepare "$data/nc.json" "${columns[@]}" --slack 1000 --out "$room/nc.json" 2>"$room/log"
+    check nc/prepared $? "status 0" "$(tail -n 1 "$room/log")"
     same "$room/nc.json" 0 check "${columns[@]}" --slack 1000
     same "$room/nc.json" 2 check "${columns[@]}" --slack 100
     same "$room/nc.json" 0 run "${columns[@]}" --slack 1000 --key "$key" --walks 2 --steps 2047 --ends 19 --hub-steps 500 --serial yes \
         --ask mean-median:high,cut-edges:low
-    printed nc.json
+    check_page nc.json
     columns=(--pop POP8 --first OWNING --second OTHERS --district PLAN8)
     local region=(--region COUNTY --max-split)
-    prepare "$data/ny8.json" "${columns[@]}" --numbers nearest --slack 1000 --region COUNTY --out "$room/ny8.json" 2>"$room/told"
-    judge ny8/prepared $? "status 0" "$(tail -n 1 "$room/told")"
+    prepare "$data/ny8.json" "${columns[@]}" --numbers nearest --slack 1000 --region COUNTY --out "$room/ny8.json" 2>"$room/log"
+    check ny8/prepared $? "status 0" "$(tail -n 1 "$room/log")"
     same "$room/ny8.json" 0 check "${columns[@]}" --slack 1000 "${region[@]}" 4
     same "$room/ny8.json" 2 check "${columns[@]}" --slack 1000 "${region[@]}" 3
     same "$room/ny8.json" 0 run "${columns[@]}" --slack 1000 --key "$key" --walks 1 --steps 2047 --ends 9 --hub-steps 500 "${region[@]}" 4 \
         --shift yes --ask gap:high,cut-edges:low
-    printed ny8.json
+    check_page ny8.json
     mkdir "$room/two" && cp "$data/nc.json" "$data/ny8.json" "$room/two"
     local nc='--pop BIR74 --first NWBIR74 --second WBIR74 --numbers nearest --missing zero'
     local ny8='--pop POP8 --first OWNING --second OTHERS --numbers nearest --missing zero --region COUNTY'
     printf '%s\t%s\t1000\tPLAN%s\t%s\t%s\t%s\n' nc 2 2 - 0 "$nc" nc 11 11 - 0 "$nc" ny8 2 2 COUNTY 2 "$ny8" ny8 8 8 COUNTY 4 "$ny8" >"$room/two/plans"
-    drawn "$room/two" 12
+    compare_drawn "$room/two" 12
 }
 
 # The map that counties.py draws: each limit at what the plan has, and one below it.
-drawn_map() {
+check_drawn_map() {
     python3 -m bench.counties --small >"$room/small.json"
     same_file groups/written "$room/small.json" "$data/groups.json" "groups.json of examples/data"
     local words=(--pop pop --first a --second b --district d --slack 1000) group=(--group bvap --group-of vap)
@@ -92,23 +92,23 @@ drawn_map() {
     same "$data/groups.json" 2 check "${words[@]}" --group bvap --group-districts 1
     same "$data/groups.json" 0 run "${words[@]}" --region county --max-splits 3 --max-split-regions 3 "${group[@]}" --group-districts 2 --source yes \
         --key "$(printf groups | sha256sum | cut -c 1-64)" --walks 1 --steps 2047 --ends 9 --hub-steps 500 --ask mean-median:high,cut-edges:low
-    printed groups.json
+    check_page groups.json
 }
 
 # Drawn words on the maps of the folder $1, in $2 runs, end as by the plain model.
-drawn() {
-    python3 -m tests.differential.compare_maps "$auditor" "$1" "$2" >"$room/told" 2>&1
-    judge "drawn_words_on_$(basename "$1")" $? "status 0" "$(head -n 1 "$room/told")"
+compare_drawn() {
+    python3 -m tests.differential.compare_maps "$auditor" "$1" "$2" >"$room/log" 2>&1
+    check "drawn_words_on_$(basename "$1")" $? "status 0" "$(head -n 1 "$room/log")"
 }
 
 # ---- the twelve maps
 
 # How long the start plan's walk of a million steps takes, and how many of a thousand move; four workers print the same.
-walked() {
+time_walk() {
     local words=(run "${@:2}" --key "$key" --walks 4 --steps 250000 --ask cut-edges:low) begin
     begin=$(date +%s%N)
     "$auditor" "${words[@]}" <"$1" >"$room/walk" 2>&1
-    judge "$(basename "$1" .json)/walked" $? "status 0" "$(tail -n 1 "$room/walk")"
+    check "$(basename "$1" .json)/walked" $? "status 0" "$(tail -n 1 "$room/walk")"
     took=$((($(date +%s%N) - begin) / 1000000))
     "$auditor" "${words[@]}" --workers 4 <"$1" >"$room/four" 2>&1
     same_file "$(basename "$1" .json)/walked_by_four" "$room/four" "$room/walk" "the report of one worker"
@@ -116,11 +116,11 @@ walked() {
 }
 
 # One plan, of a line of `plans`: the map, how many districts, the tolerance, the column, the regions and how often one is split, the words.
-one_plan() {
+check_plan() {
     local words graph=$room/$1-$2.json columns steps=2047 units edges
     eval "words=($7)"
-    prepare "$maps/$1.json" "${words[@]}" --district "$4" --slack "$3" --out "$graph" 2>"$room/told"
-    judge "$1-$2/prepared" $? "status 0" "$(tail -n 1 "$room/told")"
+    prepare "$maps/$1.json" "${words[@]}" --district "$4" --slack "$3" --out "$graph" 2>"$room/log"
+    check "$1-$2/prepared" $? "status 0" "$(tail -n 1 "$room/log")"
     columns=("${words[@]:0:6}" --district "$4" --slack "$3")
     same "$graph" 0 check "${columns[@]}"
     read -r _ units _ edges _ < <(sed -n 2p "$room/text")
@@ -133,34 +133,34 @@ one_plan() {
         same "$graph" 0 run "${columns[@]}" --walks 0 --steps 127 "${audit[@]}" --region "$5" --max-split "$6"
         [ "$6" -lt 2 ] || same "$graph" 2 check "${columns[@]}" --region "$5" --max-split $(($6 - 1))
     fi
-    walked "$graph" "${columns[@]}"
+    time_walk "$graph" "${columns[@]}"
     printf '| %s | %s | %s | %s | %s | %s | %s |\n' "$1" "$units" "$edges" "$2" "$3" "$moves" "$took"
 }
 
-twelve_maps() {
+check_twelve_maps() {
     maps=${2:-$room/maps}
-    "$python" -m tests.system.real_maps published "$1" >"$room/told" 2>&1
-    judge published_edges $? "the edges of the published lists" "$(head -n 1 "$room/told")"
-    "$python" -m tests.system.real_maps make "$1" "$maps" 2>"$room/told"
-    judge maps_made $? "status 0" "$(tail -n 1 "$room/told")"
+    "$python" -m tests.system.real_maps published "$1" >"$room/log" 2>&1
+    check published_edges $? "the edges of the published lists" "$(head -n 1 "$room/log")"
+    "$python" -m tests.system.real_maps make "$1" "$maps" 2>"$room/log"
+    check maps_made $? "status 0" "$(tail -n 1 "$room/log")"
     [ "$(cut -f 1 "$maps/plans" | sort -u | grep -c .)" -eq 12 ] && [ "$(grep -c . "$maps/plans")" -eq 24 ]
-    judge two_plans_each $? "two plans for each of twelve maps" "$(cut -f 1 "$maps/plans" | sort | uniq -c | brief)"
+    check two_plans_each $? "two plans for each of twelve maps" "$(cut -f 1 "$maps/plans" | sort | uniq -c | brief)"
     local name line
     for name in nc ny8; do
         same_file "$name/written" "$maps/$name.json" "$data/$name.json" "the map of examples/data"
     done
     echo '| map | units | edges | districts | tolerance | moves of a thousand steps | milliseconds for a million steps |'
     echo '| --- | --- | --- | --- | --- | --- | --- |'
-    while IFS=$'\t' read -r -a line <&3; do one_plan "${line[@]}"; done 3<"$maps/plans"
-    drawn "$maps" 48
+    while IFS=$'\t' read -r -a line <&3; do check_plan "${line[@]}"; done 3<"$maps/plans"
+    compare_drawn "$maps" 48
 }
 
 # Downloads the packages and unpacks them; nothing is installed.
 fetch() {
     local got=$room/packages
     mkdir -p "$got"
-    (cd "$got" && { apt-get download "${packages[@]}" || { apt-get update && apt-get download "${packages[@]}"; }; }) >"$room/told" 2>&1
-    judge packages $? "status 0" "$(tail -n 1 "$room/told")"
+    (cd "$got" && { apt-get download "${packages[@]}" || { apt-get update && apt-get download "${packages[@]}"; }; }) >"$room/log" 2>&1
+    check packages $? "status 0" "$(tail -n 1 "$room/log")"
     local file
     for file in "$got"/*.deb; do dpkg-deb -x "$file" "$got"; done
 }
@@ -180,15 +180,15 @@ case ${1:-} in
             exit 1
         fi
         fetch
-        kept_maps
-        drawn_map
-        twelve_maps "$room/packages" "${2:-}"
+        check_example_maps
+        check_drawn_map
+        check_twelve_maps "$room/packages" "${2:-}"
         ;;
     '')
-        kept_maps
-        drawn_map
+        check_example_maps
+        check_drawn_map
         if ls "${places[@]}" >/dev/null 2>&1 && modules; then
-            twelve_maps /
+            check_twelve_maps /
         else
             skips twelve_maps "their packages are not installed here: ${packages[*]} python3-shapely python3-pyshp"
         fi

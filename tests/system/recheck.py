@@ -76,7 +76,7 @@ class Counts:
 COUNTS = Counts()
 
 
-def checked(*words: object) -> tuple[int, str]:
+def call_recheck(*words: object) -> tuple[int, str]:
     """Returns the status and the text of a call of recheck."""
     recheck.WRONG.clear()
     with contextlib.redirect_stdout(io.StringIO()) as text:
@@ -85,13 +85,13 @@ def checked(*words: object) -> tuple[int, str]:
 
 
 def agrees(name: str, *words: object) -> None:
-    status, text = checked(*words)
+    status, text = call_recheck(*words)
     COUNTS.judge(name, status == 0, f"expected status 0, got {status}: {text}")
 
 
 def differs(name: str, place: str, *words: object) -> None:
     """Passes where the status is 1 and some line begins with the place of the fault."""
-    status, text = checked(*words)
+    status, text = call_recheck(*words)
     is_named = any(line.startswith(place) for line in text.splitlines())
     COUNTS.judge(
         name, status == 1 and is_named, f"expected status 1 and '{place}', got {status}: {text}"
@@ -132,7 +132,7 @@ def unknown_score() -> None:
     COUNTS.judge("unknown score", came == "unknown score ratio", came)
 
 
-def prepared(name: str, *words: str) -> bytes:
+def prepare(name: str, *words: str) -> bytes:
     command = places.package_command("prepare")
     return subprocess.run(
         [*command, EXAMPLES / name, *words], env=places.package_environment(), capture_output=True,
@@ -171,11 +171,11 @@ def cases() -> Iterator[tuple[str, list[str], str | bytes]]:
     yield "nc", [
         *births, *real, "--walks", "2", "--ends", "19", "--serial", "yes", "--ask",
         "mean-median:high,cut-edges:low",
-    ], prepared("nc.json", *births, "--slack", "1000")
+    ], prepare("nc.json", *births, "--slack", "1000")
     yield "ny8", [
         *homes, *real, "--region", "COUNTY", "--max-split", "4", "--ends", "9", "--shift", "yes",
         "--ask", "gap:high,cut-edges:low",
-    ], prepared("ny8.json", *homes, "--slack", "1000", "--numbers", "nearest", "--region", "COUNTY")
+    ], prepare("ny8.json", *homes, "--slack", "1000", "--numbers", "nearest", "--region", "COUNTY")
 
 
 def examples(auditor: str, room: Path) -> None:
@@ -250,7 +250,7 @@ class Fault:
 
 
 @contextlib.contextmanager
-def replaced(owner: object, name: str, wrong: Wrong) -> Iterator[None]:
+def replace(owner: object, name: str, wrong: Wrong) -> Iterator[None]:
     right = getattr(owner, name)
     setattr(owner, name, wrong(right))
     model.OUTCOMES.clear()
@@ -261,8 +261,8 @@ def replaced(owner: object, name: str, wrong: Wrong) -> Iterator[None]:
     model.draws.cache_clear()
 
 
-def skipping(right: Walk) -> Walk:
-    return lambda job, plan, stream, steps: walked(
+def skip_step(right: Walk) -> Walk:
+    return lambda job, plan, stream, steps: walk(
         job,
         plan,
         [*model.draws(job.setting.key, stream, steps + 1)][:8]
@@ -270,7 +270,7 @@ def skipping(right: Walk) -> Walk:
     )
 
 
-def walked(job: model.Job, plan: model.Plan, draws: list[int]) -> tuple[list[model.Plan], int]:
+def walk(job: model.Job, plan: model.Plan, draws: list[int]) -> tuple[list[model.Plan], int]:
     """Returns the plain model's walk with these draws."""
     with mock.patch.object(model, "draws", lambda key, stream, count: draws):
         return WALK(job, plan, 0, len(draws))
@@ -291,7 +291,7 @@ def wrong_hub(right: Walk) -> Walk:
     return lambda job, plan, stream, steps: right(job, plan, stream, steps * (stream != 1))
 
 
-def swapped_streams(right: Walk) -> Walk:
+def swap_streams(right: Walk) -> Walk:
     """Gives walks 0 and 1 each other's stream."""
     return lambda job, plan, stream, steps: right(
         job, plan, {0: 2, 2: 0}.get(stream, stream), steps
@@ -313,7 +313,7 @@ def loose_bounds(right: IsLegal) -> IsLegal:
 
 
 MODEL_FAULTS = (
-    Fault("a skipped step", model.Job, "walk", skipping, "report line"),
+    Fault("a skipped step", model.Job, "walk", skip_step, "report line"),
     Fault("a wrong draw order", model, "block", swap_halves, "report line"),
     Fault(
         "a miscounted tie",
@@ -323,7 +323,7 @@ MODEL_FAULTS = (
         "report line 6, word 10 after count",
     ),
     Fault("a wrong hub", model.Job, "walk", wrong_hub, "report line 11, word 7 after rank"),
-    Fault("swapped streams", model.Job, "walk", swapped_streams, "report line"),
+    Fault("swapped streams", model.Job, "walk", swap_streams, "report line"),
     Fault(
         "a bound that is rounded down",
         model,
@@ -335,7 +335,7 @@ MODEL_FAULTS = (
     Fault(
         "districts that are not connected",
         model.Job,
-        "reached",
+        "find_reached",
         lambda right: lambda job, members: members,
         "report line",
     ),
@@ -407,7 +407,7 @@ def right_texts(auditor: str, graph: bytes, room: Path) -> tuple[model.Job, str,
 
 def model_faults(graph: bytes, room: Path, job: model.Job, report: str) -> None:
     for fault in MODEL_FAULTS:
-        with replaced(fault.owner, fault.function, fault.wrong):
+        with replace(fault.owner, fault.function, fault.wrong):
             bad = model.audit(["run", *FAULTY], graph, [None, None]).out
             bad_trace = trace_of(job, 7)
         (room / "bad").write_text(bad)
@@ -428,7 +428,7 @@ def changed_digits(room: Path, report: str) -> None:
         if digit.isdigit():
             bad = report[:at] + str((int(digit) + 1) % 10) + report[at + 1:]
             (room / "bad").write_text(bad)
-            if checked(room / "graph", room / "bad", *FAULTY)[0] == 0:
+            if call_recheck(room / "graph", room / "bad", *FAULTY)[0] == 0:
                 missed.append(bad[:at].count("\n") + 1)
     COUNTS.judge("each changed digit", not missed, f"not found in the lines {missed}")
 
@@ -436,7 +436,7 @@ def changed_digits(room: Path, report: str) -> None:
 def unknown_tail(room: Path, report: str) -> None:
     """A report on a tail that is neither low nor high is an error, and no tail of another name."""
     (room / "tail").write_text(re.sub(r" (low|high) start ", r" \1er start ", report))
-    status, text = checked(room / "graph", room / "tail", *FAULTY)
+    status, text = call_recheck(room / "graph", room / "tail", *FAULTY)
     is_right = status == 2 and "ValueError: unknown tail " in text
     COUNTS.judge("an unknown tail", is_right, f"status {status}: {text}")
 
@@ -480,7 +480,7 @@ def checkpoint_faults(room: Path, job: model.Job) -> None:
         bad = model.checkpoint(job.digest(), 0, {**found, 4: changed}, version)
         path.write_bytes(bad)
         differs(f"a changed outcome of version {version}", f"{path}: outcome 4, word 2", *words)
-        path.write_bytes(model.sealed(right[:12] + bytes(32) + right[44:-32]))
+        path.write_bytes(model.seal(right[:12] + bytes(32) + right[44:-32]))
         differs(f"another job's digest in version {version}", f"{path}: digest", *words)
         path.write_bytes(right[:-1] + bytes([right[-1] ^ 1]))
         differs(f"a damaged file of version {version}", f"{path}: no intact", *words)
@@ -539,7 +539,7 @@ def plans_faults(auditor: str, room: Path) -> None:
     for fault, place in (
             (MODEL_FAULTS[0], "plan d: report line"),
             (MODEL_FAULTS[2], "plan halves: report line 6, word 10 after count")):
-        with replaced(fault.owner, fault.function, fault.wrong):
+        with replace(fault.owner, fault.function, fault.wrong):
             bad = model.audit(["plans", *FAULTY], (room / "plans").read_bytes(), [None, None]).out
         (room / "bad plans").write_text(bad)
         differs(f"{fault.function}: a wrong model of several plans", place, room / "plans",
@@ -552,7 +552,7 @@ def plans_faults(auditor: str, room: Path) -> None:
     differs("a unit that stands twice", "the table's units, word 1", room / "twice",
             room / "plan reports", *FAULTY)
     plans_input(room, "short", right.replace("6,y,7\n", ""))
-    status, text = checked(room / "short", room / "plan reports", *FAULTY)
+    status, text = call_recheck(room / "short", room / "plan reports", *FAULTY)
     COUNTS.judge("a unit that is missing", status == 2, text)
 
 
@@ -565,7 +565,7 @@ def faults(auditor: str, room: Path) -> None:
     trace_faults(room, job, trace)
     checkpoint_faults(room, job)
     plans_faults(auditor, room)
-    status, text = checked(room / "graph", room / "right", *CYCLE, "--id", "0,8")
+    status, text = call_recheck(room / "graph", room / "right", *CYCLE, "--id", "0,8")
     COUNTS.judge("a trajectory that is not there", status == 2, text)
     # An endpoint alone: the rank has to be possible.
     bad = re.sub(r"rank \d+ of 7 p .*", "rank 8 of 7 p 1.142857143", report)
@@ -599,9 +599,9 @@ def columns_left_out(auditor: str, room: Path) -> None:
         at = words.index(name)
         said = (f"cannot be checked: ValueError: the report has a line `{line}`: give {name}"
                 " COLUMN\n")
-        COUNTS.judge(f"{name} is left out", checked(*both, *words[:at], *words[at + 2:])
+        COUNTS.judge(f"{name} is left out", call_recheck(*both, *words[:at], *words[at + 2:])
                      == (2, said), said)
-    COUNTS.judge("no column is given", checked(*both) == (
+    COUNTS.judge("no column is given", call_recheck(*both) == (
         2, "cannot be checked: ValueError: the report has a line `units`: give --pop COLUMN\n"))
 
 

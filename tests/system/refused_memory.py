@@ -244,7 +244,7 @@ def runs() -> dict[str, list[tuple[list[str], bytes]]]:
                     "--hub-steps", "4", "--ask", "gap:low", "--serial", "yes", "--workers", "2",
                     "--group", "a", "--source", "yes",
                 ],
-                several(cycle),
+                add_plans(cycle),
             )
         ],
         "trace": [
@@ -297,7 +297,7 @@ def runs() -> dict[str, list[tuple[list[str], bytes]]]:
     }
 
 
-def several(graph: bytes) -> bytes:
+def add_plans(graph: bytes) -> bytes:
     """Returns the graph as one line, and a table with two more plans of its units."""
     ids = [unit["id"] for unit in json.loads(graph)["nodes"]]
     half = len(ids) // 2
@@ -305,7 +305,7 @@ def several(graph: bytes) -> bytes:
     return graph.replace(b"\n", b"") + "\n".join(["", "id,halves,turned", *rows, ""]).encode()
 
 
-def built(folder: pathlib.Path) -> pathlib.Path:
+def build(folder: pathlib.Path) -> pathlib.Path:
     source, library = folder / "refuse.c", folder / "refuse.so"
     source.write_text(LIBRARY)
     subprocess.run(["gcc", "-shared", "-fPIC", "-O1", "-o", library, source, "-ldl"], check=True)
@@ -317,7 +317,7 @@ class Room:
 
     def __init__(self, program: str, folder: pathlib.Path) -> None:
         self.program, self.library, self.mark, self.slots = (
-            program, built(folder), folder / "mark", folder / "slots",
+            program, build(folder), folder / "mark", folder / "slots",
         )
         self.counted, self.seconds = folder / "counted", 0.0
         self.slots.mkdir()
@@ -351,7 +351,7 @@ class Room:
         }
         if is_all:
             given["REFUSE_ALL"] = "1"
-        begun = taken()
+        begun = measure_seconds()
         try:
             done = subprocess.run(
                 [self.program, *words], input=graph, capture_output=True, cwd=self.slots, env=given,
@@ -360,7 +360,7 @@ class Room:
         except subprocess.TimeoutExpired:
             return End("none after 20 seconds", b"", b"", files, self.mark.exists())
         finally:
-            self.seconds = taken() - begun
+            self.seconds = measure_seconds() - begun
         refused = self.mark.exists()
         return End(done.returncode, done.stdout, done.stderr, self.files(), refused)
 
@@ -423,14 +423,14 @@ def refuse_folders(room: Room, tally: Tally) -> None:
     graph = (DATA / "cycle.json").read_bytes()
     for name, (words, files) in folder_calls().items():
         tries = Tries(room, name, words, graph, files)
-        wanted = wanted_of(words, graph, files)
+        wanted = predict(words, graph, files)
         if (tries.own.status, tries.own.out.decode(), tries.own.note.decode()) != wanted:
             tries.found.append(f"{name}: {tries.own[:3]} and not {wanted}")
         tries.refuse_each()
         tally.add(tries)
 
 
-def wanted_of(words: Sequence[str], graph: bytes, files: Files) -> tuple[int, str, str]:
+def predict(words: Sequence[str], graph: bytes, files: Files) -> tuple[int, str, str]:
     """Returns the model's status and both texts."""
 
     def slots(name: str) -> folder_model.Folder:
@@ -443,12 +443,12 @@ def wanted_of(words: Sequence[str], graph: bytes, files: Files) -> tuple[int, st
     return end.status, end.out, end.note
 
 
-def taken() -> float:
+def measure_seconds() -> float:
     """Returns the seconds of a processor that all runs up to now took."""
     return resource.getrusage(resource.RUSAGE_CHILDREN).ru_utime
 
 
-def wrong(end: End, own: End, files: Files, is_known: bool) -> str | None:
+def find_wrong(end: End, own: End, files: Files, is_known: bool) -> str | None:
     """Returns what is wrong with an end, or None.
 
     With `is_known` it is known which outcomes each save has, as it is of one worker.
@@ -466,7 +466,7 @@ def wrong(end: End, own: End, files: Files, is_known: bool) -> str | None:
     )
 
 
-def drawn_of(made: int, most: int, draw: random.Random) -> list[tuple[int, bool]]:
+def draw_allocations(made: int, most: int, draw: random.Random) -> list[tuple[int, bool]]:
     """Returns a few allocations, each from an equal part of all, and whether all after it are
     refused too.
     """
@@ -497,7 +497,7 @@ class Tries:
         end = self.room.run(*self.job, number, is_all)
         self.count += end.is_refused
         self.threes += end.status == 3
-        why = wrong(end, self.own, self.files, self.is_known)
+        why = find_wrong(end, self.own, self.files, self.is_known)
         if end.status == 3 and 1 < self.seconds < 10 * self.room.seconds:
             why = (
                 f"status 3 after {self.room.seconds:.1f} seconds of a processor, where the run"
@@ -544,7 +544,7 @@ def refuse_runs(room: Room, most: int, draw: random.Random, tally: Tally) -> Non
         for place, (words, graph) in enumerate(chain):
             tries = Tries(room, f"{name} {place + 1}", words, graph, files)
             if most:
-                for number, is_all in drawn_of(tries.made, most, draw):
+                for number, is_all in draw_allocations(tries.made, most, draw):
                     tries.refuse(number, is_all)
             else:
                 tries.refuse_each()

@@ -9,7 +9,7 @@ import sys
 import tempfile
 
 from tests.checks import Checks, run
-from tests.places import DATA, linked, package_command, package_environment
+from tests.places import DATA, link_programs, package_command, package_environment
 
 COLUMNS = "--pop TOTPOP --first DEM --second REP --district CD".split()
 GROUPS = (
@@ -25,14 +25,14 @@ class Room:
 
     def __init__(self, checks: Checks, auditor: pathlib.Path, folder: pathlib.Path) -> None:
         self.checks, self.auditor, self.folder = checks, auditor, folder
-        _, self.slots, _ = linked(folder)
+        _, self.slots, _ = link_programs(folder)
 
-    def prepared(self, name: str, file: str, wanted: int, *words: str) -> str:
+    def prepare(self, name: str, file: str, wanted: int, *words: str) -> str:
         """Prepares a sample graph as NAME.json, and returns what the package says."""
         out = self.folder / f"{name}.json"
         words = (*words, "--out", str(out))
         end = run([*package_command("prepare"), DATA / file, *words], more=package_environment())
-        self.checks.ended(f"prepare_{name}", end, wanted)
+        self.checks.has_status(f"prepare_{name}", end, wanted)
         return end.note
 
     def check(self, name: str, *words: str) -> tuple[str, str]:
@@ -46,7 +46,7 @@ class Room:
         folder.mkdir()
         more = ["--save", "2", "--budget", "4"]
         end = run([self.auditor, "run", *words, *JOB, *more], graph.read_bytes(), folder)
-        self.checks.ended(f"{name}_ends", end, 7)
+        self.checks.has_status(f"{name}_ends", end, 7)
         return folder
 
     def knows(
@@ -60,7 +60,7 @@ class Room:
 def try_counties(room: Room) -> None:
     """Two counties, each of which lies in all five districts."""
     rules = [*COLUMNS, "--region", "COUNTY", "--max-split"]
-    said = room.prepared(
+    said = room.prepare(
         "counties", "rough.json", 1, *"--numbers floor --missing drop".split(), *rules, "4"
     )
     room.checks.has_line(
@@ -88,7 +88,7 @@ def try_refusals(room: Room) -> None:
     """The package and the auditor refuse the same for the same reason."""
     for rule in ("--max-splits", "--max-split-regions"):
         words = [*GROUPS, rule, "1"]
-        said = room.prepared(f"groups{rule}", "groups.json", 1, *words)
+        said = room.prepare(f"groups{rule}", "groups.json", 1, *words)
         front = "prepare: the auditor would refuse it: "
         refusals = [
             f"plan: {line[len(front):]}" for line in said.splitlines() if line.startswith(front)
@@ -97,7 +97,7 @@ def try_refusals(room: Room) -> None:
         room.checks.is_equal(f"refused_alike{rule}", refusals, note.splitlines())
         room.checks.is_equal(f"refused_without_text{rule}", text, "")
     words = [*GROUPS, "--group-districts", "3"]
-    said = room.prepared("majorities", "groups.json", 1, *words)
+    said = room.prepare("majorities", "groups.json", 1, *words)
     room.checks.has_line(
         "prepare_tells_of_majorities",
         said,

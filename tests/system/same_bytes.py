@@ -62,7 +62,7 @@ def library_again(
     words = ["build", *kit.words(LIBRARY, "src/lib.rt")]
     words += [*kit.logic(), "--links", f"{LIBRARY}=", "--statements", "-o", str(built)]
     end = kit.rattle(clone / "crates" / LIBRARY, words)
-    checks.ended("library_builds", end)
+    checks.has_status("library_builds", end)
     here, there = files_of(library_of(LIBRARY)), files_of(built)
     checks.is_equal("library_files", sorted(there), sorted(here))
     is_alike = here["format"].read_bytes() == there["format"].read_bytes()
@@ -82,15 +82,15 @@ def built_program(
     folder = clone / "crates" / PROGRAM
     if not checked.exists():
         end = kit.rattle(folder, ["check", *words, *kit.logic(), "-o", str(checked)])
-        checks.ended("program_is_proved", end)
+        checks.has_status("program_is_proved", end)
     tools = ["--toolchain", str(kit.folder / "toolchain")]
     made = folder / "out" / PROGRAM
     made.parent.mkdir(exist_ok=True)
     words = ["build", *words, "--crate-checked", str(checked), *tools, "--backend", "llvm"]
-    checks.ended("program_builds", kit.rattle(folder, [*words, "-o", f"{made}.o"]))
+    checks.has_status("program_builds", kit.rattle(folder, [*words, "-o", f"{made}.o"]))
     words = ["--target", "x86_64-unknown-linux-gnu", *tools, "-o", str(made), f"{made}.o"]
     words += [str(kit.folder / "c" / name) for name in ("libos_c.a", "liblibc_c.a")]
-    checks.ended("program_links", run([kit.folder / "bin" / "rattle-link", *words]))
+    checks.has_status("program_links", run([kit.folder / "bin" / "rattle-link", *words]))
     return made
 
 
@@ -101,7 +101,7 @@ def own_program() -> typing.Optional[pathlib.Path]:
     return own if own.exists() and not changed else None
 
 
-def compared(checks: Checks, made: list[pathlib.Path], paths: list[str]) -> None:
+def compare_builds(checks: Checks, made: list[pathlib.Path], paths: list[str]) -> None:
     """Compares two builds of the auditor, and looks for paths in the first."""
     if not all(path.exists() for path in made):
         return
@@ -134,7 +134,7 @@ def main() -> int:
         paths = [str(TOP), str(room)]
         for clone in clones:
             clone.parent.mkdir(exist_ok=True, parents=True)
-            checks.ended(f"clones_{clone.name}", clean_clone(kit, clone))
+            checks.has_status(f"clones_{clone.name}", clean_clone(kit, clone))
         named = [
             crate
             for crate in below
@@ -143,7 +143,7 @@ def main() -> int:
         checks.is_equal("libraries_name_no_path", named, [])
         library_again(checks, kit, clones[0], paths)
         made = [built_program(checks, kit, clone, room / "checked") for clone in clones]
-        compared(checks, [*made, *([own] if own else [])], paths)
+        compare_builds(checks, [*made, *([own] if own else [])], paths)
     return checks.finish()
 
 

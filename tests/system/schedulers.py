@@ -12,7 +12,7 @@ import tempfile
 import time
 
 from tests.checks import Checks, run
-from tests.places import DATA, EXAMPLES, TEST_DATA, linked
+from tests.places import DATA, EXAMPLES, TEST_DATA, link_programs
 
 WORDS = [
     "run",
@@ -54,7 +54,7 @@ def job(folder: pathlib.Path, script: str, text: str) -> pathlib.Path:
 
 def try_parallel(checks: Checks, path: pathlib.Path, report: str) -> None:
     if shutil.which("parallel") is None:
-        checks.missing("parallel_audit", "GNU parallel")
+        checks.count_missing("parallel_audit", "GNU parallel")
         return
     front = (TEST_DATA / "version_1.ckpt").read_bytes()[:50]
     for name in ("part-3", "all"):
@@ -62,7 +62,7 @@ def try_parallel(checks: Checks, path: pathlib.Path, report: str) -> None:
         (path.parent / name / "audit-0.ckpt").write_bytes(front)
     end = run(["bash", path], folder=path.parent)
     written = path.parent / "report"
-    checks.ended("parallel_audit_ends", end)
+    checks.has_status("parallel_audit_ends", end)
     checks.is_same_text(
         "parallel_audit_report", written.read_text() if written.exists() else "", report
     )
@@ -79,7 +79,7 @@ def try_slurm(checks: Checks, path: pathlib.Path, report: str) -> None:
     if not has_slurm():
         checks.skips("slurm_audit", "Slurm is not running here")
         return
-    checks.ended("slurm_audit_starts", run(["bash", path.name, "start"], folder=path.parent))
+    checks.has_status("slurm_audit_starts", run(["bash", path.name, "start"], folder=path.parent))
     written, end = path.parent / "report", time.monotonic() + 120
     while not written.exists() and time.monotonic() < end:
         time.sleep(1)
@@ -95,9 +95,9 @@ def main() -> int:
     checks = Checks("schedulers")
     with tempfile.TemporaryDirectory() as name:
         room = pathlib.Path(name)
-        _, _, gatherer = linked(room)
+        _, _, gatherer = link_programs(room)
         end = run([auditor, *WORDS], (DATA / "grid.json").read_bytes())
-        checks.ended("one_run", end)
+        checks.has_status("one_run", end)
         path = job(room / "parallel", "parallel_audit.sh", settings(auditor, gatherer, "60"))
         try_parallel(checks, path, end.out)
         path = job(room / "slurm", "slurm_audit.sh", settings(auditor, gatherer, "00:05:00"))

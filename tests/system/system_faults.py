@@ -128,7 +128,7 @@ class Room:
             if data is not None:
                 (self.slots / name).write_bytes(data)
 
-    def stored(self) -> list[bytes | None]:
+    def read_slots(self) -> list[bytes | None]:
         return [
             (self.slots / name).read_bytes() if (self.slots / name).exists() else None
             for name in NAMES
@@ -151,7 +151,7 @@ class Room:
                 cwd=self.slots, env={**os.environ, **(given or {})}, preexec_fn=prepared,
                 timeout=120, check=False,
             )
-        return End(done.returncode, out_file.read_bytes(), done.stderr, self.stored())
+        return End(done.returncode, out_file.read_bytes(), done.stderr, self.read_slots())
 
     def judge(
         self, name: str, end: End, status: int, out: str, note: str, slots: Sequence[bytes | None]
@@ -165,7 +165,7 @@ class Room:
                 self.wrong.append(f"{name}: {part} {str(found)[:200]} and not {str(wanted)[:200]}")
                 return
 
-    def as_model(
+    def compare(
         self,
         name: str,
         words: Sequence[str],
@@ -185,7 +185,7 @@ class Room:
 # ---- faults injected by strace
 
 
-def saved(
+def save(
     words: Sequence[str], slots: model.Slots, fails: Mapping[int, Left]
 ) -> list[bytes | None]:
     """Returns the files after a run of which the saves with these numbers fail; the functions say
@@ -194,10 +194,10 @@ def saved(
     setting = model.Setting(words)
     job = model.job_of(setting, CYCLE)
     digest = job.digest()
-    seen = [model.looked(setting, digest, data) for data in slots]
+    seen = [model.check_slot(setting, digest, data) for data in slots]
     found = model.initial_outcomes(seen, digest, setting) if setting.resume else {}
     todo = [one for one in range(setting.total) if one not in found][: setting.budget]
-    every, after = model.asked(job, digest), list(slots)
+    every, after = model.select_outcomes(job, digest), list(slots)
     newest = model.newest(seen)
     slot, generation = (0, 0) if newest is None else (1 - newest, (seen[newest].generation + 1) % 3)
     number, last = 0, -1
@@ -216,15 +216,15 @@ def saved(
     return after
 
 
-def whole(data: bytes) -> bytes:
+def keep_all(data: bytes) -> bytes:
     return data
 
 
-def nothing(_data: bytes) -> bytes:
+def drop_all(_data: bytes) -> bytes:
     return b""
 
 
-def front(count: int) -> Left:
+def keep_front(count: int) -> Left:
     return lambda data: data[:count]
 
 
@@ -284,25 +284,25 @@ class Injections:
             path, when = NAMES[(number + 1) % 2], (number + 1) // 2
             self.run(
                 f"save {number} is not synced", self.fresh, ABSENT, "fsync", path,
-                f"error=EIO:when={when}", FAULT, saved(self.fresh, ABSENT, {number: whole}),
+                f"error=EIO:when={when}", FAULT, save(self.fresh, ABSENT, {number: keep_all}),
             )
             self.run(
                 f"save {number} has no room", self.fresh, ABSENT, "write", path,
-                f"error=ENOSPC:when={when}", FAULT, saved(self.fresh, ABSENT, {number: nothing}),
+                f"error=ENOSPC:when={when}", FAULT, save(self.fresh, ABSENT, {number: drop_all}),
             )
             self.run(
                 f"save {number} is interrupted", self.fresh, ABSENT, "write", path,
-                f"error=EINTR:when={when}", DONE, saved(self.fresh, ABSENT, {}),
+                f"error=EINTR:when={when}", DONE, save(self.fresh, ABSENT, {}),
             )
             self.run(
                 f"the sync of save {number} is interrupted", self.fresh, ABSENT, "fsync", path,
-                f"error=EINTR:when={when}", DONE, saved(self.fresh, ABSENT, {}),
+                f"error=EINTR:when={when}", DONE, save(self.fresh, ABSENT, {}),
             )
         for when, number in ((1, 1), (2, 2)):
             self.run(
                 f"the folder of save {number} is not synced", self.fresh, ABSENT, "fsync",
                 self.room.slots, f"error=EIO:when={when}", FAULT,
-                saved(self.fresh, ABSENT, {number: whole}),
+                save(self.fresh, ABSENT, {number: keep_all}),
             )
 
     def fail_folder(self) -> None:
@@ -311,25 +311,25 @@ class Injections:
         for path in paths:
             self.run(
                 f"the closing of {path} fails", self.fresh, ABSENT, "close", path, "error=EIO",
-                DONE, saved(self.fresh, ABSENT, {}),
+                DONE, save(self.fresh, ABSENT, {}),
             )
         self.run(
             "no save is synced", self.fresh, ABSENT, "fsync", NAMES[0], "error=EIO", FAULT,
-            saved(self.fresh, ABSENT, dict.fromkeys(range(1, 9), whole)),
+            save(self.fresh, ABSENT, dict.fromkeys(range(1, 9), keep_all)),
         )
         self.run(
             "the folder is never synced", self.fresh, ABSENT, "fsync", self.room.slots, "error=EIO",
-            FAULT, saved(self.fresh, ABSENT, dict.fromkeys(range(1, 9), whole)),
+            FAULT, save(self.fresh, ABSENT, dict.fromkeys(range(1, 9), keep_all)),
         )
         for error in ("EINVAL", "EOPNOTSUPP"):
             self.run(
                 f"the folder is never synced, and the system says why: {error}", self.fresh, ABSENT,
-                "fsync", self.room.slots, f"error={error}", DONE, saved(self.fresh, ABSENT, {}),
+                "fsync", self.room.slots, f"error={error}", DONE, save(self.fresh, ABSENT, {}),
             )
         for error in ("EOPNOTSUPP", "ENOLCK", "EINVAL", "EIO"):
             self.run(
                 f"the folder cannot be locked: {error}", self.resumed, self.first, "flock",
-                self.room.slots, f"error={error}", DONE, saved(self.resumed, self.first, {}),
+                self.room.slots, f"error={error}", DONE, save(self.resumed, self.first, {}),
             )
 
     def hold_folder(self) -> None:
@@ -349,7 +349,7 @@ class Injections:
             self.run(
                 f"the {what} is not synced before the first save", self.resumed, self.first,
                 "fsync", path, "error=EIO:when=1", FAULT,
-                saved(self.resumed, self.first, {1: lambda data: self.first[1]}),
+                save(self.resumed, self.first, {1: lambda data: self.first[1]}),
             )
         # A process that cannot have the newest file stored makes no save: each attempt would be
         # its first.
@@ -384,12 +384,12 @@ class Injections:
             )
         self.run(
             "a new file is refused", self.fresh, ABSENT, "openat", NAMES[0], "error=EACCES:when=2",
-            FAULT, saved(self.fresh, ABSENT, {1: lambda data: None}),
+            FAULT, save(self.fresh, ABSENT, {1: lambda data: None}),
         )
         self.run(
             "an old file is not opened", self.resumed, self.first, "openat", NAMES[1],
             "error=EMFILE:when=3", FAULT,
-            saved(self.resumed, self.first, {1: lambda data: self.first[1]}),
+            save(self.resumed, self.first, {1: lambda data: self.first[1]}),
         )
         for path in NAMES:
             for error in ("EACCES", "EIO", "EMFILE", "ELOOP", "ENOTDIR"):
@@ -408,7 +408,7 @@ class Injections:
             )
             self.run(
                 f"the opening of {path} is interrupted", self.resumed, self.first, "openat", path,
-                "error=EINTR:when=1", DONE, saved(self.resumed, self.first, {}),
+                "error=EINTR:when=1", DONE, save(self.resumed, self.first, {}),
             )
             for when in (1, 2):
                 self.run(
@@ -417,7 +417,7 @@ class Injections:
                 )
                 self.run(
                     f"read {when} of {path} is interrupted", self.resumed, self.first, "read", path,
-                    f"error=EINTR:when={when}", DONE, saved(self.resumed, self.first, {}),
+                    f"error=EINTR:when={when}", DONE, save(self.resumed, self.first, {}),
                 )
         graph, out = self.room.folder / "graph", self.room.folder / "out"
         for when in (1, 2):
@@ -427,20 +427,20 @@ class Injections:
             )
             self.run(
                 f"read {when} of the graph is interrupted", self.resumed, self.first, "read", graph,
-                f"error=EINTR:when={when}", DONE, saved(self.resumed, self.first, {}),
+                f"error=EINTR:when={when}", DONE, save(self.resumed, self.first, {}),
             )
         for error in ("EIO", "ENOSPC", "EPIPE", "EFBIG"):
             self.run(
                 f"the report is not written: {error}", self.resumed, self.first, "write", out,
-                f"error={error}:when=1", (5, "write fault\n"), saved(self.resumed, self.first, {}),
+                f"error={error}:when=1", (5, "write fault\n"), save(self.resumed, self.first, {}),
             )
         self.run(
             "the writing of the report is interrupted", self.resumed, self.first, "write", out,
-            "error=EINTR:when=1", DONE, saved(self.resumed, self.first, {}),
+            "error=EINTR:when=1", DONE, save(self.resumed, self.first, {}),
         )
 
 
-def injected(room: Room) -> str:
+def inject_faults(room: Room) -> str:
     if not power_cuts.can_trace():
         return Skipped("no faults injected: strace is not installed, or may not trace here")
     faults = Injections(room)
@@ -454,7 +454,7 @@ def injected(room: Room) -> str:
 # ---- a few bytes a call
 
 
-def short(room: Room) -> str:
+def shorten_calls(room: Room) -> str:
     if shutil.which("gcc") is None:
         return Skipped("no short reads and writes: gcc is not installed")
     source, library = room.folder / "short.c", room.folder / "short.so"
@@ -463,28 +463,28 @@ def short(room: Room) -> str:
     given, slots = {"LD_PRELOAD": str(library)}, ABSENT
     for more in (NO_WORDS, ["--resume", "yes"], ["--resume", "yes"]):
         words = [*room.chain, "--save", "2", "--budget", "5", *more]
-        room.as_model("seven bytes a call", words, CYCLE, slots, given=given)
+        room.compare("seven bytes a call", words, CYCLE, slots, given=given)
         slots = model.audit(words, CYCLE, slots).slots
-    room.as_model("seven bytes a call", CHECK, CYCLE, given=given)
-    room.as_model("seven bytes a call", CHECK, CYCLE[:300], given=given)
-    room.as_model("seven bytes a call", ["audit"], CYCLE, given=given)
+    room.compare("seven bytes a call", CHECK, CYCLE, given=given)
+    room.compare("seven bytes a call", CHECK, CYCLE[:300], given=given)
+    room.compare("seven bytes a call", ["audit"], CYCLE, given=given)
     return "seven bytes a call, every other call interrupted"
 
 
-def file_size(room: Room) -> str:
+def limit_files(room: Room) -> str:
     """Limits the length of files: a save is cut off in its middle, and the other slot holds what
     was saved before.
     """
 
-    def limited() -> None:
+    def limit_size() -> None:
         signal.signal(signal.SIGXFSZ, signal.SIG_IGN)
         resource.setrlimit(resource.RLIMIT_FSIZE, (600, 600))
 
     words = [*room.chain, "--save", "2", "--budget", "11"]
     room.place([None, None])
-    end = room.run(words, CYCLE, prepared=limited)
+    end = room.run(words, CYCLE, prepared=limit_size)
     # saves of 2, 4 and 6 outcomes fit; those of 8, 10 and 11 do not
-    files = saved(words, [None, None], {number: front(600) for number in (4, 5, 6)})
+    files = save(words, [None, None], {number: keep_front(600) for number in (4, 5, 6)})
     room.judge("files of at most 600 bytes", end, 9, "", "checkpoint save fault\n", files)
     return "saves cut off by a limit on files"
 
@@ -518,12 +518,12 @@ def many_edges(count: int) -> bytes:
 
 
 def limits(room: Room) -> str:
-    room.as_model("the most bytes", CHECK, CYCLE + b" " * (model.MOST_INPUT - len(CYCLE)))
-    room.as_model("a byte too many", CHECK, CYCLE + b" " * (model.MOST_INPUT + 1 - len(CYCLE)))
+    room.compare("the most bytes", CHECK, CYCLE + b" " * (model.MOST_INPUT - len(CYCLE)))
+    room.compare("a byte too many", CHECK, CYCLE + b" " * (model.MOST_INPUT + 1 - len(CYCLE)))
     for deep in (126, 127):
         for one, other in ((b"[", b"]"), (b'{"a":', b"}")):
             nested = one * deep + b"1" + other * deep
-            room.as_model(
+            room.compare(
                 f"{deep + 1} levels", CHECK, CYCLE.replace(b'"graph": []', b'"graph": ' + nested)
             )
     limits_of_counts(room)
@@ -534,31 +534,31 @@ def limits(room: Room) -> str:
 def limits_of_counts(room: Room) -> None:
     """Checks as many units, edges, districts, regions and majorities as may be, and one more."""
     for count in (100000, 100001):
-        room.as_model(
+        room.compare(
             f"{count} units", CHECK, path_of(count, lambda at: at // 50000 if at < 100000 else 1)
         )
     for count in (400000, 400001):
-        room.as_model(f"{count} edges", CHECK, many_edges(count))
+        room.compare(f"{count} edges", CHECK, many_edges(count))
     for count in (1, 2, 200, 201):
-        room.as_model(f"{count} districts", CHECK, path_of(count, lambda at: at))
+        room.compare(f"{count} districts", CHECK, path_of(count, lambda at: at))
     for count in (5000, 5001):
-        room.as_model(
+        room.compare(
             f"{count} regions", [*CHECK, "--region", "id"],
             path_of(count, lambda at: at * 2 // count),
         )
     for most in (1, 199, 200):
-        room.as_model(
+        room.compare(
             "a region in 200 districts", [*CHECK, "--region", "pop", "--max-split", str(most)],
             path_of(200, lambda at: at),
         )
     for name, numbers in (("--max-splits", (198, 199)), ("--max-split-regions", (0, 1))):
         for most in numbers:
-            room.as_model(
+            room.compare(
                 "a region in 200 districts", [*CHECK, "--region", "pop", name, str(most)],
                 path_of(200, lambda at: at),
             )
     for count in (199, 200, 201):
-        room.as_model(
+        room.compare(
             f"{count} majorities", [*CHECK, "--group", "a", "--group-districts", str(count)],
             path_of(200, lambda at: at),
         )
@@ -570,11 +570,11 @@ def limits_of_values(room: Room) -> None:
         for number in (low, high):
             nodes = [node(0, 0, number, number, 0), node(1, 1, number, 0, number)]
             for score in ("gap:low", "mean-median:high", "seats:low"):
-                room.as_model(
+                room.compare(
                     f"numbers of {number}", [*CHAIN[:-1], score], text(nodes, [[{"id": 1}], []])
                 )
-            room.as_model(f"numbers of {number}", CHECK, text(nodes, [[{"id": 1}], []]))
-            room.as_model(
+            room.compare(f"numbers of {number}", CHECK, text(nodes, [[{"id": 1}], []]))
+            room.compare(
                 f"a group of {number}",
                 [*CHECK, "--group", "a", "--group-of", "b", "--group-districts", "1"],
                 text(nodes, [[{"id": 1}], []]),
@@ -582,7 +582,7 @@ def limits_of_values(room: Room) -> None:
     for label in (
         2**64 - 1, 2**64, -(2**63), -(2**63) - 1, -0.0, "", "\u0000", "\U0001f5f3",
     ):
-        room.as_model(
+        room.compare(
             f"the label and id {label!r}", CHECK,
             text([node(label, 0), node(7, label)], [[{"id": 7}], []]),
         )
@@ -592,7 +592,7 @@ def checkpoints(room: Room) -> str:
     """Checks checkpoints with the most outcomes and with one more, of both versions, for runs with
     the tally of seats and without.
     """
-    words = with_values(CHAIN, {"--walks": "100000", "--steps": "1", "--resume": "yes"})
+    words = replace_values(CHAIN, {"--walks": "100000", "--steps": "1", "--resume": "yes"})
     own = model.job_of(model.Setting(words), CYCLE).digest()
     bins = (0, 0, 0, 1, 1, 0, 0, 0, 0)
     most = {one: model.Outcome(one % 2, [1 + one % 2], bins) for one in range(100000)}
@@ -600,40 +600,40 @@ def checkpoints(room: Room) -> str:
         for more in (
             NO_WORDS, ["--workers", "4"], ["--shift", "yes", "--save", "1", "--budget", "0"]
         ):
-            room.as_model(
+            room.compare(
                 f"100000 outcomes of version {version}", [*words, *more], CYCLE,
                 (model.checkpoint(own, 1, most, version), None),
             )
         other = {one: outcome for one, outcome in most.items() if one > 0}
-        room.as_model(
+        room.compare(
             f"another job's 99999 outcomes of version {version}", words, CYCLE,
             (None, model.checkpoint(bytes(32), 1, other, version)),
         )
-        room.as_model(
+        room.compare(
             f"100001 outcomes of version {version}", words, CYCLE,
             (model.checkpoint(own, 1, {**most, 100000: most[0]}, version), None),
         )
-    chain = with_values(CHAIN, {"--steps": "7"})
+    chain = replace_values(CHAIN, {"--steps": "7"})
     plain, binned = (
         model.audit([*chain, "--save", "100", "--shift", shift], CYCLE, [None, None]).slots[0]
         for shift in ("no", "yes")
     )
-    slot = model.decoded(plain)
+    slot = model.decode(plain)
     first = dict(list(model.outcomes_in(slot).items())[:5])
     old = model.checkpoint(slot.job, 0, first, 1)
     for slots in ((old, None), (old, binned), (binned, old), (plain, None), (binned, plain)):
         for shift in ("no", "yes"):
             for serial in ("no", "yes"):
                 said = [*chain, "--resume", "yes", "--shift", shift, "--serial", serial]
-                room.as_model("checkpoints of both versions", said, CYCLE, slots)
-                room.as_model(
+                room.compare("checkpoints of both versions", said, CYCLE, slots)
+                room.compare(
                     "checkpoints of both versions", [*said, "--save", "5", "--budget", "7"], CYCLE,
                     slots,
                 )
     return "checkpoints at the limits, and of both versions"
 
 
-def with_values(words: Sequence[str], values: Mapping[str, str]) -> list[str]:
+def replace_values(words: Sequence[str], values: Mapping[str, str]) -> list[str]:
     """Returns the words, some names of which have other values or come anew."""
     given = {**dict(zip(words[1::2], words[2::2])), **values}
     return [words[0], *(word for pair in given.items() for word in pair)]
@@ -652,10 +652,10 @@ def ranges(room: Room) -> str:
             if name not in model.COMMANDS[command] or command == "make" and name != "--size":
                 continue
             for number in (low - 1, low, high, high + 1, 2**32 + low, 2**64 + low):
-                said = with_values(words, {name: str(number)})
+                said = replace_values(words, {name: str(number)})
                 if command == "make" and number in range(low, high + 1):
                     continue
-                room.as_model(f"{name} {number}", said, b"")
+                room.compare(f"{name} {number}", said, b"")
     ranges_of_rules(room)
     ranges_of_words(room)
     return "values of words at the ends of their ranges"
@@ -665,9 +665,9 @@ def ranges_of_rules(room: Room) -> None:
     """Checks the limits of rules with and without the column that they need."""
     for number in (0, 1, 2, 199, 200, 201, 2**32 + 1):
         for region in ("d", "b", ""):
-            room.as_model(
+            room.compare(
                 f"--max-split {number}",
-                with_values(CHECK, {"--max-split": str(number), "--region": region}), CYCLE,
+                replace_values(CHECK, {"--max-split": str(number), "--region": region}), CYCLE,
             )
     for name, column in (
         ("--max-splits", "--region"), ("--max-split-regions", "--region"),
@@ -676,15 +676,15 @@ def ranges_of_rules(room: Room) -> None:
         low, high = model.RANGES[name]
         for number in (low, low + 1, high - 1, high, high + 1, 2**32 + 1):
             for value in ("d", "a", ""):
-                room.as_model(
-                    f"{name} {number}", with_values(CHECK, {name: str(number), column: value}),
+                room.compare(
+                    f"{name} {number}", replace_values(CHECK, {name: str(number), column: value}),
                     CYCLE,
                 )
     for group in ("a", ""):
         for whole in ("b", "d", ""):
-            room.as_model(
+            room.compare(
                 f"--group {group} --group-of {whole}",
-                with_values(CHECK, {"--group": group, "--group-of": whole}), CYCLE,
+                replace_values(CHECK, {"--group": group, "--group-of": whole}), CYCLE,
             )
 
 
@@ -692,19 +692,20 @@ def ranges_of_words(room: Room) -> None:
     """Checks words of yes and no, and the numbers of steps that a serial test takes."""
     for name in ("--resume", "--shift", "--serial", "--source"):
         for value in ("yes", "no", "Yes", "maybe", "", "yes ", "1"):
-            room.as_model(f"{name} {value}", with_values(CHAIN, {"--steps": "7", name: value}), b"")
-            room.as_model(f"{name} {value}", with_values(CHECK, {name: value}), CYCLE)
+            words = replace_values(CHAIN, {"--steps": "7", name: value})
+            room.compare(f"{name} {value}", words, b"")
+            room.compare(f"{name} {value}", replace_values(CHECK, {name: value}), CYCLE)
     for steps in (
         "0", "08", "1", "2", "3", "7", "8", "9", "1023", "1024", "536870910", "536870911",
         "536870912", "1000000000", "1000000001",
     ):
-        room.as_model(
+        room.compare(
             f"--serial yes with --steps {steps}",
-            with_values(CHAIN, {"--steps": steps, "--serial": "yes"}), b"",
+            replace_values(CHAIN, {"--steps": steps, "--serial": "yes"}), b"",
         )
-        room.as_model(
+        room.compare(
             f"--serial maybe with --steps {steps}",
-            with_values(CHAIN, {"--steps": steps, "--serial": "maybe", "--shift": "maybe"}),
+            replace_values(CHAIN, {"--steps": steps, "--serial": "maybe", "--shift": "maybe"}),
             b"",
         )
 
@@ -717,7 +718,7 @@ def is_walking(process: subprocess.Popen[bytes]) -> bool:
     return len(os.listdir(f"/proc/{process.pid}/task")) > 1
 
 
-def stopped(process: subprocess.Popen[bytes]) -> bool:
+def stop(process: subprocess.Popen[bytes]) -> bool:
     """Stops a run as soon as it walks; whether it did not end before."""
     while process.poll() is None:
         try:
@@ -750,7 +751,7 @@ def walk_over(
         process.stdin.write(CYCLE)
         process.stdin.close()
         process.stdin = None
-        if not stopped(process) or any(room.slots.iterdir()):
+        if not stop(process) or any(room.slots.iterdir()):
             return None
         change()
         process.send_signal(signal.SIGCONT)
@@ -772,7 +773,7 @@ def pipes(room: Room) -> str:
         steps = 1000000
         end: tuple[int | str, bytes, bytes] | None = None
         while end is None and steps <= 256000000:
-            words = with_values(
+            words = replace_values(
                 room.chain, {"--walks": "4", "--steps": str(steps), "--workers": "2"}
             )
             end = walk_over(
@@ -807,24 +808,24 @@ BUFFERING = {"--workers": "4", "--walks": "4040", "--steps": "60000", "--save": 
 SAVES, LAST, MOST_MISSING = 40, 10, 9
 
 
-def missing(room: Room, words: Sequence[str]) -> list[int]:
+def count_missing(room: Room, words: Sequence[str]) -> list[int]:
     """Returns for each save of a run the number of ids below its greatest without an outcome."""
     counts: list[int] = []
     written: dict[int, bytes] = {}
     folder = room.folder / "traced"
     shutil.rmtree(folder, ignore_errors=True)
-    for step in power_cuts.traced(room.program, folder, words, [None, None]):
+    for step in power_cuts.trace(room.program, folder, words, [None, None]):
         if step.what in ("make", "open"):
             written[step.file] = b""
         elif step.what == "write":
             written[step.file] += step.data
         elif step.what == "sync" and written.get(step.file):
-            ids = [one[0] for one in model.decoded(written.pop(step.file)).records]
+            ids = [one[0] for one in model.decode(written.pop(step.file)).records]
             counts.append(ids[-1] + 1 - len(ids))
     return counts
 
 
-def buffered(room: Room) -> str:
+def check_buffered(room: Room) -> str:
     """Checks what a kill after a save loses: workers buffer outcomes only while another one posts,
     and hand them in as soon as it is done.
     """
@@ -832,8 +833,8 @@ def buffered(room: Room) -> str:
         return Skipped(
             "no outcomes counted that workers hold: strace is not installed, or may not trace here"
         )
-    words = with_values(room.chain, BUFFERING)
-    counts = missing(room, words)
+    words = replace_values(room.chain, BUFFERING)
+    counts = count_missing(room, words)
     room.count += 1
     middles = [
         sorted(some)[len(some) // 2] if some else 0 for some in (counts[:LAST], counts[-LAST:])
@@ -906,7 +907,7 @@ def other_user(room: Room) -> str:
 
 def chain_of(number: int) -> list[str]:
     """Returns the words of a job: those of CHAIN with another key and other questions."""
-    return with_values(
+    return replace_values(
         CHAIN, {"--key": f"{number:x}".rjust(64, "0"), "--ask": ASKS[number % len(ASKS)]}
     )
 
@@ -916,12 +917,12 @@ def main(program: str, jobs: int = 1) -> int:
     parts = [
         (part, number)
         for number in range(jobs)
-        for part in (injected, short, file_size, other_user)
+        for part in (inject_faults, shorten_calls, limit_files, other_user)
     ]
     with tempfile.TemporaryDirectory() as name:
         room = Room(os.path.abspath(program), pathlib.Path(name))
         for part, number in [
-            (limits, 0), (checkpoints, 0), (ranges, 0), (pipes, 0), (buffered, 0), *parts,
+            (limits, 0), (checkpoints, 0), (ranges, 0), (pipes, 0), (check_buffered, 0), *parts,
         ]:
             room.chain = chain_of(number)
             count, wrong = room.count, len(room.wrong)
