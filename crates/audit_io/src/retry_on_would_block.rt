@@ -63,7 +63,11 @@ impl<T: Write + Drop, C: Clock + Drop> Write for RetryOnWouldBlock<T, C> {
 }
 
 // Reads once. Repeats the call while it would block, so that the returned error is never `WouldBlock`.
-fn read_until_ready<T: Read, C: Clock>(from: &mut T, clock: &C, into: &mut [u8]) -> io::Result<usize>
+fn read_until_ready<T: Read, C: Clock>(
+    from: &mut T,
+    clock: &C,
+    into: &mut [u8],
+) -> io::Result<usize>
     ensures amount { ReadsAtMost result into.new }
     ensures bytes { ReadConsumes (T.remaining from.old) (T.remaining from.new) result into.new }
     ensures waits { IfErr result (λ e. error_kind e ≢ ErrorKind.WouldBlock) }

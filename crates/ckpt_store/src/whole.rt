@@ -18,7 +18,7 @@ use crate::collection::Collection;
 use crate::finding::{Finding, find_in};
 use crate::folder_content::{has_broken, newest_content};
 use crate::gather::save_list;
-use crate::gather_result::{FindingList, GatherResult, GatherError};
+use crate::gather_result::{FindingList, GatherError, GatherResult};
 use crate::look::{LookFault, look};
 use crate::slots::Slots;
 use audit_io::keeper::Keeper;

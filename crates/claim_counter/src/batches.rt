@@ -120,7 +120,12 @@ pub fn make_batch_workers<J: Judge>(
 }
 
 // Makes an idle worker ready for the next batch by giving it a pass.
-fn start_worker<J: Judge>(job: &Job, claims: &Claims, idle_worker: IdleWorker<J>, pass: Pass) -> Worker<J>
+fn start_worker<J: Judge>(
+    job: &Job,
+    claims: &Claims,
+    idle_worker: IdleWorker<J>,
+    pass: Pass,
+) -> Worker<J>
     requires limit { (size_of claims.now).limit ≤ total job.now }
     requires pass { BelongsTo claims.now pass × (own pass ≡ fresh 0) }
     requires idle_worker { IsIdleWorker job.now idle_worker }

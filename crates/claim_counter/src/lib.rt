@@ -20,9 +20,9 @@
 //!   of its worker.
 #![tactic(auto)]
 
+pub mod batches;
 mod claims;
 pub mod laws;
-pub mod batches;
 mod pass;
 pub mod pool;
 mod record;
@@ -31,12 +31,12 @@ pub mod walking;
 pub mod worker;
 pub mod workers;
 
+pub use batches::{BatchCounter, BatchWorkers, find_hub, make_batch_workers, walk_batch};
 pub use claims::{Claims, Closed};
 pub use laws::{
     count_is_bounded, end_keeps, join_keeps, number_keeps, sole_has_all, split_keeps,
     start_is_counted,
 };
-pub use batches::{BatchCounter, BatchWorkers, find_hub, make_batch_workers, walk_batch};
 pub use pass::Pass;
 pub use pool::{WorkerPool, make_pool};
 pub use record::{PassRecord, Size};

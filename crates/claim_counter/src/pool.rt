@@ -34,5 +34,8 @@ pub fn make_pool<J: Judge>(
 {
     let batch = BatchCounter::new(alloc, count, judges.len() as u32)?;
     let batch_workers = make_batch_workers(alloc, job, judges)?;
-    Ok(WorkerPool { batch, batch_workers })
+    Ok(WorkerPool {
+        batch,
+        batch_workers,
+    })
 }

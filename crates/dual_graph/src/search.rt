@@ -85,7 +85,11 @@ fn first_unmarked<I: Inside>(within: &Within<I>, marks: &Marks) -> Option<u32>
 ///
 /// The first is the least unit of the set, and the second the least unit that no such path connects
 /// to the first. For an empty set, which does not count as connected, the result is `(0, 0)`.
-pub fn find_disconnected_pair<I: Inside>(graph: &Graph, set: &I, marks: &mut Marks) -> Option<(u32, u32)>
+pub fn find_disconnected_pair<I: Inside>(
+    graph: &Graph,
+    set: &I,
+    marks: &mut Marks,
+) -> Option<(u32, u32)>
     requires set { I.units set.now ≡ graph.now.units }
     requires units { marks.old.units ≡ graph.now.units }
     ensures units { marks.new.units ≡ graph.now.units }

@@ -16,7 +16,7 @@ use crate::lines::{add_folder_line, add_own_line};
 use audit_io::keeper::Keeper;
 use audit_io::sink::Sink;
 use ckpt_store::finding::Finding;
-use ckpt_store::gather_result::{GatherResult, GatherError};
+use ckpt_store::gather_result::{GatherError, GatherResult};
 use ckpt_store::whole::gather;
 use plan_core::job::Job;
 use report::ended::Ended;

@@ -34,7 +34,12 @@ impl Inside for District<'_> {
 ///
 /// The first is the district's least unit, and the second the least unit that no such path connects
 /// to the first. For an empty district, which does not count as connected, the result is `(0, 0)`.
-pub fn find_disconnected_pair(graph: &Graph, plan: &[u32], district: u32, marks: &mut Marks) -> Option<(u32, u32)>
+pub fn find_disconnected_pair(
+    graph: &Graph,
+    plan: &[u32],
+    district: u32,
+    marks: &mut Marks,
+) -> Option<(u32, u32)>
     requires plan { length plan.now ≡ graph.now.units }
     requires units { marks.old.units ≡ graph.now.units }
     ensures units { marks.new.units ≡ graph.now.units }

@@ -52,7 +52,13 @@ pub fn start_trajectory(job: &Job, id: u32, thin: u32, line_buffer: &mut LineBuf
 }
 
 /// Fills the buffer with the line of the walker's current plan, after this many steps and moves. Allocates nothing.
-pub fn put_plan<J: Judge>(job: &Job, walker: &mut Walker<J>, step: u32, moved: u32, line_buffer: &mut LineBuffer)
+pub fn put_plan<J: Judge>(
+    job: &Job,
+    walker: &mut Walker<J>,
+    step: u32,
+    moved: u32,
+    line_buffer: &mut LineBuffer,
+)
     requires made { walker.old.job ≡ job.now }
     requires line_buffer { IsLineBuffer job.now line_buffer.old }
     ensures line_buffer { IsLineBuffer job.now line_buffer.new }

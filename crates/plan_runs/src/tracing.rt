@@ -73,7 +73,10 @@ fn make_tracer<J: Judge>(alloc: Global, job: &Job, judge: J) -> Result<Tracer<J>
 {
     let walker = Walker::new(alloc, job, judge)?;
     let line_buffer = make_line_buffer(alloc, job)?;
-    Ok(Tracer { walker, line_buffer })
+    Ok(Tracer {
+        walker,
+        line_buffer,
+    })
 }
 
 fn make_hub(job: &Job) -> Result<UnitList, Memory>

@@ -5,7 +5,7 @@ use crate::handing::open;
 use crate::pass::{DeskPass, take_out};
 use crate::rule::{DeskSplit, NextPlace, OneTally, PollTicket, Posting, See, Serve, Take};
 use crate::state::RunState;
-use crate::view::{DeskView, DeskArguments};
+use crate::view::{DeskArguments, DeskView};
 use atomic_table::{Seat, Table};
 use audit_io::keeper::Keeper;
 use audit_model::lists::UnitList;

@@ -10,7 +10,7 @@ ghost use Rattle.tally_desk.specs.RunStates.{HoldsOne, HasNoPosts};
 
 use crate::rule::OneTally;
 use crate::state::RunState;
-use crate::view::{DeskView, DeskArguments};
+use crate::view::{DeskArguments, DeskView};
 use atomic_table::{Seat, Table};
 use audit_io::keeper::Keeper;
 use audit_model::lists::UnitList;

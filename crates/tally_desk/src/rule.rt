@@ -3,7 +3,7 @@
 ghost use Rattle.std.specs.Prelude.{ℕ};
 
 use crate::state::RunState;
-use crate::view::{DeskView, DeskArguments};
+use crate::view::{DeskArguments, DeskView};
 use atomic_table::{Join, Play, Split, TableRule};
 use audit_io::keeper::Keeper;
 use std::marker::{Brand, PhantomData};
