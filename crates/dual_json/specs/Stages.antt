@@ -50,6 +50,14 @@ graph_fault d = option_or (frame_fault d.directed (length d.nodes) (length d.adj
 abbrev pub labels_fault : Columns → List Data → Option GraphFault
 labels_fault columns nodes = option_or (missing columns nodes) (option_or (bad columns nodes) (option_map fault.BadLabel (first_unnamed columns.district nodes)))
 
+-- the numbers and flags of the columns
+pub record AreNumbers (columns : Columns) (nodes : List Data) (counts : Counts) (group : Group) (frozen : List ℕ) : Type 0 where
+  pub population : counts.population ≡ numbers_in columns.population nodes
+  pub first : counts.first ≡ numbers_in columns.first nodes
+  pub second : counts.second ≡ numbers_in columns.second nodes
+  pub grouped : AreOfGroup columns nodes group
+  pub freezing : frozen ≡ frozen_in columns nodes
+
 -- the data of the columns
 pub record AreRows (columns : Columns) (nodes : List Data) (counts : Counts) (group : Group) (frozen start : List ℕ) (found : List Label) : Type 0 where
   pub population : counts.population ≡ numbers_in columns.population nodes

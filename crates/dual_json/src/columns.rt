@@ -3,7 +3,8 @@
 //! A column has the values of all nodes for one attribute. The checks below run before a column is read, so that faults
 //! come in the order that the definitions fix.
 
-ghost use Rattle.std.specs.Prelude.{◌≡◌, ◌≤◌, None, Some, cond, nat_le, nat_lt, option_and_then, option_map, length, IfOk, IfErr, MatchResult};
+ghost use Rattle.std.specs.Prelude.{◌≡◌, ◌≤◌, None, Some, cond, is_none, nat_le, nat_lt, option_and_then, option_map, length, IfOk, IfErr, MatchResult};
+ghost use Rattle.serde_json.specs.Find.{get};
 ghost use Rattle.audit_model.specs.declared.fault.GraphFault.TheVariants.{Memory};
 ghost use Rattle.dual_json.specs.Values.{value_data};
 ghost use Rattle.dual_json.specs.Columns.{count_in, flag_from, flag_in, flags_in, frozen_in, missing_in_frozen, bad_in_frozen, missing_in_group, bad_in_group, missing_in, bad_in, missing, bad, numbers_in, AreOfGroup};
@@ -105,13 +106,20 @@ pub fn frozen_of(
     flags_of(alloc, nodes, &columns.frozen)
 }
 
+/// Returns true if the node does not have the column.
+fn is_missing(node: &Value<'_>, key: &Text) -> bool
+    ensures { result ≡ is_none (get key.now (value_data node.now)) }
+{
+    node.get(key.as_str()).is_none()
+}
+
 /// Returns the column of frozen units if the arguments name it and the node does not have it.
 fn missing_of_frozen(node: &Value<'_>, columns: &Columns) -> Option<Column>
     ensures { result ≡ missing_in_frozen columns.now (value_data node.now) }
 {
     if columns.frozen.as_str().is_empty() {
         None
-    } else if node.get(columns.frozen.as_str()).is_none() {
+    } else if is_missing(node, &columns.frozen) {
         Some(Column::Frozen)
     } else {
         None
@@ -125,9 +133,9 @@ fn missing_of_group(node: &Value<'_>, columns: &Columns) -> Option<Column>
 {
     if columns.group.as_str().is_empty() {
         missing_of_frozen(node, columns)
-    } else if node.get(columns.group.as_str()).is_none() {
+    } else if is_missing(node, &columns.group) {
         Some(Column::Group)
-    } else if node.get(columns.whole.as_str()).is_none() {
+    } else if is_missing(node, &columns.whole) {
         Some(Column::Whole)
     } else {
         missing_of_frozen(node, columns)
@@ -138,13 +146,13 @@ fn missing_of_group(node: &Value<'_>, columns: &Columns) -> Option<Column>
 fn missing_column(node: &Value<'_>, columns: &Columns) -> Option<Column>
     ensures { result ≡ missing_in columns.now (value_data node.now) }
 {
-    if node.get(columns.population.as_str()).is_none() {
+    if is_missing(node, &columns.population) {
         Some(Column::Population)
-    } else if node.get(columns.first.as_str()).is_none() {
+    } else if is_missing(node, &columns.first) {
         Some(Column::First)
-    } else if node.get(columns.second.as_str()).is_none() {
+    } else if is_missing(node, &columns.second) {
         Some(Column::Second)
-    } else if node.get(columns.district.as_str()).is_none() {
+    } else if is_missing(node, &columns.district) {
         Some(Column::District)
     } else {
         missing_of_group(node, columns)

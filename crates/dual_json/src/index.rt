@@ -15,10 +15,20 @@ use std::collections::HashMap;
 use std::marker::Model;
 
 /// The ids of all nodes, which are distinct, and the map from each id to its node.
-#[derive(Drop)]
 pub struct Index<'v> {
     names: Vec<NodeName<'v>>,
     places: HashMap<NodeName<'v>, u32>,
+}
+
+/// Drops the fields one by one. Written by hand so that a caller's proof has one call here, not one
+/// per field.
+impl Drop for Index<'_> {
+    fn drop(self) {
+        let Index {
+            names: _names,
+            places: _places,
+        } = self;
+    }
 }
 
 impl<'v> Model for Index<'v> {

@@ -122,7 +122,7 @@ pub fn name_at<'v>(object: &Value<'v>, key: &str) -> Option<NodeName<'v>>
 
 /// The reason why ids or labels could not be read: the index of the first object without one, or
 /// out of memory.
-#[derive(Clone, Copy, Debug, PartialEq, Eq)]
+#[derive(Clone, Copy)]
 pub enum Unnamed {
     At(u32),
     Memory,

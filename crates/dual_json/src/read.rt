@@ -13,7 +13,7 @@ ghost use Rattle.dual_json.specs.Districts.{district_count_fault, different_coun
 ghost use Rattle.dual_json.specs.Places.{labels_from, repeated_label, AreLabels};
 ghost use Rattle.dual_json.specs.Lengths.{fault_if_named, lengths_if_named};
 ghost use Rattle.dual_json.specs.Shape.{lists_in, views, document_of_parts};
-ghost use Rattle.dual_json.specs.Stages.{ids_fault, graph_fault, labels_fault, AreRows};
+ghost use Rattle.dual_json.specs.Stages.{ids_fault, graph_fault, labels_fault, AreNumbers, AreRows};
 
 use crate::columns::{check_columns, check_numbers, counts_of, frozen_of, group_of};
 use crate::districts::{check_count, different, labels_of, start_of};
@@ -55,14 +55,77 @@ pub(crate) fn value_of<'t>(
     }
 }
 
-/// The data that the columns of the nodes give.
-#[derive(Drop)]
-struct Rows {
+/// The numbers and flags that the columns of the nodes give.
+struct Numbers {
     counts: Counts,
     group: Group,
     frozen: UnitList,
+}
+
+/// Drops the fields one by one. Written by hand so that a caller's proof has one call here, not one
+/// per field.
+impl Drop for Numbers {
+    fn drop(self) {
+        let Numbers {
+            counts: _counts,
+            group: _group,
+            frozen: _frozen,
+        } = self;
+    }
+}
+
+impl Numbers {
+    /// Adds the graph, the lengths of its edges, and the districts.
+    fn with(self, graph: Graph, lengths: UnitList, start: UnitList, labels: LabelList) -> Parsed
+        ensures { result ≡ record { graph = graph; counts = record self.counts { lengths = lengths }; group = self.group; frozen = self.frozen; start = start; labels = labels } }
+    {
+        let Numbers {
+            counts,
+            group,
+            frozen,
+        } = self;
+        Parsed {
+            graph,
+            counts: with_lengths(counts, lengths),
+            group,
+            frozen,
+            start,
+            labels,
+        }
+    }
+}
+
+/// The data that the columns of the nodes give.
+struct Rows {
+    numbers: Numbers,
     start: UnitList,
     labels: LabelList,
+}
+
+/// Drops the fields one by one. Written by hand so that a caller's proof has one call here, not one
+/// per field.
+impl Drop for Rows {
+    fn drop(self) {
+        let Rows {
+            numbers: _numbers,
+            start: _start,
+            labels: _labels,
+        } = self;
+    }
+}
+
+impl Rows {
+    /// Adds the graph and the lengths of its edges.
+    fn with(self, graph: Graph, lengths: UnitList) -> Parsed
+        ensures { result ≡ record { graph = graph; counts = record self.numbers.counts { lengths = lengths }; group = self.numbers.group; frozen = self.numbers.frozen; start = self.start; labels = self.labels } }
+    {
+        let Rows {
+            numbers,
+            start,
+            labels,
+        } = self;
+        numbers.with(graph, lengths, start, labels)
+    }
 }
 
 /// Reads the graph, its counts, the start plan and the district labels from JSON in networkx's
@@ -118,10 +181,33 @@ fn ids_of<'v>(alloc: Global, nodes: &[Value<'v>]) -> Result<Index<'v>, GraphFaul
 }
 
 /// A graph, and the map from the ids of its nodes to the nodes.
-#[derive(Drop)]
 struct IndexedGraph<'v> {
     graph: Graph,
     index: Index<'v>,
+}
+
+/// Drops the fields one by one. Written by hand so that a caller's proof has one call here, not one
+/// per field.
+impl Drop for IndexedGraph<'_> {
+    fn drop(self) {
+        let IndexedGraph {
+            graph: _graph,
+            index: _index,
+        } = self;
+    }
+}
+
+impl IndexedGraph<'_> {
+    /// Returns the graph and drops the map.
+    fn into_graph(self) -> Graph
+        ensures { result ≡ self.entry.graph }
+    {
+        let IndexedGraph {
+            graph,
+            index: _index,
+        } = self;
+        graph
+    }
 }
 
 /// Builds the graph from the parts of the root, with the map from ids to nodes.
@@ -192,6 +278,26 @@ fn names_in<'v>(
     }
 }
 
+/// Reads the columns of numbers and flags. The only error is `Memory`.
+fn read_numbers(
+    alloc: Global,
+    nodes: &[Value<'_>],
+    columns: &Columns,
+) -> Result<Numbers, GraphFault>
+    ensures { MatchResult result (λ read. AreNumbers columns.now (views nodes.now) read.counts read.group read.frozen) (λ f. f ≡ fault.Memory) }
+{
+    let frozen = frozen_of(alloc, nodes, columns)?;
+    let group = group_of(alloc, nodes, columns)?;
+    match counts_of(alloc, nodes, columns) {
+        Ok(counts) => Ok(Numbers {
+            counts,
+            group,
+            frozen,
+        }),
+        Err(fault) => Err(fault),
+    }
+}
+
 /// Reads the columns of the nodes. `names` are their district labels.
 fn rows_of<'v>(
     alloc: Global,
@@ -202,23 +308,21 @@ fn rows_of<'v>(
     requires few { length names.now ≤ most_units }
     requires labels { AreLabels columns.now.district (views nodes.now) (labels_from names.now) }
     ensures { MatchResult result
-        (λ rows. (district_count_fault (different_count (labels_from names.now)) ≡ None) × AreRows columns.now (views nodes.now) rows.counts rows.group rows.frozen rows.start rows.labels)
+        (λ rows. (district_count_fault (different_count (labels_from names.now)) ≡ None) × AreRows columns.now (views nodes.now) rows.numbers.counts rows.numbers.group rows.numbers.frozen rows.start rows.labels)
         (λ f. (f ≡ fault.Memory) ⊎ (district_count_fault (different_count (labels_from names.now)) ≡ Some f)) }
 {
     let found = different(alloc, names)?;
     let start = start_of(alloc, names, &found)?;
     check_count(found.len())?;
-    let counts = counts_of(alloc, nodes, columns)?;
-    let group = group_of(alloc, nodes, columns)?;
-    let frozen = frozen_of(alloc, nodes, columns)?;
     let labels = labels_of(alloc, &found)?;
-    Ok(Rows {
-        counts,
-        group,
-        frozen,
-        start,
-        labels,
-    })
+    match read_numbers(alloc, nodes, columns) {
+        Ok(numbers) => Ok(Rows {
+            numbers,
+            start,
+            labels,
+        }),
+        Err(fault) => Err(fault),
+    }
 }
 
 /// Builds the graph and reads all columns from the parts of the root.
@@ -238,14 +342,7 @@ fn read_parts(
     let names = names_in(alloc, parts.nodes, columns)?;
     let rows = rows_of(alloc, parts.nodes, columns, &names)?;
     match lengths_in(alloc, &made, parts.adjacency, &columns.length) {
-        Ok(lengths) => Ok(Parsed {
-            graph: made.graph,
-            counts: with_lengths(rows.counts, lengths),
-            group: rows.group,
-            frozen: rows.frozen,
-            start: rows.start,
-            labels: rows.labels,
-        }),
+        Ok(lengths) => Ok(rows.with(made.into_graph(), lengths)),
         Err(fault) => Err(fault),
     }
 }

@@ -16,6 +16,17 @@ use Rattle.dual_json.proofs.Bridge.{entry_same, edges_same, graph_same}
 use Rattle.dual_json.proofs.Listed.{length-views, length-lists_in}
 use Rattle.dual_json.proofs.read.graph_in.Goals as goal
 
+pub returns-in_err-check_frame : goal.returns-in_err-check_frame
+returns-in_err-check_frame c =
+    let f = c.in_err-check_frame.field-0.0 in
+    let e : c.from_residual.result ≡ Err f = search rules in
+    let nodes = c.args.parts.now.nodes.now in
+    let lists = c.args.parts.now.adjacency.now in
+    let directed = c.args.parts.now.directed in
+    let frame : frame_fault directed (length (views nodes)) (length (lists_in lists)) ≡ Some f =
+    ap (λ m. frame_fault directed m (length (lists_in lists))) (length-views nodes) ∙ ap (frame_fault directed (length nodes)) (length-lists_in lists) ∙ c.in_err-check_frame.ensures in
+    err_at c.from_residual.result f _ _ e (inr (or_some (frame_fault directed (length (views nodes)) (length (lists_in lists))) _ f frame))
+
 pub returns-in_err-check_entries : goal.returns-in_err-check_entries
 returns-in_err-check_entries c =
     let f = c.in_err-check_entries.field-0.0 in

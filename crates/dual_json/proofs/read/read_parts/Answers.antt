@@ -1,21 +1,26 @@
-use Rattle.std.proofs.Common.{◌≡◌, ℕ, List, subst, None, Some, Err, sym, ap, ◌∙◌, inl, inr, arith, rules}
+use Rattle.std.proofs.Common.{◌≡◌, ℕ, ◌≤◌, List, length, subst, None, Some, Err, sym, ap, ◌∙◌, inl, inr, arith, rules}
 use Rattle.std.specs.Prelude.{◌⊎◌}
+use Rattle.std.proofs.lemmas.List.{length-map}
 use Rattle.audit_model.specs.declared.fault.GraphFault.{GraphFault}
 use Rattle.audit_model.specs.declared.fault.GraphFault.TheVariants.{Memory}
-use Rattle.audit_model.specs.declared.outcome.Counts.{Counts}
 use Rattle.audit_model.specs.declared.setting.Columns.{Columns}
 use Rattle.audit_model.specs.declared.setting.Label.{Label}
 use Rattle.audit_model.specs.Graph.{Graph}
+use Rattle.audit_model.specs.Limits.{AreFrozen, AreWithin, IsGroup}
 use Rattle.audit_model.proofs.First.{or_some}
 use Rattle.audit_model.proofs.Options.{none_or, or_of_none}
 use Rattle.audit_model.proofs.Results.{err_at}
+use Rattle.dual_graph.specs.Read.{parsed_of}
+use Rattle.dual_graph.specs.declared.parsed.Parsed.{Parsed}
 use Rattle.audit_statement.specs.Reading.{Document, label_count, length_fault, refusal}
 use Rattle.dual_json.specs.Districts.{district_count_fault, different_count}
 use Rattle.dual_json.specs.Lengths.{lengths_if_named}
+use Rattle.dual_json.specs.Names.{label_from}
 use Rattle.dual_json.specs.Places.{AreLabels, labels_from}
 use Rattle.dual_json.specs.Shape.{views, lists_in, document_of_parts}
-use Rattle.dual_json.specs.Stages.{AreRows, graph_fault, labels_fault}
+use Rattle.dual_json.specs.Stages.{graph_fault, labels_fault}
 use Rattle.dual_json.specs.declared.names.NodeName.{NodeName}
+use Rattle.dual_json.specs.declared.read.Rows.{Rows}
 use Rattle.dual_json.proofs.Bridge.{refusal_is, different_same, parsed_is, rows_with, within_is, frozen_is, group_is}
 use Rattle.dual_json.proofs.Measured.{length_fault_same, lengths_are, lengths_same}
 use Rattle.dual_json.proofs.Listed.{length-lists_in, length-views}
@@ -38,6 +43,48 @@ module _ (d : Document) (columns : Columns) (labels : List Label) (graph_none : 
   unrefused : (n : ℕ) → different_count labels ≡ n → district_count_fault n ≡ None → length_fault d columns ≡ None → refusal d columns ≡ None
   unrefused n is none fine = refusal_is d columns ∙ or_of_none (graph_fault d) _ graph_none (or_of_none (labels_fault columns d.nodes) _ labels_none
       (or_of_none (district_count_fault (label_count d columns)) _ (count_is n is ∙ none) fine))
+
+pub returns-in_err-made-clause-read : goal.returns-in_err-made-clause-read
+returns-in_err-made-clause-read c =
+    let f = c.in_err-made.field-0.0 in
+    let e : c.from_residual.result ≡ Err f = search rules in
+    let d : Document = document_of_parts c.args.parts.now in
+    let columns = c.args.columns.now in
+    let why : (f ≡ Memory) ⊎ (refusal d columns ≡ Some f) = elim c.in_err-made.ensures [
+      | inl m ↦ inl m
+      | inr h ↦ inr (refusal_is d columns ∙ or_some (graph_fault d) _ f h)
+    ] in
+    err_at c.from_residual.result f _ _ e why
+
+pub names_in-requires : goal.names_in-requires
+names_in-requires c = c.in_ok-made.ensures.2
+
+pub rows_of-requires-clause-few : goal.rows_of-requires-clause-few
+rows_of-requires-clause-few c =
+    let names = c.in_ok-names.names.items in
+    let nodes = c.args.parts.now.nodes.now in
+    let same : length c.deref.result.now ≡ length names = ap (λ (ns : List NodeName). length ns) c.deref.ensures.value in
+    let few : length nodes ≤ 100000 = c.in_ok-made.ensures.2 in
+    let count = c.in_ok-names.ensures.1.count in
+    omega (arith, same, few, count, length-map names label_from, length-views nodes)
+
+pub rows_of-requires-clause-labels : goal.rows_of-requires-clause-labels
+rows_of-requires-clause-labels c =
+    subst (λ (ns : List NodeName). AreLabels c.args.columns.now.district (views c.args.parts.now.nodes.now) (labels_from ns)) (sym c.deref.ensures.value) c.in_ok-names.ensures.1
+
+pub lengths_in-requires-clause-as_many : goal.lengths_in-requires-clause-as_many
+lengths_in-requires-clause-as_many c = c.in_ok-made.ensures.6
+
+pub lengths_in-requires-clause-few : goal.lengths_in-requires-clause-few
+lengths_in-requires-clause-few c =
+    let nodes = c.args.parts.now.nodes.now in
+    let few : length nodes ≤ 100000 = c.in_ok-made.ensures.2 in
+    let count = c.in_ok-made.ensures.5.count in
+    let as_many = c.in_ok-made.ensures.6 in
+    omega (arith, few, count, as_many, length-views nodes)
+
+pub lengths_in-requires-clause-units : goal.lengths_in-requires-clause-units
+lengths_in-requires-clause-units c = ap (λ (g : Graph). g.units) (sym c.in_ok-made.ensures.1) ∙ sym c.in_ok-made.ensures.5.count
 
 pub returns-in_err-rows-clause-read : goal.returns-in_err-rows-clause-read
 returns-in_err-rows-clause-read c =
@@ -80,6 +127,10 @@ returns-in-Err-clause-read c =
           (length_fault_same d columns c.in_ok-made.made.index are long ∙ h))
     ]
 
+-- the parts of the result
+abbrev parts : (g : Graph) → Rows → List ℕ → Parsed
+parts g rows lengths = record { graph = g; counts = record rows.numbers.counts { lengths = lengths }; group = rows.numbers.group; frozen = rows.numbers.frozen; start = rows.start; labels = rows.labels }
+
 pub returns-in-Ok-clause-read : goal.returns-in-Ok-clause-read
 returns-in-Ok-clause-read c =
     let d : Document = document_of_parts c.args.parts.now in
@@ -87,16 +138,18 @@ returns-in-Ok-clause-read c =
     let labels : List Label = labels_from c.in_ok-names.names.items in
     let are = c.in_ok-made.ensures.5 in
     let long = sym are.count ∙ c.in_ok-made.ensures.6 ∙ sym (length-lists_in c.args.parts.now.adjacency.now) in
-    let rows = c.in_ok-rows.rows in (
+    let rows = c.in_ok-rows.rows in
+    let made = c.in_ok-made.made.graph in
+    let is : c.with.result ≡ parts made rows c.in-Ok.lengths = c.with.ensures ∙ ap (λ (g : Graph). parts g rows c.in-Ok.lengths) c.into_graph.ensures in (
       unrefused d columns labels c.in_ok-made.ensures.0 c.in_ok-names.ensures.0 c.in_ok-names.ensures.1
           (different_count (labels_from c.deref.result.now)) (ap (λ (ns : List NodeName). different_count (labels_from ns)) (sym c.deref.ensures.value)) c.in_ok-rows.ensures.0
           (length_fault_same d columns c.in_ok-made.made.index are long ∙ c.in-Ok.ensures.0),
-      parsed_is d columns c.in_ok-made.made.graph c.with_lengths.result rows.group rows.frozen rows.start rows.labels c.in_ok-made.ensures.1
-          (subst (λ (x : Counts). AreRows columns d.nodes x rows.group rows.frozen rows.start rows.labels) (sym c.with_lengths.ensures)
-          (rows_with d.nodes columns rows.counts rows.group rows.frozen rows.start rows.labels c.in-Ok.lengths c.in_ok-rows.ensures.1))
-          (ap (λ (x : Counts). x.lengths) c.with_lengths.ensures ∙ c.in-Ok.ensures.1
+      parsed_is d columns made (record rows.numbers.counts { lengths = c.in-Ok.lengths }) rows.numbers.group rows.numbers.frozen rows.start rows.labels c.in_ok-made.ensures.1
+          (rows_with d.nodes columns rows.numbers.counts rows.numbers.group rows.numbers.frozen rows.start rows.labels c.in-Ok.lengths c.in_ok-rows.ensures.1)
+          (c.in-Ok.ensures.1
           ∙ ap (λ (g : Graph). lengths_if_named columns.length c.in_ok-made.made.index d.adjacency g) (sym c.in_ok-made.ensures.1)
-          ∙ sym (lengths_same d columns c.in_ok-made.made.index are long)),
+          ∙ sym (lengths_same d columns c.in_ok-made.made.index are long))
+          ∙ ap (λ (p : Parsed). parsed_of p) (sym is),
     )
 
 pub returns-in-Ok-clause-within : goal.returns-in-Ok-clause-within
@@ -104,19 +157,27 @@ returns-in-Ok-clause-within c =
     let nodes = views c.args.parts.now.nodes.now in
     let few = c.in_ok-made.ensures.2 in
     let rows = c.in_ok-rows.rows in
-    within_is nodes c.args.columns.now c.in_ok-made.made.graph c.with_lengths.result rows.group rows.frozen rows.start rows.labels c.in_ok-made.ensures.3
+    let made = c.in_ok-made.made.graph in
+    let is : c.with.result ≡ parts made rows c.in-Ok.lengths = c.with.ensures ∙ ap (λ (g : Graph). parts g rows c.in-Ok.lengths) c.into_graph.ensures in
+    subst (λ (p : Parsed). AreWithin p.graph p.counts p.start (length p.labels)) (sym is)
+    (within_is nodes c.args.columns.now made (record rows.numbers.counts { lengths = c.in-Ok.lengths }) rows.numbers.group rows.numbers.frozen rows.start rows.labels c.in_ok-made.ensures.3
     (ap (λ (g : Graph). g.units) (sym c.in_ok-made.ensures.1)) (omega (arith, few, length-views c.args.parts.now.nodes.now)) c.in_ok-made.ensures.4
-    (subst (λ (x : Counts). AreRows c.args.columns.now nodes x rows.group rows.frozen rows.start rows.labels) (sym c.with_lengths.ensures)
-    (rows_with nodes c.args.columns.now rows.counts rows.group rows.frozen rows.start rows.labels c.in-Ok.lengths c.in_ok-rows.ensures.1))
-    (lengths_are c.args.columns.now.length c.in_ok-made.made.index (lists_in c.args.parts.now.adjacency.now) c.in_ok-made.made.graph c.in_ok-made.ensures.3
-    c.with_lengths.result.lengths (ap (λ (x : Counts). x.lengths) c.with_lengths.ensures ∙ c.in-Ok.ensures.1))
+    (rows_with nodes c.args.columns.now rows.numbers.counts rows.numbers.group rows.numbers.frozen rows.start rows.labels c.in-Ok.lengths c.in_ok-rows.ensures.1)
+    (lengths_are c.args.columns.now.length c.in_ok-made.made.index (lists_in c.args.parts.now.adjacency.now) made c.in_ok-made.ensures.3
+    c.in-Ok.lengths c.in-Ok.ensures.1))
 
 pub returns-in-Ok-clause-group : goal.returns-in-Ok-clause-group
 returns-in-Ok-clause-group c =
-    group_is (views c.args.parts.now.nodes.now) c.args.columns.now c.in_ok-made.made.graph.units c.in_ok-rows.rows.group c.in_ok-rows.ensures.1.grouped
-    (ap (λ (g : Graph). g.units) (sym c.in_ok-made.ensures.1))
+    let rows = c.in_ok-rows.rows in
+    let made = c.in_ok-made.made.graph in
+    let is : c.with.result ≡ parts made rows c.in-Ok.lengths = c.with.ensures ∙ ap (λ (g : Graph). parts g rows c.in-Ok.lengths) c.into_graph.ensures in
+    subst (λ (p : Parsed). IsGroup p.graph.units p.group) (sym is)
+    (group_is (views c.args.parts.now.nodes.now) c.args.columns.now made.units rows.numbers.group c.in_ok-rows.ensures.1.grouped (ap (λ (g : Graph). g.units) (sym c.in_ok-made.ensures.1)))
 
 pub returns-in-Ok-clause-frozen : goal.returns-in-Ok-clause-frozen
 returns-in-Ok-clause-frozen c =
-    frozen_is (views c.args.parts.now.nodes.now) c.args.columns.now c.in_ok-made.made.graph.units c.in_ok-rows.rows.frozen c.in_ok-rows.ensures.1.freezing
-    (ap (λ (g : Graph). g.units) (sym c.in_ok-made.ensures.1))
+    let rows = c.in_ok-rows.rows in
+    let made = c.in_ok-made.made.graph in
+    let is : c.with.result ≡ parts made rows c.in-Ok.lengths = c.with.ensures ∙ ap (λ (g : Graph). parts g rows c.in-Ok.lengths) c.into_graph.ensures in
+    subst (λ (p : Parsed). AreFrozen p.graph.units p.frozen) (sym is)
+    (frozen_is (views c.args.parts.now.nodes.now) c.args.columns.now made.units rows.numbers.frozen c.in_ok-rows.ensures.1.freezing (ap (λ (g : Graph). g.units) (sym c.in_ok-made.ensures.1)))

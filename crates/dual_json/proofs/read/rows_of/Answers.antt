@@ -1,4 +1,4 @@
-use Rattle.std.proofs.Common.{◌≡◌, List, length, Err, sym, ap, subst, ◌∙◌, inr, arith, rules}
+use Rattle.std.proofs.Common.{◌≡◌, List, length, Err, sym, ap, subst, ◌∙◌, inl, inr, arith, rules}
 use Rattle.std.proofs.lemmas.List.{length-map}
 use Rattle.audit_model.specs.declared.setting.Label.{Label}
 use Rattle.audit_model.proofs.Results.{err_at}
@@ -18,8 +18,8 @@ returns-in_err-check_count c =
     omega (arith, label_count_is (labels_from c.args.names.now) (labels_from c.deref.result.now) c.in_ok-start.start c.in_ok-start.ensures, length-map c.deref.result.now label_from, c.deref.ensures.len, c.len.ensures) in
     err_at c.from_residual-in_err-check_count.result f _ _ e (inr (ap district_count_fault amount ∙ c.in_err-check_count.ensures))
 
-pub returns : goal.returns
-returns c =
+pub returns-in-Ok : goal.returns-in-Ok
+returns-in-Ok c =
     let amount : different_count (labels_from c.args.names.now) ≡ c.len.result =
     omega (arith, label_count_is (labels_from c.args.names.now) (labels_from c.deref.result.now) c.in_ok-start.start c.in_ok-start.ensures, length-map c.deref.result.now label_from, c.deref.ensures.len, c.len.ensures) in
     let found : c.in_ok-labels.labels ≡ labels_from c.deref.result.now =
@@ -27,14 +27,15 @@ returns c =
     let long : length c.in_ok-labels.labels ≡ c.len.result = omega (arith, ap length found, length-map c.deref.result.now label_from, c.deref.ensures.len, c.len.ensures) in
     let within = count_within c.len.result c.in_ok-check_count.ensures in
     let low = within.0 in
-    let high = within.1 in (
+    let high = within.1 in
+    let read = c.in-Ok.ensures in (
       ap district_count_fault amount ∙ c.in_ok-check_count.ensures,
       record {
-        population = c.in_ok-counts.ensures.population;
-        first = c.in_ok-counts.ensures.first;
-        second = c.in_ok-counts.ensures.second;
-        grouped = c.in_ok-group.ensures;
-        freezing = c.in_ok-frozen.ensures;
+        population = read.population;
+        first = read.first;
+        second = read.second;
+        grouped = read.grouped;
+        freezing = read.freezing;
         labels = labels_from c.args.names.now;
         labelled = c.requires.labels;
         districts = subst (λ (ls : List Label). AreDistricts (labels_from c.args.names.now) ls c.in_ok-start.start) (sym found) c.in_ok-start.ensures;
@@ -42,3 +43,6 @@ returns c =
         few = omega (arith, high, long);
       },
     )
+
+pub returns : goal.returns
+returns c = inl c.in-Err.ensures
