@@ -1,6 +1,7 @@
 //! From valid values to the setting.
 
-ghost use Rattle.std.specs.Prelude.{◌≡◌, [], true, IfOk, codes};
+ghost use Rattle.std.specs.Prelude.{◌≡◌, ◌++◌, [], true, IfOk, OnOk, codes};
+ghost use Rattle.std.specs.List.{filter_map};
 ghost use Rattle.audit_model.specs.declared.fault.Name.TheVariants as name;
 ghost use Rattle.audit_model.specs.declared.setting.Command.TheVariants as command;
 ghost use Rattle.audit_words.specs.Judged.{AreGood, AreGoodLimits, AreReadable};
@@ -41,34 +42,102 @@ fn whole_column(words: &[String]) -> &str
     }
 }
 
+/// Returns columns that are not named.
+fn no_columns(alloc: Global) -> Columns
+    ensures { result ≡ record { population = []; first = []; second = []; district = []; group = []; whole = []; frozen = []; length = [] } }
+{
+    Columns {
+        population: Text::new(alloc),
+        first: Text::new(alloc),
+        second: Text::new(alloc),
+        district: Text::new(alloc),
+        group: Text::new(alloc),
+        whole: Text::new(alloc),
+        frozen: Text::new(alloc),
+        length: Text::new(alloc),
+    }
+}
+
+/// Appends the names of the columns that every graph has. The only error is out of memory.
+fn name_counts(
+    columns: &mut Columns,
+    population: &str,
+    first: &str,
+    second: &str,
+    district: &str,
+) -> Result<(), Memory>
+    ensures { OnOk result (columns.new ≡ record columns.old { population = columns.old.population ++ population.now; first = columns.old.first ++ first.now; second = columns.old.second ++ second.now; district = columns.old.district ++ district.now }) }
+{
+    columns.population.push_str(population)?;
+    columns.first.push_str(first)?;
+    columns.second.push_str(second)?;
+    columns.district.push_str(district)?;
+    Ok(())
+}
+
+/// Appends the names of the columns that rules need. The only error is out of memory.
+fn name_rules(
+    columns: &mut Columns,
+    group: &str,
+    whole: &str,
+    frozen: &str,
+    length: &str,
+) -> Result<(), Memory>
+    ensures { OnOk result (columns.new ≡ record columns.old { group = columns.old.group ++ group.now; whole = columns.old.whole ++ whole.now; frozen = columns.old.frozen ++ frozen.now; length = columns.old.length ++ length.now }) }
+{
+    columns.group.push_str(group)?;
+    columns.whole.push_str(whole)?;
+    columns.frozen.push_str(frozen)?;
+    columns.length.push_str(length)?;
+    Ok(())
+}
+
+/// Appends the names of all columns. The only error is out of memory.
+fn name_columns(columns: &mut Columns, words: &[String]) -> Result<(), Memory>
+    requires { columns.old ≡ record { population = []; first = []; second = []; district = []; group = []; whole = []; frozen = []; length = [] } }
+    ensures { OnOk result (columns.new ≡ definition.columns_named command.Check (pairs_in words.now)) }
+{
+    name_counts(
+        columns,
+        text_of(words, Name::Pop),
+        text_of(words, Name::First),
+        text_of(words, Name::Second),
+        text_of(words, Name::District),
+    )?;
+    name_rules(
+        columns,
+        text_of(words, Name::Group),
+        whole_column(words),
+        text_of(words, Name::Freeze),
+        text_of(words, Name::Length),
+    )?;
+    Ok(())
+}
+
 fn columns_of(alloc: Global, words: &[String]) -> Result<Columns, Memory>
     ensures { IfOk result (λ columns. columns ≡ definition.columns_named command.Check (pairs_in words.now)) }
 {
-    Ok(Columns {
-        population: copy_text(alloc, text_of(words, Name::Pop))?,
-        first: copy_text(alloc, text_of(words, Name::First))?,
-        second: copy_text(alloc, text_of(words, Name::Second))?,
-        district: copy_text(alloc, text_of(words, Name::District))?,
-        group: copy_text(alloc, text_of(words, Name::Group))?,
-        whole: copy_text(alloc, whole_column(words))?,
-        frozen: copy_text(alloc, text_of(words, Name::Freeze))?,
-        length: copy_text(alloc, text_of(words, Name::Length))?,
-    })
+    let mut columns = no_columns(alloc);
+    match name_columns(&mut columns, words) {
+        Ok(()) => Ok(columns),
+        Err(fault) => {
+            drop(columns);
+            Err(fault)
+        }
+    }
 }
 
 fn columns_of_grid(alloc: Global) -> Result<Columns, Memory>
     ensures { IfOk result (λ columns. columns ≡ record { population = codes "pop"; first = codes "a"; second = codes "b"; district = codes "district"; group = []; whole = []; frozen = []; length = [] }) }
 {
-    Ok(Columns {
-        population: copy_text(alloc, "pop")?,
-        first: copy_text(alloc, "a")?,
-        second: copy_text(alloc, "b")?,
-        district: copy_text(alloc, "district")?,
-        group: Text::new(alloc),
-        whole: Text::new(alloc),
-        frozen: Text::new(alloc),
-        length: Text::new(alloc),
-    })
+    let mut columns = no_columns(alloc);
+    match name_counts(&mut columns, "pop", "a", "b", "district") {
+        Ok(()) => Ok(columns),
+        Err(fault) => {
+            drop(columns);
+            Err(fault)
+        }
+    }
 }
 
 /// The limits on the splits of regions, on the majority districts of a group and on the length of cut
@@ -81,6 +150,20 @@ struct Limits {
     group_districts: u32,
     group_share: u32,
     max_length: u64,
+}
+
+/// Returns limits that limit nothing.
+fn no_limits() -> Limits
+    ensures { result ≡ record { max_split = 200; max_splits = 995000; max_split_regions = 5000; group_districts = 0; group_share = 5000; max_length = 1717986918000000 } }
+{
+    Limits {
+        max_split: 200,
+        max_splits: 995_000,
+        max_split_regions: 5_000,
+        group_districts: 0,
+        group_share: 5_000,
+        max_length: 1_717_986_918_000_000,
+    }
 }
 
 fn limits_of(words: &[String]) -> Limits
@@ -109,39 +192,43 @@ fn check_setting(alloc: Global, words: &[String]) -> Result<Setting, Memory>
     ensures { IfOk result (λ setting. setting ≡ definition.setting_for command.Check (pairs_in words.now)) }
 {
     let limits = limits_of(words);
-    Ok(Setting {
-        command: Command::Check,
-        columns: columns_of(alloc, words)?,
-        slack: number_at(words, Name::Slack),
-        key: [0; 32],
-        walks: 0,
-        steps: 0,
-        ends: 0,
-        hub_steps: 0,
-        asks: AskList::new(alloc),
-        workers: 1,
-        budget: 0,
-        save_every: 0,
-        resume: false,
-        size: 0,
-        max_cut: number_at(words, Name::MaxCut),
-        shift: false,
-        stop: 0,
-        serial: false,
-        region: copy_text(alloc, text_of(words, Name::Region))?,
-        max_split: limits.max_split,
-        parts: 1,
-        part: 0,
-        max_splits: limits.max_splits,
-        max_split_regions: limits.max_split_regions,
-        group_districts: limits.group_districts,
-        group_share: limits.group_share,
-        source: text_of(words, Name::Source) == "yes",
-        first_id: 0,
-        last_id: 0,
-        thin: 1,
-        max_length: limits.max_length,
-    })
+    let region = copy_text(alloc, text_of(words, Name::Region))?;
+    match columns_of(alloc, words) {
+        Ok(columns) => Ok(Setting {
+            command: Command::Check,
+            columns,
+            slack: number_at(words, Name::Slack),
+            key: [0; 32],
+            walks: 0,
+            steps: 0,
+            ends: 0,
+            hub_steps: 0,
+            asks: AskList::new(alloc),
+            workers: 1,
+            budget: 0,
+            save_every: 0,
+            resume: false,
+            size: 0,
+            max_cut: number_at(words, Name::MaxCut),
+            shift: false,
+            stop: 0,
+            serial: false,
+            region,
+            max_split: limits.max_split,
+            parts: 1,
+            part: 0,
+            max_splits: limits.max_splits,
+            max_split_regions: limits.max_split_regions,
+            group_districts: limits.group_districts,
+            group_share: limits.group_share,
+            source: text_of(words, Name::Source) == "yes",
+            first_id: 0,
+            last_id: 0,
+            thin: 1,
+            max_length: limits.max_length,
+        }),
+        Err(fault) => Err(fault),
+    }
 }
 
 /// The fields of a setting that depend on the source of the graph. A graph that is read may have columns, regions,
@@ -155,16 +242,12 @@ struct GraphFields {
     source: bool,
 }
 
-fn run_setting(
-    alloc: Global,
-    command: Command,
-    words: &[String],
-    ground: GraphFields,
-) -> Result<Setting, Memory>
-    requires { AreGood (pairs_in words.now) }
-    ensures { IfOk result (λ setting. setting ≡ record (definition.as_run command (pairs_in words.now)) { columns = ground.columns; size = ground.size; region = ground.region; max_split = ground.limits.max_split; max_splits = ground.limits.max_splits; max_split_regions = ground.limits.max_split_regions; group_districts = ground.limits.group_districts; group_share = ground.limits.group_share; source = ground.source; max_length = ground.limits.max_length }) }
+fn run_setting(command: Command, words: &[String], ground: GraphFields, asks: AskList) -> Setting
+    requires good { AreGood (pairs_in words.now) }
+    requires asks { asks ≡ filter_map definition.ask_of (definition.parts_between 44 (definition.text_of command (pairs_in words.now) name.Ask)) }
+    ensures { result ≡ record (definition.as_run command (pairs_in words.now)) { columns = ground.columns; size = ground.size; region = ground.region; max_split = ground.limits.max_split; max_splits = ground.limits.max_splits; max_split_regions = ground.limits.max_split_regions; group_districts = ground.limits.group_districts; group_share = ground.limits.group_share; source = ground.source; max_length = ground.limits.max_length } }
 {
-    Ok(Setting {
+    Setting {
         command,
         columns: ground.columns,
         slack: number_at(words, Name::Slack),
@@ -173,7 +256,7 @@ fn run_setting(
         steps: number_at(words, Name::Steps),
         ends: number_at(words, Name::Ends),
         hub_steps: number_at(words, Name::HubSteps),
-        asks: asks_of(alloc, text_of(words, Name::Ask))?,
+        asks,
         workers: number_at(words, Name::Workers),
         budget: number_at(words, Name::Budget),
         save_every: number_at(words, Name::Save),
@@ -196,7 +279,7 @@ fn run_setting(
         last_id: 0,
         thin: 1,
         max_length: ground.limits.max_length,
-    })
+    }
 }
 
 fn read_setting(alloc: Global, command: Command, words: &[String]) -> Result<Setting, Memory>
@@ -204,14 +287,21 @@ fn read_setting(alloc: Global, command: Command, words: &[String]) -> Result<Set
     requires limits { AreGoodLimits (pairs_in words.now) }
     ensures { IfOk result (λ setting. setting ≡ definition.as_run command (pairs_in words.now)) }
 {
-    let ground = GraphFields {
-        columns: columns_of(alloc, words)?,
-        size: 0,
-        region: copy_text(alloc, text_of(words, Name::Region))?,
-        limits: limits_of(words),
-        source: text_of(words, Name::Source) == "yes",
-    };
-    run_setting(alloc, command, words, ground)
+    let asks = asks_of(alloc, text_of(words, Name::Ask))?;
+    let region = copy_text(alloc, text_of(words, Name::Region))?;
+    match columns_of(alloc, words) {
+        Ok(columns) => {
+            let ground = GraphFields {
+                columns,
+                size: 0,
+                region,
+                limits: limits_of(words),
+                source: text_of(words, Name::Source) == "yes",
+            };
+            Ok(run_setting(command, words, ground, asks))
+        }
+        Err(fault) => Err(fault),
+    }
 }
 
 fn trace_setting(alloc: Global, words: &[String]) -> Result<Setting, Memory>
@@ -241,21 +331,20 @@ fn made_setting(alloc: Global, words: &[String]) -> Result<Setting, Memory>
     requires size { definition.is_good command.Make (pairs_in words.now) name.Size ≡ true }
     ensures { IfOk result (λ setting. setting ≡ definition.setting_for command.Make (pairs_in words.now)) }
 {
-    let ground = GraphFields {
-        columns: columns_of_grid(alloc)?,
-        size: number_at(words, Name::Size),
-        region: Text::new(alloc),
-        limits: Limits {
-            max_split: 200,
-            max_splits: 995_000,
-            max_split_regions: 5_000,
-            group_districts: 0,
-            group_share: 5_000,
-            max_length: 1_717_986_918_000_000,
-        },
-        source: false,
-    };
-    run_setting(alloc, Command::Make, words, ground)
+    let asks = asks_of(alloc, text_of(words, Name::Ask))?;
+    match columns_of_grid(alloc) {
+        Ok(columns) => {
+            let ground = GraphFields {
+                columns,
+                size: number_at(words, Name::Size),
+                region: Text::new(alloc),
+                limits: no_limits(),
+                source: false,
+            };
+            Ok(run_setting(Command::Make, words, ground, asks))
+        }
+        Err(fault) => Err(fault),
+    }
 }
 
 /// Returns the setting that the values give. The only error is out of memory.

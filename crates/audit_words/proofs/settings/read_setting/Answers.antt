@@ -1,4 +1,5 @@
 use Rattle.std.proofs.Common.{◌≡◌, ◌∙◌, ap}
+use Rattle.std.specs.List.{filter_map}
 use Rattle.std.specs.Prelude.{codes, bytes_eq}
 use Rattle.audit_model.specs.declared.fault.Name.TheVariants as name
 use Rattle.audit_model.specs.declared.setting.Command.TheVariants as command
@@ -6,13 +7,16 @@ use Rattle.audit_statement.specs.Words as definition
 use Rattle.audit_words.specs.ArgumentBytes.{pairs_in}
 use Rattle.audit_words.proofs.settings.read_setting.Goals as goal
 
-pub returns : goal.returns
-returns c =
-    let region : c.in_ok-copy_text.field-0 ≡ definition.text_of command.Check (pairs_in c.args.words.now) name.Region = c.in_ok-copy_text.ensures ∙ c.text_of.ensures in
+pub run_setting-requires-clause-asks : goal.run_setting-requires-clause-asks
+run_setting-requires-clause-asks c = c.in_ok-asks.ensures ∙ ap (λ t. filter_map definition.ask_of (definition.parts_between 44 t)) c.text_of.ensures
+
+pub returns-in-Ok : goal.returns-in-Ok
+returns-in-Ok c =
+    let region : c.in_ok-region.region ≡ definition.text_of command.Check (pairs_in c.args.words.now) name.Region = c.in_ok-region.ensures ∙ c.text_of-2.ensures in
     let source : c.eq.result ≡ bytes_eq (definition.text_of command.Check (pairs_in c.args.words.now) name.Source) (codes "yes") =
-    c.eq.ensures ∙ ap (λ t. bytes_eq t (codes "yes")) c.text_of-2.ensures in
+    c.eq.ensures ∙ ap (λ t. bytes_eq t (codes "yes")) c.text_of-in-Ok.ensures in
     rw (
-      c.in_ok-columns_of.ensures,
+      c.in-Ok.ensures,
       region,
       c.limits_of.ensures.max_split,
       c.limits_of.ensures.max_splits,
