@@ -160,11 +160,18 @@ fn mates_in(member: Member, district: u32, end: u32) -> u64
     let plan = member.plan;
     let mut count = 0;
     for other in member.graph.neighbours(member.unit) {
-        if plan[*other as usize] == district && *other < end {
-            count += 1;
-        }
+        count = with_one(count, is_before(plan, *other, district, end));
     }
     count
+}
+
+/// Returns true if a unit is in a district and below `end`.
+#[inline]
+fn is_before(plan: &[u32], unit: u32, district: u32, end: u32) -> bool
+    requires { unit < length plan.now }
+    ensures { result ≡ is_before plan.now end district unit }
+{
+    (plan[unit as usize] == district) & (unit < end)
 }
 
 /// Counts the faces at a unit whose other units are all in a district and below `end`.
@@ -177,21 +184,11 @@ fn corners_in(member: Member, table: &FaceTable, district: u32, end: u32) -> u64
     let row = member.graph.neighbours(member.unit);
     let mut count = 0;
     for corner in table.at(member.unit) {
-        let one = row[corner.one as usize];
-        let other = row[corner.other as usize];
-        let far = corner.far;
-        let further = corner.further;
-        if plan[one as usize] == district
-            && one < end
-            && plan[other as usize] == district
-            && other < end
-            && plan[far as usize] == district
-            && far < end
-            && plan[further as usize] == district
-            && further < end
-        {
-            count += 1;
-        }
+        let inside = is_before(plan, row[corner.one as usize], district, end)
+            & (is_before(plan, row[corner.other as usize], district, end)
+                & (is_before(plan, corner.far, district, end)
+                    & is_before(plan, corner.further, district, end)));
+        count = with_one(count, inside);
     }
     count
 }
@@ -258,7 +255,7 @@ fn scan_corners(member: Member, table: &FaceTable, one: u32, other: u32) -> (u64
 ///
 /// The units are first compared with one another. One comparison per district is then enough.
 #[inline]
-fn are_inside(member: Member, corner: Corner, one: u32, other: u32) -> (bool, bool)
+pub(crate) fn are_inside(member: Member, corner: Corner, one: u32, other: u32) -> (bool, bool)
     requires { IsOnRow member.graph.now (slice_index_or member.graph.now.neighbours member.unit []) corner }
     ensures one { result.0 ≡ is_filled (in_district member.entry.plan.now one) (units_of (slice_index_or member.entry.graph.now.neighbours member.entry.unit []) corner) }
     ensures other { result.1 ≡ is_filled (in_district member.entry.plan.now other) (units_of (slice_index_or member.entry.graph.now.neighbours member.entry.unit []) corner) }

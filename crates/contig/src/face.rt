@@ -1,14 +1,14 @@
 //! Candidates for faces: three to five units in order.
 
-ghost use Rattle.std.specs.Prelude.{◌≡◌, ◌<◌};
-ghost use Rattle.audit_model.specs.Graph.{IsGraph};
+ghost use Rattle.std.specs.Prelude.{◌≡◌, ◌<◌, ◌==◌, ◌&&◌, not};
+ghost use Rattle.audit_model.specs.Graph.{IsGraph, adjacent};
 ghost use Rattle.contig.specs.Rings.{goes_round, turned, differ, follow};
 
 use dual_graph::graph::Graph;
 
 /// Three to five units in order. `is_ring` tests if they are a ring. The own side joins the first
 /// two units.
-#[derive(Clone, Copy, Debug, PartialEq, Eq)]
+#[derive(Clone, Copy)]
 pub enum Face {
     Triangle(u32, u32, u32),
     Square(u32, u32, u32, u32),
@@ -24,32 +24,9 @@ impl Face {
     {
         let n = graph.units();
         match *self {
-            Face::Triangle(a, b, c) => {
-                a < n
-                    && b < n
-                    && c < n
-                    && a != b
-                    && a != c
-                    && b != c
-                    && graph.adjacent(a, b)
-                    && graph.adjacent(b, c)
-                    && graph.adjacent(c, a)
-            }
+            Face::Triangle(a, b, c) => a < n && b < n && c < n && is_triangle(graph, a, b, c),
             Face::Square(a, b, c, d) => {
-                a < n
-                    && b < n
-                    && c < n
-                    && d < n
-                    && a != b
-                    && a != c
-                    && a != d
-                    && b != c
-                    && b != d
-                    && c != d
-                    && graph.adjacent(a, b)
-                    && graph.adjacent(b, c)
-                    && graph.adjacent(c, d)
-                    && graph.adjacent(d, a)
+                a < n && b < n && c < n && d < n && is_square(graph, a, b, c, d)
             }
             Face::Pentagon(a, b, c, d, e) => {
                 a < n
@@ -75,10 +52,38 @@ impl Face {
     }
 }
 
+/// Returns true if three units are distinct, and each is adjacent to the next and the last to the
+/// first. This function and the next ones make all of their tests, which leaves no branch.
+fn is_triangle(graph: &Graph, a: u32, b: u32, c: u32) -> bool
+    requires { (a < graph.now.units) × (b < graph.now.units) × (c < graph.now.units) }
+    ensures { result ≡ (not (a == b) && (not (a == c) && (not (b == c) && (adjacent graph.now a b && (adjacent graph.now b c && adjacent graph.now c a))))) }
+{
+    (a != b)
+        & ((a != c)
+            & ((b != c) & (graph.adjacent(a, b) & (graph.adjacent(b, c) & graph.adjacent(c, a)))))
+}
+
+/// Returns true if four units are distinct, and each is adjacent to the next and the last to the
+/// first.
+fn is_square(graph: &Graph, a: u32, b: u32, c: u32, d: u32) -> bool
+    requires one { (a < graph.now.units) × (b < graph.now.units) }
+    requires other { (c < graph.now.units) × (d < graph.now.units) }
+    ensures { result ≡ (not (a == b) && (not (a == c) && (not (a == d) && (not (b == c) && (not (b == d) && (not (c == d)
+        && (adjacent graph.now a b && (adjacent graph.now b c && (adjacent graph.now c d && adjacent graph.now d a))))))))) }
+{
+    let sides = graph.adjacent(a, b)
+        & (graph.adjacent(b, c) & (graph.adjacent(c, d) & graph.adjacent(d, a)));
+    (a != b) & ((a != c) & ((a != d) & ((b != c) & ((b != d) & ((c != d) & sides)))))
+}
+
 fn differ(a: u32, b: u32, c: u32, d: u32, e: u32) -> bool
     ensures { result ≡ differ a b c d e }
 {
-    a != b && a != c && a != d && a != e && b != c && b != d && b != e && c != d && c != e && d != e
+    (a != b)
+        & ((a != c)
+            & ((a != d)
+                & ((a != e)
+                    & ((b != c) & ((b != d) & ((b != e) & ((c != d) & ((c != e) & (d != e)))))))))
 }
 
 /// Returns true if each of five units is adjacent to the next, and the last to the first.
@@ -88,8 +93,6 @@ fn follow(graph: &Graph, a: u32, b: u32, c: u32, d: u32, e: u32) -> bool
     ensures { result ≡ follow graph.now a b c d e }
 {
     graph.adjacent(a, b)
-        && graph.adjacent(b, c)
-        && graph.adjacent(c, d)
-        && graph.adjacent(d, e)
-        && graph.adjacent(e, a)
+        & (graph.adjacent(b, c)
+            & (graph.adjacent(c, d) & (graph.adjacent(d, e) & graph.adjacent(e, a))))
 }

@@ -12,7 +12,7 @@ ghost use Rattle.audit_model.specs.Replaced.{Replaced};
 
 use crate::classes::join;
 use crate::corner::Corner;
-use crate::counts::with_one;
+use crate::counts::{are_inside, with_one};
 use crate::sector::Sector;
 use dual_graph::member::Member;
 
@@ -39,20 +39,14 @@ pub fn are_linked(leaving: Member, corners: &[Corner]) -> bool
     }
 }
 
-/// Returns true if a corner is inner. Adding up the four tests leaves one branch.
+/// Returns true if a corner is inner.
 #[inline]
 fn is_inner(leaving: Member, corner: Corner) -> bool
     requires { IsOnRow leaving.graph.now (slice_index_or leaving.graph.now.neighbours leaving.unit []) corner }
     ensures { result ≡ is_inner leaving.entry.graph.now leaving.entry.plan.now leaving.entry.unit corner }
 {
-    let plan = leaving.plan;
-    let row = leaving.graph.neighbours(leaving.unit);
-    let district = plan[leaving.unit as usize];
-    let inside = u32::from(plan[row[corner.one as usize] as usize] == district)
-        + u32::from(plan[row[corner.other as usize] as usize] == district)
-        + u32::from(plan[corner.far as usize] == district)
-        + u32::from(plan[corner.further as usize] == district);
-    inside == 4
+    let district = leaving.plan[leaving.unit as usize];
+    are_inside(leaving, corner, district, district).0
 }
 
 /// Merges, for each link, the classes of its two mates.

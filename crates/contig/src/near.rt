@@ -28,24 +28,8 @@ pub fn faces_of(alloc: Global, graph: &Graph) -> Result<FaceList, Memory>
     ensures { IfOk result (λ l. AreFaces graph.now l) }
 {
     let mut found = rings_of(alloc, graph)?;
-    if found.rings.len() > MOST {
-        return Ok(FaceList::new(alloc));
-    }
-    let order = order_by_peeling(alloc, graph, &found.rings)?;
-    if are_all(graph, order.len()) {
-        return list_faces(alloc, graph, &order);
-    }
-    let sides = Sides::of(alloc, graph, &order)?;
-    found.rings.clear();
-    found.add_pentagons(graph, &sides)?;
-    if found.rings.is_empty() {
-        return list_faces(alloc, graph, &order);
-    }
-    for ring in &order {
-        found.rings.push(*ring)?;
-    }
-    let longer = order_by_peeling(alloc, graph, &found.rings)?;
-    list_faces(alloc, graph, &longer)
+    let order = found.in_order(alloc, graph)?;
+    list_faces(alloc, graph, &order)
 }
 
 /// Returns true if a connected graph cannot have more faces than `rings`.
@@ -65,6 +49,55 @@ struct Rings {
 }
 
 impl Rings {
+    /// Returns the rings in an order in which they can become faces, with pentagons where these may
+    /// yield more faces. Returns none if there are more than `MOST` triangles and squares.
+    fn in_order(&mut self, alloc: Global, graph: &Graph) -> Result<Vec<Face>, Memory> {
+        if self.rings.len() > MOST {
+            return Ok(Vec::new(alloc));
+        }
+        let order = order_by_peeling(alloc, graph, &self.rings)?;
+        if are_all(graph, order.len()) {
+            return Ok(order);
+        }
+        self.replace_by_pentagons(alloc, graph, &order)?;
+        if self.rings.is_empty() {
+            return Ok(order);
+        }
+        self.add_all(&order)?;
+        order_by_peeling(alloc, graph, &self.rings)
+    }
+
+    /// Replaces the rings by the pentagons whose sides all have room beside these faces.
+    fn replace_by_pentagons(
+        &mut self,
+        alloc: Global,
+        graph: &Graph,
+        faces: &[Face],
+    ) -> Result<(), Memory> {
+        let sides = Sides::of(alloc, graph, faces)?;
+        self.rings.clear();
+        self.add_pentagons(graph, &sides)
+    }
+
+    /// Adds these rings.
+    fn add_all(&mut self, rings: &[Face]) -> Result<(), Memory> {
+        for ring in rings {
+            self.rings.push(*ring)?;
+        }
+        Ok(())
+    }
+
+    /// Adds the triangles and squares of the graph. Stops early if there are more than `MOST`.
+    fn add_short(&mut self, graph: &Graph) -> Result<(), Memory> {
+        for a in 0..graph.units() {
+            self.add_at(graph, a)?;
+            if self.rings.len() > MOST {
+                return Ok(());
+            }
+        }
+        Ok(())
+    }
+
     /// Adds the squares a, b, c, d in which `c` is greater than `a` and not adjacent to `a`.
     fn add_squares(&mut self, graph: &Graph, a: u32, b: u32, d: u32) -> Result<(), Memory>
         requires units { (a < graph.now.units) × (b < graph.now.units) × (d < graph.now.units) }
@@ -226,11 +259,6 @@ fn rings_of(alloc: Global, graph: &Graph) -> Result<Rings, Memory> {
         rings: Vec::new(alloc),
         ways: 0,
     };
-    for a in 0..graph.units() {
-        found.add_at(graph, a)?;
-        if found.rings.len() > MOST {
-            return Ok(found);
-        }
-    }
+    found.add_short(graph)?;
     Ok(found)
 }

@@ -1,13 +1,10 @@
 //! Puts rings in an order in which they can become faces. The order is not proved: it only decides
 //! how many rings the list of faces accepts.
 
-ghost use Rattle.std.specs.Prelude.{◌<◌};
-
 use crate::face::Face;
 use audit_model::memory::Memory;
 use dual_graph::graph::Graph;
 use std::alloc::Global;
-use std::mem::swap;
 
 /// The weight of a crowded side, where each neighbor has weight 1. A side is *crowded* if more than
 /// two rings have it. In a plane graph, at most two faces share a side.
@@ -97,24 +94,33 @@ impl Sides {
 
     /// Counts the rings at each side of the graph. Fails if there is no memory.
     pub fn of(alloc: Global, graph: &Graph, rings: &[Face]) -> Result<Sides, Memory> {
-        let begins = begins_of(alloc, graph)?;
-        let all = match begins.last() {
-            None => 0,
-            Some(end) => *end,
-        };
-        let mut sides = Sides {
+        let mut sides = Sides::without_rings(alloc, graph)?;
+        sides.add_rings(graph, rings)?;
+        Ok(sides)
+    }
+
+    fn without_rings(alloc: Global, graph: &Graph) -> Result<Sides, Memory> {
+        let (begins, all) = begins_of(alloc, graph)?;
+        Ok(Sides {
             begins,
             counts: vec![in alloc; 0; all]?,
             sums: vec![in alloc; 0; all]?,
             singles: Vec::new(alloc),
-        };
+        })
+    }
+
+    fn add_rings(&mut self, graph: &Graph, rings: &[Face]) -> Result<(), Memory> {
         for number in 0..rings.len() {
-            sides.count_all(graph, rings[number], number, true)?;
+            self.count_all(graph, rings[number], number, true)?;
         }
-        for side in 0..all {
-            sides.see(side)?;
+        self.see_all()
+    }
+
+    fn see_all(&mut self) -> Result<(), Memory> {
+        for side in 0..self.counts.len() {
+            self.see(side)?;
         }
-        Ok(sides)
+        Ok(())
     }
 
     /// Adds a side to `singles` if it has a single ring.
@@ -144,13 +150,13 @@ impl Sides {
         None
     }
 
-    /// Counts the crowded sides of a ring.
-    fn count_crowded_sides(&self, graph: &Graph, ring: Face) -> u8 {
+    /// Counts the crowded sides of a ring. `counts` has the number of rings at each side.
+    fn count_crowded_sides(&self, graph: &Graph, counts: &[u32], ring: Face) -> u8 {
         let mut crowded = 0u8;
         let mut turn = ring;
         for _ in 0..length_of(ring) {
             let side = self.own(graph, turn);
-            if side < self.counts.len() && self.counts[side] > 2 {
+            if side < counts.len() && counts[side] > 2 {
                 crowded = crowded.wrapping_add(1);
             }
             turn = turn.rotate();
@@ -171,6 +177,90 @@ impl Sides {
     }
 }
 
+/// Rings that are taken off one by one.
+#[derive(Drop)]
+struct Peeling {
+    /// The sides of the rings that remain.
+    sides: Sides,
+    /// For each ring, whether it remains.
+    left: Vec<bool>,
+    /// The rings to keep, in the order in which they were taken off.
+    kept: Vec<Face>,
+}
+
+impl Peeling {
+    fn of(alloc: Global, graph: &Graph, rings: &[Face]) -> Result<Peeling, Memory> {
+        let left = vec![in alloc; true; rings.len()]?;
+        Ok(Peeling {
+            sides: Sides::of(alloc, graph, rings)?,
+            left,
+            kept: Vec::new(alloc),
+        })
+    }
+
+    /// Takes a ring off. Returns true if the ring had remained until now.
+    fn take_off(&mut self, graph: &Graph, rings: &[Face], number: usize) -> Result<bool, Memory> {
+        if number >= rings.len() || number >= self.left.len() || !self.left[number] {
+            return Ok(false);
+        }
+        self.left[number] = false;
+        self.sides.count_all(graph, rings[number], number, false)?;
+        Ok(true)
+    }
+
+    /// Takes a ring off and keeps it, turned to begin with this side.
+    fn keep(
+        &mut self,
+        graph: &Graph,
+        rings: &[Face],
+        side: usize,
+        number: usize,
+    ) -> Result<(), Memory> {
+        if self.take_off(graph, rings, number)? && number < rings.len() {
+            self.kept
+                .push(self.sides.rotate_to(graph, rings[number], side))?;
+        }
+        Ok(())
+    }
+
+    /// Takes off and keeps rings that alone have some side, until no such ring remains.
+    fn keep_singles(&mut self, graph: &Graph, rings: &[Face]) -> Result<(), Memory> {
+        for _ in 0..u64::MAX {
+            match self.sides.next() {
+                None => return Ok(()),
+                Some((side, number)) => self.keep(graph, rings, side, number)?,
+            }
+        }
+        Ok(())
+    }
+
+    /// Drops the rings that remain, in this order. Before each next one, those that alone have some
+    /// side are kept.
+    fn drop_rings(&mut self, graph: &Graph, rings: &[Face], order: &[usize]) -> Result<(), Memory> {
+        for number in order {
+            self.take_off(graph, rings, *number)?;
+            self.keep_singles(graph, rings)?;
+        }
+        Ok(())
+    }
+
+    /// Keeps as many rings as it can. `all` has the sides of all rings.
+    fn peel(
+        &mut self,
+        alloc: Global,
+        graph: &Graph,
+        rings: &[Face],
+        all: &[u32],
+    ) -> Result<(), Memory> {
+        self.keep_singles(graph, rings)?;
+        if self.kept.len() < rings.len() {
+            let order = drop_order(alloc, graph, &self.sides, all, rings)?;
+            self.drop_rings(graph, rings, &order)?;
+        }
+        Ok(())
+    }
+}
+
 /// Orders rings so that each has a side that no earlier ring has, and rotates each ring to begin
 /// with this side.
 ///
@@ -178,46 +268,60 @@ impl Sides {
 /// remaining ring has, this ring is taken off and kept. If no remaining ring has one, a ring is
 /// dropped.
 pub fn order_by_peeling(alloc: Global, graph: &Graph, rings: &[Face]) -> Result<Vec<Face>, Memory> {
-    let mut sides = Sides::of(alloc, graph, rings)?;
-    let mut counts = sides.counts.clone()?;
-    let mut left: Vec<bool> = vec![in alloc; true; rings.len()]?;
-    let mut kept = Vec::new(alloc);
-    keep_singles(graph, rings, &mut sides, &mut left, &mut kept)?;
-    if kept.len() < rings.len() {
-        // Crowded sides are determined from all rings, including those already taken off.
-        swap(&mut sides.counts, &mut counts);
-        let order = drop_order(alloc, graph, &sides, rings)?;
-        swap(&mut sides.counts, &mut counts);
-        for number in order {
-            take_off(graph, rings, &mut sides, &mut left, number)?;
-            keep_singles(graph, rings, &mut sides, &mut left, &mut kept)?;
-        }
-    }
-    kept.reverse();
-    Ok(kept)
+    let mut peeling = Peeling::of(alloc, graph, rings)?;
+    let all = peeling.sides.counts.clone()?;
+    peeling.peel(alloc, graph, rings, &all)?;
+    let Peeling {
+        sides: _sides,
+        left: _left,
+        kept,
+    } = peeling;
+    let mut order = kept;
+    order.reverse();
+    Ok(order)
 }
 
 /// Returns the indices of the rings in the order in which to drop them, by rising class. It is a
-/// counting sort.
+/// counting sort. Sides are crowded by the rings in `all`, which include those already taken off.
 fn drop_order(
     alloc: Global,
     graph: &Graph,
     sides: &Sides,
+    all: &[u32],
     rings: &[Face],
 ) -> Result<Vec<usize>, Memory> {
-    let mut classes = Vec::with_capacity(alloc, rings.len())?;
     let mut places: Vec<usize> = vec![in alloc; 0; CLASSES]?;
-    for ring in rings {
-        let class = class_of(graph, sides, *ring);
-        places[class] = places[class].wrapping_add(1);
-        classes.push(class)?;
-    }
+    let classes = classes_of(alloc, graph, sides, all, rings, &mut places)?;
     begin_classes(&mut places);
     let mut order: Vec<usize> = vec![in alloc; 0; rings.len()]?;
     for number in 0..classes.len() {
         put(&mut order, &mut places, classes[number], number);
     }
     Ok(order)
+}
+
+/// Lists the class of each ring, and adds the number of rings in each class to `sizes`.
+fn classes_of(
+    alloc: Global,
+    graph: &Graph,
+    sides: &Sides,
+    all: &[u32],
+    rings: &[Face],
+    sizes: &mut [usize],
+) -> Result<Vec<usize>, Memory> {
+    let mut classes = Vec::with_capacity(alloc, rings.len())?;
+    for ring in rings {
+        let class = class_of(graph, sides, all, *ring);
+        count_one(sizes, class);
+        classes.push(class)?;
+    }
+    Ok(classes)
+}
+
+fn count_one(sizes: &mut [usize], class: usize) {
+    if class < sizes.len() {
+        sizes[class] = sizes[class].wrapping_add(1);
+    }
 }
 
 /// Returns the class of a ring. Rings with more neighbors and with more crowded sides have lower
@@ -229,10 +333,8 @@ fn drop_order(
 /// Of the four triangles of four mutually adjacent units, at most three become faces. The three
 /// units with the most neighbors form the triangle to drop. This triangle matters only for a
 /// district that has its three units but not the fourth. Such a district is rare.
-fn class_of(graph: &Graph, sides: &Sides, ring: Face) -> usize
-    ensures { result < 181 }
-{
-    let crowded = CROWDED.wrapping_mul(sides.count_crowded_sides(graph, ring) as usize);
+fn class_of(graph: &Graph, sides: &Sides, all: &[u32], ring: Face) -> usize {
+    let crowded = CROWDED.wrapping_mul(sides.count_crowded_sides(graph, all, ring) as usize);
     let weight = neighbours_of(graph, ring).saturating_add(crowded);
     (CLASSES - 1).saturating_sub(weight)
 }
@@ -270,17 +372,16 @@ fn put(order: &mut [usize], places: &mut [usize], class: usize, number: usize) {
     }
 }
 
-/// Returns the index of the first entry of each unit's list of neighbors, and then the number of
-/// all entries.
-fn begins_of(alloc: Global, graph: &Graph) -> Result<Vec<usize>, Memory> {
-    let mut begins = Vec::new(alloc);
+/// Returns the index of the first entry of each unit's list of neighbors, and the number of all
+/// entries.
+fn begins_of(alloc: Global, graph: &Graph) -> Result<(Vec<usize>, usize), Memory> {
+    let mut begins = Vec::with_capacity(alloc, graph.units() as usize)?;
     let mut end = 0usize;
     for u in 0..graph.units() {
         begins.push(end)?;
         end = end.wrapping_add(graph.neighbours(u).len());
     }
-    begins.push(end)?;
-    Ok(begins)
+    Ok((begins, end))
 }
 
 fn length_of(ring: Face) -> usize {
@@ -297,41 +398,4 @@ fn first_two(ring: Face) -> (u32, u32) {
         Face::Square(a, b, _, _) => (a, b),
         Face::Pentagon(a, b, _, _, _) => (a, b),
     }
-}
-
-/// Takes a ring off. Returns true if the ring had remained until now.
-fn take_off(
-    graph: &Graph,
-    rings: &[Face],
-    sides: &mut Sides,
-    left: &mut [bool],
-    number: usize,
-) -> Result<bool, Memory> {
-    if number >= rings.len() || number >= left.len() || !left[number] {
-        return Ok(false);
-    }
-    left[number] = false;
-    sides.count_all(graph, rings[number], number, false)?;
-    Ok(true)
-}
-
-/// Takes off and keeps rings that alone have some side, until no such ring remains.
-fn keep_singles(
-    graph: &Graph,
-    rings: &[Face],
-    sides: &mut Sides,
-    left: &mut [bool],
-    kept: &mut Vec<Face>,
-) -> Result<(), Memory> {
-    for _ in 0..u64::MAX {
-        match sides.next() {
-            None => return Ok(()),
-            Some((side, number)) => {
-                if take_off(graph, rings, sides, left, number)? && number < rings.len() {
-                    kept.push(sides.rotate_to(graph, rings[number], side))?;
-                }
-            }
-        }
-    }
-    Ok(())
 }
