@@ -8,5 +8,6 @@ pub mod Moves
 pub mod NearPairs
 pub mod OneMate
 pub mod Proposing
+pub mod Reading
 pub mod Tables
 pub mod Words

@@ -10,11 +10,13 @@ ghost use Rattle.audit_model.specs.District.{district_sum};
 ghost use Rattle.audit_model.specs.Plan.{IsLegal, cut_edges, least_population, greatest_population};
 ghost use Rattle.audit_model.specs.Step.{next};
 ghost use Rattle.district_sums.specs.Following.{StandsFor, count_near, districts_in};
-ghost use Rattle.flip_kernel.specs.ChainState.{IsMove, IsSummed, KeepsBounds, KeepsBoundsIn, ProposesOpen, allows, sums_in};
+ghost use Rattle.flip_kernel.specs.ChainState.{IsMove, IsSummed, KeepsBoundsIn, ProposesOpen, allows, sums_in};
 ghost use Rattle.flip_kernel.specs.Judged.{HasConstraintAt};
 ghost use Rattle.flip_kernel.specs.Nearby.{CountsNeighbors};
-ghost use Rattle.flip_kernel.specs.OpenPairs.{is_open};
+ghost use Rattle.flip_kernel.specs.OpenPairs.{is_open, MarksOpenPairs};
+ghost use Rattle.contig.specs.Counts.{AreCounts};
 
+use crate::bounds::are_kept;
 use crate::moving::Flip;
 use crate::nearby::NeighborCounts;
 use crate::open_pairs::OpenPairs;
@@ -91,17 +93,10 @@ impl Board {
         ensures job { IfOk result (λ s. s.job ≡ job.now) }
         ensures plan { IfOk result (λ s. s.plan ≡ job.now.start) }
     {
-        let units = job.units();
-        let districts = job.districts();
-        let plan = job.start().copy()?;
-        let sums = Sums::of(alloc, job.graph(), job.counts(), districts, plan.as_slice())?;
-        let marks = Marks::new(alloc, units)?;
-        let mut near = NeighborCounts::zeros(alloc, units, districts)?;
-        near.refill(job.graph(), plan.as_slice(), districts);
-        let mut open_pairs = OpenPairs::none(alloc, units, districts)?;
-        open_pairs.refill(job.graph(), plan.as_slice(), districts);
-        let faces = FaceTable::of(alloc, job.graph())?;
-        let counts = FaceCounts::new(alloc, job.graph(), &faces, districts, plan.as_slice())?;
+        let (plan, sums) = start_of(alloc, job)?;
+        let marks = Marks::new(alloc, job.units())?;
+        let (near, open_pairs) = pairs_of(alloc, job)?;
+        let (faces, counts) = faces_of(alloc, job)?;
         let (low, high) = job.limits();
         Ok(Board {
             job: Snapshot::of(job),
@@ -112,7 +107,7 @@ impl Board {
             counts,
             near,
             open_pairs,
-            pairs: Pairs::of(units, districts),
+            pairs: Pairs::of(job.units(), job.districts()),
             low,
             high,
         })
@@ -298,28 +293,8 @@ impl Board {
         }
     }
 
-    /// Returns true if the flip is a move. The pair must be open. `steps` counts a search of the district.
-    pub(crate) fn may_move<J: Judge, L: Ledger>(
-        &mut self,
-        judge: &J,
-        flip: Flip,
-        steps: &mut Steps<L>,
-    ) -> bool
-        requires made { self.old.job ≡ flip.job.now }
-        requires judge { HasConstraintAt flip.job.now self.old.plan (J.judging judge.now) }
-        requires beside { IsTrue (is_open flip.job.now.graph self.old.plan flip.unit flip.district) }
-        ensures moves { IsTrue result ↔ IsMove flip.entry.job.now self.old.plan flip.entry.unit flip.entry.district }
-        ensures same { self.new ≡ self.old }
-        ensures searches { (steps.old ≤ steps.new) × (steps.new ≤ steps.old + 1) }
-        ensures local { IsLocal flip.entry.job.now.graph self.old.plan flip.entry.unit → steps.new ≡ steps.old }
-    {
-        if !self.keeps_bounds(flip) {
-            return false;
-        }
-        self.may_move_within(judge, flip, steps)
-    }
-
-    /// Does the work of `may_move` for a flip within the population bounds.
+    /// Returns true if a flip within the population bounds is a move. The pair must be open. `steps` counts a search of
+    /// the district.
     pub(crate) fn may_move_within<J: Judge, L: Ledger>(
         &mut self,
         judge: &J,
@@ -352,12 +327,16 @@ impl Board {
         if !self.keeps_bounds(flip) || self.decide_without_search(judge, flip).is_some() {
             return false;
         }
-        !local_holds(
-            flip.job.graph(),
-            self.plan.as_slice(),
-            flip.unit,
-            &mut self.marks,
-        )
+        !self.is_local(flip.job, flip.unit)
+    }
+
+    /// Returns true if the unit's neighbors in its district are connected among themselves.
+    fn is_local(&mut self, job: &Job, unit: u32) -> bool
+        requires made { self.old.job ≡ job.now }
+        requires unit { unit < job.now.graph.units }
+        ensures { self.new ≡ self.old }
+    {
+        local_holds(job.graph(), self.plan.as_slice(), unit, &mut self.marks)
     }
 
     /// Makes a move.
@@ -386,6 +365,47 @@ impl Board {
         };
         self.open_pairs.update(moved, districts, home, &self.near);
     }
+}
+
+/// Copies the start plan of a job, and adds up its sums.
+fn start_of(alloc: Global, job: &Job) -> Result<(UnitList, Sums), Memory>
+    ensures plan { IfOk result (λ s. s.0 ≡ job.now.start) }
+    ensures summed { IfOk result (λ s. IsSummed job.now job.now.start s.1) }
+{
+    let start = job.start();
+    let sums = Sums::of(
+        alloc,
+        job.graph(),
+        job.counts(),
+        job.districts(),
+        start.as_slice(),
+    )?;
+    Ok((start.copy()?, sums))
+}
+
+/// Counts the neighbors of each unit by district at the start plan of a job, and finds the open pairs.
+fn pairs_of(alloc: Global, job: &Job) -> Result<(NeighborCounts, OpenPairs), Memory>
+    ensures near { IfOk result (λ p. CountsNeighbors job.now.graph job.now.start job.now.districts p.0) }
+    ensures opened { IfOk result (λ p. MarksOpenPairs job.now.graph job.now.start job.now.districts p.1) }
+{
+    let plan = job.start().as_slice();
+    let districts = job.districts();
+    let mut near = NeighborCounts::zeros(alloc, job.units(), districts)?;
+    near.refill(job.graph(), plan, districts);
+    let mut open_pairs = OpenPairs::none(alloc, job.units(), districts)?;
+    open_pairs.refill(job.graph(), plan, districts);
+    Ok((near, open_pairs))
+}
+
+/// Finds the faces of a job's graph, and counts those of its start plan.
+fn faces_of(alloc: Global, job: &Job) -> Result<(FaceTable, FaceCounts), Memory>
+    ensures made { IfOk result (λ f. f.0.graph ≡ job.now.graph) }
+    ensures counts { IfOk result (λ f. AreCounts job.now.graph f.0.faces job.now.districts job.now.start f.1) }
+{
+    let plan = job.start().as_slice();
+    let faces = FaceTable::of(alloc, job.graph())?;
+    let counts = FaceCounts::new(alloc, job.graph(), &faces, job.districts(), plan)?;
+    Ok((faces, counts))
 }
 
 /// Moves a unit to a district, in the plan and in its sums. `mates` has the number of the unit's neighbors in its old
@@ -470,21 +490,4 @@ fn is_permitted<J: Judge>(
     put_unit(plan, flip.unit, home);
     sums.put_cut(before);
     permitted
-}
-
-/// Returns true if both populations stay within the bounds when `people` move.
-///
-/// If a bound is violated, its difference wraps around to 2^63 or more, and otherwise it is less. One comparison of the
-/// larger difference therefore tests both bounds.
-#[inline]
-fn are_kept(low: u64, high: u64, people: u64, from: u64, to: u64) -> bool
-    requires people { people ≤ from }
-    requires from { (low ≤ from) × (from ≤ high) }
-    requires to { to ≤ high }
-    requires high { high < 2 ^ 63 }
-    ensures { IsTrue result ↔ KeepsBounds low high people from to }
-{
-    let left = (from - people).wrapping_sub(low);
-    let room = (high - people).wrapping_sub(to);
-    left.max(room) < 1 << 63
 }

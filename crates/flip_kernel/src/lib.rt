@@ -27,6 +27,7 @@
 #![tactic(auto)]
 
 mod board;
+mod bounds;
 pub mod flip;
 pub mod laws;
 mod moving;

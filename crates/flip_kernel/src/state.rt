@@ -102,7 +102,10 @@ impl<J: Judge> State<J> {
         ensures searches { (steps.old ≤ steps.new) × (steps.new ≤ steps.old + 1) }
         ensures local { IsLocal flip.entry.job.now.graph self.old.plan flip.entry.unit → steps.new ≡ steps.old }
     {
-        self.board.may_move(&self.judge, flip, steps)
+        if !self.board.keeps_bounds(flip) {
+            return false;
+        }
+        self.board.may_move_within(&self.judge, flip, steps)
     }
 
     /// Returns true if the step of this draw searches a district.

@@ -32,3 +32,14 @@ loop-other-preserved c =
     counting_more plan c.args.districts c.args.member.unit _ row i c.args.table.now c.loop-other.table c.loop-other-test.true there refl
     (place_within units c.args.districts c.args.member.unit (get_or plan (get_or row i 0) 0) (length c.loop-other.table) c.args.member.within there wide)
     c.loop-other.invariant
+
+pub bounds-table-place : goal.bounds-table-place
+bounds-table-place c =
+    let plan : List ℕ = c.args.member.plan.now in
+    let row : List ℕ = c.neighbours-other-items.result.now in
+    let i : ℕ = c.loop-other.other-index in
+    let units : ℕ = c.args.member.graph.now.units in
+    let there : get_or plan (get_or row i 0) 0 < c.args.districts =
+    c.requires.in_range (get_or row i 0) (All-get_or (λ v. v < units) row i 0 c.loop-other-test.true c.neighbours-other-items.ensures.below) in
+    place_within units c.args.districts c.args.member.unit (get_or plan (get_or row i 0) 0) (length c.loop-other.table) c.args.member.within there
+    (omega (arith, c.requires.width, c.loop-other.invariant.width))

@@ -1,5 +1,6 @@
-use Rattle.std.proofs.Common.{◌≡◌, ℕ, ◌+◌, ◌<◌, ◌∙◌, true, false, List, ◌++◌, ◌∷◌, [], length, get_or, take, sym, subst, arith, take_all}
+use Rattle.std.proofs.Common.{◌≡◌, ℕ, ◌+◌, ◌*◌, ◌<◌, ◌≤◌, ◌∙◌, true, false, List, ◌++◌, ◌∷◌, [], length, get_or, take, sym, subst, arith, take_all}
 use Rattle.std.proofs.lemmas.List.{take_more}
+use Rattle.std.proofs.lemmas.List.Elements.{All-get_or}
 use Rattle.audit_model.specs.Graph.{Graph, IsGraph, has, adjacent}
 use Rattle.audit_model.proofs.ListFacts.{at_has}
 use Rattle.audit_model.proofs.Rows.{IsRising, row_rises}
@@ -7,6 +8,7 @@ use Rattle.district_sums.proofs.Walking.{is_new}
 use Rattle.district_sums.specs.Following.{count_near}
 use Rattle.flip_kernel.specs.Nearby.{HasMoved, AreNear, near_of}
 use Rattle.flip_kernel.proofs.NearPairs.{near_few, near_some, not_moved, moved_more, moved_all}
+use Rattle.flip_kernel.proofs.Tables.{place_within}
 use Rattle.flip_kernel.proofs.nearby.pass_neighbor.Goals as goal
 
 -- facts about the next unit of the row
@@ -72,3 +74,16 @@ returns c =
     moved_all c.args.leaving.graph.now plan c.args.districts u c.args.district row c.args.table.now c.loop-other.table c.args.leaving.sound c.args.leaving.complete
     c.args.leaving.within c.neighbours-other-items.ensures.list c.requires.near
     (subst (λ (xs : List ℕ). HasMoved c.args.districts (get_or plan u 0) c.args.district xs c.args.table.now c.loop-other.table) all c.loop-other.invariant)
+
+pub pass_one-requires-clause-places : goal.pass_one-requires-clause-places
+pass_one-requires-clause-places c =
+    let units : ℕ = c.args.leaving.graph.now.units in
+    let u : ℕ = c.args.leaving.unit in
+    let n : ℕ = c.args.districts in
+    let row : List ℕ = c.neighbours-other-items.result.now in
+    let i : ℕ = c.loop-other.other-index in
+    let below : get_or row i 0 < units = All-get_or (λ v. v < units) row i 0 c.loop-other-test.true c.neighbours-other-items.ensures.below in
+    let wide : units * n ≤ length c.loop-other.table = omega (arith, c.requires.near.width, c.loop-other.invariant.width) in (
+      place_within units n (get_or row i 0) (get_or c.args.leaving.plan.now u 0) (length c.loop-other.table) below (c.requires.in_range u c.args.leaving.within) wide,
+      place_within units n (get_or row i 0) c.args.district (length c.loop-other.table) below c.requires.district wide,
+    )

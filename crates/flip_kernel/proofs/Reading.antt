@@ -1,0 +1,22 @@
+-- The board's tables, for equal graphs, plans and numbers of districts.
+use Rattle.std.proofs.Common.{◌≡◌, ℕ, Bool, List, sym, subst}
+use Rattle.audit_model.specs.Graph.{Graph}
+use Rattle.contig.specs.Counts.{AreCounts, Counted}
+use Rattle.flip_kernel.specs.Nearby.{CountsNeighbors}
+use Rattle.flip_kernel.specs.OpenPairs.{MarksOpenPairs}
+
+module _ (g h : Graph) (p q : List ℕ) (m n : ℕ) (graphs : h ≡ g) (plans : q ≡ p) (numbers : n ≡ m) where
+  pub near_for : (table : List ℕ) → CountsNeighbors g p m table → CountsNeighbors h q n table
+  near_for table is =
+      subst (λ (x : Graph). CountsNeighbors x q n table) (sym graphs)
+      (subst (λ (x : List ℕ). CountsNeighbors g x n table) (sym plans) (subst (λ (x : ℕ). CountsNeighbors g p x table) (sym numbers) is))
+
+  pub counts_for : (faces : List (List ℕ)) (counted : Counted) → AreCounts g faces m p counted → AreCounts h faces n q counted
+  counts_for faces counted is =
+      subst (λ (x : Graph). AreCounts x faces n q counted) (sym graphs)
+      (subst (λ (x : List ℕ). AreCounts g faces n x counted) (sym plans) (subst (λ (x : ℕ). AreCounts g faces x p counted) (sym numbers) is))
+
+  pub opened_for : (table : List Bool) → MarksOpenPairs g p m table → MarksOpenPairs h q n table
+  opened_for table is =
+      subst (λ (x : Graph). MarksOpenPairs x q n table) (sym graphs)
+      (subst (λ (x : List ℕ). MarksOpenPairs g x n table) (sym plans) (subst (λ (x : ℕ). MarksOpenPairs g p x table) (sym numbers) is))
