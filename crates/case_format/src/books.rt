@@ -33,7 +33,7 @@ fn book(alloc: Global) -> Result<Book, Memory> {
 
 fn show_tally(rt: &HostRuntime, book: &Book) -> io::Result<()> {
     print!(rt; "book {} tally", book.len())?;
-    for sum in book.tally() {
+    for sum in book.tally().iter() {
         print!(rt; " {sum}")?;
     }
     rt.println("")

@@ -1,12 +1,12 @@
 //! A checkpoint of the first version of the format.
 
 use crate::names::begin_case;
+use crate::slots_shown::show_digest;
 use audit_model::buffers::Bytes;
 use audit_model::memory::Memory;
 use audit_model::outcome::Outcome;
 use ckpt_format::decode::{Checkpoint, decode};
 use ckpt_format::encode::encode_old;
-use sha2::{Digest, Sha256};
 use std::alloc::Global;
 use std::io;
 
@@ -35,16 +35,12 @@ pub fn show_checkpoint(rt: &HostRuntime) -> io::Result<()> {
 }
 
 fn show_bytes(rt: &HostRuntime, bytes: &[u8]) -> io::Result<()> {
+    print!(rt; "checkpoint {} bytes", bytes.len())?;
     show_digest(rt, bytes)?;
     match decode(rt.alloc(), bytes) {
         Ok(read) => show_read(rt, &read),
         Err(_) => rt.println("no checkpoint"),
     }
-}
-
-fn show_digest(rt: &HostRuntime, bytes: &[u8]) -> io::Result<()> {
-    let digest = hex::encode(rt.alloc(), Sha256::digest(bytes))?;
-    println!(rt; "checkpoint {} bytes sha256 {digest}", bytes.len())
 }
 
 fn show_read(rt: &HostRuntime, read: &Checkpoint) -> io::Result<()> {

@@ -1,6 +1,7 @@
 //! Tests that a unit may leave its district: by its neighbors (`local`), by a search, and by both.
 
-ghost use Rattle.std.specs.Prelude.{◌≡◌, ◌<◌};
+ghost use Rattle.std.specs.Prelude.{◌≡◌, ◌<◌, ◌≤◌, length};
+ghost use Rattle.dual_graph.specs.Pairs.{ArePairs};
 
 use crate::names::begin_case;
 use audit_model::memory::Memory;
@@ -12,6 +13,21 @@ use std::alloc::Global;
 use std::io;
 use std::marker::Brand;
 use std::sync::ledger::{Blank, Ledger};
+
+/// A ring of six units, and a neighbor of unit 0 outside the ring. In the first plan the neighbor is in another
+/// district. In the second plan unit 0 is alone in its district.
+const RING: [(u32, u32); 7] = [(0, 1), (0, 5), (0, 6), (1, 2), (2, 3), (3, 4), (4, 5)];
+
+/// Three units in a row.
+const ROW: [(u32, u32); 2] = [(0, 1), (1, 2)];
+
+/// Two rows of three. The plan has all but the first unit in one district. The two neighbors of the last unit are not
+/// adjacent, so only the search decides.
+const GRID: [(u32, u32); 7] = [(0, 1), (0, 3), (1, 2), (1, 4), (2, 5), (3, 4), (4, 5)];
+
+/// A triangle with a neighbor of unit 0 in another district. The two other neighbors of unit 0 are adjacent, so no
+/// search is needed.
+const TRIANGLE: [(u32, u32); 4] = [(0, 1), (0, 2), (0, 3), (1, 2)];
 
 // Returns the answers of the three calls: local test, search, and both. All are false if the plan does not fit the
 // graph or the graph does not have the unit.
@@ -47,54 +63,26 @@ fn show_unit(rt: &HostRuntime, graph: &Graph, plan: &[u32], unit: u32) -> io::Re
     }
 }
 
-// Prints the answers for unit 0 of a ring of six. In the first plan a neighbor outside the ring is in another district,
-// in the second unit 0 is alone in its district.
-fn show_ring(rt: &HostRuntime) -> io::Result<()> {
-    begin_case(rt, "leaving_a_ring")?;
-    let pairs = [(0, 1), (0, 5), (0, 6), (1, 2), (2, 3), (3, 4), (4, 5)];
-    match Graph::from_pairs(rt.alloc(), 7, &pairs) {
-        Ok(graph) => {
-            show_unit(rt, &graph, &[0, 0, 0, 0, 0, 0, 1], 0)?;
-            show_unit(rt, &graph, &[0, 1, 1, 1, 1, 1, 1], 0)
-        }
-        Err(_) => rt.println("memory"),
-    }
-}
-
-// Prints the answers for the middle one of three units in a row.
-fn show_row(rt: &HostRuntime) -> io::Result<()> {
-    begin_case(rt, "leaving_a_row")?;
-    match Graph::from_pairs(rt.alloc(), 3, &[(0, 1), (1, 2)]) {
-        Ok(graph) => show_unit(rt, &graph, &[0, 0, 0], 1),
-        Err(_) => rt.println("memory"),
-    }
-}
-
-// Prints the answers for the last unit of two rows of three, with all but the first unit in one district. Its two
-// neighbors are not adjacent, so only the search decides.
-fn show_grid(rt: &HostRuntime) -> io::Result<()> {
-    begin_case(rt, "leaving_a_grid")?;
-    let pairs = [(0, 1), (0, 3), (1, 2), (1, 4), (2, 5), (3, 4), (4, 5)];
-    match Graph::from_pairs(rt.alloc(), 6, &pairs) {
-        Ok(graph) => show_unit(rt, &graph, &[1, 0, 0, 0, 0, 0], 5),
-        Err(_) => rt.println("memory"),
-    }
-}
-
-// Prints the answers for a corner of a triangle with a neighbor in another district. Its two neighbors are adjacent, so
-// no search is needed.
-fn show_triangle(rt: &HostRuntime) -> io::Result<()> {
-    begin_case(rt, "leaving_a_triangle")?;
-    match Graph::from_pairs(rt.alloc(), 4, &[(0, 1), (0, 2), (0, 3), (1, 2)]) {
-        Ok(graph) => show_unit(rt, &graph, &[0, 0, 0, 1], 0),
+// Prints the answers for a unit of the graph with these pairs.
+fn show_leave(rt: &HostRuntime, pairs: &[(u32, u32)], plan: &[u32], unit: u32) -> io::Result<()>
+    requires few { (length plan.now ≤ 7) × (length pairs.now ≤ 7) }
+    requires pairs { ArePairs (length plan.now) pairs.now }
+{
+    match Graph::from_pairs(rt.alloc(), plan.len() as u32, pairs) {
+        Ok(graph) => show_unit(rt, &graph, plan, unit),
         Err(_) => rt.println("memory"),
     }
 }
 
 /// Prints the three answers for a unit of each of these graphs.
 pub fn show_leaving(rt: &HostRuntime) -> io::Result<()> {
-    show_ring(rt)?;
-    show_row(rt)?;
-    show_grid(rt)?;
-    show_triangle(rt)
+    begin_case(rt, "leaving_a_ring")?;
+    show_leave(rt, &RING, &[0, 0, 0, 0, 0, 0, 1], 0)?;
+    show_leave(rt, &RING, &[0, 1, 1, 1, 1, 1, 1], 0)?;
+    begin_case(rt, "leaving_a_row")?;
+    show_leave(rt, &ROW, &[0, 0, 0], 1)?;
+    begin_case(rt, "leaving_a_grid")?;
+    show_leave(rt, &GRID, &[1, 0, 0, 0, 0, 0], 5)?;
+    begin_case(rt, "leaving_a_triangle")?;
+    show_leave(rt, &TRIANGLE, &[0, 0, 0, 1], 0)
 }

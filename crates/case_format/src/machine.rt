@@ -8,6 +8,32 @@ use audit_model::outcome::{Did, Event};
 use run_core::machine::Core;
 use std::io;
 
+/// A run of two workers with a save and a halt.
+const TWO_WORKERS: [Event; 8] = [
+    Event::Claim(0),
+    Event::Claim(1),
+    Event::Claim(2),
+    Event::Post(1),
+    Event::Save,
+    Event::Post(1),
+    Event::Halt,
+    Event::Claim(0),
+];
+
+/// A run in which an id that was claimed but not handed in is claimed again after a halt.
+const CLAIMED_AGAIN: [Event; 10] = [
+    Event::Claim(32),
+    Event::Claim(0),
+    Event::Claim(0),
+    Event::Halt,
+    Event::Post(0),
+    Event::Claim(5),
+    Event::Post(5),
+    Event::Save,
+    Event::Halt,
+    Event::Claim(0),
+];
+
 fn show_answer(rt: &HostRuntime, did: Did) -> io::Result<()> {
     match did {
         Did::Claimed(id) => print!(rt; " claimed {id}"),
@@ -39,42 +65,10 @@ fn show_run(rt: &HostRuntime, total: u32, events: &[Event]) -> io::Result<()>
     }
 }
 
-// Prints a run of two workers with a save and a halt.
-fn show_two(rt: &HostRuntime) -> io::Result<()> {
-    let events = [
-        Event::Claim(0),
-        Event::Claim(1),
-        Event::Claim(2),
-        Event::Post(1),
-        Event::Save,
-        Event::Post(1),
-        Event::Halt,
-        Event::Claim(0),
-    ];
-    show_run(rt, 2, &events)
-}
-
-// Prints a run in which an id that was claimed but not handed in is claimed again after a halt.
-fn show_again(rt: &HostRuntime) -> io::Result<()> {
-    let events = [
-        Event::Claim(32),
-        Event::Claim(0),
-        Event::Claim(0),
-        Event::Halt,
-        Event::Post(0),
-        Event::Claim(5),
-        Event::Post(5),
-        Event::Save,
-        Event::Halt,
-        Event::Claim(0),
-    ];
-    show_run(rt, 1, &events)
-}
-
 /// Prints both runs.
 pub fn show_machine(rt: &HostRuntime) -> io::Result<()> {
     begin_case(rt, "machine_of_two_workers")?;
-    show_two(rt)?;
+    show_run(rt, 2, &TWO_WORKERS)?;
     begin_case(rt, "machine_claims_again_after_halt")?;
-    show_again(rt)
+    show_run(rt, 1, &CLAIMED_AGAIN)
 }

@@ -8,10 +8,16 @@ pub fn begin_case(rt: &HostRuntime, name: &str) -> io::Result<()> {
     println!(rt; "case {name}")
 }
 
-/// Prints the name that a line begins with, and the rest of the line. Returns the rest.
-pub fn begin_line<'a>(rt: &HostRuntime, line: &'a str) -> io::Result<&'a str> {
-    let (name, rest) = line.split_once(' ').unwrap_or((line, ""));
+fn begin<'a>(rt: &HostRuntime, name: &str, rest: &'a str) -> io::Result<&'a str> {
     begin_case(rt, name)?;
     rt.println(rest)?;
     Ok(rest)
+}
+
+/// Prints the name that a line begins with, and the rest of the line. Returns the rest.
+pub fn begin_line<'a>(rt: &HostRuntime, line: &'a str) -> io::Result<&'a str> {
+    match line.split_once(' ') {
+        Some((name, rest)) => begin(rt, name, rest),
+        None => begin(rt, line, ""),
+    }
 }

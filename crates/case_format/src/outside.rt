@@ -75,5 +75,8 @@ pub fn show_outside(rt: &HostRuntime) -> io::Result<()> {
     begin_case(rt, "slots_in_files")?;
     let mut keeper = FileKeeper::new(SystemCalls::new(rt));
     let mut room = Bytes::new(rt.alloc());
-    show_keeper(rt, &mut keeper, &mut room)
+    let shown = show_keeper(rt, &mut keeper, &mut room);
+    drop(keeper);
+    drop(room);
+    shown
 }

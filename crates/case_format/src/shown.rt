@@ -1,14 +1,13 @@
 //! The printed result of a run.
 
-use crate::counted::{SaveCounts, Watch};
-use crate::gate::NotingGate;
-use crate::gated::{show_counted, show_crowd, show_timed};
+use crate::gate::{CaseGate, Watched};
+use crate::keeper::SaveCounts;
 use crate::runs::Case;
-use crate::slots::show_slots;
+use crate::slots_shown::show_slots;
 use audit_io::mem_keeper::MemKeeper;
 use std::io;
 
-/// Prints the result of a run, in the form that belongs to the kind of its gate.
+/// Prints the result of a run, in the form that belongs to the task of its gate.
 pub fn show_run(
     rt: &HostRuntime,
     status: u8,
@@ -17,26 +16,36 @@ pub fn show_run(
     saves: SaveCounts,
     left: &MemKeeper,
 ) -> io::Result<()> {
-    match case.gate.watch() {
-        Watch::Noting(gate) => show_noted(rt, status, is_observed, gate, case, left),
-        Watch::Crowd(gate) => show_crowd(rt, status, gate),
-        Watch::Timed(gate) => show_timed(rt, status, gate),
-        Watch::Nothing => show_counted(rt, status, case.gate.announced_count(), saves),
+    match case.gate.watched {
+        Watched::Noted(wanted) => show_noted(rt, status, is_observed, wanted > 0, case, left),
+        _ => show_counts(rt, status, &case.gate, saves),
+    }
+}
+
+// Prints the status and what the gate has counted.
+fn show_counts(rt: &HostRuntime, status: u8, gate: &CaseGate, saves: SaveCounts) -> io::Result<()> {
+    let announced = gate.announced_count();
+    print!(rt; "status {status} announced {announced}")?;
+    match gate.watched {
+        Watched::Crowd => println!(rt; " given up {}", gate.given_up_count()),
+        Watched::Timed => println!(rt; " in the first half {}", gate.was_observed_early()),
+        _ => println!(rt; " saves {} early {}", saves.all, saves.early),
     }
 }
 
 // Prints the status and both outputs of a run. If `is_observed` is true, also prints the announced ids and both slots.
-// If `gate.is_shown()` is true, prints the ids in any case.
+// If `is_noted` is true, prints the ids in any case.
 fn show_noted(
     rt: &HostRuntime,
     status: u8,
     is_observed: bool,
-    gate: &NotingGate,
+    is_noted: bool,
     case: &Case,
     left: &MemKeeper,
 ) -> io::Result<()> {
-    show_end(rt, status, is_observed || gate.is_shown(), gate)?;
-    show_texts(rt, case)?;
+    show_end(rt, status, is_observed || is_noted, &case.gate)?;
+    rt.write_all(case.out.bytes())?;
+    rt.write_all(case.note.bytes())?;
     if is_observed {
         return show_slots(rt, left);
     }
@@ -48,7 +57,7 @@ pub fn show_end(
     rt: &HostRuntime,
     status: u8,
     is_observed: bool,
-    gate: &NotingGate,
+    gate: &CaseGate,
 ) -> io::Result<()> {
     println!(rt; "status {status}")?;
     if is_observed {
@@ -57,32 +66,17 @@ pub fn show_end(
     Ok(())
 }
 
-fn show_texts(rt: &HostRuntime, case: &Case) -> io::Result<()> {
-    rt.write_all(case.out.bytes())?;
-    rt.write_all(case.note.bytes())
-}
-
 // Prints the word `waited` if the gate held its first caller until enough trajectories had begun. Then prints the
 // number of announced ids, and the ids in rising order.
-fn show_observed(rt: &HostRuntime, gate: &NotingGate) -> io::Result<()> {
+fn show_observed(rt: &HostRuntime, gate: &CaseGate) -> io::Result<()> {
     if gate.has_seen() {
         rt.print("waited, ")?;
     }
-    let count = gate.announced_count();
-    print!(rt; "announced {count}:")?;
-    show_ids(rt, gate)
-}
-
-fn show_ids(rt: &HostRuntime, gate: &NotingGate) -> io::Result<()> {
+    print!(rt; "announced {}:", gate.announced_count())?;
     for id in 0..64 {
-        show_id(rt, gate, id)?;
+        if gate.was_observed(id) {
+            print!(rt; " {id}")?;
+        }
     }
     rt.println("")
-}
-
-fn show_id(rt: &HostRuntime, gate: &NotingGate, id: u32) -> io::Result<()> {
-    if gate.was_observed(id) {
-        return print!(rt; " {id}");
-    }
-    Ok(())
 }

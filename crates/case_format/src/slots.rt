@@ -1,66 +1,26 @@
-//! The contents of a slot before a run, and the printed slots after it.
+//! The contents of a slot before a run, and the keeper over both slots.
 
-ghost use Rattle.std.specs.Prelude.{◌≤◌};
-
-use crate::streams::{bytes_of, text_of};
+use crate::gate::CaseGate;
+use crate::keeper::{CountedKeeper, RunKeeper};
+use crate::setups::Setup;
+use crate::streams::{bytes_of, failing};
 use audit_io::mem_keeper::MemKeeper;
+use audit_io::stop_keeper::StopKeeper;
 use audit_model::buffers::Bytes;
 use audit_model::memory::Memory;
-use hex::{decode, encode};
-use sha2::{Digest, Sha256};
+use hex::decode;
 use std::alloc::Global;
-use std::io;
+use std::fs;
+use std::sync::Arc;
+use std::sync::atomic::AtomicU64;
 use std::test::Fail;
 
 /// One byte more than a checkpoint can have.
 const TOO_LONG: usize = 8_000_085;
 
-/// Returns the contents of a slot that a word of a line names, as `keeping` describes. `before` has the contents that
-/// the run before left.
-pub fn slot_of(rt: &HostRuntime, said: &str, before: Option<&[u8]>) -> Result<Option<Bytes>, Fail> {
-    let alloc = rt.alloc();
-    match said {
-        "absent" => Ok(None),
-        "same" => copy_of_stored(alloc, before),
-        "spoilt" => stored_spoilt(alloc, before),
-        "long" => stored_zeros(alloc),
-        file => stored_file(rt, file),
-    }
-}
-
-fn copy_of_stored(alloc: Global, before: Option<&[u8]>) -> Result<Option<Bytes>, Fail> {
-    match before {
-        Some(bytes) => Ok(Some(bytes_of(alloc, bytes)?)),
-        None => Ok(None),
-    }
-}
-
-fn stored_spoilt(alloc: Global, before: Option<&[u8]>) -> Result<Option<Bytes>, Fail> {
-    match before {
-        Some(bytes) => Ok(Some(corrupt(alloc, bytes)?)),
-        None => Ok(None),
-    }
-}
-
-fn stored_zeros(alloc: Global) -> Result<Option<Bytes>, Fail> {
-    Ok(Some(zeros(alloc, TOO_LONG)?))
-}
-
-fn stored_file(rt: &HostRuntime, file: &str) -> Result<Option<Bytes>, Fail> {
-    Ok(Some(read_hex(rt, file)?))
-}
-
-// Reads bytes from a file of hexadecimal digits.
-fn read_hex(rt: &HostRuntime, file: &str) -> Result<Bytes, Fail> {
-    let digits = text_of(rt, file)?;
-    let bytes = decode(rt.alloc(), digits.trim())?;
-    let copy = bytes_of(rt.alloc(), bytes.as_slice())?;
-    Ok(copy)
-}
-
-fn zeros(alloc: Global, count: usize) -> Result<Bytes, Memory> {
-    let mut bytes = Bytes::with_room(alloc, count)?;
-    for _ in 0..count {
+fn zeros(alloc: Global) -> Result<Bytes, Memory> {
+    let mut bytes = Bytes::with_room(alloc, TOO_LONG)?;
+    for _ in 0..TOO_LONG {
         bytes.push(0)?;
     }
     Ok(bytes)
@@ -76,78 +36,76 @@ fn corrupt(alloc: Global, bytes: &[u8]) -> Result<Bytes, Memory> {
     Ok(copy)
 }
 
-/// Prints both slots: the length and the digest of the bytes, and for a checkpoint its version, its generation and the
-/// ids of its outcomes.
-pub fn show_slots(rt: &HostRuntime, keeper: &MemKeeper) -> io::Result<()> {
-    show_slot(rt, 0, keeper.slot(0))?;
-    show_slot(rt, 1, keeper.slot(1))
+// Reads bytes from a file of hexadecimal digits.
+fn read_hex(rt: &HostRuntime, file: &str) -> Result<Bytes, Fail> {
+    let digits = fs::read_to_string(rt, file)?;
+    let bytes = decode(rt.alloc(), digits.trim())?;
+    let copy = bytes_of(rt.alloc(), bytes.as_slice())?;
+    Ok(copy)
 }
 
-fn show_slot(rt: &HostRuntime, slot: u8, slot_contents: Option<&[u8]>) -> io::Result<()> {
-    match slot_contents {
-        None => println!(rt; "slot {slot} absent"),
-        Some(bytes) => show_bytes(rt, slot, bytes),
+/// Returns the contents of a slot that a word of a line names. `before` has the contents that the run before left.
+pub fn slot_of(rt: &HostRuntime, said: &str, before: Option<&[u8]>) -> Result<Option<Bytes>, Fail> {
+    match (said, before) {
+        ("absent", _) | ("same" | "spoilt", None) => Ok(None),
+        ("same", Some(bytes)) => Ok(Some(bytes_of(rt.alloc(), bytes)?)),
+        ("spoilt", Some(bytes)) => Ok(Some(corrupt(rt.alloc(), bytes)?)),
+        ("long", _) => Ok(Some(zeros(rt.alloc())?)),
+        (file, _) => Ok(Some(read_hex(rt, file)?)),
     }
 }
 
-fn show_bytes(rt: &HostRuntime, slot: u8, bytes: &[u8]) -> io::Result<()> {
-    let length = bytes.len();
-    print!(rt; "slot {slot} {length} bytes")?;
-    show_checkpoint(rt, bytes)?;
-    show_digest(rt, bytes)
+// Makes a keeper with these slots, whose load and save with these numbers fail, or none for 0.
+fn keeper_over(
+    alloc: Global,
+    zero: Option<Bytes>,
+    one: Option<Bytes>,
+    load: u64,
+    save: u64,
+) -> Result<MemKeeper, Memory> {
+    let loads = failing(alloc, load)?;
+    let saves = failing(alloc, save)?;
+    MemKeeper::new(alloc, zero, one, loads, saves)
 }
 
-fn show_checkpoint(rt: &HostRuntime, bytes: &[u8]) -> io::Result<()> {
-    match records_of(bytes) {
-        Some(records) => show_records(rt, bytes, records),
-        None => Ok(()),
-    }
+/// Makes a keeper with two empty slots whose save with this number fails, or none for 0.
+pub fn empty_slots(alloc: Global, save: u64) -> Result<MemKeeper, Memory> {
+    keeper_over(alloc, None, None, 0, save)
 }
 
-fn show_digest(rt: &HostRuntime, bytes: &[u8]) -> io::Result<()> {
-    let digest = encode(rt.alloc(), Sha256::digest(bytes))?;
-    println!(rt; " sha256 {digest}")
+fn slots_of(
+    rt: &HostRuntime,
+    setup: &Setup<'_>,
+    left: &MemKeeper,
+) -> Result<(Option<Bytes>, Option<Bytes>), Fail> {
+    let zero = slot_of(rt, setup.zero, left.slot(0))?;
+    let one = slot_of(rt, setup.one, left.slot(1))?;
+    Ok((zero, one))
 }
 
-// Returns the number of bytes of an outcome in a checkpoint of this version.
-fn width_of(version: u32) -> usize
-    ensures some { 1 ≤ result }
-    ensures few { result ≤ 80 }
-{
-    if version == 2 { 80 } else { 44 }
+/// Makes the keeper of a run with this gate. `left` has the slots that the run before left.
+pub fn keeper_of(
+    rt: &HostRuntime,
+    setup: &Setup<'_>,
+    left: &MemKeeper,
+    gate: &CaseGate,
+) -> Result<RunKeeper, Fail> {
+    let (zero, one) = slots_of(rt, setup, left)?;
+    let keeper = keeper_over(
+        rt.alloc(),
+        zero,
+        one,
+        setup.failing_load,
+        setup.failing_save,
+    )?;
+    let stopping = StopKeeper::new(keeper, setup.stop_at.max(1), setup.kept);
+    let keeper = gate.keeper(stopping)?;
+    Ok(keeper)
 }
 
-// Returns the bytes of the outcomes, if they have the length that the header states.
-fn records_of(bytes: &[u8]) -> Option<&[u8]> {
-    let width = width_of(number_at(bytes, 8)?);
-    let count = number_at(bytes, 48)? as usize;
-    let (_head, records_and_digest) = bytes.split_first_chunk::<52>()?;
-    let (records, _digest) = records_and_digest.split_last_chunk::<32>()?;
-    if records.len() == width * count {
-        Some(records)
-    } else {
-        None
-    }
-}
-
-fn number_at(bytes: &[u8], place: usize) -> Option<u32> {
-    let four = bytes.get(place..)?.first_chunk::<4>()?;
-    Some(u32::from_be_bytes(*four))
-}
-
-fn show_records(rt: &HostRuntime, bytes: &[u8], records: &[u8]) -> io::Result<()> {
-    let version = number_at(bytes, 8).unwrap_or(0);
-    let generation = number_at(bytes, 44).unwrap_or(0);
-    print!(rt; " version {version} generation {generation} ids")?;
-    for record in records.chunks_exact(width_of(version)) {
-        show_id(rt, record)?;
-    }
-    Ok(())
-}
-
-fn show_id(rt: &HostRuntime, record: &[u8]) -> io::Result<()> {
-    match number_at(record, 0) {
-        Some(id) => print!(rt; " {id}"),
-        None => Ok(()),
-    }
+/// Makes a counting keeper with empty slots whose save with this number fails, or none for 0.
+pub fn counting_keeper(alloc: Global, save: u64) -> Result<RunKeeper, Memory> {
+    let announced = Arc::new(alloc, AtomicU64::new(0))?;
+    let keeper = empty_slots(alloc, save)?;
+    Ok(CountedKeeper::new(StopKeeper::new(keeper, u32::MAX, 0), announced))
 }

@@ -3,42 +3,43 @@
 ghost use Rattle.dual_json.specs.Numbered.{IsGraphText};
 
 use crate::names::begin_case;
-use crate::settings::{column_of, setting};
 use audit_model::fault::{GraphFault, RegionFault};
+use audit_model::memory::Memory;
 use audit_model::setting::{Columns, Label};
 use audit_model::text::Text;
 use contig::near::faces_of;
 use dual_graph::graph::Graph;
 use dual_json::{read_graph, read_ids, read_regions};
 use grid_maker::make;
+use std::alloc::Global;
 use std::io;
-
-// Prints the refusal of bytes that are not text.
-fn show_no_text(rt: &HostRuntime, columns: &Columns) -> io::Result<()> {
-    begin_case(rt, "text_not_utf_8")?;
-    match read_graph(rt.alloc(), b"{\"nodes\":[\"\xff\"]}", columns) {
-        Err(GraphFault::NotJson) => rt.println("not JSON"),
-        _ => rt.println("another answer"),
-    }
-}
 
 // Prints the numbers of units, edges, districts and faces of a graph.
 fn show_graph(rt: &HostRuntime, graph: &Graph, districts: usize) -> io::Result<()> {
     match faces_of(rt.alloc(), graph) {
-        Ok(faces) => println!(rt;
-            "units {} edges {} districts {districts} faces {}",
-            graph.units(),
-            graph.edges(),
-            faces.faces().len()
-        ),
+        Ok(faces) => {
+            let count = faces.faces().len();
+            drop(faces);
+            println!(rt;
+                "units {} edges {} districts {districts} faces {count}",
+                graph.units(),
+                graph.edges()
+            )
+        }
         Err(_) => rt.println("memory"),
     }
 }
 
+// Prints the numbers of the graph that is read from a text, or the refusal.
 fn show_read(rt: &HostRuntime, text: &[u8], columns: &Columns) -> io::Result<()> {
     match read_graph(rt.alloc(), text, columns) {
-        Ok(parsed) => show_graph(rt, &parsed.graph, parsed.labels.len()),
-        Err(_) => rt.println("no grid"),
+        Ok(parsed) => {
+            let shown = show_graph(rt, &parsed.graph, parsed.labels.len());
+            drop(parsed);
+            shown
+        }
+        Err(GraphFault::NotJson) => rt.println("not JSON"),
+        Err(_) => rt.println("another refusal"),
     }
 }
 
@@ -67,6 +68,13 @@ fn show_regions(rt: &HostRuntime, text: &[u8], column: &Text) -> io::Result<()>
         Err(RegionFault::Missing(node)) => println!(rt; "node {node} has no region"),
         Err(_) => rt.println("no regions"),
     }
+}
+
+/// Copies the name of a column to a text.
+pub fn column_of(alloc: Global, name: &str) -> Result<Text, Memory> {
+    let mut column = Text::new(alloc);
+    column.push_str(name)?;
+    Ok(column)
 }
 
 fn show_column(rt: &HostRuntime, text: &[u8], name: &str) -> io::Result<()>
@@ -113,21 +121,18 @@ fn show_graph_text(rt: &HostRuntime, text: &[u8]) -> io::Result<()>
 fn show_text(rt: &HostRuntime, text: &[u8], columns: &Columns) -> io::Result<()> {
     begin_case(rt, "text_regions_and_ids")?;
     match read_graph(rt.alloc(), text, columns) {
-        Ok(_) => show_graph_text(rt, text),
+        Ok(parsed) => {
+            drop(parsed);
+            show_graph_text(rt, text)
+        }
         Err(_) => rt.println("no graph"),
     }
 }
 
-fn show_with(rt: &HostRuntime, text: &[u8], columns: &Columns) -> io::Result<()> {
-    show_no_text(rt, columns)?;
+/// Prints the refusal of bytes that are no graph, the largest grid, and regions and ids of a graph's text.
+pub fn show_texts(rt: &HostRuntime, text: &[u8], columns: &Columns) -> io::Result<()> {
+    begin_case(rt, "text_not_utf_8")?;
+    show_read(rt, b"{\"nodes\":[\"\xff\"]}", columns)?;
     show_grid(rt, columns)?;
     show_text(rt, text, columns)
-}
-
-/// Prints the refusal of bytes that are no graph, the largest grid, and regions and ids of a graph's text.
-pub fn show_texts(rt: &HostRuntime, text: &[u8]) -> io::Result<()> {
-    match setting(rt.alloc()) {
-        Some(setting) => show_with(rt, text, setting.columns()),
-        None => rt.println("memory"),
-    }
 }

@@ -1,8 +1,9 @@
 //! Public calls that are made directly.
 
 use crate::flips::show_proposals;
-use crate::jobs::{grid_job, other_job, plain_job, strict_job};
+use crate::jobs::{grid_job, job_of, other_job, strict_job};
 use crate::saves::show_saves;
+use crate::settings::{PLAIN, setting_of};
 use crate::shown::{Shown, show_job};
 use case_format::{
     begin_case, show_book, show_checkpoint, show_leaving, show_machine, show_outside, show_rings,
@@ -20,12 +21,20 @@ fn show_jobs(rt: &HostRuntime, text: &[u8]) -> io::Result<()> {
     show_job(rt, other_job(rt.alloc(), text), Shown::Legal)
 }
 
+// Reads texts with the columns of a setting.
+fn show_read(rt: &HostRuntime, text: &[u8]) -> io::Result<()> {
+    match setting_of(rt.alloc(), PLAIN) {
+        Some(setting) => show_texts(rt, text, setting.columns()),
+        None => rt.println("memory"),
+    }
+}
+
 fn show_path_text(rt: &HostRuntime, text: &[u8]) -> io::Result<()> {
-    show_texts(rt, text)?;
+    show_read(rt, text)?;
     show_jobs(rt, text)?;
     show_proposals(rt)?;
     begin_case(rt, "flips_on_a_path")?;
-    show_job(rt, plain_job(rt.alloc(), text), Shown::Flips)
+    show_job(rt, job_of(rt.alloc(), text, PLAIN), Shown::Flips)
 }
 
 // Makes the calls on four units in a row, and prints their answers.
@@ -39,7 +48,7 @@ fn show_path(rt: &HostRuntime) -> io::Result<()> {
 fn show_ring(rt: &HostRuntime) -> io::Result<()> {
     begin_case(rt, "flips_on_a_ring")?;
     let text = fs::read(rt, "ring_and_one.json")?;
-    show_job(rt, plain_job(rt.alloc(), text.as_slice()), Shown::Flips)
+    show_job(rt, job_of(rt.alloc(), text.as_slice(), PLAIN), Shown::Flips)
 }
 
 // Prints flips on the grid of 900 units.

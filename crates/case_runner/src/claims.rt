@@ -59,17 +59,13 @@ fn draw_in_turn(alloc: Global) -> Result<Turns, Memory> {
     })
 }
 
-fn show_draw(rt: &HostRuntime, drawn: Option<u32>) -> io::Result<()> {
-    match drawn {
-        Some(number) => print!(rt; " {number}"),
-        None => rt.print(" none"),
-    }
-}
-
 fn show_draws(rt: &HostRuntime, turns: &Turns) -> io::Result<()> {
     rt.print("draws")?;
-    for draw in turns.drawn.iter() {
-        show_draw(rt, *draw)?;
+    for drawn in turns.drawn.iter() {
+        match drawn {
+            Some(number) => print!(rt; " {number}")?,
+            None => rt.print(" none")?,
+        }
     }
     println!(rt; " ended {} drawn {}", turns.ended, turns.closed)
 }
@@ -190,13 +186,6 @@ fn draw_all<R: Threads + Sync>(
     drawn
 }
 
-fn show_drawn(rt: &HostRuntime, drawn: Result<(usize, usize), Memory>) -> io::Result<()> {
-    match drawn {
-        Ok((passes, once)) => println!(rt; "passes {passes} once {once} of {LIMIT}"),
-        Err(_) => rt.println("memory"),
-    }
-}
-
 // Prints the result of `seats` passes that draw in as many threads.
 fn show_threads<R: Threads + Sync>(
     rt: &HostRuntime,
@@ -205,7 +194,10 @@ fn show_threads<R: Threads + Sync>(
     seats: u32,
 ) -> io::Result<()> {
     begin_case(rt, name)?;
-    show_drawn(rt, draw_all(threads, rt.alloc(), seats))
+    match draw_all(threads, rt.alloc(), seats) {
+        Ok((passes, once)) => println!(rt; "passes {passes} once {once} of {LIMIT}"),
+        Err(_) => rt.println("memory"),
+    }
 }
 
 /// Prints the draws of three passes in turn, then the results of 1, 4 and 32 passes in threads.

@@ -15,15 +15,14 @@ ghost use Rattle.tally_desk.specs.Pools.{WalksAtDesk};
 ghost use Rattle.tally_desk.specs.Parts.{IsPlaceFor, CanOpenDesk};
 ghost use Rattle.tally_desk.specs.Passes.{IsFirstPass};
 
-use crate::test_stops::job_with;
+use crate::jobs::job_of;
+use crate::settings::TWELVE_WALKS;
 use audit_io::keeper::Keeper;
 use audit_model::buffers::{Bytes, OutcomeList};
-use audit_model::fault::PlanFault;
 use audit_model::lists::UnitList;
 use audit_model::memory::Memory;
 use audit_model::outcome::SumsView;
 use audit_model::rules::Rules;
-use audit_words::read;
 use case_format::{RunKeeper, begin_case, counting_keeper};
 use ckpt_format::digest::job_digest;
 use ckpt_store::look::look;
@@ -32,17 +31,13 @@ use flip_guard::judge::Judge;
 use outcome_book::book::Book;
 use plan_core::job::Job;
 use plan_runs::todo::todo_of;
-use std::alloc::{AllocError, Global};
+use std::alloc::Global;
 use std::sync::Wait;
 use std::{fs, io};
 use tally_desk::desk::Desk;
 use tally_desk::pass::DeskPass;
 use tally_desk::state::{DeskPlan, RunState};
 use walker::walker::Walker;
-
-/// The arguments of a run of twelve walks of eight steps.
-const WORDS: &str =
-    "run --pop pop --first a --second b --district d --slack 5000 --key 0000000000000000000000000000000000000000000000000000000000000000 --walks 12 --steps 8 --ask gap:low";
 
 /// The number of ids of a desk.
 const IDS: u32 = 3;
@@ -321,7 +316,7 @@ fn show_state(rt: &HostRuntime, every: u32, state: &RunState<RunKeeper>) -> io::
         show_id(rt, &state.book, id)?;
     }
     let count = state.book.len();
-    let saves = state.keeper.saves().all;
+    let saves = state.keeper.saves.all;
     println!(rt;
         " count {count} saves {saves} failed {} last {}",
         state.failed_saves,
@@ -359,34 +354,11 @@ fn show_each<R: Wait>(rt: &HostRuntime, waiting: &R, job: &Job) -> io::Result<()
     show_desk(rt, waiting, job, 2, 1)
 }
 
-fn words(alloc: Global) -> Result<Vec<String>, AllocError> {
-    let mut words = Vec::new(alloc);
-    for word in WORDS.split_whitespace() {
-        words.push(String::from_str(alloc, word)?)?;
-    }
-    Ok(words)
-}
-
-fn job_by(alloc: Global, text: &[u8], words: &[String]) -> Result<Job, PlanFault> {
-    match read(alloc, words) {
-        Ok(setting) => job_with(alloc, text, setting),
-        Err(_) => Err(PlanFault::Memory),
-    }
-}
-
-// Makes the job of a graph's text with the arguments.
-fn job_of(alloc: Global, text: &[u8]) -> Result<Job, PlanFault> {
-    match words(alloc) {
-        Ok(words) => job_by(alloc, text, words.as_slice()),
-        Err(_) => Err(PlanFault::Memory),
-    }
-}
-
 /// Prints the results of three desks. The first saves after each second hand-in, the second after each third. The third
 /// saves after each second, and its first save fails.
 pub fn show_desks<R: Wait>(rt: &HostRuntime, waiting: &R) -> io::Result<()> {
     let text = fs::read(rt, "cycle.json")?;
-    match job_of(rt.alloc(), text.as_slice()) {
+    match job_of(rt.alloc(), text.as_slice(), TWELVE_WALKS) {
         Ok(job) => {
             let observed = show_each(rt, waiting, &job);
             drop(job);

@@ -29,10 +29,9 @@ fn show_proposal(rt: &HostRuntime, draw: u64) -> io::Result<()> {
 /// Prints the proposals of the largest draws.
 pub fn show_proposals(rt: &HostRuntime) -> io::Result<()> {
     begin_case(rt, "proposals_of_largest_draws")?;
-    for draw in [u64::MAX, u64::MAX - 6, u64::MAX - 7] {
-        show_proposal(rt, draw)?;
-    }
-    Ok(())
+    show_proposal(rt, u64::MAX)?;
+    show_proposal(rt, u64::MAX - 6)?;
+    show_proposal(rt, u64::MAX - 7)
 }
 
 // Prints the draw that mirrors a fixed draw, which moves a unit on the path. Then prints the counts

@@ -2,28 +2,29 @@
 
 ghost use Rattle.std.specs.Prelude.{◌≡◌, length, IfOk};
 
+use crate::settings::{Accepted, PLAIN, setting_of};
 use audit_model::fault::PlanFault;
 use audit_model::lists::LabelList;
 use audit_model::memory::Memory;
 use audit_model::setting::Label;
 use audit_model::text::Text;
-use case_format::{Accepted, column_of, setting};
+use case_format::column_of;
 use dual_json::{read_graph, read_regions};
 use grid_maker::made::read_made;
 use plan_core::job::Job;
 use std::alloc::Global;
 
-fn job_of(alloc: Global, text: &[u8], setting: Accepted) -> Result<Job, PlanFault> {
+fn job_by(alloc: Global, text: &[u8], setting: Accepted) -> Result<Job, PlanFault> {
     match read_graph(alloc, text, setting.columns()) {
         Ok(parsed) => Job::new(alloc, parsed, setting.into_setting()),
         Err(_) => Err(PlanFault::Memory),
     }
 }
 
-/// Makes the job of a graph's text.
-pub fn plain_job(alloc: Global, text: &[u8]) -> Result<Job, PlanFault> {
-    match setting(alloc) {
-        Some(setting) => job_of(alloc, text, setting),
+/// Makes the job of a graph's text with these arguments.
+pub fn job_of(alloc: Global, text: &[u8], words: &str) -> Result<Job, PlanFault> {
+    match setting_of(alloc, words) {
+        Some(setting) => job_by(alloc, text, setting),
         None => Err(PlanFault::Memory),
     }
 }
@@ -37,7 +38,7 @@ fn grid_with(alloc: Global, setting: Accepted) -> Result<Job, PlanFault> {
 
 /// Makes the job of the grid of 900 units in ten districts.
 pub fn grid_job(alloc: Global) -> Result<Job, PlanFault> {
-    match setting(alloc) {
+    match setting_of(alloc, PLAIN) {
         Some(setting) => grid_with(alloc, setting),
         None => Err(PlanFault::Memory),
     }
@@ -62,7 +63,7 @@ fn job_with(
 
 /// Makes the job with the regions of this column, none of which may be split.
 pub fn strict_job(alloc: Global, text: &[u8], name: &str) -> Result<Job, PlanFault> {
-    match setting(alloc) {
+    match setting_of(alloc, PLAIN) {
         Some(setting) => named_job(alloc, text, setting.strict(), name),
         None => Err(PlanFault::Memory),
     }
@@ -96,7 +97,7 @@ fn remake(alloc: Global, job: &Job) -> Result<Job, PlanFault> {
 /// Makes the job of the text of a graph with two districts, then makes it anew by `with_plan` from
 /// a copy of its start plan.
 pub fn other_job(alloc: Global, text: &[u8]) -> Result<Job, PlanFault> {
-    match plain_job(alloc, text) {
+    match job_of(alloc, text, PLAIN) {
         Ok(job) => {
             let other = remake(alloc, &job);
             drop(job);

@@ -17,6 +17,7 @@ mod jobs;
 mod noted;
 mod saves;
 mod searches;
+mod settings;
 mod shown;
 mod test_stops;
 
@@ -31,7 +32,6 @@ use audit_run::sure::audit_surely;
 use audit_words::Build;
 use case_format::{Case, Kind, RunKeeper, SureCase, run_files, sure};
 use std::alloc::Global;
-use std::io;
 use std::sync::Wait;
 use std::test::Fail;
 use std::thread::Threads;
@@ -102,40 +102,18 @@ fn run_surely<R: Threads + Wait + Sync>(
     )
 }
 
-// Runs the audits of the lines of these files. `rt` prints, and `threads` starts the threads of the audits.
-fn run_lines<R: Threads + Wait + Sync>(
-    rt: &HostRuntime,
-    threads: &R,
-    files: &[(Kind, &str)],
-) -> Result<(), Fail> {
-    let alloc = rt.alloc();
-    run_files(
-        rt,
-        &|case: &mut Case, keeper: RunKeeper| run(threads, alloc, case, keeper),
-        files,
-    )
-}
-
-fn run_sure_lines<R: Threads + Wait + Sync>(rt: &HostRuntime, threads: &R) -> Result<(), Fail> {
-    let alloc = rt.alloc();
-    sure::run_file(
-        rt,
-        &|case: &mut SureCase, keeper: SureKeeper| run_surely(threads, alloc, case, keeper),
-        "sure",
-    )
-}
-
-// Makes the calls and prints their answers.
-fn show_all<R: Threads + Wait + Sync>(rt: &HostRuntime, threads: &R) -> io::Result<()> {
-    show_calls(rt)?;
-    show_claims(rt, threads)?;
-    show_desks(rt, threads)?;
-    show_ends(rt)
-}
-
 fn main(rt: HostRuntime) -> Result<(), Fail> {
-    run_lines(&rt, &rt, &BEFORE_CALLS)?;
-    run_sure_lines(&rt, &rt)?;
-    show_all(&rt, &rt)?;
-    run_lines(&rt, &rt, &AFTER_CALLS)
+    let alloc = rt.alloc();
+    let audit = |case: &mut Case, keeper: RunKeeper| run(&rt, alloc, case, keeper);
+    run_files(&rt, &audit, &BEFORE_CALLS)?;
+    sure::run_file(
+        &rt,
+        &|case: &mut SureCase, keeper: SureKeeper| run_surely(&rt, alloc, case, keeper),
+        "sure",
+    )?;
+    show_calls(&rt)?;
+    show_claims(&rt, &rt)?;
+    show_desks(&rt, &rt)?;
+    show_ends(&rt)?;
+    run_files(&rt, &audit, &AFTER_CALLS)
 }

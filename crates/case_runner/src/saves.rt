@@ -6,22 +6,15 @@ use crate::noted::NotedFiles;
 use audit_io::file_calls::SystemCalls;
 use audit_io::slot_files::{Known, save_slot};
 use case_format::begin_case;
-use std::rt::Files;
 use std::{fs, io};
-
-// Saves in a slot through these files.
-fn save_through<R: Files>(files: &R, slot: u8, known: &mut Known) -> io::Result<()>
-    requires { slot < 2 }
-{
-    save_slot(&mut SystemCalls::new(files), slot, b"checkpoint", known)
-}
 
 // Saves in a slot, and prints each call.
 fn show_save(rt: &HostRuntime, slot: u8, known: &mut Known) -> io::Result<()>
     requires { slot < 2 }
 {
     println!(rt; "save in slot {slot}")?;
-    save_through(&NotedFiles { rt }, slot, known)
+    let files = NotedFiles { rt };
+    save_slot(&mut SystemCalls::new(&files), slot, b"checkpoint", known)
 }
 
 // Saves in three slots in turn, as a process does that has saved nothing before.
@@ -37,31 +30,16 @@ fn show_process(rt: &HostRuntime, first: u8, second: u8, third: u8) -> io::Resul
     show_save(rt, third, &mut known)
 }
 
-// Saves in a folder without slots.
-fn show_empty(rt: &HostRuntime) -> io::Result<()> {
-    begin_case(rt, "saves_in_an_empty_folder")?;
-    fs::remove_file(rt, "audit-0.ckpt")?;
-    fs::remove_file(rt, "audit-1.ckpt")?;
-    show_process(rt, 0, 1, 0)
-}
-
-// Saves in a folder with both slots.
-fn show_full(rt: &HostRuntime) -> io::Result<()> {
-    begin_case(rt, "saves_over_both_slots")?;
-    show_process(rt, 1, 0, 1)
-}
-
-// Saves in a folder without slot 0.
-fn show_second_alone(rt: &HostRuntime) -> io::Result<()> {
-    begin_case(rt, "saves_without_the_first_slot")?;
-    fs::remove_file(rt, "audit-0.ckpt")?;
-    show_process(rt, 0, 1, 0)
-}
-
 /// Prints the order in which saves write to files and sync them: in a folder without slots, in a
 /// folder with both, and in a folder without slot 0.
 pub fn show_saves(rt: &HostRuntime) -> io::Result<()> {
-    show_empty(rt)?;
-    show_full(rt)?;
-    show_second_alone(rt)
+    begin_case(rt, "saves_in_an_empty_folder")?;
+    fs::remove_file(rt, "audit-0.ckpt")?;
+    fs::remove_file(rt, "audit-1.ckpt")?;
+    show_process(rt, 0, 1, 0)?;
+    begin_case(rt, "saves_over_both_slots")?;
+    show_process(rt, 1, 0, 1)?;
+    begin_case(rt, "saves_without_the_first_slot")?;
+    fs::remove_file(rt, "audit-0.ckpt")?;
+    show_process(rt, 0, 1, 0)
 }

@@ -36,18 +36,14 @@ fn show_fault(rt: &HostRuntime, fault: &PlanFault) -> io::Result<()> {
     }
 }
 
-fn show_made(rt: &HostRuntime, job: &Job, shown: Shown) -> io::Result<()> {
-    match shown {
-        Shown::Legal => show_legal(rt, job),
-        Shown::Flips => show_flips(rt, job),
-    }
-}
-
 /// Prints a fact about a job, or the reason why there is none.
 pub fn show_job(rt: &HostRuntime, job: Result<Job, PlanFault>, shown: Shown) -> io::Result<()> {
     match job {
         Ok(job) => {
-            let observed = show_made(rt, &job, shown);
+            let observed = match shown {
+                Shown::Legal => show_legal(rt, &job),
+                Shown::Flips => show_flips(rt, &job),
+            };
             drop(job);
             observed
         }

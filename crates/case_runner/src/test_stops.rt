@@ -5,34 +5,14 @@
 
 ghost use Rattle.std.specs.Prelude.{◌≡◌, ◌≤◌};
 ghost use Rattle.std.specs.List.{AllPairs};
-ghost use Rattle.audit_model.specs.Limits.{IsSetting};
 
-use audit_model::fault::PlanFault;
+use crate::jobs::job_of;
+use crate::settings::FIVE_ENDS;
 use audit_model::outcome::Outcome;
-use audit_model::setting::Setting;
-use case_format::{begin_case, setting_of_ends};
-use dual_json::read_graph;
+use case_format::begin_case;
 use plan_core::job::Job;
 use sequential_test::settle::settle;
-use std::alloc::Global;
 use std::{fs, io};
-
-/// Makes the job of a graph's text.
-pub fn job_with(alloc: Global, text: &[u8], setting: Setting) -> Result<Job, PlanFault>
-    requires { IsSetting setting }
-{
-    match read_graph(alloc, text, &setting.columns) {
-        Ok(parsed) => Job::new(alloc, parsed, setting),
-        Err(_) => Err(PlanFault::Memory),
-    }
-}
-
-fn job_of(alloc: Global, text: &[u8]) -> Result<Job, PlanFault> {
-    match setting_of_ends(alloc) {
-        Some(accepted) => job_with(alloc, text, accepted.into_setting()),
-        None => Err(PlanFault::Memory),
-    }
-}
 
 fn end(id: u32, value: i64) -> Outcome
     ensures { result.id ≡ id }
@@ -63,33 +43,25 @@ fn show_stop(rt: &HostRuntime, job: &Job, hits: u32, posted: &[Outcome]) -> io::
 }
 
 // Prints the stopping places of tests that need one, two and four endpoints in the tail. All five outcomes are known,
-// and they are not in the order of their ids.
-fn show_all(rt: &HostRuntime, job: &Job) -> io::Result<()> {
+// and they are not in the order of their ids. Then prints that a test of two hits is not decided while the second
+// endpoint is missing.
+fn show_stops(rt: &HostRuntime, job: &Job) -> io::Result<()> {
     begin_case(rt, "stop_with_each_end")?;
     let ends = [end(2, -1), end(4, -7), end(0, -7), end(3, 5), end(1, 5)];
     show_stop(rt, job, 1, &ends)?;
     show_stop(rt, job, 2, &ends)?;
-    show_stop(rt, job, 4, &ends)
-}
-
-// Prints that a test of two hits is not decided while the second endpoint is missing.
-fn show_gap(rt: &HostRuntime, job: &Job) -> io::Result<()> {
+    show_stop(rt, job, 4, &ends)?;
     begin_case(rt, "stop_with_second_end_missing")?;
     let ends = [end(0, -7), end(2, -1), end(3, 5), end(4, -7)];
     show_stop(rt, job, 2, &ends)
 }
 
-fn show_job(rt: &HostRuntime, job: &Job) -> io::Result<()> {
-    show_all(rt, job)?;
-    show_gap(rt, job)
-}
-
 /// Prints the stopping places of tests with five endpoints, on four units in a row.
 pub fn show_ends(rt: &HostRuntime) -> io::Result<()> {
     let text = fs::read(rt, "four_in_a_row.json")?;
-    match job_of(rt.alloc(), text.as_slice()) {
+    match job_of(rt.alloc(), text.as_slice(), FIVE_ENDS) {
         Ok(job) => {
-            let observed = show_job(rt, &job);
+            let observed = show_stops(rt, &job);
             drop(job);
             observed
         }

@@ -1,19 +1,22 @@
 //! The settings of runs over small graphs.
 
-use audit_model::memory::Memory;
 use audit_model::setting::{Columns, Setting};
-use audit_model::text::Text;
 use audit_words::read;
-use std::alloc::{AllocError, Global};
+use case_format::words_of;
+use std::alloc::Global;
 use std::marker::Model;
 
 /// The arguments of a run.
-const WORDS: &str =
+pub const PLAIN: &str =
     "run --pop pop --first a --second b --district district --slack 5000 --key 0000000000000000000000000000000000000000000000000000000000000000 --ask gap:low";
 
 /// The arguments of a run of five endpoint trajectories and no walks.
-const FIVE_ENDS: &str =
+pub const FIVE_ENDS: &str =
     "run --pop pop --first a --second b --district district --slack 5000 --key 0000000000000000000000000000000000000000000000000000000000000000 --ask gap:low --walks 0 --ends 5";
+
+/// The arguments of a run of twelve walks of eight steps.
+pub const TWELVE_WALKS: &str =
+    "run --pop pop --first a --second b --district d --slack 5000 --key 0000000000000000000000000000000000000000000000000000000000000000 --walks 12 --steps 8 --ask gap:low";
 
 /// A setting within the limits.
 pub struct Accepted {
@@ -71,41 +74,17 @@ impl Accepted {
     }
 }
 
-fn words_of(alloc: Global, text: &str) -> Result<Vec<String>, AllocError> {
-    let mut words = Vec::new(alloc);
-    for word in text.split_whitespace() {
-        words.push(String::from_str(alloc, word)?)?;
-    }
-    Ok(words)
-}
-
-fn setting_of(alloc: Global, words: &[String]) -> Option<Accepted> {
+fn read_setting(alloc: Global, words: &[String]) -> Option<Accepted> {
     match read(alloc, words) {
         Ok(setting) => Some(Accepted { setting }),
         Err(_) => None,
     }
 }
 
-fn read_setting(alloc: Global, text: &str) -> Option<Accepted> {
-    match words_of(alloc, text) {
-        Ok(words) => setting_of(alloc, words.as_slice()),
+/// Returns the setting that these arguments give.
+pub fn setting_of(alloc: Global, words: &str) -> Option<Accepted> {
+    match words_of(alloc, words.split_whitespace()) {
+        Ok(words) => read_setting(alloc, words.as_slice()),
         Err(_) => None,
     }
-}
-
-/// Returns the setting of a run.
-pub fn setting(alloc: Global) -> Option<Accepted> {
-    read_setting(alloc, WORDS)
-}
-
-/// Returns the setting of a run of five endpoint trajectories and no walks.
-pub fn setting_of_ends(alloc: Global) -> Option<Accepted> {
-    read_setting(alloc, FIVE_ENDS)
-}
-
-/// Copies the name of a column to a text.
-pub fn column_of(alloc: Global, name: &str) -> Result<Text, Memory> {
-    let mut column = Text::new(alloc);
-    column.push_str(name)?;
-    Ok(column)
 }
