@@ -133,7 +133,7 @@ def prepare_map(path: str, words: list[str], column: str) -> tuple[bytes, list[s
 
 
 def real_maps(folder: typing.Optional[str]) -> list[tuple[str, str, list[str], tuple[int, int]]]:
-    """Of each map its name, its file, the words for prepare.py, and its districts."""
+    """Returns the name, file, words for prepare.py and districts of each map."""
     maps = [("tracts of upstate New York", str(DATA / "ny8.json"), shlex.split(TRACTS), (2, 8))]
     if folder is not None:
         with open(f"{folder}/plans", encoding="utf-8") as file:
@@ -170,7 +170,7 @@ def row_of(
 
 
 def format_range(least: float, most: float) -> str:
-    """How long 10^9 steps take, from the seconds for a million."""
+    """Returns in words the time of 10^9 steps, from the least and most seconds for a million."""
     (low, unit), (high, last) = (
         (1000 * million, "seconds") if million < 0.1 else (1000 * million / 60, "minutes")
         for million in (least, most)

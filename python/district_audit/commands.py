@@ -90,7 +90,7 @@ go on.
 """
 
 
-def tell(text: str) -> None:
+def print_line(text: str) -> None:
     for argument, word in IN_WORDS:
         text = text.replace(argument, word)
     print("prepare: " + text, file=sys.stderr)
@@ -134,17 +134,17 @@ def print_findings(prepared: Prepared, everything: bool) -> None:
     """Prints what was changed, what looks wrong, what there is, and what the auditor would refuse.
     """
     for change in prepared.changes:
-        tell(change.text(everything))
+        print_line(change.text(everything))
     for warning in prepared.warnings:
-        tell("warning: " + warning)
+        print_line("warning: " + warning)
     for note in prepared.notes:
-        tell(note)
+        print_line(note)
     for refusal in prepared.refusals:
-        tell("the auditor would refuse it: " + refusal)
+        print_line("the auditor would refuse it: " + refusal)
 
 
 def prepare(words: typing.Sequence[str] | None = None) -> int:
-    """district-audit-prepare; answers the status."""
+    """Runs the command district-audit-prepare; returns its exit status."""
     args = prepare_words().parse_args(words)
     try:
         prepared = prepare_graph(
@@ -168,9 +168,9 @@ def prepare(words: typing.Sequence[str] | None = None) -> int:
         faults = why.faults if isinstance(why, PrepareRefused) else []
         some = faults if args.all else faults[:10]
         for fault in some:
-            tell(fault)
+            print_line(fault)
         said = why.why if isinstance(why, PrepareRefused) else str(why)
-        tell(
+        print_line(
             "not written:"
             f" {said}{', of which these are the first' if len(some) < len(faults) else ''}"
         )
@@ -182,7 +182,7 @@ def prepare(words: typing.Sequence[str] | None = None) -> int:
 
 
 def picture(words: typing.Sequence[str] | None = None) -> int:
-    """district-audit-picture; answers the status."""
+    """Runs the command district-audit-picture; returns its exit status."""
     parser = argparse.ArgumentParser(
         description=PICTURE, formatter_class=argparse.RawDescriptionHelpFormatter
     )
@@ -213,7 +213,7 @@ def picture(words: typing.Sequence[str] | None = None) -> int:
 
 
 def value_of(words: typing.Sequence[str], name: str, default: str) -> str:
-    """The value of a word, for showing alone: what the words say, the program decides."""
+    """Returns the value after a word, or the default. Only the display of progress uses it."""
     pairs = dict(zip(words[1::2], words[2::2]))
     return pairs.get(name, default)
 
@@ -224,13 +224,13 @@ def total_of(words: typing.Sequence[str]) -> int:
 
 
 def run(words: typing.Sequence[str] | None = None) -> int:
-    """district-audit-run; answers the status."""
+    """Runs the command district-audit-run; returns its exit status."""
     given = list(sys.argv[1:] if words is None else words)
     return call_with(given)
 
 
 def call_with(words: list[str]) -> int:
-    """Runs the program with these words; returns the status."""
+    """Runs the program with these words; returns its exit status."""
     if words[:1] in ([], ["-h"], ["--help"]):
         print(RUN, file=sys.stderr)
         return 0 if words else 1

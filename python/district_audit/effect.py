@@ -76,8 +76,8 @@ def test_effects(report: Report, epsilon: Number, alpha: Number) -> dict[str, Ef
 def exact(value: object, name: str) -> Fraction:
     """Returns a number above 0 and at most 1 as a fraction, without rounding.
 
-    TypeError for a float, which is seldom the decimal that was typed, and for other types.
-    ValueError for a text that is no number, and for a number out of range.
+    Raises TypeError for a float, which is seldom the decimal that was typed, and for other types.
+    Raises ValueError for a text that is not a number, and for a number out of range.
     """
     if isinstance(value, bool) or not isinstance(value, (numbers.Rational, Decimal, str)):
         hint = f": give it as the text {str(value)!r}, or as a Fraction"

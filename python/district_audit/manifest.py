@@ -1,4 +1,4 @@
-"""Manifests: which command on which graph, by which program, made a report.
+"""Manifests: the records of the command, graph and program that made a report.
 
 `audit_to_file` runs an audit and leaves three files: the report, `REPORT.manifest.json` beside it
 and, where the graph is no file, the bytes that the program read, `REPORT.graph.json`.
@@ -31,7 +31,7 @@ TIME = re.compile(r"\d{4}-\d\d-\d\dT\d\d:\d\d:\d\d\+00:00")
 
 
 class ManifestRefused(ValueError):
-    """A text that is no manifest."""
+    """A text that is not a manifest."""
 
 
 @dataclasses.dataclass(frozen=True)
@@ -74,7 +74,7 @@ def rename_fields(pairs: typing.Iterable[tuple[str, object]]) -> dict[str, objec
 
 @dataclasses.dataclass(frozen=True)
 class Manifest:
-    """Which command on which graph, by which program, made a report."""
+    """The command, graph and program that made a report, with its time and machine."""
 
     command: tuple[str, ...]
     """The words of the program; its standard input is the graph."""
@@ -201,7 +201,7 @@ def audit_to_file(
 
 
 class Checked(typing.NamedTuple):
-    """How a file of a manifest compares: it agrees, it differs, or (None) it is not there."""
+    """The comparison of a file with its entry in a manifest; `agrees` is None if it is missing."""
 
     what: str
     agrees: bool | None
@@ -292,7 +292,7 @@ def find_installed() -> str | None:
 
 
 def verify_command(words: typing.Sequence[str]) -> int:
-    """The command `python -m district_audit verify`. Returns its status."""
+    """Runs the command `python -m district_audit verify`; returns its exit status."""
     parser = argparse.ArgumentParser(
         prog="python -m district_audit verify",
         description=(

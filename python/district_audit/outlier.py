@@ -56,8 +56,9 @@ class RankTest:
 
 def count_tail(values: typing.Iterable[Foreign], tail: str) -> tuple[int, int]:
     """Returns how many values are at most (`low`) or at least (`high`) the first, and how many
-    there are. ValueError for another tail, a missing value, or fewer than two values. TypeError
-    for texts, which compare by their letters, and for a mapping or a table in place of values."""
+    there are. Raises ValueError for another tail, a missing value, or fewer than two values.
+    Raises TypeError for texts, which compare by their letters, and for a mapping or a table in
+    place of values."""
     if tail not in TAILS:
         raise ValueError(f"tail is 'low' or 'high', and not {tail!r}")
     if isinstance(values, (str, bytes, typing.Mapping)) or hasattr(values, "columns"):
@@ -94,7 +95,7 @@ def outlier_test(values: typing.Iterable[Foreign], tail: str) -> OutlierTest:
         is at least that. Equal scores count against the finding.
 
     Returns an `OutlierTest`: the exact count c of q plans, and the square root of 2c/q, rounded up
-    at nine places. ValueError for a missing value or fewer than two values.
+    at nine places. Raises ValueError for a missing value or fewer than two values.
 
     Theorem 1.1 of M. Chikina, A. Frieze, W. Pegden, "Assessing significance in a Markov chain
     without mixing", PNAS 114 (2017): let X0, X1, .. be a reversible Markov chain with a stationary
@@ -136,8 +137,8 @@ def rank_test(values: typing.Iterable[Foreign], tail: str) -> RankTest:
         score is at least that. Equal scores count against the finding.
 
     Returns a `RankTest`: the enacted plan's exact rank among all these plans, 1 for the most
-    extreme, and rank/of, rounded up at nine places. ValueError for a missing value or fewer than
-    two values.
+    extreme, and rank/of, rounded up at nine places. Raises ValueError for a missing value or fewer
+    than two values.
 
     J. Besag, P. Clifford, "Generalized Monte Carlo significance tests", Biometrika 76 (1989): the
     hub lies some number of steps from the enacted plan, and each endpoint lies as many steps from

@@ -44,9 +44,9 @@ class Named(typing.NamedTuple):
 def table_of(table: object, known: Known | None, districts: str) -> bytes:
     """Returns a table of plans as CSV for the program, after it was tested.
 
-    PrepareRefused where a label is missing, unusable or would be mistaken for another one, where
-    the units are not those of the graph, each once, or where a plan has another number of districts
-    than the enacted plan and `districts` is not "any".
+    Raises PrepareRefused if a label is missing, unusable or would be mistaken for another one,
+    if the units are not those of the graph, each once, or if a plan has another number of
+    districts than the enacted plan and `districts` is not "any".
     """
     if isinstance(table, (bytes, bytearray, memoryview, str, os.PathLike)):
         data = bytes_of(table)
