@@ -155,7 +155,7 @@ class Job:
         columns["--length"] = [long[edge] for edge in sorted(long)]
         if {type(n) for k in COLUMNS if k not in OTHERS[:3] for n in columns[k]} - {int} or (
                 {type(n) for n in columns["--freeze"]} - {int, bool}):
-            raise ValueError("a column of counts or lengths has a value that is no whole number")
+            raise ValueError("a column of counts or lengths has a value that is not a whole number")
         columns["--freeze"] = [int(n > 0) for n in columns["--freeze"]]
         for name in COLUMNS[3:5]:  # whole numbers by value, then texts
             rising = sorted(set(columns[name]), key=lambda label: (type(label) is str, label))

@@ -110,7 +110,7 @@ def prepare_call(command: str, graph: object, words: Words) -> Given:
     rules = typing.cast(Preparation, taken)
     if "assignment" in rules and "district" in named:
         raise PrepareRefused(
-            "district and assignment are both given: each says in which districts the units are"
+            "district and assignment are both given: give only one of them"
         )
     if isinstance(graph, Prepared):
         test_rules(command, graph, words, named)
@@ -745,7 +745,7 @@ def plans(
         As for `check`.
     """
     if districts not in ("same", "any"):
-        raise PrepareRefused(f'districts is "same" or "any", and not {districts!r}')
+        raise PrepareRefused(f'districts must be "same" or "any", not {districts!r}')
     asked = prepare_call("plans", graph, words_in(locals()))
     audited = asked.audited
     text = table_of(table, Known.read(asked.data, asked.named.get("district")), districts)

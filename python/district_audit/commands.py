@@ -78,7 +78,7 @@ matplotlib is needed.
 The picture shows, for each question and walk, which part of the visited plans is at least as
 extreme as the enacted plan, and the bound that follows. For each rank test it shows the rank of the
 enacted plan among its trajectories and, where the report has one, the histogram of seats. All is
-black, gray and white: shapes and words distinguish. A text that is no whole report is refused.
+black, gray and white: shapes and words distinguish. An incomplete or changed report is refused.
 """
 RUN = """Usage: district-audit-run WORDS < GRAPH > REPORT
 
@@ -201,7 +201,7 @@ def picture(words: typing.Sequence[str] | None = None) -> int:
         print(f"picture: not drawn: {why}", file=sys.stderr)
         return 3
     except ReportRefused as why:
-        print(f"picture: not drawn: this is no whole report: {why}", file=sys.stderr)
+        print(f"picture: not drawn: the report is incomplete or changed: {why}", file=sys.stderr)
         return 2
     except (OSError, ValueError) as why:
         print(f"picture: not drawn: {why}", file=sys.stderr)

@@ -173,7 +173,7 @@ def parties_of(options: Options, columns: typing.Mapping[str, str]) -> tuple[str
     """Returns the names of both parties, or words that stand for them."""
     if options.parties is not None:
         if isinstance(options.parties, str) or len(options.parties) != 2:
-            raise ValueError("parties has to be two names, those of the first and second column")
+            raise ValueError("parties must be two names, those of the first and second column")
         return options.parties[0], options.parties[1]
     if "first" in columns and "second" in columns:
         return (

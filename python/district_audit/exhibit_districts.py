@@ -98,8 +98,8 @@ def refuse_another_plan(report: Report) -> None:
     batch = report.batch
     if batch is not None and batch.kind == "plan" and batch.place:
         raise ValueError(
-            f"this is the report on plan {batch.name}, and the graph has the districts of plan"
-            f" {batch.names[0]}, of which the table would be: leave graph out, or for a table of"
+            f"this is the report on plan {batch.name}, but the table would be of plan"
+            f" {batch.names[0]}, whose districts the graph has: leave graph out, or for a table of"
             f" {batch.name} audit prepared=prepare(graph, .., assignment=..) with the same key, and"
             " give graph=prepared"
         )
@@ -323,8 +323,8 @@ def refuse_broken_limits(report: Report, columns: Columns, districts: list[int])
     is_named = report.source is not None or report.audited is not None
     if column == columns["district"] and not is_named:
         raise ValueError(
-            f"region={column!r} is the column of the districts, too: a report of such regions has"
-            " to name its columns (source=True)"
+            f"region={column!r} is the column of the districts, too: a report of such regions must"
+            " name its columns (source=True)"
         )
     split = [count for count in districts if count > 1]
     for what, here, most in (

@@ -93,8 +93,8 @@ def raw_of(graph: object) -> Raw:
     if hasattr(graph, "nodes") and hasattr(graph, "adjacency"):
         return read_object(typing.cast(GraphLike, graph))
     raise PrepareRefused(
-        "a graph is an object with nodes(data=True) and adjacency(), a path, or bytes, and this is"
-        f" {type(graph).__name__}"
+        "a graph must be an object with nodes(data=True) and adjacency(), a path, or bytes, not of"
+        f" type {type(graph).__name__}"
     )
 
 
@@ -191,7 +191,7 @@ def edges_of(
             for entry in root[key]:
                 yield (hashable(entry.get("source")), hashable(entry.get("target"))), entry
             return
-    raise PrepareRefused("there is neither a list `adjacency` nor one of `links` or `edges`")
+    raise PrepareRefused("the graph has none of the lists `adjacency`, `links` and `edges`")
 
 
 def hashable(value: object) -> object:

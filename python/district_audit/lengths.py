@@ -53,13 +53,13 @@ def exact_of(value: object) -> Fraction:
     if is_missing(value):
         raise PrepareRefused("is missing")
     if isinstance(value, bool) or not isinstance(value, (numbers.Real, decimal.Decimal)):
-        raise PrepareRefused(f"which is {as_json(value)}, is no number")
+        raise PrepareRefused(f"which is {as_json(value)}, is not a number")
     try:
         found = Fraction(int(value)) if is_whole(value) else Fraction(
             value if isinstance(value, (decimal.Decimal, Fraction)) else float(value)
         )
     except (ValueError, OverflowError):
-        raise PrepareRefused(f"which is {as_json(value)}, is no number") from None
+        raise PrepareRefused(f"which is {as_json(value)}, is not a number") from None
     if found < 0:
         raise PrepareRefused(f"which is {as_json(value)}, is below 0")
     if round(found) > MOST_LENGTH:

@@ -53,7 +53,7 @@ def select_scores(report: Report, scores: Scores) -> Report:
     known = {*SCORES, *report.asks}
     for one in wanted:
         if one not in known:
-            raise ValueError(f"scores={scores!r}: {one!r} is none of {', '.join(sorted(known))}")
+            raise ValueError(f"scores={scores!r}: {one!r} is not one of {', '.join(sorted(known))}")
 
     def is_wanted(line: Line) -> bool:
         return line.score in wanted or line.ask in wanted
@@ -76,7 +76,7 @@ def named_parties(parties: Parties) -> tuple[str, str] | None:
         return None
     if isinstance(parties, str) or len(parties) != 2:
         raise ValueError(
-            f"parties={parties!r}: these are the names of the first and the second party"
+            f"parties={parties!r}: parties must be the names of the first and the second party"
         )
     return str(parties[0]), str(parties[1])
 

@@ -267,13 +267,15 @@ def prepare(
         ("missing", missing, ("error", "zero", "drop")),
     ):
         if value not in good:
-            raise PrepareRefused(f"{name} is one of {', '.join(good)}, and not {value!r}")
+            raise PrepareRefused(f"{name} must be one of {', '.join(good)}, not {value!r}")
     if (district is None) == (assignment is None):
-        raise PrepareRefused("either a column of districts or an assignment has to be given")
+        raise PrepareRefused(
+            "the districts are given twice or not at all: give either district or assignment"
+        )
     if group_of and not group:
-        raise PrepareRefused("group_of is given, and no group is")
+        raise PrepareRefused("group_of is given without group: name the column of the group")
     if max_length != MOST_CUT_LENGTH and not length:
-        raise PrepareRefused("max_length is given, and no length is")
+        raise PrepareRefused("max_length is given without length: name the column of the lengths")
     said = plain_words("prepare", {"slack": slack, "tolerance": tolerance})
     for name, count in (
         ("slack", said.get("slack", 500)), ("max_split", max_split), ("max_splits", max_splits),
@@ -402,13 +404,13 @@ def assign(nodes: list[Node], choices: Choices) -> list[Node]:
         given = given.assignment
     if not hasattr(given, "items"):
         raise PrepareRefused(
-            "an assignment is a dict from units to districts, or has items() as one, and this is"
-            f" {type(given).__name__}"
+            "an assignment must be a dict from units to districts, or have items() as one, not of"
+            f" type {type(given).__name__}"
         )
     if hasattr(given, "columns"):
         raise PrepareRefused(
-            f"an assignment is one column, and this is a whole {type(given).__name__}: name one of"
-            " its columns"
+            f"an assignment must be one column, not a whole {type(given).__name__}: name one of its"
+            " columns"
         )
     pairs = list(given.items())
     test_units(pairs)
@@ -707,10 +709,10 @@ def unit_named(
     said: object, name_of: typing.Callable[[object], Label], units: typing.Collection[Label]
 ) -> Label:
     """Returns the unit that a user named to be joined; on a command line every id is a text."""
-    tried: list[Label] = [name_of(said)] if not is_missing(said) else []
+    candidates: list[Label] = [name_of(said)] if not is_missing(said) else []
     if isinstance(said, str) and said.lstrip("-").isdigit():
-        tried.append(int(said))
-    for name in tried:
+        candidates.append(int(said))
+    for name in candidates:
         if name in units:
             return name
     raise PrepareRefused(f"{as_json(said)}, which is to be joined, is not a unit")

@@ -77,7 +77,7 @@ class Rules:
     max_split_regions: int | None = None
     """The most regions that may lie in more than one district."""
     group_districts: int | None = None
-    """In how many districts at least the group has to have a majority; None: no group was named."""
+    """The least number of districts in which the group must have a majority; None: no group."""
     majorities: int | None = None
     """In how many the start plan gives it one."""
     group_share: int | None = None
@@ -122,7 +122,7 @@ class Rules:
                 else f"more than {self.group_share} of 10000"
             )
             said.append(
-                f"the group has {share} in {self.majorities or 0} districts, and has to have {one}"
+                f"the group has {share} in {self.majorities or 0} districts, and must have {one}"
                 f" in {self.group_districts}"
             )
         said += [] if self.frozen is None else [f"{self.frozen} units keep their districts"]
@@ -407,11 +407,11 @@ class Reader:
         return line is not None and line.split(" ")[0] == word
 
     def take(self, form: str, example: str) -> list[str]:
-        """Returns the groups of a regular expression that has to match the whole next line.
+        """Returns the groups of a regular expression that must match the whole next line.
         """
         line = self.next()
         if line is None:
-            refuse(self.number, f"the text ends where a line `{example}` has to stand")
+            refuse(self.number, f"the text ends where a line `{example}` is expected")
         found = re.fullmatch(form, line)
         if found is None:
             refuse(self.number, f"it does not have the form of a line `{example}`")
@@ -530,7 +530,7 @@ def columns_in(lines: Reader, said: str) -> tuple[list[str], list[str]]:
 def has_rule(lines: Reader, word: str, is_named: bool | None) -> bool:
     """Returns whether the line of a rule that needs a column stands next.
 
-    Where the columns are told, it stands exactly where its column is named.
+    If the text names its columns, the line stands exactly if it names the column of the rule.
     """
     is_there = lines.is_at(word)
     if is_named is not None and is_there != is_named:
@@ -539,7 +539,7 @@ def has_rule(lines: Reader, word: str, is_named: bool | None) -> bool:
             (
                 "the line `columns` names no column for this rule"
                 if is_there
-                else f"a line that begins with `{word}` has to stand here"
+                else f"a line that begins with `{word}` is expected here"
             ),
         )
     return is_there
@@ -590,13 +590,14 @@ def rules_of(
     if has_rule(lines, "cut-length", None if source is None else source.length is not None):
         (found["cut_length"],) = lines.numbers("cut-length N", "cut-length n")
         lines.ask_that(
-            found["cut_length"] <= edges * MOST_LENGTH, "so few edges are not so long in all"
+            found["cut_length"] <= edges * MOST_LENGTH,
+            "the length is too great for this number of edges",
         )
         if lines.is_at("max-length"):
             (found["max_length"],) = lines.numbers("max-length N", "max-length l")
             lines.ask_that(
                 found["cut_length"] <= found["max_length"] < MOST_CUT_LENGTH,
-                "the start plan's cut edges are longer, or such a limit is not written",
+                "the limit is below the length of the start plan's cut edges, or out of range",
             )
     return found
 
@@ -692,7 +693,7 @@ class Tests:
             asks.append((found[1], found[2]))
         if not asks:
             refuse(
-                self.lines.number, f"a line that begins with `{first.strip()}` has to stand here"
+                self.lines.number, f"a line that begins with `{first.strip()}` is expected here"
             )
         return asks
 
@@ -876,7 +877,7 @@ def make_cells(test: str, line: Line) -> dict[str, object]:
 
 
 def add_decimal(row: typing.Sequence[object]) -> list[object]:
-    """Returns a row whose score has its decimals beside the fraction, where it is no whole number.
+    """Returns a row whose score has decimals beside its fraction, if it is not a whole number.
     """
     return [
         (
@@ -1243,8 +1244,8 @@ class Report:
             By ask, as "cut-edges:low", in the report's order.
 
         Conditions: fix epsilon, alpha, the asks, and the number and length of the walks before
-        the run. The enacted plan need not be random. The walks have to be, and independent of
-        each other, which rests on the key. If several asks, epsilons or alphas are tried,
+        the run. The enacted plan need not be random. The walks must be random, and independent of
+        each other, which rests on the key. If several asks, epsilons or alphas are tested,
         multiply the least p by their number.
 
         Raises TypeError for a float (give it as a text) and other types; ValueError for a number
@@ -1291,7 +1292,7 @@ class Report:
         columns : dict
             The columns by the words pop, first, second, district, region, group, group_of, freeze
             and length; if left out, those of the report's own line or of the call that made it. If
-            given, each column of a rule of the report has to be there: the printed command needs
+            given, each column of a rule of the report must be there: the printed command needs
             it, and its counts are compared with those of the report.
         command : str
             The command to print; if left out, it is written from the report.

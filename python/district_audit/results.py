@@ -51,8 +51,9 @@ class NamedReports(list[Pair]):
             return super().__getitem__(name)
         reports = [report for other, report in self if other == name]
         if len(reports) != 1:
-            many = "several have this name" if reports else "none has this name"
-            raise KeyError(f"{many} {name!r}; the names are {', '.join(map(repr, self.names))}")
+            many = "several reports have" if reports else "no report has"
+            names = ", ".join(map(repr, self.names))
+            raise KeyError(f"{many} the name {name!r}; the names are {names}")
         return reports[0]
 
     def to_frame(self, exact: bool = False) -> pandas.DataFrame:

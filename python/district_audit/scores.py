@@ -37,7 +37,7 @@ def votes(sample: Sample, election: Election = None) -> list[tuple[int, int]]:
 
 
 def share(first: int, second: int) -> Fraction:
-    """Returns first/(first + second), and 1/2 where there are no votes, as the program has it."""
+    """Returns first/(first + second); 1/2 if there are no votes, as in the program."""
     return Fraction(first, first + second) if first + second else HALF
 
 
@@ -65,7 +65,7 @@ def highest_share(sample: Sample, k: int, election: Election = None) -> Fraction
     """
     shares = ordered_shares(sample, election)
     if not 1 <= k <= len(shares):
-        raise IndexError(f"there is no {k}th of {len(shares)} districts")
+        raise IndexError(f"k is {k}, and must be from 1 to {len(shares)}, the number of districts")
     return shares[-k]
 
 
@@ -162,7 +162,7 @@ def exactly(value: Share, name: str) -> Fraction:
     """Returns a share from 0 to 1 exactly; a float as its shortest decimal, so 0.05 is 1/20."""
     exact = Fraction(repr(value)) if isinstance(value, float) else Fraction(value)
     if not 0 <= exact <= 1:
-        raise ValueError(f"{name} is from 0 to 1, and not {value}")
+        raise ValueError(f"{name} must be from 0 to 1, not {value}")
     return exact
 
 

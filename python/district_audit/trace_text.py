@@ -171,7 +171,7 @@ class Text:
         if not line.endswith(b"\n"):
             self.lines.finish()
             self.refuse("the text ends within a line" if line else
-                        f"the text ends where {expected} has to stand")
+                        f"the text ends where {expected} is expected")
         return line[:-1].decode("utf-8", "surrogateescape")
 
     def end(self) -> None:
@@ -232,7 +232,7 @@ class Text:
         return one
 
     def read_plan(self, form: re.Pattern[str], step: int) -> Shown:
-        """Returns the next line of a plan, which has a form and has to be that of a step."""
+        """Returns the next line of a plan, which must have the form and be that of the step."""
         line = self.line(f"the plan after {step} steps")
         parts = form.fullmatch(line)
         if parts is None:

@@ -392,7 +392,7 @@ class Changes(unittest.TestCase):
     def test_columns_of_a_group_are_judged_as_the_others(self) -> None:
         self.refuse("no unit has a column bvap", square(), group="bvap")
         self.refuse("no unit has a column vap", square(g=[1, 1, 1, 1]), group="g", group_of="vap")
-        self.refuse("group_of is given, and no group is", square(), group_of="a")
+        self.refuse("group_of is given without group", square(), group_of="a")
         self.refuse(
             'unit "t" has no g (choose missing="zero" or "drop")', square(g=[1, None, 1, 1]),
             group="g",
@@ -451,7 +451,7 @@ class Changes(unittest.TestCase):
         self.refuse('an edge names "w", which is not a unit', root)
         self.refuse("4 nodes and 3 adjacency entries", {**square(), "adjacency": [[], [], []]})
         self.refuse(
-            "there is neither a list `adjacency` nor one of `links` or `edges`",
+            "the graph has none of the lists `adjacency`, `links` and `edges`",
             {"nodes": square()["nodes"]},
         )
         links = {
@@ -482,13 +482,13 @@ class Changes(unittest.TestCase):
     def test_what_is_no_graph(self) -> None:
         for graph, why in (
             (b"[]", "is not a graph of networkx"), (b"{", "cannot be read"),
-            ("/there/is/none.json", "cannot be read"), (7, "and this is int"),
+            ("/there/is/none.json", "cannot be read"), (7, "not of type int"),
         ):
             with self.subTest(graph=graph), self.assertRaises(PrepareRefused) as caught:
                 prepare(graph, **common.COLUMNS)
             self.assertIn(why, str(caught.exception))
         self.refuse(
-            "numbers is one of error, nearest, floor, and not 'round'", square(), numbers="round"
+            "numbers must be one of error, nearest, floor, not 'round'", square(), numbers="round"
         )
 
 

@@ -203,7 +203,7 @@ class Values(unittest.TestCase):
         said = [
             "6 regions, each in at most 200 districts", "at most 3 splits of regions in all",
             "at most 3 regions in more than one district",
-            "the group has a majority in 2 districts, and has to have one in 2",
+            "the group has a majority in 2 districts, and must have one in 2",
         ]
         self.assertEqual(report.rules.describe() + report.rules.describe_more(), said)
         for words in (
@@ -307,7 +307,7 @@ class Pictures(common.FolderCase):
             lines[1],
             (
                 "at most 3 splits of regions in all; at most 3 regions in more than one district; "
-                "the group has a majority in 2 districts, and has to have one in 2"
+                "the group has a majority in 2 districts, and must have one in 2"
             ),
         )
         self.assertEqual(

@@ -174,7 +174,7 @@ class Named(unittest.TestCase):
         with self.assertRaises(KeyError) as caught:
             found["old"]
         self.assertIn(
-            "none has this name 'old'; the names are 'CD', 'new'", str(caught.exception)
+            "no report has the name 'old'; the names are 'CD', 'new'", str(caught.exception)
         )
         with self.assertRaises(KeyError):
             PlanReports([("CD", self.report), ("CD", self.other)])["CD"]
@@ -278,7 +278,7 @@ class Pictures(common.FolderCase):
 
     def test_what_is_no_score_or_party(self) -> None:
         for words, why in (
-            (dict(scores=["sets"]), "'sets' is none of"),
+            (dict(scores=["sets"]), "'sets' is not one of"),
             (dict(scores="mean-median"), "the report has none of these"),
             (dict(parties="DR"), "the first and the second party"),
             (dict(parties=("D",)), "the first and the second party"),

@@ -457,21 +457,21 @@ class Units(UnitsCase):
 
     def test_plans_that_are_none(self) -> None:
         self.no("this seems to be one assignment", lambda: self.plans(PLAN))
-        self.no("a table has 1 to 16 plans, and this one has 0", lambda: self.plans({}))
+        self.no("a table must have 1 to 16 plans, not 0", lambda: self.plans({}))
         self.no(
-            "a table has 1 to 16 plans, and this one has 17",
+            "a table must have 1 to 16 plans, not 17",
             lambda: self.plans({f"p{place}": PLAN for place in range(17)}),
         )
-        self.no("a table of plans is a dict", lambda: self.plans(7))
+        self.no("a table of plans must be a dict", lambda: self.plans(7))
         self.no(
-            "plan one: it is a list", lambda: self.plans({"one": list(PLAN.values()), "two": PLAN})
+            "plan one must be a dict", lambda: self.plans({"one": list(PLAN.values()), "two": PLAN})
         )
         self.no(
             "several plans of the table have the same name: 1",
             lambda: self.plans({1: PLAN, "1": PLAN}),
         )
         for name in (None, float("nan"), True, 1.5):
-            self.no("a plan's name is a text", lambda: self.plans({name: PLAN}))
+            self.no("a plan's name must be a text", lambda: self.plans({name: PLAN}))
         for word in ("Plan A", "\u00e9", "x" * 101, "a\nb"):
             self.no("and so no spaces", lambda: self.plans({word: PLAN}))
 
@@ -578,7 +578,7 @@ class Counts(UnitsCase):
         found = self.plans({"one": PLAN, "two": self.THREE}, districts="any")
         self.assertEqual([report.districts for _, report in found], [2, 2, 3])
         self.no(
-            'districts is "same" or "any", and not 3',
+            'districts must be "same" or "any", not 3',
             lambda: self.plans({"one": PLAN}, districts=3),
         )
 
