@@ -10,13 +10,12 @@ what each worker beyond the first adds to the start, and the most memory with on
 are grids of `make`; the tracts of ny8.json with two districts and with eight, and with `--maps` the
 counties that real_maps.py made in FOLDER, with two and with thirteen; and grids with both
 diagonals, which the script writes as files, with texts as ids. With `--most` graphs with more units
-are left out. Below the table stands what 10^9 steps take by it. `workers` walks 16 trajectories of
-N steps (ten million) on the grid of size 10, by one worker and by four, and tells how many times as
-fast the four are, by the clock; with `--plain` the same of OTHER, which takes the same words, in
-turns with the program, so that what the machine has to do otherwise is the same for both. With
-`--into` what is written stands in FILE in place of what is between the lines BEGIN and END below,
-each with its kind. Takes the best of three runs each; ends with 1 where a program does not end with
-0.
+are left out. A line below the table gives the time of 10^9 steps. `workers` walks 16 trajectories
+of N steps (ten million) on the grid of size 10, by one worker and by four, and prints the speed of
+four as a multiple of one's, by the clock. With `--plain` it does so for OTHER too, a program with
+the same words. The two run in turns, so that other work of the machine weighs on both alike. With
+`--into` the text replaces the lines of FILE between BEGIN and END below, each with its kind. Each
+number is the best of three runs. The exit status is 1 if a program ends with another than 0.
 """
 import argparse
 import json
