@@ -669,7 +669,7 @@ def tested_elections(
 ) -> dict[str, tuple[str, str]]:
     """Returns elections by name; refuses anything but a dict from names to pairs of columns.
 
-    Where checkpoints are saved, each election has a folder of its name.
+    Each election has a folder of its name if checkpoints are saved.
     """
     allowed = 'elections is a dict from names to pairs of columns, as {"GOV18": ("G18D", "G18R")}'
     if not isinstance(elections, typing.Mapping) or not elections:

@@ -134,8 +134,8 @@ class WorkLeft(AuditError):
 class CheckpointRefused(AuditError):
     """Status 8: no checkpoint is whole, or the newest is another job's. Nothing was changed.
 
-    Where it is another job's, `differs` has a text for each argument and part of the graph that
-    differs from the run that wrote it, as far as the package kept what that was.
+    In the second case, `differs` has a text for each argument and part of the graph that differs
+    from the run that wrote the checkpoint, as far as the package kept them.
     """
 
     status = 8

@@ -35,12 +35,12 @@ class Lengths(typing.NamedTuple):
 
     @property
     def lost(self) -> Fraction:
-        """By how much all lengths together were changed, either way."""
+        """The sum of the changes of all lengths, each without its sign."""
         return sum((abs(self.whole[edge] - self.exact[edge]) for edge in self.exact), Fraction(0))
 
     @property
     def moved(self) -> Fraction:
-        """By how much their sum was changed."""
+        """The change of the sum of all lengths."""
         return sum((self.whole[edge] - self.exact[edge] for edge in self.exact), Fraction(0))
 
     def get(self, one: Label, other: Label) -> int:

@@ -1,8 +1,8 @@
 """Pictures of reports, drawn by matplotlib.
 
-The picture shows, for each question and walk, which part of the visited plans is at least as
-extreme as the enacted plan, and the bound that follows; for each rank test the rank of the enacted
-plan among its trajectories; and, where the report has one, the histogram of seats. All is black,
+The picture shows, for each question and walk, the part of the visited plans that is at least as
+extreme as the enacted plan, and the bound that follows. It shows for each rank test the rank of the
+enacted plan among its trajectories, and the histogram of seats if the report has one. All is black,
 gray and white: shapes and words distinguish.
 """
 from __future__ import annotations

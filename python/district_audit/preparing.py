@@ -114,7 +114,7 @@ class Change:
     units: list[Label] = dataclasses.field(default_factory=list)
     """The ids of the units that it was made to; empty where it is said of the whole."""
     moved: float = 0
-    """By how much it changes the sum of its column: people or votes."""
+    """The change of the sum of its column, in people or votes."""
     is_of_values: bool = False
     """True if a unit's value, or the set of units and edges, became another one. False if only the
     way of writing it changed.

@@ -59,7 +59,7 @@ class Rules:
     """The rules of legal plans, beside contiguous districts."""
 
     slack: int
-    """How far a district may be from the ideal population, in hundredths of a percent."""
+    """The greatest deviation from the ideal population, in hundredths of a percent."""
     low: int
     """The least population of a district that is within the bounds, in people."""
     high: int
@@ -67,11 +67,11 @@ class Rules:
     max_cut: int | None = None
     """The most edges between districts that a plan may have; None: any number."""
     max_split: int | None = None
-    """Among how many districts a region may be split; None: there are no regions."""
+    """The most districts among which a region may be split; None: there are no regions."""
     regions: int | None = None
     """The number of regions; None: no column of regions was named."""
     max_splits: int | None = None
-    """How often regions may be split in all, each by one less than the number of its districts;
+    """The most splits of regions in all. A region has one less than the number of its districts.
     None: this and the next are not limited.
     """
     max_split_regions: int | None = None
@@ -79,9 +79,10 @@ class Rules:
     group_districts: int | None = None
     """The least number of districts in which the group must have a majority; None: no group."""
     majorities: int | None = None
-    """In how many the start plan gives it one."""
+    """The number of districts in which the start plan gives the group a majority."""
     group_share: int | None = None
-    """Above which share of a district it has one, in hundredths of a percent; None: above one half.
+    """The share of a district above which the group has a majority, in hundredths of a percent;
+    None: one half.
     """
     frozen: int | None = None
     """The number of units that keep the start plan's districts; None: no column of them was named.
@@ -252,7 +253,7 @@ class Setting:
     hub_steps: int
     """The steps to the hub, and of each of these trajectories."""
     stop: int = 0
-    """After how many ends in the tail a test stops; 0: none stops early."""
+    """The number of ends in the tail after which a test stops; 0: none stops early."""
 
 
 @dataclasses.dataclass(frozen=True)
@@ -299,7 +300,7 @@ class Walk(Line):
     """One outlier trajectory and one question."""
 
     number: int
-    """Which trajectory, from 0."""
+    """The number of the trajectory, from 0."""
     moved: int
     """The number of its steps that changed the plan."""
     count: int
@@ -341,7 +342,7 @@ class Stop(Line):
     """The sequential test of one question."""
 
     place: int
-    """After how many ends it stops."""
+    """The number of ends after which it stops."""
     top: int
     """The value is top/of."""
     of: int

@@ -275,7 +275,7 @@ class Plan:
         self.districts = list(districts)
         self.tallies: dict[typing.Hashable, Tally] = {}
         self.turn = 0
-        """How often it was changed: a sample of an earlier turn is stale."""
+        """The number of its changes: a sample of an earlier turn is stale."""
 
     @property
     def district_count(self) -> int:

@@ -251,7 +251,7 @@ assert "<table>" in district_audit.Report.parse(sys.argv[2])._repr_html_()
             env={**os.environ, "PYTHONPATH": str(PYTHON)}, check=True,
         )
 
-    def test_what_is_missing_is_told_with_its_extra_and_how_to_install_it(self) -> None:
+    def test_missing_modules_are_reported_with_their_extra_and_how_to_install_it(self) -> None:
         script = (
             HIDDEN
             + """

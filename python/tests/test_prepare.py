@@ -165,7 +165,7 @@ class Changes(unittest.TestCase):
         self.assertEqual(prepared.warnings, [])
         self.assertEqual(prepare_root(square(a=[0, 1, 1, 0])).warnings, [])
 
-    def test_parts_are_told_and_joined(self) -> None:
+    def test_parts_are_reported_and_joined(self) -> None:
         """Two islands, each a whole district, and one unit with no neighbour."""
         nodes = [{"id": place, "pop": 1, "a": 1, "b": 1, "d": place // 2} for place in range(7)]
         root = {
@@ -378,7 +378,7 @@ class Changes(unittest.TestCase):
             'g has a majority of w in 1 of 2 districts: "x" (of nobody)',
         )
 
-    def test_a_column_that_is_named_twice_is_told_of_once(self) -> None:
+    def test_a_column_that_is_named_twice_is_reported_once(self) -> None:
         prepared = prepare_root(square(a=[1.0, 2, 3, 4]), group="a", group_of="a")
         self.assertEqual(
             [str(change) for change in prepared.changes],
