@@ -40,8 +40,8 @@ COLUMNS = ["--pop", "pop", "--first", "a", "--second", "b", "--district", "d"]
 
 
 def make_crossed_grid(rows: int, columns: int, districts: int) -> bytes:
-    """The bytes of a grid with both diagonals of each square: texts as ids, bands of rows as
-    districts.
+    """Returns the bytes of a grid with both diagonals of each square: texts as ids, bands of rows
+    as districts.
     """
     names = [[f"p{row * columns + column}" for column in range(columns)] for row in range(rows)]
     nodes, near = [], []
@@ -112,8 +112,8 @@ def megabytes(memory: float) -> str:
 
 
 def prepare_map(path: str, words: list[str], column: str) -> tuple[bytes, list[str]]:
-    """The bytes of a real map with the plan of this column as its districts, and the words of `run`
-    for it.
+    """Returns the bytes of a real map with the plan of this column as its districts, and the words
+    of `run` for it.
     """
     with tempfile.NamedTemporaryFile(suffix=".json") as graph:
         done = subprocess.run(
@@ -151,7 +151,7 @@ def real_maps(folder: typing.Optional[str]) -> list[tuple[str, str, list[str], t
 def row_of(
     program: str, name: str, command: list[str], data: bytes, steps: int
 ) -> tuple[str, float]:
-    """The row, and the seconds for a million steps."""
+    """Returns the row, and the seconds for a million steps."""
     words = [*command, *KEY]
     start, memory, report = best(program, [*words, "--steps", "1"], data)
     more, _, _ = best(program, [*words, "--steps", "1", "--walks", "5", "--workers", "5"], data)
