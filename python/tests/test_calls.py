@@ -28,8 +28,8 @@ Refusal = typing.TypeVar("Refusal", bound=district_audit.AuditError)
 
 
 def allow_interrupts() -> None:
-    """In a child: an interrupt ends it, also where the tests themselves run in the background,
-    where it is ignored.
+    """Lets an interrupt end a child process, even if the tests run in the background, where it is
+    ignored.
     """
     signal.signal(signal.SIGINT, signal.SIG_DFL)
 

@@ -79,8 +79,8 @@ NEWER_ARGUMENTS = {
 
 
 def find_type_nodes(tree: ast.Module) -> set[ast.AST]:
-    """The parts of a module that no run looks at: annotations, where `from __future__ import
-    annotations` stands, and what only type checkers read.
+    """Returns the parts of a module that no run looks at: annotations, where `from __future__
+    import annotations` stands, and what only type checkers read.
     """
     found: set[ast.AST] = set()
     if any(
@@ -103,7 +103,7 @@ def find_type_nodes(tree: ast.Module) -> set[ast.AST]:
 
 
 def newer_than_3_9(tree: ast.Module) -> typing.Iterator[tuple[int, str]]:
-    """Each use, in a module, of what Python 3.9 does not have, with its line."""
+    """Yields each use, in a module, of what Python 3.9 does not have, with its line."""
     passed = find_type_nodes(tree)
     for node in ast.walk(tree):
         if node in passed:

@@ -17,7 +17,9 @@ ROUGH: common.Words = dict(population="TOTPOP", first="DEM", second="REP", distr
 
 
 def square(**changed: common.Value) -> common.Root:
-    """Four units round a square; for each name of a column the values that stand there instead."""
+    """Returns four units round a square; for each name of a column the values that stand there
+    instead.
+    """
     columns: common.Words = {
         "pop": [1, 1, 1, 1],
         "a": [1, 2, 3, 4],

@@ -19,8 +19,8 @@ Kind = type[typing.Union[Report, PlanCheck]]
 
 
 def texts() -> list[tuple[int, typing.Optional[str], str]]:
-    """Each whole text that `case_runner` has to print: a check, a report, or the reports of several
-    plans.
+    """Returns each whole text that `case_runner` must print: a check, a report, or the reports of
+    several plans.
     """
     lines = (common.CASES / "stdout").read_text(encoding="utf-8").split("\n")
     found, at = [], 0

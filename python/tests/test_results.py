@@ -21,7 +21,8 @@ ELECTIONS = {"GOV18": ("DEM", "REP"), "SEN20": ("D2", "R2")}
 
 
 def root() -> common.Root:
-    """The grid with a second election, in which every other unit votes the other way round."""
+    """Returns the grid with a second election, in which every other unit votes the other way round.
+    """
     found = common.example("grid.json")
     for place, node in enumerate(found["nodes"]):
         votes = (node["DEM"], node["REP"])
@@ -231,7 +232,7 @@ class Pictures(common.FolderCase):
         self.report = Report.parse(common.readme_report())
 
     def words(self, figure: common.Value) -> str:
-        """All words of a figure: those on it, the titles and the names of rows."""
+        """Returns all words of a figure: those on it, the titles and the names of rows."""
         found = [text.get_text() for text in figure.texts]
         for axes in figure.axes:
             found += [
