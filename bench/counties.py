@@ -50,7 +50,7 @@ RULES: dict[str, list[str]] = {
 
 
 def neighbours_of(chance: random.Random, rows: int, columns: int) -> dict[Place, set[Place]]:
-    """Returns the neighbours of each place: those of a grid, and some diagonals."""
+    """Returns the neighbors of each place: those of a grid, and some diagonals."""
     near: dict[Place, set[Place]] = {
         (row, column): set() for row in range(rows) for column in range(columns)
     }

@@ -267,5 +267,5 @@ class Judged:
 
 
 def percent(part: int, whole: int) -> str:
-    """Returns a part in percent, rounded down at two places."""
+    """Returns a part in percent, rounded down at two places; 'of nobody' without a whole."""
     return f"{percent_down(part, whole)} %" if whole else "of nobody"

@@ -690,7 +690,7 @@ def neighbours_of(
     names: typing.Sequence[Label],
     changes: Changes,
 ) -> dict[Label, set[Label]]:
-    """Returns the neighbours of each unit that stays."""
+    """Returns the neighbors of each unit that stays."""
     known = set(names)
     found: dict[Label, set[Label]] = {unit: set() for unit in rows}
     for one, other in pairs:
@@ -724,7 +724,7 @@ def join(
     name_of: typing.Callable[[object], Label],
     changes: Changes,
 ) -> None:
-    """Makes neighbours of the pairs that were named."""
+    """Makes neighbors of the pairs that were named."""
     for pair in choices.join:
         one, other = (unit_named(end, name_of, neighbours) for end in pair)
         if one == other:
@@ -895,7 +895,10 @@ def lengths_in(
     units: typing.Collection[Label],
     changes: Changes,
 ) -> lengths.Lengths | None:
-    """Returns the lengths of the edges; None without a column. Adds how many were made whole."""
+    """Returns the lengths of the edges, or None without a column of them.
+
+    Adds to `changes` the number of lengths that were made whole.
+    """
     if not choices.length:
         return None
     found = lengths.lengths_of(choices.length, edges, units)
