@@ -10,13 +10,12 @@ what each worker beyond the first adds to the start, and the most memory with on
 are grids of `make`; the tracts of ny8.json with two districts and with eight, and with `--maps` the
 counties that real_maps.py made in FOLDER, with two and with thirteen; and grids with both
 diagonals, which the script writes as files, with texts as ids. With `--most` graphs with more units
-are left out. Below the table stands what 10^9 steps take by it. `workers` walks 16 trajectories of
-N steps (ten million) on the grid of size 10, by one worker and by four, and tells how many times as
-fast the four are, by the clock; with `--plain` the same of OTHER, which takes the same words, in
-turns with the program, so that what the machine has to do otherwise is the same for both. With
-`--into` what is written stands in FILE in place of what is between the lines BEGIN and END below,
-each with its kind. Takes the best of three runs each; ends with 1 where a program does not end with
-0.
+are left out. A line below the table gives the time of 10^9 steps. `workers` walks 16 trajectories
+of N steps (ten million) on the grid of size 10, by one worker and by four, and prints the speed of
+four as a multiple of one's, by the clock. With `--plain` it does so for OTHER too, a program with
+the same words. The two run in turns, so that other work of the machine weighs on both alike. With
+`--into` the text replaces the lines of FILE between BEGIN and END below, each with its kind. Each
+number is the best of three runs. The exit status is 1 if a program ends with another than 0.
 """
 import argparse
 import json
@@ -41,8 +40,8 @@ COLUMNS = ["--pop", "pop", "--first", "a", "--second", "b", "--district", "d"]
 
 
 def make_crossed_grid(rows: int, columns: int, districts: int) -> bytes:
-    """The bytes of a grid with both diagonals of each square: texts as ids, bands of rows as
-    districts.
+    """Returns the bytes of a grid with both diagonals of each square: texts as ids, bands of rows
+    as districts.
     """
     names = [[f"p{row * columns + column}" for column in range(columns)] for row in range(rows)]
     nodes, near = [], []
@@ -113,8 +112,8 @@ def megabytes(memory: float) -> str:
 
 
 def prepare_map(path: str, words: list[str], column: str) -> tuple[bytes, list[str]]:
-    """The bytes of a real map with the plan of this column as its districts, and the words of `run`
-    for it.
+    """Returns the bytes of a real map with the plan of this column as its districts, and the words
+    of `run` for it.
     """
     with tempfile.NamedTemporaryFile(suffix=".json") as graph:
         done = subprocess.run(
@@ -133,7 +132,7 @@ def prepare_map(path: str, words: list[str], column: str) -> tuple[bytes, list[s
 
 
 def real_maps(folder: typing.Optional[str]) -> list[tuple[str, str, list[str], tuple[int, int]]]:
-    """Of each map its name, its file, the words for prepare.py, and its districts."""
+    """Returns the name, file, words for prepare.py and districts of each map."""
     maps = [("tracts of upstate New York", str(DATA / "ny8.json"), shlex.split(TRACTS), (2, 8))]
     if folder is not None:
         with open(f"{folder}/plans", encoding="utf-8") as file:
@@ -152,7 +151,7 @@ def real_maps(folder: typing.Optional[str]) -> list[tuple[str, str, list[str], t
 def row_of(
     program: str, name: str, command: list[str], data: bytes, steps: int
 ) -> tuple[str, float]:
-    """The row, and the seconds for a million steps."""
+    """Returns the row, and the seconds for a million steps."""
     words = [*command, *KEY]
     start, memory, report = best(program, [*words, "--steps", "1"], data)
     more, _, _ = best(program, [*words, "--steps", "1", "--walks", "5", "--workers", "5"], data)
@@ -170,7 +169,7 @@ def row_of(
 
 
 def format_range(least: float, most: float) -> str:
-    """How long 10^9 steps take, from the seconds for a million."""
+    """Returns in words the time of 10^9 steps, from the least and most seconds for a million."""
     (low, unit), (high, last) = (
         (1000 * million, "seconds") if million < 0.1 else (1000 * million / 60, "minutes")
         for million in (least, most)

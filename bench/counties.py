@@ -50,7 +50,7 @@ RULES: dict[str, list[str]] = {
 
 
 def neighbours_of(chance: random.Random, rows: int, columns: int) -> dict[Place, set[Place]]:
-    """The neighbours of each place: those of a grid, and some diagonals."""
+    """Returns the neighbors of each place: those of a grid, and some diagonals."""
     near: dict[Place, set[Place]] = {
         (row, column): set() for row in range(rows) for column in range(columns)
     }
@@ -76,8 +76,10 @@ def map_of(
     county: typing.Callable[[int, int], str],
     share: typing.Callable[[int, int], int],
 ) -> str:
-    """A map as the text of a file: the district and the county of a place, and what part of its
-    people of voting age are of the group, in percent.
+    """Returns a map as the text of a file.
+
+    `district` and `county` give those of a place, and `share` the percentage of its people of
+    voting age who are of the group.
     """
     chance, of_age = random.Random(3000), random.Random(3001)
     near = neighbours_of(chance, rows, columns)
@@ -121,8 +123,8 @@ def county_map() -> str:
 
 
 def small_map() -> str:
-    """Two columns of three counties each; the middle county of each column is half in the upper
-    district of the column, and half in the lower.
+    """Returns two columns of three counties each; the middle county of each column is half in the
+    upper district of the column, and half in the lower.
     """
     return map_of(
         12,
@@ -134,7 +136,7 @@ def small_map() -> str:
 
 
 def seconds_of(program: str, words: list[str], text: str) -> tuple[float, str]:
-    """The processor seconds of a run, and its report."""
+    """Returns the processor seconds of a run, and its report."""
     before = resource.getrusage(resource.RUSAGE_CHILDREN)
     run = subprocess.run([program, *words], input=text, capture_output=True, text=True, check=False)
     after = resource.getrusage(resource.RUSAGE_CHILDREN)

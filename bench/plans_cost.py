@@ -34,8 +34,8 @@ WORDS = (
 
 
 def wind_through(by_rows: bool) -> typing.Iterator[Place]:
-    """The places along a path through all rows, or all columns, each the other way than the one
-    before.
+    """Yields the places along a path through all rows, or all columns, each the other way than the
+    one before.
     """
     lines, others = (ROWS, COLUMNS) if by_rows else (COLUMNS, ROWS)
     for line in range(lines):
@@ -44,7 +44,7 @@ def wind_through(by_rows: bool) -> typing.Iterator[Place]:
 
 
 def plan_of(number: int) -> Plan:
-    """The district of each place in the plan with this number."""
+    """Returns the district of each place in the plan with this number."""
     size = ROWS * COLUMNS // DISTRICTS
     cuts = [size * d + (7 * number + 3 * d) % 41 - 20 for d in range(1, DISTRICTS)]
     return {
@@ -54,7 +54,7 @@ def plan_of(number: int) -> Plan:
 
 
 def graph_of(plan: Plan) -> str:
-    """The text of the graph, with this plan as its own."""
+    """Returns the text of the graph, with this plan as its own."""
     chance = random.Random(9000)
     number = {
         place: at
@@ -94,7 +94,7 @@ def graph_of(plan: Plan) -> str:
 
 
 def table_of(plans: list[Plan]) -> str:
-    """The text of the table of these plans."""
+    """Returns the text of the table of these plans."""
     places = [(row, column) for row in range(ROWS) for column in range(COLUMNS)]
     lines = [["id", *(f"plan{number}" for number in range(1, len(plans) + 1))]]
     lines += [[str(at), *(str(plan[place]) for plan in plans)] for at, place in enumerate(places)]

@@ -40,7 +40,7 @@ def words_of(args: argparse.Namespace, workers: int, save: int) -> list[str]:
 def run_once(
     args: argparse.Namespace, workers: int, save: int, parent: typing.Optional[str]
 ) -> tuple[float, bytes]:
-    """Seconds, and the report."""
+    """Returns the seconds of a run, and its report."""
     with tempfile.TemporaryDirectory(dir=parent) as folder:
         begun = time.monotonic()
         run = subprocess.run(
@@ -54,8 +54,8 @@ def run_once(
 
 
 def measure_rounds(args: argparse.Namespace) -> tuple[dict[Way, float], bool]:
-    """The seconds of each round by the number of workers and the way, and whether all reports are
-    the same.
+    """Returns the seconds of each round by the number of workers and the way, and whether all
+    reports are the same.
     """
     seconds: dict[Way, list[float]] = {}
     reports = set()
@@ -71,7 +71,7 @@ def measure_rounds(args: argparse.Namespace) -> tuple[dict[Way, float], bool]:
 
 
 def table_of(args: argparse.Namespace, seconds: dict[Way, float]) -> tuple[list[str], bool]:
-    """The lines of the table, and whether each ratio is as wanted."""
+    """Returns the lines of the table, and whether each ratio is as wanted."""
     lines, good = [
         (
             "| workers | no saving | in memory | on disk | in memory / no saving | on disk / on"

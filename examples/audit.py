@@ -1,8 +1,8 @@
 #!/usr/bin/env python3
-"""From a graph of networkx to a picture, as in a notebook. Usage: python3 audit.py [NAME], which
-writes NAME.png and NAME.svg.
+"""Audits a graph of networkx and draws a picture. Usage: python3 audit.py [NAME], which writes
+NAME.png and NAME.svg.
 
-networkx and matplotlib are needed, and the package: pip install ../python. The graph is a grid of
+The script needs networkx, matplotlib and the package: pip install ../python. The graph is a grid of
 12 by 25 units.
 """
 import sys

@@ -75,11 +75,11 @@ for word in "${@:2}"; do
         *) fail "the word $word is unknown; $usage" ;;
     esac
 done
-[ $# -ge 1 ] || fail "no folder; $usage"
+[ $# -ge 1 ] || fail "the folder is missing; $usage"
 [ $built$unproved != yesyes ] || fail "give one of the words built and unproved, not both: what is built is proved; $usage"
 mkdir -p "$1" || fail "the folder $1 cannot be made"
 place=$(cd "$1" && pwd) || exit 1
-[ $built = yes ] || command -v rt >/dev/null || fail "the toolchain's command rt is not to be found"
+[ $built = yes ] || command -v rt >/dev/null || fail "the toolchain's command rt was not found: put its folder on PATH"
 
 # Prints the commit of the checkout. Changes that are in no commit are named.
 commit_of_checkout() {
@@ -148,9 +148,9 @@ keep_build() {
 build_unproved() {
     local crate=$1 built=$2 watcher status file
     shift 2
-    command -v rt >/dev/null || fail "the toolchain's command rt is not to be found"
+    command -v rt >/dev/null || fail "the toolchain's command rt was not found: put its folder on PATH"
     rm -rf "$room/try" "$room/kept"
-    mkdir "$room/try" "$room/kept" || fail "no folder for the build"
+    mkdir "$room/try" "$room/kept" || fail "a folder for the build cannot be made below $room"
     echo "install: building $crate without a proof, which takes some minutes"
     keep_build "$room/try" "$room/kept" &
     watcher=$!
@@ -183,7 +183,7 @@ fail() {
     echo "$1: \$1" >&2
     exit 126
 }
-room=\$(mktemp -d) || fail "no temporary folder in which the program can be unpacked"
+room=\$(mktemp -d) || fail "a temporary folder to unpack the program cannot be made; TMPDIR may name another place"
 trap 'rm -rf "\$room"' EXIT
 tail -n +$3 "\$0" >"\$room/program" || fail "the program cannot be unpacked in \$room"
 chmod 700 "\$room/program" || fail "the program cannot be made executable in \$room"

@@ -59,7 +59,7 @@ def round_up(name: str, top: int, of: int) -> str:
 
 @lru_cache(maxsize=8)
 def batch(key: bytes, stream: int, number: int) -> List[int]:
-    """The draws of BATCH blocks. A number holds a word of each, 64 bits apart, so none meet."""
+    """Returns the draws of BATCH blocks. A number holds a word of each, 64 bits apart."""
     form, each = f"<{BATCH}Q", (2 ** (64 * BATCH) - 1) // (2 ** 64 - 1)
     mask, blocks = MASK * each, range(number * BATCH, (number + 1) * BATCH)
     counter = int.from_bytes(struct.pack(form, *blocks), "little")
@@ -155,7 +155,7 @@ class Job:
         columns["--length"] = [long[edge] for edge in sorted(long)]
         if {type(n) for k in COLUMNS if k not in OTHERS[:3] for n in columns[k]} - {int} or (
                 {type(n) for n in columns["--freeze"]} - {int, bool}):
-            raise ValueError("a column of counts or lengths has a value that is no whole number")
+            raise ValueError("a column of counts or lengths has a value that is not a whole number")
         columns["--freeze"] = [int(n > 0) for n in columns["--freeze"]]
         for name in COLUMNS[3:5]:  # whole numbers by value, then texts
             rising = sorted(set(columns[name]), key=lambda label: (type(label) is str, label))
@@ -469,7 +469,7 @@ class Walk:
 
 
 def jobs_of(data: bytes, text: str, words: Dict[str, str]) -> Iterator[Job]:
-    """The job of a report, or that of each plan. What differs in a plan gets the plan's name."""
+    """Yields the job of a report, or of each plan. Differences get the name of their plan."""
     first, *parts = re.split(r"^plan (.*)\n", text, flags=re.M)
     if first or not parts:
         yield Job(data, text.split("\n"), words, None)

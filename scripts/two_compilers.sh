@@ -36,8 +36,8 @@ while :; do
     esac
     shift 2
 done
-[ $# -gt 0 ] || fail "no words of the auditor; --help says how this is called"
-own=$(mktemp -d) || fail "no temporary folder"
+[ $# -gt 0 ] || fail "the words of the auditor are missing; --help says how this is called"
+own=$(mktemp -d) || fail "a temporary folder cannot be made; TMPDIR may name another place"
 trap 'rm -rf "$own"' EXIT
 [ -n "$builds" ] || builds=$own/builds
 [ -n "$room" ] || room=$own/room
@@ -50,10 +50,10 @@ room=$(cd "$room" && pwd) || exit 101
 # Builds the auditor with the compiler $1, by a small run, and leaves it in the folder of builds.
 build() {
     local small=(make --size 1 --slack 5000 --steps 100 --ask cut-edges:low --key "$(printf '%064d' 0)")
-    command -v rt >/dev/null || fail "there is no $builds/$1, and no toolchain command rt to make it: install the toolchain, or put a build there"
+    command -v rt >/dev/null || fail "$builds/$1 is missing, and so is the command rt to make it: install the toolchain, or put a build there"
     echo "two_compilers: building with $1" >&2
     (cd "$crate" && RT_BACKEND=$1 rt run -- "${small[@]}" </dev/null) >"$own/built" 2>&1 ||
-        fail "no build with $1: $(grep -v '^$' "$own/built" | tail -n 1 | head -c 300)"
+        fail "the build with $1 failed: $(grep -v '^$' "$own/built" | tail -n 1 | head -c 300)"
     cp "$crate/out/audit_program" "$builds/$1.new" || fail "$builds/$1 cannot be written"
     mv "$builds/$1.new" "$builds/$1" || fail "$builds/$1 cannot be written"
 }

@@ -1,5 +1,5 @@
-# How the bash scripts of this folder tell how they are called: a script reads this file and calls `help_where_asked "$@"`, so that with
-# --help it prints the comment at its head and ends with status 0.
+# The help of the bash scripts of this folder. A script reads this file and calls `help_where_asked "$@"`: with --help it prints the
+# comment at its head and ends with status 0.
 # shellcheck shell=bash
 
 help_where_asked() {

@@ -1,5 +1,5 @@
-"""Prepares dual graphs for the district plan auditor, calls the installed program, and reads its
-reports.
+"""The district plan auditor for Python: preparation of dual graphs, calls of the installed
+program, and its reports as values.
 
 It needs Python alone; networkx, pandas, matplotlib and tqdm are used where they are installed.
 """

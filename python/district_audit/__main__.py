@@ -1,5 +1,6 @@
-"""`python -m district_audit --version` tells the package's version, and which programs it calls;
-`verify MANIFEST` checks a manifest.
+"""The command `python -m district_audit`: it prints which programs the package calls.
+
+`--version` prints the package's version, and `verify MANIFEST` checks a manifest.
 """
 import argparse
 import sys
@@ -16,7 +17,7 @@ def main() -> int:
     parser = argparse.ArgumentParser(
         prog="python -m district_audit",
         description=(
-            "Tells which programs the package calls. With `verify MANIFEST` it"
+            "Prints which programs the package calls. With `verify MANIFEST` it"
             " compares the files of a manifest with its hashes; `verify --help` says more."
         ),
     )

@@ -48,7 +48,7 @@ RULES = {
 }
 ONE_ELECTION = "call it once for each election, with that election's first and second"
 OF_COLUMN = "Left out it is the column that `prepare` was given; None means none."
-OF_RULE = "A call has to repeat what `prepare` was given, or to say None for the default."
+OF_RULE = "A call must repeat what `prepare` was given, or say None for the default."
 # The arguments in hundredths of a percent.
 OF_PERCENT = ("slack", "group_share")
 
@@ -236,7 +236,7 @@ TABLE = {
             "serial",
             "flag",
             RUNS,
-            "Whether the serial test is made; `steps` plus 1 has to be a power of two.",
+            "Whether the serial test is made; `steps` plus 1 must be a power of two.",
             default=False,
         ),
         Argument("region", "column", MAPS, "The column of regions, as counties.", default=""),
@@ -667,9 +667,9 @@ def ask_of(command: str, scores: object) -> object:
 def tested_elections(
     elections: object, saves: bool, command: str = "run"
 ) -> dict[str, tuple[str, str]]:
-    """Returns elections by name; refuses what is no dict from names to pairs of columns.
+    """Returns elections by name; refuses anything but a dict from names to pairs of columns.
 
-    Where checkpoints are saved, each election has a folder of its name.
+    Each election has a folder of its name if checkpoints are saved.
     """
     allowed = 'elections is a dict from names to pairs of columns, as {"GOV18": ("G18D", "G18R")}'
     if not isinstance(elections, typing.Mapping) or not elections:
@@ -687,7 +687,7 @@ def tested_elections(
                 "run",
                 "elections",
                 elections,
-                f"with save, each election has a folder of its name, and {name!r} is none",
+                f"with save, each election has a folder of its name, and {name!r} cannot be one",
             )
         found[name] = (columns[0], columns[1])
     return found
@@ -769,7 +769,7 @@ def test_count(command: str, row: Argument, value: object) -> None:
 
 
 def hint_of_count(row: Argument, value: object) -> str:
-    """Returns the likely mistake where a value is no whole number."""
+    """Returns the likely mistake if a value is not a whole number."""
     if isinstance(value, float) and row.name in OF_PERCENT and 0 < value <= 100:
         percent = 100 * value if value < 1 else value
         whole = round(100 * percent)
@@ -880,7 +880,7 @@ def hint_of_ask(ask: str) -> str:
 
 
 def number(named: Words, name: str) -> int | None:
-    """Returns a count that is given or by default; None where it is no number."""
+    """Returns a count that is given or by default; None if it is not a number."""
     value = named.get(name, TABLE[name].default)
     if isinstance(value, str):
         return int(value) if DIGITS.fullmatch(value) else None

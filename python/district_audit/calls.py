@@ -110,7 +110,7 @@ def prepare_call(command: str, graph: object, words: Words) -> Given:
     rules = typing.cast(Preparation, taken)
     if "assignment" in rules and "district" in named:
         raise PrepareRefused(
-            "district and assignment are both given: each says in which districts the units are"
+            "district and assignment are both given: give only one of them"
         )
     if isinstance(graph, Prepared):
         test_rules(command, graph, words, named)
@@ -151,7 +151,7 @@ def test_rules(
 ) -> None:
     """Refuses a call that would drop a rule which `prepare` was given.
 
-    What is read from a text is compared with it, so `read_trace` may leave out each.
+    `read_trace` may leave out any rule, since it compares the trace's text with them.
     """
     if command == "read_trace":
         return
@@ -313,8 +313,8 @@ def check(
     Returns
     -------
     PlanCheck
-        What the program wrote, and the package's table of the districts: populations, deviations,
-        votes and shares, group shares and regions (`.table`, `.to_frame()`).
+        The program's text as values, and the package's table of the districts: populations,
+        deviations, votes and shares, group shares and regions (`.table`, `.to_frame()`).
 
     Raises
     ------
@@ -436,10 +436,10 @@ def run(
     WorkLeft
         The budget is used up, and trajectories are left.
     CheckpointRefused, CheckpointUnreadable, SaveFault
-        Of the checkpoints in `folder`. CheckpointRefused names the arguments that differ from those
-        of the run that saved them.
+        A checkpoint in `folder` is unusable, or was not saved. CheckpointRefused names the
+        arguments that differ from those of the run that saved it.
     Interrupted
-        Ctrl-C stopped the program. It tells what is saved and how to go on.
+        Ctrl-C stopped the program. The message says what is saved and how to go on.
     ValueRefused, TypeRefused, GraphRefused, PrepareRefused, MemoryRefused, ReadFault, WriteFault,
     ProgramMissing
         As for `check`.
@@ -633,7 +633,7 @@ class Job:
         return checkpoints.slots_in(self.place) != self.slots
 
     def make_interrupted(self) -> Interrupted:
-        """Returns what is raised where Ctrl-C stopped the run: it tells what is saved."""
+        """Returns the exception for a run that Ctrl-C stopped; its message says what is saved."""
         total = total_of(self.asked)
         if not self.saves:
             return Interrupted(
@@ -745,7 +745,7 @@ def plans(
         As for `check`.
     """
     if districts not in ("same", "any"):
-        raise PrepareRefused(f'districts is "same" or "any", and not {districts!r}')
+        raise PrepareRefused(f'districts must be "same" or "any", not {districts!r}')
     asked = prepare_call("plans", graph, words_in(locals()))
     audited = asked.audited
     text = table_of(table, Known.read(asked.data, asked.named.get("district")), districts)

@@ -35,12 +35,12 @@ IN_WORDS = (
 )
 PREPARE = """Turns a file of GerryChain or networkx into one that the auditor accepts.
 
-It says everything that it changes. FILE is JSON in networkx's adjacency layout, which GerryChain's
-Graph.to_json writes, or in its node-link layout. A name that ends with .graphml or .gml is read by
-networkx, where that is installed. Nothing else is needed but Python itself.
+It prints every change. FILE is JSON in networkx's adjacency layout, which GerryChain's
+Graph.to_json writes, or in its node-link layout. If networkx is installed, FILE may also be GraphML
+or GML, with a name that ends with .graphml or .gml. Otherwise only Python itself is needed.
 
 --numbers is for a number in a column of people, votes or a group that is not whole:
-    error    it is refused (the default); a whole number written as a float, as 12.0, is none
+    error    it is refused (the default); a whole number written as a float, as 12.0, is taken
     nearest  the nearest whole number, halves to the even one
     floor    the greatest whole number that is not above it
 --missing is for a value that is absent, null, NaN or an empty text:
@@ -49,48 +49,49 @@ networkx, where that is installed. Nothing else is needed but Python itself.
     drop     its unit is left out, and the unit's edges with it
 A column that no unit has is always refused.
 --slack is that of the audit, in hundredths of a percent of the ideal population, 500 by default.
---region keeps a column of regions, as counties. The notes say among how many districts the most
-split one lies, how many are split, and how often in all. --max-split, --max-splits and
+--region keeps a column of regions, as counties. The notes give the most districts in one region,
+the number of split regions, and the splits in all. --max-split, --max-splits and
 --max-split-regions are those of the audit, and limit nothing by default. --fill-region makes one
 region of all units that have none. --own-region makes each of them a region of its own.
---group keeps the column of a group. The notes say in which districts it has a majority of
---group-of, a column that is kept too, or by default of the people, with its shares there, rounded
-down. --group-districts and --group-share are those of the audit, 0 and 5000 by default.
+--group keeps the column of a group. The notes list the districts in which it has a majority of
+--group-of, with its shares there, rounded down. --group-of names a column, which is kept too; the
+default is the people. --group-districts and --group-share are those of the audit, 0 and 5000 by
+default.
 --freeze keeps the column of frozen units: each has true, false or a whole number in it.
 --length keeps a column of the edges, as GerryChain's shared_perim. A length that is not whole
-becomes the nearest whole number, halves the even one. One that is missing, below 0 or another one
-in the other direction is refused, and units that are joined have a length of 0. The notes say how
-long the edges between districts are in all. --max-length is that of the audit, and limits nothing
+becomes the nearest whole number, halves the even one. A length is refused if it is missing, below 0
+or another one in the other direction. Units that are joined have a length of 0. The notes give the
+total length of the edges between districts. --max-length is that of the audit, and limits nothing
 by default.
 --join makes two units neighbors, as an island and what it belongs to. It may be given again.
---keep keeps a further column, as it is; all others are left out. --all prints every id where
-else the first ten are printed.
+--keep keeps a further column, as it is; all others are left out. --all prints all ids, and not only
+the first ten.
 
-The graph goes to --out, or to standard output. Standard error has what was changed, and what the
-auditor would refuse. Ends with 0 where the auditor accepts the file, with 1 where it was written
-and would be refused, and with 2 where it was not written.
+The graph goes to --out, or to standard output. Standard error lists the changes, and the reasons
+for which the auditor would refuse the file. The exit status is 0 if the auditor accepts the file, 1
+if it was written and would be refused, and 2 if it was not written.
 """
 PICTURE = """Draws a report of the auditor as one picture, in PNG and in SVG.
 
 REPORT is a file with a report, or - for standard input. NAME.png and NAME.svg are written.
 matplotlib is needed.
 
-The picture shows, for each question and walk, which part of the visited plans is at least as
+The picture shows, for each question and walk, the part of the visited plans that is at least as
 extreme as the enacted plan, and the bound that follows. For each rank test it shows the rank of the
-enacted plan among its trajectories and, where the report has one, the histogram of seats. All is
-black, gray and white: shapes and words distinguish. A text that is no whole report is refused.
+enacted plan among its trajectories. It has the histogram of seats if the report has one. All is
+black, gray and white: shapes and words distinguish. An incomplete or changed report is refused.
 """
 RUN = """Usage: district-audit-run WORDS < GRAPH > REPORT
 
-Runs the auditor with these words. They are those of `run`, or of `make` or `check` where that is
-the first of them. Standard output, status and note are the program's own. Where it saves and
-standard error is a terminal, a bar shows the progress. Where it refuses the graph, a second line
-says in the graph's own ids and labels what its numbers stand for. Ctrl-C ends it, and says how to
-go on.
+Runs the auditor with these words. They are those of `run`, or of `make` or `check` if that is the
+first of them. Standard output, exit status and diagnostic are the program's own. If the run saves
+and standard error is a terminal, a bar shows the progress. If the program refuses the graph, a
+second line gives the graph's own ids and labels for its numbers. Ctrl-C ends the run, and a line
+says how to go on.
 """
 
 
-def tell(text: str) -> None:
+def print_line(text: str) -> None:
     for argument, word in IN_WORDS:
         text = text.replace(argument, word)
     print("prepare: " + text, file=sys.stderr)
@@ -131,20 +132,19 @@ def prepare_words() -> argparse.ArgumentParser:
 
 
 def print_findings(prepared: Prepared, everything: bool) -> None:
-    """Prints what was changed, what looks wrong, what there is, and what the auditor would refuse.
-    """
+    """Prints the changes, warnings, notes and refusals of a prepared graph."""
     for change in prepared.changes:
-        tell(change.text(everything))
+        print_line(change.text(everything))
     for warning in prepared.warnings:
-        tell("warning: " + warning)
+        print_line("warning: " + warning)
     for note in prepared.notes:
-        tell(note)
+        print_line(note)
     for refusal in prepared.refusals:
-        tell("the auditor would refuse it: " + refusal)
+        print_line("the auditor would refuse it: " + refusal)
 
 
 def prepare(words: typing.Sequence[str] | None = None) -> int:
-    """district-audit-prepare; answers the status."""
+    """Runs the command district-audit-prepare; returns its exit status."""
     args = prepare_words().parse_args(words)
     try:
         prepared = prepare_graph(
@@ -168,9 +168,9 @@ def prepare(words: typing.Sequence[str] | None = None) -> int:
         faults = why.faults if isinstance(why, PrepareRefused) else []
         some = faults if args.all else faults[:10]
         for fault in some:
-            tell(fault)
+            print_line(fault)
         said = why.why if isinstance(why, PrepareRefused) else str(why)
-        tell(
+        print_line(
             "not written:"
             f" {said}{', of which these are the first' if len(some) < len(faults) else ''}"
         )
@@ -182,7 +182,7 @@ def prepare(words: typing.Sequence[str] | None = None) -> int:
 
 
 def picture(words: typing.Sequence[str] | None = None) -> int:
-    """district-audit-picture; answers the status."""
+    """Runs the command district-audit-picture; returns its exit status."""
     parser = argparse.ArgumentParser(
         description=PICTURE, formatter_class=argparse.RawDescriptionHelpFormatter
     )
@@ -201,7 +201,7 @@ def picture(words: typing.Sequence[str] | None = None) -> int:
         print(f"picture: not drawn: {why}", file=sys.stderr)
         return 3
     except ReportRefused as why:
-        print(f"picture: not drawn: this is no whole report: {why}", file=sys.stderr)
+        print(f"picture: not drawn: the report is incomplete or changed: {why}", file=sys.stderr)
         return 2
     except (OSError, ValueError) as why:
         print(f"picture: not drawn: {why}", file=sys.stderr)
@@ -213,7 +213,7 @@ def picture(words: typing.Sequence[str] | None = None) -> int:
 
 
 def value_of(words: typing.Sequence[str], name: str, default: str) -> str:
-    """The value of a word, for showing alone: what the words say, the program decides."""
+    """Returns the value after a word, or the default. Only the display of progress uses it."""
     pairs = dict(zip(words[1::2], words[2::2]))
     return pairs.get(name, default)
 
@@ -224,13 +224,13 @@ def total_of(words: typing.Sequence[str]) -> int:
 
 
 def run(words: typing.Sequence[str] | None = None) -> int:
-    """district-audit-run; answers the status."""
+    """Runs the command district-audit-run; returns its exit status."""
     given = list(sys.argv[1:] if words is None else words)
     return call_with(given)
 
 
 def call_with(words: list[str]) -> int:
-    """Runs the program with these words; returns the status."""
+    """Runs the program with these words; returns its exit status."""
     if words[:1] in ([], ["-h"], ["--help"]):
         print(RUN, file=sys.stderr)
         return 0 if words else 1

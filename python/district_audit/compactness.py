@@ -32,13 +32,14 @@ class Shapes:
 
     def __init__(self, geometries: Geometries) -> None:
         """Takes a mapping from the graph's node ids to shapely polygons, as the column `geometry`
-        of a GeoDataFrame whose index are the ids. MissingExtra where shapely is not installed."""
+        of a GeoDataFrame whose index are the ids. Raises MissingExtra if shapely is not
+        installed."""
         extra("shapely")
         self.by_unit: dict[object, Foreign] = dict(geometries.items())
         self.measures: Measures | None = None
 
     def measure(self, plan: Plan) -> Measures:
-        """Returns what was measured of a plan's units. ValueError where a unit has no shape."""
+        """Returns what was measured of a plan's units. Raises ValueError if a unit has no shape."""
         if self.measures is None or self.measures.table is not plan.table:
             self.measures = Measures(plan.table, self.by_unit)
         return self.measures

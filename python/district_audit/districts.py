@@ -30,7 +30,7 @@ class District:
     units: int
     population: int
     deviation: Fraction
-    """By how many people its population differs from the ideal one."""
+    """The difference between its population and the ideal one, in people."""
     deviation_share: Fraction | None
     """The deviation as a part of the ideal population; None where nobody lives anywhere."""
     first: int

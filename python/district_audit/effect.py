@@ -29,7 +29,7 @@ class Effect:
     ask: str
     """The score and the tail, as `cut-edges:low`."""
     epsilon: Fraction
-    """The fraction of a walk's plans among which the enacted plan has to be, itself included."""
+    """The fraction of a walk's plans among which the enacted plan must be, itself included."""
     alpha: Fraction
     """The fraction of all legal plans to which the claim limits the enacted plan."""
     walks: int
@@ -76,13 +76,13 @@ def test_effects(report: Report, epsilon: Number, alpha: Number) -> dict[str, Ef
 def exact(value: object, name: str) -> Fraction:
     """Returns a number above 0 and at most 1 as a fraction, without rounding.
 
-    TypeError for a float, which is seldom the decimal that was typed, and for other types.
-    ValueError for a text that is no number, and for a number out of range.
+    Raises TypeError for a float, which is seldom the decimal that was typed, and for other types.
+    Raises ValueError for a text that is not a number, and for a number out of range.
     """
     if isinstance(value, bool) or not isinstance(value, (numbers.Rational, Decimal, str)):
         hint = f": give it as the text {str(value)!r}, or as a Fraction"
         raise TypeError(
-            f"{name} is a {type(value).__name__}, and has to be"
+            f"{name} is a {type(value).__name__}, and must be"
             f" exact{hint if isinstance(value, float) else ''}"
         )
     try:
@@ -92,7 +92,7 @@ def exact(value: object, name: str) -> Fraction:
             f"{name} is {value!r}, which is not a number such as '0.01' or '1/100'"
         ) from None
     if not 0 < found <= 1:
-        raise ValueError(f"{name} is {found}, and has to be above 0 and at most 1")
+        raise ValueError(f"{name} is {found}, and must be above 0 and at most 1")
     return found
 
 

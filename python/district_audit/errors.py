@@ -11,7 +11,7 @@ if typing.TYPE_CHECKING:
 
 
 class AuditError(Exception):
-    """The program ended with another status than 0.
+    """A call that ended with a status other than 0.
 
     `status` is the program's status, and `line` the line that it wrote to standard error, without
     its line end. `labels` says the same in the user's own labels, as 'region 5 is "Kings"', where
@@ -35,7 +35,7 @@ class WordsRefused(AuditError):
 
 
 class ArgumentRefused(WordsRefused):
-    """An argument of a call is refused before the program is called.
+    """An argument that is refused before the program is called.
 
     `argument` is its name, `given` its value, `allowed` says what is allowed, and `hint` the likely
     mistake, or is empty. `line` is what the program itself would write.
@@ -61,12 +61,11 @@ class ArgumentRefused(WordsRefused):
 
 
 class ValueRefused(ArgumentRefused, ValueError):
-    """An argument has the right type and a value that is not allowed, alone or beside the others.
-    """
+    """An argument of the right type whose value is not allowed, alone or beside the others."""
 
 
 class TypeRefused(ArgumentRefused, TypeError):
-    """An argument is unknown, missing, given twice, or of another type."""
+    """An argument that is unknown, missing, given twice, or of another type."""
 
 
 class GraphRefused(AuditError):
@@ -135,8 +134,8 @@ class WorkLeft(AuditError):
 class CheckpointRefused(AuditError):
     """Status 8: no checkpoint is whole, or the newest is another job's. Nothing was changed.
 
-    Where it is another job's, `differs` has a text for each argument and part of the graph that
-    differs from the run that wrote it, as far as the package kept what that was.
+    In the second case, `differs` has a text for each argument and part of the graph that differs
+    from the run that wrote the checkpoint, as far as the package kept them.
     """
 
     status = 8
@@ -154,7 +153,7 @@ class SaveFault(AuditError):
 
 
 class ProgramFailed(Exception):
-    """The program ended as it never does by itself, as after a signal.
+    """A call that ended as the program never does by itself, as after a signal.
 
     `status` is negative for a signal, as in `subprocess`.
     """
@@ -168,12 +167,13 @@ class ProgramFailed(Exception):
 
 
 class ProgramMissing(FileNotFoundError):
-    """The installed program is not to be found."""
+    """An installed program that was not found."""
 
 
 class MissingExtra(ImportError):
-    """An optional module is not installed, or cannot be imported; the message says what it is for
-    and how to install it.
+    """An optional module that is not installed, or cannot be imported.
+
+    The message says what the module is for and how to install it.
 
     `name` is the module, as in every ImportError, and `extra` the name of the extra that has it.
     """
@@ -207,7 +207,7 @@ EXTRAS = {
 
 
 def extra(module: str) -> types.ModuleType:
-    """An optional module; MissingExtra where it cannot be imported."""
+    """Imports and returns an optional module; raises MissingExtra if that fails."""
     try:
         return importlib.import_module(module)
     except ImportError as why:
@@ -215,9 +215,9 @@ def extra(module: str) -> types.ModuleType:
 
 
 class Interrupted(KeyboardInterrupt):
-    """Ctrl-C stopped a run. The message says how many trajectories are saved, and how to go on.
+    """A run that Ctrl-C stopped. The message says how many trajectories are saved, and what to do.
 
-    `done` of `total` trajectories are saved in `folder`; `done` is 0 where nothing is.
+    `done` of `total` trajectories are saved in `folder`; `done` is 0 if none is.
     """
 
     def __init__(self, said: str, done: int = 0, total: int = 0, folder: str = "") -> None:
@@ -229,7 +229,7 @@ class Interrupted(KeyboardInterrupt):
 
 
 class ReportRefused(ValueError):
-    """A text is nothing that the program writes.
+    """A text that the program cannot have written.
 
     `number` is that of the first line at which this shows, from 1.
     """
@@ -243,7 +243,7 @@ class ReportRefused(ValueError):
 
 
 class PrepareRefused(ValueError):
-    """A graph, an assignment or a table of plans is refused before the program is called.
+    """A graph, an assignment or a table of plans that is refused before the program is called.
 
     `why` says it in one line, and `faults` has a line for each value that is refused, with the id
     of its unit. The message is both, with the first ten faults.
@@ -268,15 +268,15 @@ class PrepareRefused(ValueError):
 
 
 class FrozenWalk(UserWarning):
-    """A trajectory changed the plan never, or fewer times than there are units: it says little."""
+    """A trajectory that says little: its changes of the plan are fewer than the units."""
 
 
 class HeadNotCompared(UserWarning):
-    """A part of the head of a trace was not compared with the graph, for a column is not named."""
+    """A part of a trace's head that was not compared with the graph: a column is not named."""
 
 
 class GraphChanged(UserWarning):
-    """A call prepared a graph, and some values of it were changed; the message says which."""
+    """Values of a graph that a call changed to prepare it; the message says which."""
 
 
 BY_STATUS: dict[int, type[AuditError]] = {
@@ -289,6 +289,6 @@ BY_STATUS: dict[int, type[AuditError]] = {
 
 
 def error_of(status: int, line: str, labels: str = "") -> Exception:
-    """The exception for a status other than 0, with the program's line."""
+    """Returns the exception for a status other than 0, with the program's line."""
     kind = BY_STATUS.get(status)
     return ProgramFailed(status, line) if kind is None else kind(line, labels)

@@ -57,7 +57,7 @@ code { overflow-wrap: anywhere; }
 
 @dataclasses.dataclass(frozen=True)
 class Options:
-    """What an exhibit may be given beside the reports. `Report.exhibit` documents each."""
+    """The options of an exhibit; `Report.exhibit` documents each."""
 
     title: str = "Outlier test of a districting plan"
     parties: tuple[str, str] | None = None
@@ -92,14 +92,14 @@ def exhibit_plans(
     """Writes one page on several plans: what `district_audit.plans` returns, names and reports.
 
     The options are those of `Report.exhibit`. The district table is of the graph's own plan, the
-    first. ValueError if the reports are not of one call, or are those of several elections.
+    first. Raises ValueError if the reports are not of one call, or are those of several elections.
     """
     options = Options(title, parties, graph, columns, command, notes, epsilon, alpha)
     write(path, plans, options)
 
 
 def page(plans: Named, options: Options) -> str:
-    """Returns the page. ValueError if the reports or the options do not belong together."""
+    """Returns the page. Raises ValueError if the reports or the options do not belong together."""
     reports = [report for _, report in plans]
     if not reports:
         raise ValueError("an exhibit needs a report")
@@ -145,7 +145,7 @@ def is_of_plans(plans: Named) -> bool:
 
 
 def refuse_other_jobs(reports: typing.Sequence[Report]) -> None:
-    """ValueError unless the reports are of one call: the same key, map, rules and setting."""
+    """Raises ValueError unless the reports are of one call: equal key, map, rules and setting."""
     if len(reports) > 1 and any(one.batch and one.batch.kind == "election" for one in reports):
         raise ValueError(
             "the reports are those of several elections, and not of several plans: make an exhibit"
@@ -173,7 +173,7 @@ def parties_of(options: Options, columns: typing.Mapping[str, str]) -> tuple[str
     """Returns the names of both parties, or words that stand for them."""
     if options.parties is not None:
         if isinstance(options.parties, str) or len(options.parties) != 2:
-            raise ValueError("parties has to be two names, those of the first and second column")
+            raise ValueError("parties must be two names, those of the first and second column")
         return options.parties[0], options.parties[1]
     if "first" in columns and "second" in columns:
         return (
@@ -453,7 +453,7 @@ def provenance(
 def about_command(
     plans: Named, options: Options, columns: typing.Mapping[str, str]
 ) -> list[str]:
-    """Returns what has to be said of the printed command; nothing if the user gave it."""
+    """Returns the remark on the printed command; nothing if the user gave the command."""
     if options.command:
         return []
     batch = plans[0][1].batch

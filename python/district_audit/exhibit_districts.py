@@ -43,8 +43,8 @@ def columns_of(report: Report, graph: object, columns: Columns | None) -> dict[s
     The report's own line has them if the run was asked for its source; otherwise they come from
     the argument, or else from a prepared graph. The result is empty if none of them has names.
 
-    ValueError if the argument differs from the report's own line: another election's votes would
-    be shown as those of the report.
+    Raises ValueError if the argument differs from the report's own line: another election's votes
+    would be shown as those of the report.
     """
     given = {name: column for name, column in (columns or {}).items() if column}
     if "population" in given:
@@ -92,14 +92,14 @@ def graph_of(report: Report, graph: object, columns: Columns, is_of_plans: bool)
 
 
 def refuse_another_plan(report: Report) -> None:
-    """ValueError if a report is of another plan than the graph's own, whose districts the graph
-    does not have.
+    """Raises ValueError if a report is not on the graph's own plan: the graph has only that plan's
+    districts.
     """
     batch = report.batch
     if batch is not None and batch.kind == "plan" and batch.place:
         raise ValueError(
-            f"this is the report on plan {batch.name}, and the graph has the districts of plan"
-            f" {batch.names[0]}, of which the table would be: leave graph out, or for a table of"
+            f"this is the report on plan {batch.name}, but the table would be of plan"
+            f" {batch.names[0]}, whose districts the graph has: leave graph out, or for a table of"
             f" {batch.name} audit prepared=prepare(graph, .., assignment=..) with the same key, and"
             " give graph=prepared"
         )
@@ -139,7 +139,8 @@ def data_of(report: Report, graph: object, columns: Columns) -> bytes:
 def is_exact(report: Report, data: bytes, is_of_plans: bool) -> bool:
     """Returns whether these are the bytes of the report; false if the report does not say.
 
-    ValueError if they are not. The source of several plans has their table in its bytes, too.
+    Raises ValueError if they are other bytes. The source of several plans has their table in its
+    bytes, too.
     """
     if report.audited is not None:
         is_same = report.audited.is_of(data)
@@ -168,7 +169,7 @@ def columns_needed(report: Report) -> dict[str, str]:
 
 
 def refuse_missing_columns(report: Report, columns: Columns) -> None:
-    """ValueError if a column that the report was made of has no name."""
+    """Raises ValueError if `columns` does not name a column that the report was made of."""
     needed = columns_needed(report)
     missing = [word for word in needed if word not in columns]
     if missing:
@@ -185,7 +186,7 @@ def refuse_missing_columns(report: Report, columns: Columns) -> None:
 def districts_of(report: Report, graph: Graph) -> list[District]:
     """Returns the sums of each district, in the auditor's order.
 
-    ValueError if the graph is not the one of the report: other counts, people or scores.
+    Raises ValueError if the graph is not the one of the report: other counts, people or scores.
     """
     raw, columns = raw_of(graph.data), graph.columns
     labels = {node.get("id"): label_of(node, columns["district"]) for node in raw.nodes}
@@ -252,7 +253,7 @@ def district_of(label: Label, nodes: list[dict[str, object]], columns: Columns) 
 def refuse_another_graph(
     report: Report, districts: list[District], edges: int, cut: int, length: int | None
 ) -> None:
-    """ValueError if a graph with these districts cannot be that of the report."""
+    """Raises ValueError if a graph with these districts cannot be that of the report."""
     pairs = [
         ("units", sum(one.units for one in districts), report.units),
         ("edges", edges, report.edges),
@@ -278,7 +279,7 @@ def refuse_another_graph(
 def refuse_other_rules(
     report: Report, raw: Raw, districts: list[District], length: int | None, columns: Columns
 ) -> None:
-    """ValueError if the columns of the rules have other counts than the report."""
+    """Raises ValueError if the columns of the rules have other counts than the report."""
     rules = report.rules
     pairs: list[tuple[str, str, int | None, int | None]] = []
     regions = {} if rules.regions is None else regions_in(raw, columns)
@@ -314,7 +315,7 @@ def regions_in(raw: Raw, columns: Columns) -> dict[Label, set[Label]]:
 
 
 def refuse_broken_limits(report: Report, columns: Columns, districts: list[int]) -> None:
-    """ValueError if the enacted plan, which is legal, breaks a limit on these regions.
+    """Raises ValueError if the enacted plan, which is legal, breaks a limit on these regions.
 
     `districts` has the number of districts of each region.
     """
@@ -322,8 +323,8 @@ def refuse_broken_limits(report: Report, columns: Columns, districts: list[int])
     is_named = report.source is not None or report.audited is not None
     if column == columns["district"] and not is_named:
         raise ValueError(
-            f"region={column!r} is the column of the districts, too: a report of such regions has"
-            " to name its columns (source=True)"
+            f"region={column!r} is the column of the districts, too: a report of such regions must"
+            " name its columns (source=True)"
         )
     split = [count for count in districts if count > 1]
     for what, here, most in (

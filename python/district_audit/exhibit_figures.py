@@ -1,6 +1,6 @@
 """The figures of an exhibit, as inline SVG in black, gray and white.
 
-Shapes, hatching and words tell things apart, so that a page printed without color loses nothing.
+Shapes, hatching and words distinguish the rows, so that a page printed without color loses nothing.
 """
 from __future__ import annotations
 

@@ -248,8 +248,8 @@ PLACEHOLDERS = (
     " columns in the place of the words that begin with COLUMN_OF."
 )
 REPEATED = (
-    "Whoever runs this command over the same bytes gets the same report, byte for byte, on any"
-    " machine and with any number of workers."
+    "Running this command over the same bytes gives the same report, byte for byte, on any machine"
+    " and with any number of workers."
 )
 
 
@@ -262,7 +262,7 @@ def theorems(report: Report, alpha: object) -> list[str]:
             " each step is as likely as its reverse. No statement about probability is proved by"
             " machine: the theorems below are published ones, and the reader applies them. The"
             " draws are those of the cipher ChaCha20 under the key, which are taken to be random;"
-            " the key has to be chosen so that nobody could choose among results."
+            " the key must be chosen so that nobody could choose among results."
         ),
         (
             "Assumption (the null hypothesis) of every bound and p-value in the table of results:"
@@ -293,7 +293,7 @@ def theorems(report: Report, alpha: object) -> list[str]:
             "the enacted plan is not among the fraction alpha of all legal plans that are most "
             "fragile, then that many walks show it as so extreme with probability at most p. "
             "Fragile means likely to be among the most extreme fraction epsilon of the plans on a "
-            "walk from it. Epsilon and alpha have to be fixed before the run. If it is computed "
+            "walk from it. Epsilon and alpha must be fixed before the run. If it is computed "
             "for several questions, elections or pairs of epsilon and alpha, multiply the least p "
             "by their number."
         )

@@ -51,7 +51,7 @@ class Raw(typing.NamedTuple):
 
 
 def list_ids(ids: typing.Iterable[object], everything: bool = False) -> str:
-    """Some ids, or all."""
+    """Returns ids as JSON, joined by commas: the first ten, or all if `everything` is true."""
     texts = [as_json(one) for one in ids]
     some = (
         texts
@@ -62,12 +62,12 @@ def list_ids(ids: typing.Iterable[object], everything: bool = False) -> str:
 
 
 def as_json(value: object) -> str:
-    """A value in one line, for people."""
+    """Returns a value as JSON in one line, for people."""
     return json.dumps(value, ensure_ascii=False, default=from_numpy)
 
 
 def from_numpy(value: object) -> object:
-    """A number of numpy as Python's, and anything else that JSON does not have as a text."""
+    """Returns a number of numpy as Python's, and any other value as a text."""
     if type(value).__name__ in ("bool_", "bool"):
         return bool(value)
     if is_whole(value):
@@ -79,8 +79,10 @@ def from_numpy(value: object) -> object:
 
 
 def raw_of(graph: object) -> Raw:
-    """A graph of any kind that `prepare` takes; PrepareRefused where it cannot be read,
-    MissingExtra where that takes networkx.
+    """Returns a graph of any kind that `prepare` takes as its nodes and edges.
+
+    Raises PrepareRefused if the graph cannot be read, and MissingExtra if reading it needs networkx
+    and that is not installed.
     """
     if isinstance(graph, (bytes, bytearray, memoryview)):
         return read_root(parse(bytes(graph), "the graph"), "the graph")
@@ -91,13 +93,13 @@ def raw_of(graph: object) -> Raw:
     if hasattr(graph, "nodes") and hasattr(graph, "adjacency"):
         return read_object(typing.cast(GraphLike, graph))
     raise PrepareRefused(
-        "a graph is an object with nodes(data=True) and adjacency(), a path, or bytes, and this is"
-        f" {type(graph).__name__}"
+        "a graph must be an object with nodes(data=True) and adjacency(), a path, or bytes, not of"
+        f" type {type(graph).__name__}"
     )
 
 
 def read_object(graph: GraphLike) -> Raw:
-    """An object of networkx or of GerryChain."""
+    """Returns the nodes and edges of an object of networkx or of GerryChain."""
     nodes = [{**attributes, "id": node} for node, attributes in graph.nodes(data=True)]
     edges = [
         ((node, other), one)
@@ -115,8 +117,10 @@ def read_object(graph: GraphLike) -> Raw:
 def attributes_of(
     graph: GraphLike, others: typing.Iterable[object], other: object
 ) -> list[typing.Mapping[str, object]]:
-    """The attributes of each edge to a neighbor: of several in a multigraph, of none in a graph
-    whose adjacency lists ids alone.
+    """Returns the attributes of each edge to the neighbor `other`.
+
+    A multigraph may have several such edges. An edge has no attributes if the graph's adjacency
+    lists ids alone.
     """
     found = others[other] if isinstance(others, typing.Mapping) else {}
     is_multigraph = getattr(graph, "is_multigraph", None)
@@ -126,7 +130,7 @@ def attributes_of(
 
 
 def read_file(name: str) -> Raw:
-    """A file; GraphML and GML are read by networkx."""
+    """Reads the graph in a file; GraphML and GML are read by networkx."""
     if name.endswith((".graphml", ".gml")):
         networkx = extra("networkx")
         try:
@@ -153,7 +157,7 @@ def parse(data: bytes, name: str) -> object:
 
 
 def read_root(root: object, name: str) -> Raw:
-    """The root object of networkx's adjacency or node-link layout."""
+    """Returns the graph in the root object of networkx's adjacency or node-link layout."""
     nodes = root.get("nodes") if isinstance(root, dict) else None
     if (
         not isinstance(root, dict)
@@ -172,7 +176,7 @@ def read_root(root: object, name: str) -> Raw:
 def edges_of(
     root: dict[str, Json], nodes: list[Node]
 ) -> typing.Iterator[tuple[Pair, typing.Mapping[str, object]]]:
-    """The ids of each edge, and its attributes."""
+    """Yields the two ids of each edge, and its attributes."""
     if isinstance(root.get("adjacency"), list):
         if len(root["adjacency"]) != len(nodes):
             raise PrepareRefused(
@@ -187,11 +191,11 @@ def edges_of(
             for entry in root[key]:
                 yield (hashable(entry.get("source")), hashable(entry.get("target"))), entry
             return
-    raise PrepareRefused("there is neither a list `adjacency` nor one of `links` or `edges`")
+    raise PrepareRefused("the graph has none of the lists `adjacency`, `links` and `edges`")
 
 
 def hashable(value: object) -> object:
-    """An id that JSON has as a list, as a grid's pairs are, is a tuple to networkx."""
+    """Returns an id as networkx has it: a list, as JSON has a grid's pairs, becomes a tuple."""
     return tuple(map(hashable, value)) if isinstance(value, list) else value
 
 
@@ -223,8 +227,8 @@ def is_whole(value: object) -> bool:
 
 
 def plain(value: object) -> Label | None:
-    """A text, or a whole number that fits 64 bits, which the auditor takes as an id or a label;
-    else None.
+    """Returns a value that the auditor takes as an id or a label: a text, or a whole number that
+    fits 64 bits. Returns None for any other value.
     """
     if isinstance(value, str):
         return str(value)
@@ -234,7 +238,7 @@ def plain(value: object) -> Label | None:
 
 
 def as_text(value: object) -> str:
-    """Another kind of id or label as a text; a float that is whole as its digits."""
+    """Returns an id or a label of any kind as a text: a whole float as its digits."""
     if isinstance(value, str):
         return str(value)
     if is_whole(value):
@@ -247,8 +251,9 @@ def as_text(value: object) -> str:
 
 
 def make_renaming(values: typing.Sequence[object]) -> tuple[typing.Callable[[object], Label], bool]:
-    """A function from raw ids or labels to those that are written, and whether they were changed:
-    all to texts where one has to be.
+    """Returns a function from raw ids or labels to the written ones, and whether it changes any.
+
+    If one of them must be written as a text, all of them are.
     """
     if all(plain(value) is not None for value in values):
         return (lambda value: typing.cast(Label, plain(value))), False
@@ -256,7 +261,7 @@ def make_renaming(values: typing.Sequence[object]) -> tuple[typing.Callable[[obj
 
 
 def sort_labels(labels: typing.Iterable[Label]) -> list[Label]:
-    """Different labels as the auditor numbers them from 0: in rising order, whole numbers before
-    texts.
+    """Returns the different labels in the order in which the auditor numbers them from 0: rising,
+    whole numbers before texts.
     """
     return sorted(set(labels), key=lambda label: (isinstance(label, str), label))

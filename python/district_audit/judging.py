@@ -1,6 +1,6 @@
-"""For what the auditor would refuse a plan, told in the user's labels before it is asked.
+"""The reasons for which the auditor would refuse a plan, in the user's labels.
 
-This is a look ahead, for people who mend a file: whether a plan is legal, the program says.
+They help people who mend a file before a call. The program alone decides whether a plan is legal.
 """
 from __future__ import annotations
 
@@ -21,7 +21,7 @@ MOST_UNITS, MOST_EDGES, MOST_REGIONS = 100_000, 400_000, 5000
 def parts_of(
     members: typing.Iterable[Label], neighbours: dict[Label, list[Label]]
 ) -> list[list[Label]]:
-    """The connected parts of some units, greatest first."""
+    """Returns the connected parts of some units, greatest first."""
     left, parts = dict.fromkeys(members), []
     while left:
         part, todo = [], [left.popitem()[0]]
@@ -61,7 +61,7 @@ class Judged:
             sort_labels(row[choices.region] for row in rows.values()) if choices.region else []
         )
         self.shown = functools.partial(list_ids, everything=choices.show_all)
-        self.tell_parts()
+        self.warn_of_parts()
         self.judge_districts()
         self.judge_sizes()
         if choices.region:
@@ -77,16 +77,16 @@ class Judged:
         return f"district {as_json(district)}"
 
     def number_of(self, district: Label) -> str:
-        """The auditor's number of a district, where its label is another."""
+        """Returns the auditor's number of a district in brackets; '' if it equals the label."""
         number = self.number[district]
         return "" if district == number else f" (the auditor's district {number})"
 
     def sort_units(self, units: typing.Iterable[Label]) -> list[Label]:
         return sorted(units, key=self.place.__getitem__)
 
-    def tell_parts(self) -> None:
-        """Units without a neighbor, other small parts of the graph, and districts that no walk can
-        change.
+    def warn_of_parts(self) -> None:
+        """Adds notes on units without a neighbor, other small parts of the graph, and districts
+        that no walk can change.
         """
         alone = [unit for unit in self.rows if not self.neighbours[unit]]
         if alone:
@@ -151,7 +151,7 @@ class Judged:
                 self.refusals.append(f"{count} {what}, more than {most}")
 
     def judge_regions(self, column: str) -> None:
-        """How far the regions are split."""
+        """Adds notes and refusals on the number of districts in each region."""
         choices = self.choices
         split: dict[Label, set[Label]] = {}
         for row in self.rows.values():
@@ -178,8 +178,9 @@ class Judged:
         )
 
     def judge_splits(self, split: dict[Label, int]) -> None:
-        """How often regions are split in all, and how many are, by the number of districts of each
-        that is.
+        """Adds notes and refusals on the splits in all and the number of split regions.
+
+        `split` has the number of districts of each split region.
         """
         splits = sum(split.values()) - len(split)
         self.notes.append(
@@ -195,7 +196,7 @@ class Judged:
             )
 
     def judge_group(self, group: str, whole: str) -> None:
-        """In which districts a group has more than its share."""
+        """Adds notes and refusals on the districts in which a group has more than the share."""
         share = self.choices.group_share
         more = "a majority" if share == HALF_SHARE else f"more than {share} of 10000"
         sums = {
@@ -223,7 +224,7 @@ class Judged:
             )
 
     def judge_length(self, column: str, lengths: Lengths) -> None:
-        """The total length of the edges between districts."""
+        """Adds notes and refusals on the total length of the edges between districts."""
         district = self.choices.district
         cut = [
             lengths.get(unit, other)
@@ -266,5 +267,5 @@ class Judged:
 
 
 def percent(part: int, whole: int) -> str:
-    """A part in percent, rounded down at two places."""
+    """Returns a part in percent, rounded down at two places; 'of nobody' without a whole."""
     return f"{percent_down(part, whole)} %" if whole else "of nobody"

@@ -22,8 +22,9 @@ class Labels(typing.NamedTuple):
 
 
 def labels_of(data: bytes, columns: typing.Mapping[str, object]) -> Labels:
-    """The ids and labels of the program's input, as far as it can be read; `columns` has the names
-    by the words district and region.
+    """Returns the ids and labels of the program's input, as far as it can be read.
+
+    `columns` has the names of the columns, by the words `district` and `region`.
     """
     try:
         root = json.loads(data.decode("utf-8"))
@@ -43,10 +44,9 @@ def labels_of(data: bytes, columns: typing.Mapping[str, object]) -> Labels:
 
 
 def find_json_fault(data: bytes) -> str:
-    """Returns the line and column where bytes are no JSON to the program, and why; '' where
-    unknown.
+    """Returns the line and column where the program finds invalid JSON, and why; '' if unknown.
 
-    Python's reader takes NaN and Infinity, which are no JSON.
+    Python's reader takes NaN and Infinity, which are not JSON.
     """
     try:
         text = data.decode("utf-8")
@@ -77,8 +77,8 @@ def place_in(before: str) -> str:
 
 
 def plan_labels(table: str, name: str) -> typing.Sequence[object]:
-    """The labels of the first plan of this name in a table of plans, in their order by bytes; none
-    where it cannot be read.
+    """Returns the labels of the first plan of this name in a table of plans, in their order by
+    bytes; none if the table cannot be read.
     """
     records = [row for row in csv.reader(io.StringIO(table, newline="")) if row]
     if not records or name not in records[0][1:]:

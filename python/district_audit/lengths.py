@@ -35,31 +35,31 @@ class Lengths(typing.NamedTuple):
 
     @property
     def lost(self) -> Fraction:
-        """By how much all lengths together were changed, either way."""
+        """The sum of the changes of all lengths, each without its sign."""
         return sum((abs(self.whole[edge] - self.exact[edge]) for edge in self.exact), Fraction(0))
 
     @property
     def moved(self) -> Fraction:
-        """By how much their sum was changed."""
+        """The change of the sum of all lengths."""
         return sum((self.whole[edge] - self.exact[edge] for edge in self.exact), Fraction(0))
 
     def get(self, one: Label, other: Label) -> int:
-        """The length of an edge; 0 for units that were joined."""
+        """Returns the length of an edge; 0 for units that were joined."""
         return self.whole.get(frozenset((one, other)), 0)
 
 
 def exact_of(value: object) -> Fraction:
-    """A length as it is; PrepareRefused says why a value is none."""
+    """Returns a length without rounding; raises PrepareRefused if the value is not a length."""
     if is_missing(value):
         raise PrepareRefused("is missing")
     if isinstance(value, bool) or not isinstance(value, (numbers.Real, decimal.Decimal)):
-        raise PrepareRefused(f"which is {as_json(value)}, is no number")
+        raise PrepareRefused(f"which is {as_json(value)}, is not a number")
     try:
         found = Fraction(int(value)) if is_whole(value) else Fraction(
             value if isinstance(value, (decimal.Decimal, Fraction)) else float(value)
         )
     except (ValueError, OverflowError):
-        raise PrepareRefused(f"which is {as_json(value)}, is no number") from None
+        raise PrepareRefused(f"which is {as_json(value)}, is not a number") from None
     if found < 0:
         raise PrepareRefused(f"which is {as_json(value)}, is below 0")
     if round(found) > MOST_LENGTH:
@@ -72,8 +72,8 @@ def lengths_of(
 ) -> Lengths:
     """Reads the lengths of the edges between these units.
 
-    PrepareRefused has a line for each edge whose length is missing, no number, below 0, above
-    4,294,967,295 or another one in the other direction, with the ids of its two units.
+    Raises PrepareRefused with a line for each edge whose length is missing, not a number, below 0,
+    above 4,294,967,295 or another one in the other direction, with the ids of its two units.
     """
     exact: dict[Edge, Fraction] = {}
     faults = []
@@ -98,7 +98,7 @@ def lengths_of(
 
 
 def show_length(length: Fraction) -> str:
-    """A length in digits."""
+    """Returns a length in digits."""
     return str(length.numerator) if length.denominator == 1 else repr(float(length))
 
 

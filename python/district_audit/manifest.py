@@ -1,4 +1,4 @@
-"""Manifests: which command on which graph, by which program, made a report.
+"""Manifests: the records of the command, graph and program that made a report.
 
 `audit_to_file` runs an audit and leaves three files: the report, `REPORT.manifest.json` beside it
 and, where the graph is no file, the bytes that the program read, `REPORT.graph.json`.
@@ -31,7 +31,7 @@ TIME = re.compile(r"\d{4}-\d\d-\d\dT\d\d:\d\d:\d\d\+00:00")
 
 
 class ManifestRefused(ValueError):
-    """A text that is no manifest."""
+    """A text that is not a manifest."""
 
 
 @dataclasses.dataclass(frozen=True)
@@ -56,10 +56,10 @@ class File:
     def read(cls, value: object, what: str) -> File:
         """Returns a file of a manifest. Raises ManifestRefused."""
         if not isinstance(value, dict) or set(value) != {"name", "sha256", "bytes"}:
-            raise ManifestRefused(f"{what} needs exactly name, sha256 and bytes")
+            raise ManifestRefused(f"{what} must have exactly the names name, sha256 and bytes")
         name, digest, size = value["name"], value["sha256"], value["bytes"]
         if not isinstance(name, str) or name in ("", ".", "..") or "/" in name or "\0" in name:
-            raise ManifestRefused(f"the name of {what} is not that of a file")
+            raise ManifestRefused(f"the name of {what} is not the name of a file")
         if not isinstance(digest, str) or not HASH.fullmatch(digest):
             raise ManifestRefused(f"the sha256 of {what} is not 64 hexadecimal digits")
         if type(size) is not int or size < 0:
@@ -74,7 +74,7 @@ def rename_fields(pairs: typing.Iterable[tuple[str, object]]) -> dict[str, objec
 
 @dataclasses.dataclass(frozen=True)
 class Manifest:
-    """Which command on which graph, by which program, made a report."""
+    """The command, graph and program that made a report, with its time and machine."""
 
     command: tuple[str, ...]
     """The words of the program; its standard input is the graph."""
@@ -100,10 +100,12 @@ class Manifest:
         try:
             value = json.loads(text)
         except (ValueError, RecursionError) as error:
-            raise ManifestRefused(f"a manifest is JSON: {error}") from None
+            raise ManifestRefused(f"the manifest is not valid JSON: {error}") from None
         names = {"format", *(field.name for field in dataclasses.fields(cls))}
         if not isinstance(value, dict) or set(value) != names:
-            raise ManifestRefused(f"a manifest has exactly these names: {', '.join(sorted(names))}")
+            raise ManifestRefused(
+                f"the manifest must have exactly these names: {', '.join(sorted(names))}"
+            )
         if value.pop("format") != FORMAT:
             raise ManifestRefused(f"the format is not {FORMAT!r}")
         return cls.from_values(value)
@@ -201,7 +203,7 @@ def audit_to_file(
 
 
 class Checked(typing.NamedTuple):
-    """How a file of a manifest compares: it agrees, it differs, or (None) it is not there."""
+    """The comparison of a file with its entry in a manifest; `agrees` is None if it is missing."""
 
     what: str
     agrees: bool | None
@@ -213,16 +215,16 @@ def compare(what: str, wanted: File, path: pathlib.Path | None) -> Checked:
     if path is None or not path.exists():
         where = "no file is named" if path is None else f"{path} is not there"
         return Checked(what, None, f"{what} {wanted.name}: not checked, {where} (--{what} FILE)")
-    came = File.measure(path)
-    if came.sha256 == wanted.sha256 and came.size == wanted.size:
+    found = File.measure(path)
+    if found.sha256 == wanted.sha256 and found.size == wanted.size:
         return Checked(what, True, f"{what} {path}: agrees, sha256 {wanted.sha256}")
     return Checked(
         what,
         False,
         (
             f"{what} {path}: DIFFERS: the manifest says sha256 {wanted.sha256},"
-            f" {wanted.size} bytes; the file has {came.sha256},"
-            f" {came.size} bytes"
+            f" {wanted.size} bytes; the file has {found.sha256},"
+            f" {found.size} bytes"
         ),
     )
 
@@ -292,7 +294,7 @@ def find_installed() -> str | None:
 
 
 def verify_command(words: typing.Sequence[str]) -> int:
-    """The command `python -m district_audit verify`. Returns its status."""
+    """Runs the command `python -m district_audit verify`; returns its exit status."""
     parser = argparse.ArgumentParser(
         prog="python -m district_audit verify",
         description=(

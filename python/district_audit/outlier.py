@@ -56,13 +56,14 @@ class RankTest:
 
 def count_tail(values: typing.Iterable[Foreign], tail: str) -> tuple[int, int]:
     """Returns how many values are at most (`low`) or at least (`high`) the first, and how many
-    there are. ValueError for another tail, a missing value, or fewer than two values. TypeError
-    for texts, which compare by their letters, and for a mapping or a table in place of values."""
+    there are. Raises ValueError for another tail, a missing value, or fewer than two values.
+    Raises TypeError for texts, which compare by their letters, and for a mapping or a table in
+    place of values."""
     if tail not in TAILS:
-        raise ValueError(f"tail is 'low' or 'high', and not {tail!r}")
+        raise ValueError(f"tail must be 'low' or 'high', not {tail!r}")
     if isinstance(values, (str, bytes, typing.Mapping)) or hasattr(values, "columns"):
-        raise TypeError(f"values is a sequence of numbers, and not a {type(values).__name__}: of a "
-                        "table give one column")
+        raise TypeError(f"values must be a sequence of numbers, not of type {type(values).__name__}"
+                        ": of a table, give one column")
     first: Foreign = None
     count = total = 0
     for place, value in enumerate(values):
@@ -94,7 +95,7 @@ def outlier_test(values: typing.Iterable[Foreign], tail: str) -> OutlierTest:
         is at least that. Equal scores count against the finding.
 
     Returns an `OutlierTest`: the exact count c of q plans, and the square root of 2c/q, rounded up
-    at nine places. ValueError for a missing value or fewer than two values.
+    at nine places. Raises ValueError for a missing value or fewer than two values.
 
     Theorem 1.1 of M. Chikina, A. Frieze, W. Pegden, "Assessing significance in a Markov chain
     without mixing", PNAS 114 (2017): let X0, X1, .. be a reversible Markov chain with a stationary
@@ -107,15 +108,15 @@ def outlier_test(values: typing.Iterable[Foreign], tail: str) -> OutlierTest:
       equally likely in the stationary distribution. The chain that takes N steps at a time is as
       reversible (detailed balance of P gives that of its powers), and the plans after 0, N, 2N,
       .. steps of a trace with `thin=N` are a walk of that chain. A last plan after fewer than N
-      further steps is none of them; `trace` leaves it out unless told otherwise.
+      further steps is not one of them; `trace` leaves it out by default.
     - **Stationary start.** This is the null hypothesis: the enacted plan was drawn at random from
-      the legal plans that the walk can reach, all equally likely. The walk has to begin at the
+      the legal plans that the walk can reach, all equally likely. The walk must begin at the
       enacted plan, so the samples are those of one walk, and not of an endpoint trajectory.
     - **A fixed label.** The score is a function of the plan alone, and the score, the tail, the
       number of steps and N were fixed before anybody looked. For m tests multiply the least bound
       by m, or fix in advance which one counts.
 
-    A `float` has to be the same whenever the plan is the same. Floats that were rounded from exact
+    A `float` must be the same whenever the plan is the same. Floats that were rounded from exact
     values can only make equal what was not, which makes the count greater and never smaller.
     """
     count, total = count_tail(values, tail)
@@ -136,16 +137,16 @@ def rank_test(values: typing.Iterable[Foreign], tail: str) -> RankTest:
         score is at least that. Equal scores count against the finding.
 
     Returns a `RankTest`: the enacted plan's exact rank among all these plans, 1 for the most
-    extreme, and rank/of, rounded up at nine places. ValueError for a missing value or fewer than
-    two values.
+    extreme, and rank/of, rounded up at nine places. Raises ValueError for a missing value or fewer
+    than two values.
 
     J. Besag, P. Clifford, "Generalized Monte Carlo significance tests", Biometrika 76 (1989): the
     hub lies some number of steps from the enacted plan, and each endpoint lies as many steps from
     the hub, on walks with draws of their own. If the chain is reversible and the enacted plan was
     drawn from its stationary distribution (the null hypothesis), then the enacted plan and the
     endpoints are exchangeable, and a rank of g or less has probability at most g/of. The number of
-    endpoints, the steps, the score and the tail have to be fixed before anybody looked, all
-    endpoints have to be used, and the score has to be a function of the plan alone.
+    endpoints, the steps, the score and the tail must be fixed before anybody looked, all
+    endpoints must be used, and the score must be a function of the plan alone.
     """
     rank, total = count_tail(values, tail)
     return RankTest(tail, rank, total, round_up(rank, total))

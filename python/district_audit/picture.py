@@ -1,9 +1,9 @@
-"""Draws a report as one picture, by matplotlib.
+"""Pictures of reports, drawn by matplotlib.
 
-The picture shows, for each question and walk, which part of the visited plans is at least as
-extreme as the enacted plan, and the bound that follows; for each rank test the rank of the enacted
-plan among its trajectories; and, where the report has one, the histogram of seats. All is black,
-grey and white: shapes and words tell things apart.
+The picture shows, for each question and walk, the part of the visited plans that is at least as
+extreme as the enacted plan, and the bound that follows. It shows for each rank test the rank of the
+enacted plan among its trajectories, and the histogram of seats if the report has one. All is black,
+gray and white: shapes and words distinguish.
 """
 from __future__ import annotations
 
@@ -53,7 +53,7 @@ def select_scores(report: Report, scores: Scores) -> Report:
     known = {*SCORES, *report.asks}
     for one in wanted:
         if one not in known:
-            raise ValueError(f"scores={scores!r}: {one!r} is none of {', '.join(sorted(known))}")
+            raise ValueError(f"scores={scores!r}: {one!r} is not one of {', '.join(sorted(known))}")
 
     def is_wanted(line: Line) -> bool:
         return line.score in wanted or line.ask in wanted
@@ -76,7 +76,7 @@ def named_parties(parties: Parties) -> tuple[str, str] | None:
         return None
     if isinstance(parties, str) or len(parties) != 2:
         raise ValueError(
-            f"parties={parties!r}: these are the names of the first and the second party"
+            f"parties={parties!r}: parties must be the names of the first and the second party"
         )
     return str(parties[0]), str(parties[1])
 
@@ -141,7 +141,7 @@ def test_rows(report: Report, parties: Parties = None) -> list[Test]:
 
 
 def percent(count: int, whole: int) -> str:
-    """A part in percent, so that it is seen whether it is more than nothing and less than all."""
+    """Returns a part in percent. Only none is shown as 0 %, and only all as 100 %."""
     if count == 0:
         return "0"
     part = 100 * count / whole
@@ -155,7 +155,7 @@ def count_text(count: int, what: str) -> str:
 
 
 def compose_head(report: Report, parties: Parties = None) -> str:
-    """The head of the picture: the map, its rules, what was walked, the key, and what was read."""
+    """Returns the head of the picture: the map, its rules, the setting, the key and the source."""
     both = f"\nfirst party {parties[0]}, second party {parties[1]}" if parties else ""
     rules, setting, source = report.rules, report.setting, report.source
     limits = "".join("; " + said for said in rules.describe())
@@ -316,7 +316,7 @@ def draw(
 ) -> Figure:
     """Returns the figure of a report, or draws its first panel on given Axes; see `Report.plot`.
 
-    MissingExtra where matplotlib is not installed.
+    Raises MissingExtra if matplotlib is not installed.
     """
     extra("matplotlib")
     report, both = select_scores(report, scores), named_parties(parties)
@@ -342,7 +342,7 @@ def draw_named(
 ) -> Figure:
     """Returns a figure of several reports: a row for each name and question.
 
-    MissingExtra where matplotlib is not installed.
+    Raises MissingExtra if matplotlib is not installed.
     """
     extra("matplotlib")
     if not reports:

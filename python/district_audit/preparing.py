@@ -1,5 +1,4 @@
-"""Makes bytes that the auditor accepts of a graph as people have it, and lists every change.
-"""
+"""The preparation of a graph: bytes that the auditor accepts, and a list of every change."""
 from __future__ import annotations
 
 import collections
@@ -115,14 +114,14 @@ class Change:
     units: list[Label] = dataclasses.field(default_factory=list)
     """The ids of the units that it was made to; empty where it is said of the whole."""
     moved: float = 0
-    """By how much it changes the sum of its column: people or votes."""
+    """The change of the sum of its column, in people or votes."""
     is_of_values: bool = False
     """True if a unit's value, or the set of units and edges, became another one. False if only the
     way of writing it changed.
     """
 
     def text(self, everything: bool = False) -> str:
-        """The change in one line, with its first ten ids or all."""
+        """Returns the change in one line, with its first ten ids or all."""
         if not self.units:
             return self.what
         moved = f", which changes the column's sum by {self.moved:.6g}" if self.moved else ""
@@ -268,13 +267,15 @@ def prepare(
         ("missing", missing, ("error", "zero", "drop")),
     ):
         if value not in good:
-            raise PrepareRefused(f"{name} is one of {', '.join(good)}, and not {value!r}")
+            raise PrepareRefused(f"{name} must be one of {', '.join(good)}, not {value!r}")
     if (district is None) == (assignment is None):
-        raise PrepareRefused("either a column of districts or an assignment has to be given")
+        raise PrepareRefused(
+            "the districts are given twice or not at all: give either district or assignment"
+        )
     if group_of and not group:
-        raise PrepareRefused("group_of is given, and no group is")
+        raise PrepareRefused("group_of is given without group: name the column of the group")
     if max_length != MOST_CUT_LENGTH and not length:
-        raise PrepareRefused("max_length is given, and no length is")
+        raise PrepareRefused("max_length is given without length: name the column of the lengths")
     said = plain_words("prepare", {"slack": slack, "tolerance": tolerance})
     for name, count in (
         ("slack", said.get("slack", 500)), ("max_split", max_split), ("max_splits", max_splits),
@@ -371,7 +372,7 @@ def test_choices(
 
 
 def free_name(taken: typing.Collection[str | None]) -> str:
-    """A name for the column that an assignment becomes."""
+    """Returns an unused name for the column that an assignment becomes."""
     name = "assignment"
     while name in taken:
         name += "_"
@@ -395,7 +396,7 @@ def refuse_unknown(nodes: list[Node], choices: Choices) -> None:
 
 
 def assign(nodes: list[Node], choices: Choices) -> list[Node]:
-    """The units with the districts of an assignment."""
+    """Returns the nodes with the districts of the assignment, if one was given."""
     given: Foreign = choices.assignment
     if given is None:
         return nodes
@@ -403,13 +404,13 @@ def assign(nodes: list[Node], choices: Choices) -> list[Node]:
         given = given.assignment
     if not hasattr(given, "items"):
         raise PrepareRefused(
-            "an assignment is a dict from units to districts, or has items() as one, and this is"
-            f" {type(given).__name__}"
+            "an assignment must be a dict from units to districts, or have items() as one, not of"
+            f" type {type(given).__name__}"
         )
     if hasattr(given, "columns"):
         raise PrepareRefused(
-            f"an assignment is one column, and this is a whole {type(given).__name__}: name one of"
-            " its columns"
+            f"an assignment must be one column, not a whole {type(given).__name__}: name one of its"
+            " columns"
         )
     pairs = list(given.items())
     test_units(pairs)
@@ -456,8 +457,10 @@ def hint_of_kind(left: typing.Iterable[object], nodes: list[Node]) -> str:
 
 
 def number_of(value: object, rule: str) -> tuple[int, str, Fraction]:
-    """The whole number that is written for a value, what was done to it ('' or a few words), and
-    the value as it was.
+    """Returns the whole number that is written for a value, the change in a few words, and the
+    value as it was.
+
+    The words are '' if nothing was changed. Raises PrepareRefused if the value is not usable.
     """
     done = ""
     if isinstance(value, str):
@@ -504,7 +507,7 @@ def flag_of(value: object) -> bool | int | None:
 
 
 class Rows:
-    """For each unit that stays, by its id, the values that are written."""
+    """The values that are written for each unit that stays, by its id."""
 
     def __init__(
         self,
@@ -629,7 +632,7 @@ def suspicions(
     rows: dict[Label, Row],
     before: dict[str, dict[Label, Fraction]],
 ) -> list[str]:
-    """Warnings of columns that are no counts of heads, and of what was lost where fractions were
+    """Returns warnings of columns that are not counts of heads, and of losses where fractions were
     made whole.
     """
     found = []
@@ -687,7 +690,7 @@ def neighbours_of(
     names: typing.Sequence[Label],
     changes: Changes,
 ) -> dict[Label, set[Label]]:
-    """For each unit that stays its neighbours."""
+    """Returns the neighbors of each unit that stays."""
     known = set(names)
     found: dict[Label, set[Label]] = {unit: set() for unit in rows}
     for one, other in pairs:
@@ -705,11 +708,11 @@ def neighbours_of(
 def unit_named(
     said: object, name_of: typing.Callable[[object], Label], units: typing.Collection[Label]
 ) -> Label:
-    """The unit that is meant where two are joined; on a command line every id is a text."""
-    tried: list[Label] = [name_of(said)] if not is_missing(said) else []
+    """Returns the unit that a user named to be joined; on a command line every id is a text."""
+    candidates: list[Label] = [name_of(said)] if not is_missing(said) else []
     if isinstance(said, str) and said.lstrip("-").isdigit():
-        tried.append(int(said))
-    for name in tried:
+        candidates.append(int(said))
+    for name in candidates:
         if name in units:
             return name
     raise PrepareRefused(f"{as_json(said)}, which is to be joined, is not a unit")
@@ -721,7 +724,7 @@ def join(
     name_of: typing.Callable[[object], Label],
     changes: Changes,
 ) -> None:
-    """Makes neighbours of the pairs that were named."""
+    """Makes neighbors of the pairs that were named."""
     for pair in choices.join:
         one, other = (unit_named(end, name_of, neighbours) for end in pair)
         if one == other:
@@ -739,7 +742,7 @@ def join(
 
 
 def names_of(raw: Raw, changes: Changes) -> tuple[list[Label], typing.Callable[[object], Label]]:
-    """The ids that are written, and how they come from those of the graph."""
+    """Returns the ids that are written, and the function from the graph's ids to them."""
     ids = [node.get("id") for node in raw.nodes]
     if any(is_missing(one) for one in ids):
         raise PrepareRefused(
@@ -771,7 +774,7 @@ def names_of(raw: Raw, changes: Changes) -> tuple[list[Label], typing.Callable[[
 def labels_in(
     nodes: list[Node], choices: Choices, changes: Changes
 ) -> dict[str, typing.Callable[[object], Label]]:
-    """How the labels of each column come from those of the graph."""
+    """Returns for each column of labels the function from the graph's labels to those written."""
     found = {}
     for column in choices.labelled:
         there = [node[column] for node in nodes if not is_missing(node.get(column))]
@@ -810,7 +813,8 @@ def is_mixed_by_choice(
 def faults_of_labels(
     names: list[Label], nodes: list[Node], choices: Choices
 ) -> list[str]:
-    """A line for each unit whose district or region is unusable, or would be mistaken for another.
+    """Returns a line for each unit whose district or region is unusable, or would be mistaken for
+    another.
     """
     faults = []
     for column in choices.labelled:
@@ -891,7 +895,10 @@ def lengths_in(
     units: typing.Collection[Label],
     changes: Changes,
 ) -> lengths.Lengths | None:
-    """The lengths of the edges, if their column is named; says how many were made whole."""
+    """Returns the lengths of the edges, or None without a column of them.
+
+    Adds to `changes` the number of lengths that were made whole.
+    """
     if not choices.length:
         return None
     found = lengths.lengths_of(choices.length, edges, units)
@@ -906,7 +913,7 @@ def lengths_in(
 
 
 def suspicions_of_lengths(column: str | None, found: lengths.Lengths | None) -> list[str]:
-    """A warning of what was lost where lengths were made whole."""
+    """Returns a warning if making lengths whole changes them by more than one percent."""
     whole = Fraction(0) if found is None else sum(found.exact.values(), Fraction(0))
     if found is None or found.lost * 100 <= whole:
         return []
@@ -923,7 +930,7 @@ def data_of(
     length: str | None = None,
     found: lengths.Lengths | None = None,
 ) -> bytes:
-    """The graph in networkx's adjacency layout, as one line."""
+    """Returns the graph in networkx's adjacency layout, as one line."""
 
     def entry(unit: Label, other: Label) -> dict[str, object]:
         there = {} if length is None or found is None else {length: found.get(unit, other)}

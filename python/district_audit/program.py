@@ -19,10 +19,10 @@ KNOWN = {
 
 
 def find_program(which: str, given: PathLike | None = None) -> str:
-    """The path of a program: the one that is given, or that the environment names, or that stands
-    in the folders of PATH.
+    """Returns the path of a program: the given one, or the one that the environment names, or the
+    one in the folders of PATH.
 
-    ProgramMissing where there is none.
+    Raises ProgramMissing if there is none.
     """
     variable, names = KNOWN[which]
     named = os.fspath(given) if given is not None else os.environ.get(variable)
@@ -42,7 +42,7 @@ def find_program(which: str, given: PathLike | None = None) -> str:
 
 
 class Ended(typing.NamedTuple):
-    """How a call ended."""
+    """The exit status and the two outputs of a call."""
 
     status: int
     """The status; negative for a signal."""

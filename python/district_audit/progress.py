@@ -1,8 +1,8 @@
-"""Shows how far a run is: how many trajectories are saved, and nothing of what was found.
+"""Displays of a run's progress: the number of saved trajectories, and none of the results.
 
-Whoever looks at a test before its end, and may stop it there, spoils it. How many are saved is read
-from the checkpoints, or asked of the program `audit_slots`. A run that saves nothing shows how long
-it has taken.
+A test is spoiled if somebody sees its results before its end and may stop it there. The number of
+saved trajectories comes from the checkpoints, or from the program `audit_slots`. A run that saves
+nothing shows how long it has taken.
 """
 from __future__ import annotations
 
@@ -125,8 +125,10 @@ def look(program: str, words: typing.Sequence[str], data: bytes, folder: PathLik
 
 
 class Clock:
-    """Shows how long a run has taken that saves nothing: in one line of a terminal, and elsewhere
-    in a line after 10 seconds, and each time that the time has doubled.
+    """The display of the time that a run without checkpoints has taken.
+
+    A terminal has one line of it. Elsewhere a line comes after 10 seconds, and each time that the
+    time has doubled.
     """
 
     def __init__(self, total: int, stream: typing.TextIO | None = None) -> None:
@@ -160,7 +162,7 @@ class Clock:
 
 
 class StepClock(Clock):
-    """Shows the steps of a run's first trajectory, which a second process walks again beside it.
+    """The display of the steps of a run's first trajectory, which a second process walks again.
 
     That process runs `trace`, so it takes one more processor for the time of one trajectory, and
     the memory of one more graph. The report does not depend on it.
@@ -174,7 +176,9 @@ class StepClock(Clock):
         data: bytes,
         stream: typing.TextIO | None = None,
     ) -> None:
-        """`command` is the program with the words of `trace`, and `data` the graph."""
+        """Starts the second process: `command` is the program with the words of `trace`, and `data`
+        is the graph.
+        """
         super().__init__(total, stream)
         self.steps = steps
         self.graph, self.text = tempfile.TemporaryFile(), tempfile.TemporaryFile()
@@ -212,9 +216,9 @@ class StepClock(Clock):
 
 
 class Watch:
-    """Looks now and then how far a run is, and draws it.
+    """The display of a run's saved trajectories, which looks for them now and then.
 
-    A look takes as long as reading the graph does, and less than a tenth of the time goes to it.
+    A look takes as long as reading the graph, and looks take less than a tenth of the time.
     """
 
     def __init__(
@@ -241,6 +245,6 @@ class Watch:
         self.bar.show(self.done, self.total)
 
     def end(self) -> None:
-        """A last look, and the bar's end."""
+        """Looks a last time, and ends the bar."""
         self.take(self.ask())
         self.bar.end()

@@ -56,10 +56,10 @@ ASK = f"({'|'.join(SCORES)}) ({'|'.join(TAILS)}) start {WHOLE}/{NUMBER}"
 
 @dataclasses.dataclass(frozen=True)
 class Rules:
-    """Which plans are legal, beside that every district is contiguous."""
+    """The rules of legal plans, beside contiguous districts."""
 
     slack: int
-    """How far a district may be from the ideal population, in hundredths of a percent."""
+    """The greatest deviation from the ideal population, in hundredths of a percent."""
     low: int
     """The least population of a district that is within the bounds, in people."""
     high: int
@@ -67,21 +67,22 @@ class Rules:
     max_cut: int | None = None
     """The most edges between districts that a plan may have; None: any number."""
     max_split: int | None = None
-    """Among how many districts a region may be split; None: there are no regions."""
+    """The most districts among which a region may be split; None: there are no regions."""
     regions: int | None = None
     """The number of regions; None: no column of regions was named."""
     max_splits: int | None = None
-    """How often regions may be split in all, each by one less than the number of its districts;
+    """The most splits of regions in all. A region has one less than the number of its districts.
     None: this and the next are not limited.
     """
     max_split_regions: int | None = None
     """The most regions that may lie in more than one district."""
     group_districts: int | None = None
-    """In how many districts at least the group has to have a majority; None: no group was named."""
+    """The least number of districts in which the group must have a majority; None: no group."""
     majorities: int | None = None
-    """In how many the start plan gives it one."""
+    """The number of districts in which the start plan gives the group a majority."""
     group_share: int | None = None
-    """Above which share of a district it has one, in hundredths of a percent; None: above one half.
+    """The share of a district above which the group has a majority, in hundredths of a percent;
+    None: one half.
     """
     frozen: int | None = None
     """The number of units that keep the start plan's districts; None: no column of them was named.
@@ -94,7 +95,7 @@ class Rules:
     """The greatest total length of the edges between districts; None: any length."""
 
     def describe(self) -> list[str]:
-        """The limits on cut edges and on the districts of a region, in words."""
+        """Returns the limits on cut edges and on the districts of a region, in words."""
         said = [] if self.max_cut is None else [f"at most {self.max_cut} cut edges"]
         return said + (
             []
@@ -103,8 +104,8 @@ class Rules:
         )
 
     def describe_more(self) -> list[str]:
-        """Those on splits in all, on split regions, on a group's majorities, on frozen units and on
-        the length of cut edges.
+        """Returns the other rules in words: splits in all, split regions, a group's majorities,
+        frozen units, and the length of cut edges.
         """
         is_few = self.max_splits is not None and self.max_splits < MOST_SPLITS
         said = [f"at most {self.max_splits} splits of regions in all"] if is_few else []
@@ -122,7 +123,7 @@ class Rules:
                 else f"more than {self.group_share} of 10000"
             )
             said.append(
-                f"the group has {share} in {self.majorities or 0} districts, and has to have {one}"
+                f"the group has {share} in {self.majorities or 0} districts, and must have {one}"
                 f" in {self.group_districts}"
             )
         said += [] if self.frozen is None else [f"{self.frozen} units keep their districts"]
@@ -235,7 +236,7 @@ def join_batch(
 
 
 def quote(text: str) -> str:
-    """A text as the program writes it: as JSON, with the shortest escapes."""
+    """Returns a text as the program writes it: as JSON, with the shortest escapes."""
     return json.dumps(text, ensure_ascii=False)
 
 
@@ -252,7 +253,7 @@ class Setting:
     hub_steps: int
     """The steps to the hub, and of each of these trajectories."""
     stop: int = 0
-    """After how many ends in the tail a test stops; 0: none stops early."""
+    """The number of ends in the tail after which a test stops; 0: none stops early."""
 
 
 @dataclasses.dataclass(frozen=True)
@@ -299,7 +300,7 @@ class Walk(Line):
     """One outlier trajectory and one question."""
 
     number: int
-    """Which trajectory, from 0."""
+    """The number of the trajectory, from 0."""
     moved: int
     """The number of its steps that changed the plan."""
     count: int
@@ -311,7 +312,7 @@ class Walk(Line):
 
     @property
     def part(self) -> Fraction:
-        """Which part of the visited plans is in the tail."""
+        """The part of the visited plans that is in the tail."""
         return Fraction(self.count, self.of)
 
     def __str__(self) -> str:
@@ -341,7 +342,7 @@ class Stop(Line):
     """The sequential test of one question."""
 
     place: int
-    """After how many ends it stops."""
+    """The number of ends after which it stops."""
     top: int
     """The value is top/of."""
     of: int
@@ -371,7 +372,7 @@ class Serial(Line):
 
 @dataclasses.dataclass(frozen=True)
 class Shift:
-    """How the seats of the first party differ from the start plan's, over all visited plans;
+    """The differences between the first party's seats and the start plan's, over all visited plans;
     `SEATS` names the nine numbers.
     """
 
@@ -407,11 +408,11 @@ class Reader:
         return line is not None and line.split(" ")[0] == word
 
     def take(self, form: str, example: str) -> list[str]:
-        """Returns the groups of a regular expression that has to match the whole next line.
+        """Returns the groups of a regular expression that must match the whole next line.
         """
         line = self.next()
         if line is None:
-            refuse(self.number, f"the text ends where a line `{example}` has to stand")
+            refuse(self.number, f"the text ends where a line `{example}` is expected")
         found = re.fullmatch(form, line)
         if found is None:
             refuse(self.number, f"it does not have the form of a line `{example}`")
@@ -428,7 +429,7 @@ class Reader:
 
 
 def lines_of(text: str) -> list[str]:
-    """The lines of a text whose last line ends with a line feed."""
+    """Returns the lines of a text; refuses one whose last line does not end with a line feed."""
     lines = text.split("\n")
     if lines[-1] != "":
         refuse(len(lines), "the text ends within a line")
@@ -500,7 +501,7 @@ def source_of(lines: Reader) -> Source | None:
 
 
 def columns_in(lines: Reader, said: str) -> tuple[list[str], list[str]]:
-    """The names in a line of columns, and the words that stand before each but the first four."""
+    """Returns the names in a line of columns, and the words before each but the first four."""
     names: list[str] = []
     words: list[str] = []
     at = 0
@@ -530,7 +531,7 @@ def columns_in(lines: Reader, said: str) -> tuple[list[str], list[str]]:
 def has_rule(lines: Reader, word: str, is_named: bool | None) -> bool:
     """Returns whether the line of a rule that needs a column stands next.
 
-    Where the columns are told, it stands exactly where its column is named.
+    If the text names its columns, the line stands exactly if it names the column of the rule.
     """
     is_there = lines.is_at(word)
     if is_named is not None and is_there != is_named:
@@ -539,7 +540,7 @@ def has_rule(lines: Reader, word: str, is_named: bool | None) -> bool:
             (
                 "the line `columns` names no column for this rule"
                 if is_there
-                else f"a line that begins with `{word}` has to stand here"
+                else f"a line that begins with `{word}` is expected here"
             ),
         )
     return is_there
@@ -548,7 +549,7 @@ def has_rule(lines: Reader, word: str, is_named: bool | None) -> bool:
 def rules_of(
     lines: Reader, units: int, edges: int, districts: int, source: Source | None
 ) -> dict[str, int]:
-    """The rules that are set, by the names of their fields."""
+    """Returns the rules that are set, by the names of their fields."""
     found: dict[str, int] = {}
     if lines.is_at("max-cut"):
         (found["max_cut"],) = lines.numbers("max-cut N", "max-cut c")
@@ -590,13 +591,14 @@ def rules_of(
     if has_rule(lines, "cut-length", None if source is None else source.length is not None):
         (found["cut_length"],) = lines.numbers("cut-length N", "cut-length n")
         lines.ask_that(
-            found["cut_length"] <= edges * MOST_LENGTH, "so few edges are not so long in all"
+            found["cut_length"] <= edges * MOST_LENGTH,
+            "the length is too great for this number of edges",
         )
         if lines.is_at("max-length"):
             (found["max_length"],) = lines.numbers("max-length N", "max-length l")
             lines.ask_that(
                 found["cut_length"] <= found["max_length"] < MOST_CUT_LENGTH,
-                "the start plan's cut edges are longer, or such a limit is not written",
+                "the limit is below the length of the start plan's cut edges, or out of range",
             )
     return found
 
@@ -653,13 +655,13 @@ def setting_of(lines: Reader) -> Setting:
 
 
 def round_up(top: int, of: int) -> Decimal:
-    """top/of, rounded up at nine places, as the report writes it."""
+    """Returns top/of, rounded up at nine places, as the report writes it."""
     whole, rest = divmod(-(-top * BILLION // of), BILLION)
     return Decimal(f"{whole}.{rest:09}")
 
 
 def bound_of(count: int, of: int) -> Decimal:
-    """The square root of 2 count/of, rounded up at nine places."""
+    """Returns the square root of 2 count/of, rounded up at nine places."""
     least = -(-2 * count * BILLION * BILLION // of)
     root = math.isqrt(least)
     whole, rest = divmod(root if root * root >= least else root + 1, BILLION)
@@ -678,8 +680,8 @@ class Tests:
         self.asks = self.find_asks()
 
     def find_asks(self) -> list[tuple[str, str]]:
-        """The questions, from the lines of the first trajectory, or of the first test where nothing
-        is walked from the start.
+        """Returns the questions, from the lines of the first trajectory, or from those of the first
+        test if there are no outlier walks.
         """
         first = "walk 0 " if self.setting.walks else "stop " if self.setting.stop else "ends "
         asks: list[tuple[str, str]] = []
@@ -692,14 +694,14 @@ class Tests:
             asks.append((found[1], found[2]))
         if not asks:
             refuse(
-                self.lines.number, f"a line that begins with `{first.strip()}` has to stand here"
+                self.lines.number, f"a line that begins with `{first.strip()}` is expected here"
             )
         return asks
 
     def line(self, ask: tuple[str, str], form: str, example: str) -> tuple[Start, list[str]]:
-        """The next line: the start's score, and what stands before and behind it.
+        """Returns the start's score in the next line, and the words before and after it.
 
-        In the form A stands for the question, N for a number and Z for a number with nine places.
+        In the form, A stands for the question, N for a number and Z for a number with nine places.
         """
         at = form[: form.index("A")].count("N")
         words = self.lines.take(
@@ -710,7 +712,7 @@ class Tests:
         return self.start(score, int(top), int(below)), words[:at] + words[at + 4:]
 
     def start(self, score: str, top: int, below: int) -> Start:
-        """The start's score, where it is one that a legal plan of this report may have."""
+        """Returns the start's score; refuses one that no legal plan of this report can have."""
         head, start = self.head, Start(top, below)
         if score in ("seats", "cut-edges"):
             most = (
@@ -760,7 +762,7 @@ class Tests:
         return tuple(found)
 
     def walk(self, number: int) -> list[Walk]:
-        """The lines of one trajectory."""
+        """Reads the lines of one trajectory."""
         found: list[Walk] = []
         for ask in self.asks:
             start, words = self.line(
@@ -876,7 +878,7 @@ def make_cells(test: str, line: Line) -> dict[str, object]:
 
 
 def add_decimal(row: typing.Sequence[object]) -> list[object]:
-    """Returns a row whose score has its decimals beside the fraction, where it is no whole number.
+    """Returns a row whose score has decimals beside its fraction, if it is not a whole number.
     """
     return [
         (
@@ -957,7 +959,7 @@ class PlanCheck:
         which the district lies, and `split_regions` how many of these lie in others, too; `parts`
         is the number of its contiguous parts. Shares are floats; with exact=True they are Fraction.
 
-        MissingExtra, an ImportError, where pandas is not installed.
+        Raises MissingExtra, an ImportError, if pandas is not installed.
         """
         from . import districts
 
@@ -997,7 +999,10 @@ class PlanCheck:
 
     @classmethod
     def parse(cls, text: str) -> PlanCheck:
-        """The check text as a value; ReportRefused where the program cannot have written it."""
+        """Returns a check text as a value.
+
+        Raises ReportRefused, with the number of the line, if the program cannot have written it.
+        """
         lines = Reader(lines_of(text))
         lines.take("plan-check 1", "plan-check 1")
         source = source_of(lines)
@@ -1018,7 +1023,7 @@ class PlanCheck:
 
 
 def finish(lines: Reader) -> None:
-    """The last line, and nothing behind it."""
+    """Reads the line `end`; refuses any text after it."""
     lines.take("end", "end")
     if lines.next() is not None:
         refuse(lines.number, "text follows the line `end`")
@@ -1068,8 +1073,9 @@ class Report:
 
     @classmethod
     def parse(cls, text: str) -> Report:
-        """The report as a value; ReportRefused, with the number of the line, where the program
-        cannot have written the text.
+        """Returns the text of a report as a value.
+
+        Raises ReportRefused, with the number of the line, if the program cannot have written it.
         """
         lines = Reader(lines_of(text))
         report = cls.read(lines)
@@ -1079,9 +1085,10 @@ class Report:
 
     @classmethod
     def parse_plans(cls, text: str) -> list[tuple[str, Report]]:
-        """The text of `plans`: for each plan its name and its report, in order.
+        """Returns the name and the report of each plan in a text of `plans`, in order.
 
-        Names may be equal.
+        Names may be equal. Raises ReportRefused, with the number of the line, if the program cannot
+        have written the text.
         """
         lines, found = Reader(lines_of(text)), []
         while lines.next() is not None:
@@ -1093,7 +1100,7 @@ class Report:
 
     @classmethod
     def read(cls, lines: Reader) -> Report:
-        """The next report of some lines."""
+        """Reads the next report from some lines."""
         (version,) = lines.take("district-audit ([12])", "district-audit 1")
         source = source_of(lines)
         (key,) = lines.take("key ([0-9a-f]{64})", "key K")
@@ -1132,8 +1139,8 @@ class Report:
         return tuple(dict.fromkeys(line.ask for line in (*self.walks, *self.stops, *self.ends)))
 
     def rows(self) -> list[tuple[object, ...]]:
-        """A row for each line of a test, with the columns `COLUMNS`; what a test does not have is
-        None.
+        """Returns a row for each line of a test, with the columns `COLUMNS`; a value that the test
+        does not have is None.
         """
         rows: list[tuple[object, ...]] = []
         rows += [
@@ -1199,7 +1206,7 @@ class Report:
         Whole numbers are nullable integers (Int64): what a test does not have is NA. Scores, bounds
         and p-values are floats; with exact=True they are Fraction and Decimal.
 
-        MissingExtra, an ImportError, where pandas is not installed.
+        Raises MissingExtra, an ImportError, if pandas is not installed.
         """
         pandas = extra("pandas")
 
@@ -1215,7 +1222,7 @@ class Report:
         return pandas.DataFrame(rows, columns=list(FRAME)).astype(kinds)
 
     def effect(self, epsilon: Number, alpha: Number) -> dict[str, Effect]:
-        """Returns, for each ask, the test that separates an effect's size from its significance.
+        """Returns for each ask the test that separates an effect's size from its significance.
 
         A walk shows the enacted plan as an epsilon-outlier if its `count` is at most epsilon times
         its `of`; the enacted plan itself is in the count. The result says on how many of the m
@@ -1238,12 +1245,12 @@ class Report:
             By ask, as "cut-edges:low", in the report's order.
 
         Conditions: fix epsilon, alpha, the asks, and the number and length of the walks before
-        the run. The enacted plan need not be random. The walks have to be, and independent of
-        each other, which rests on the key. If several asks, epsilons or alphas are tried,
+        the run. The enacted plan need not be random. The walks must be random, and independent of
+        each other, which rests on the key. If several asks, epsilons or alphas are tested,
         multiply the least p by their number.
 
-        TypeError for a float (give it as a text) and other types; ValueError for a number out of
-        range and for a report without walks.
+        Raises TypeError for a float (give it as a text) and other types; ValueError for a number
+        out of range and for a report without walks.
 
         Source: Chikina, Frieze, Mattingly and Pegden, 'Separating effect from significance in
         Markov chain tests', Statistics and Public Policy 7 (2020).
@@ -1286,7 +1293,7 @@ class Report:
         columns : dict
             The columns by the words pop, first, second, district, region, group, group_of, freeze
             and length; if left out, those of the report's own line or of the call that made it. If
-            given, each column of a rule of the report has to be there: the printed command needs
+            given, each column of a rule of the report must be there: the printed command needs
             it, and its counts are compared with those of the report.
         command : str
             The command to print; if left out, it is written from the report.
@@ -1295,8 +1302,8 @@ class Report:
         epsilon, alpha : Fraction, Decimal, str or int
             With both, the page has the test of `effect` too.
 
-        ValueError if the graph or a column is not that of the report, if a column is missing, or if
-        a graph is given for another plan than the graph's own.
+        Raises ValueError if the graph or a column is not that of the report, if a column is
+        missing, or if a graph is given for another plan than the graph's own.
         """
         from . import exhibit
 

@@ -43,7 +43,7 @@ class NamedReports(list[Pair]):
     ) -> Pair | Kind | Report:
         """Returns the report of a name, or the pair in a place, as of a list.
 
-        KeyError where there is no report of this name, or several.
+        Raises KeyError if there is no report of this name, or several.
         """
         if isinstance(name, slice):
             return type(self)(super().__getitem__(name))
@@ -51,15 +51,16 @@ class NamedReports(list[Pair]):
             return super().__getitem__(name)
         reports = [report for other, report in self if other == name]
         if len(reports) != 1:
-            many = "several have this name" if reports else "none has this name"
-            raise KeyError(f"{many} {name!r}; the names are {', '.join(map(repr, self.names))}")
+            many = "several reports have" if reports else "no report has"
+            names = ", ".join(map(repr, self.names))
+            raise KeyError(f"{many} the name {name!r}; the names are {names}")
         return reports[0]
 
     def to_frame(self, exact: bool = False) -> pandas.DataFrame:
         """Returns one pandas DataFrame of all reports: the name, and then the columns of
         `Report.to_frame`.
 
-        MissingExtra, an ImportError, where pandas is not installed.
+        Raises MissingExtra, an ImportError, if pandas is not installed.
         """
         pandas = extra("pandas")
         frames = []
@@ -100,8 +101,8 @@ class PlanReports(NamedReports):
     """The reports of several plans on one map, the graph's own plan first.
 
     All have the same key, so each plan is walked from with the same draws. Plans are judged one by
-    one: whoever tells of the most extreme of m plans has m chances, and multiplies its bound or
-    p-value by m (Bonferroni's rule).
+    one. A report of only the most extreme of m plans had m chances: multiply its bound or p-value
+    by m (Bonferroni's rule).
     """
 
     what = "plan"

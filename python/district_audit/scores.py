@@ -37,7 +37,7 @@ def votes(sample: Sample, election: Election = None) -> list[tuple[int, int]]:
 
 
 def share(first: int, second: int) -> Fraction:
-    """Returns first/(first + second), and 1/2 where there are no votes, as the program has it."""
+    """Returns first/(first + second); 1/2 if there are no votes, as in the program."""
     return Fraction(first, first + second) if first + second else HALF
 
 
@@ -59,13 +59,13 @@ def ordered_shares(sample: Sample, election: Election = None) -> list[Fraction]:
 
 def highest_share(sample: Sample, k: int, election: Election = None) -> Fraction:
     """Returns the first party's k-th highest share, k from 1: that of its k-th most packed
-    district. IndexError where there are fewer than k districts.
+    district. Raises IndexError if there are fewer than k districts.
 
     For the second party name the columns in the other order.
     """
     shares = ordered_shares(sample, election)
     if not 1 <= k <= len(shares):
-        raise IndexError(f"there is no {k}th of {len(shares)} districts")
+        raise IndexError(f"k is {k}, and must be from 1 to {len(shares)}, the number of districts")
     return shares[-k]
 
 
@@ -100,7 +100,7 @@ def efficiency_gap(sample: Sample, election: Election = None) -> Fraction:
     district's votes. Above 0 the second party wastes more, which is good for the first. A tie is
     won by the second party. With a and b votes a district adds (3b - a)/2 where a > b, and else
     (b - 3a)/2. N. Stephanopoulos, E. McGhee, "Partisan gerrymandering and the efficiency gap",
-    University of Chicago Law Review 82 (2015). ValueError where there are no votes.
+    University of Chicago Law Review 82 (2015). Raises ValueError if there are no votes.
     """
     both = votes(sample, election)
     total = sum(first + second for first, second in both)
@@ -162,7 +162,7 @@ def exactly(value: Share, name: str) -> Fraction:
     """Returns a share from 0 to 1 exactly; a float as its shortest decimal, so 0.05 is 1/20."""
     exact = Fraction(repr(value)) if isinstance(value, float) else Fraction(value)
     if not 0 <= exact <= 1:
-        raise ValueError(f"{name} is from 0 to 1, and not {value}")
+        raise ValueError(f"{name} must be from 0 to 1, not {value}")
     return exact
 
 
@@ -191,7 +191,7 @@ def majorities(sample: Sample, group: str, of: str, share_above: Share = HALF) -
     """Returns in how many districts a group has more than a part of those in the column `of`.
 
     With the part 1/2 it is the count of the program's `--group-districts`. Columns of people, as
-    BVAP and VAP. ValueError for a part outside 0 to 1.
+    BVAP and VAP. Raises ValueError for a part outside 0 to 1.
     """
     limit = exactly(share_above, "share_above")
     plan = sample.plan
@@ -222,7 +222,7 @@ def cut_edges(sample: Sample) -> int:
 
 def cut_length(sample: Sample, length: str) -> int:
     """Returns the total length of the edges between units in different districts, by a column of
-    lengths, as the program's `cut-length`. KeyError where the program read no such column."""
+    lengths, as the program's `cut-length`. Raises KeyError if the program read no such column."""
     return sample.plan.cut_length(length)
 
 

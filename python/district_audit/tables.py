@@ -44,9 +44,9 @@ class Named(typing.NamedTuple):
 def table_of(table: object, known: Known | None, districts: str) -> bytes:
     """Returns a table of plans as CSV for the program, after it was tested.
 
-    PrepareRefused where a label is missing, unusable or would be mistaken for another one, where
-    the units are not those of the graph, each once, or where a plan has another number of districts
-    than the enacted plan and `districts` is not "any".
+    Raises PrepareRefused if a label is missing, unusable or would be mistaken for another one,
+    if the units are not those of the graph, each once, or if a plan has another number of
+    districts than the enacted plan and `districts` is not "any".
     """
     if isinstance(table, (bytes, bytearray, memoryview, str, os.PathLike)):
         data = bytes_of(table)
@@ -92,8 +92,8 @@ def plans_of(table: object) -> list[Named]:
     """Returns the plans of a dict, of a DataFrame, or of what has items() as these have."""
     if not hasattr(table, "items"):
         raise PrepareRefused(
-            "a table of plans is a dict from names to assignments, a DataFrame with the units' ids"
-            " as its index, or the text, bytes or path of a CSV file, and this is"
+            "a table of plans must be a dict from names to assignments, a DataFrame with the units'"
+            " ids as its index, or the text, bytes or path of a CSV file, not of type"
             f" {kind_name(table)}"
         )
     named = list(table.items())
@@ -101,7 +101,7 @@ def plans_of(table: object) -> list[Named]:
         hasattr(plan, "items") or hasattr(plan, "assignment") for _, plan in named
     ):
         raise PrepareRefused(
-            "a table of plans is a dict from names to assignments, and this seems to be one"
+            "a table of plans must be a dict from names to assignments, and this seems to be one"
             ' assignment: write {"name": assignment}'
         )
     for name, _ in named:
@@ -110,19 +110,19 @@ def plans_of(table: object) -> list[Named]:
     if twice:
         raise PrepareRefused(f"several plans of the table have the same name: {list_ids(twice)}")
     if not 1 <= len(named) <= MOST_PLANS:
-        raise PrepareRefused(f"a table has 1 to {MOST_PLANS} plans, and this one has {len(named)}")
+        raise PrepareRefused(f"a table must have 1 to {MOST_PLANS} plans, not {len(named)}")
     return [Named(str(name), read_assignment(plan, str(name))) for name, plan in named]
 
 
 def test_name(name: object) -> None:
     """Refuses a name that the program cannot write on a line of its own."""
     if is_missing(name) or kind_of(name) not in ("text", "whole number"):
-        raise PrepareRefused(f"a plan's name is a text, and not {as_json(name)}")
+        raise PrepareRefused(f"a plan's name must be a text, not {as_json(name)}")
     text = str(name)
     if not 1 <= len(text) <= 100 or not all("!" <= letter <= "~" for letter in text):
         raise PrepareRefused(
-            f"the plan's name {as_json(text)} is not usable: a name has 1 to 100 of the ASCII"
-            " characters from ! to ~, and so no spaces"
+            f"the plan's name {as_json(text)} is not usable: a name must have 1 to 100 of the"
+            " ASCII characters from ! to ~, and so no spaces"
         )
 
 
@@ -132,12 +132,12 @@ def read_assignment(plan: object, name: str) -> list[tuple[object, object]]:
         plan = plan.assignment
     if not hasattr(plan, "items"):
         raise PrepareRefused(
-            f"plan {name}: it is a {kind_name(plan)}, and not a dict from units to"
-            " labels, a Partition or a column of a DataFrame"
+            f"plan {name} must be a dict from units to labels, a Partition or a column of a"
+            f" DataFrame, not of type {kind_name(plan)}"
         )
     if hasattr(plan, "columns"):
         raise PrepareRefused(
-            f"plan {name}: it is a whole {kind_name(plan)}: name one of its columns"
+            f"plan {name} is a whole {kind_name(plan)}: name one of its columns"
         )
     return list(plan.items())
 
@@ -190,7 +190,7 @@ def units_in(labels: list[tuple[object, object]], known: Known | None) -> list[s
     if there and wanted and not there & wanted:
         return [
             f"none of its ids is a unit's: its first id is {as_json(ids[0])}, and the graph's first"
-            f" is {as_json(known.units[0])} (of a DataFrame, the index has to have the units' ids:"
+            f" is {as_json(known.units[0])} (of a DataFrame, the index must have the units' ids:"
             " frame.set_index(column))"
         ]
     return found

@@ -1,9 +1,9 @@
 """Pictures of scores along a trace, by matplotlib: histogram, box plot, running trace.
 
-All is black, grey and white: marks, hatches and words tell things apart. Each function returns a
+All is black, gray and white: marks, hatches and words distinguish. Each function returns a
 matplotlib figure, and with `name` it also writes NAME.png and NAME.svg. Values are `int`,
-`Fraction` or `float`. MissingExtra where matplotlib is not installed, ValueError where there is
-nothing to draw or a value is missing.
+`Fraction` or `float`. Each function raises MissingExtra if matplotlib is not installed, and
+ValueError if there is nothing to draw or a value is missing.
 """
 from __future__ import annotations
 

@@ -71,7 +71,7 @@ class UnitTable:
     """
 
     def __init__(self, data: bytes, graph: object, district: str, rules: Words) -> None:
-        """`data` is what the program reads, and `graph` what it was made of."""
+        """Reads the units from `data`, the program's input, and from `graph`, its source."""
         root = json.loads(data.decode("utf-8"))
         self.rows: list[Row] = root["nodes"]
         self.adjacency: list[list[Row]] = root["adjacency"]
@@ -117,8 +117,8 @@ class UnitTable:
         """Returns a column of counts of people or votes, by unit.
 
         A column that the program reads has the values that it read. Another is read from the graph
-        by the rules `numbers` and `missing` of the call. KeyError where no unit has it, ValueError
-        with the unit's id where a value is missing, negative or not whole.
+        by the rules `numbers` and `missing` of the call. Raises KeyError if no unit has it,
+        and ValueError with the unit's id if a value is missing, negative or not whole.
         """
         if name not in self.columns:
             self.columns[name] = [self.count(name, unit, value)
@@ -166,8 +166,8 @@ class UnitTable:
     def lengths(self, name: str) -> list[dict[int, int]]:
         """Returns the length of the edge to each neighbor of each unit.
 
-        KeyError where no edge that the program read has the column, ValueError where one has no
-        whole number in it.
+        Raises KeyError if no edge that the program read has the column, and ValueError if an edge
+        has no whole number in it.
         """
         if name not in self.by_length:
             place = {row["id"]: number for number, row in enumerate(self.rows)}
@@ -275,7 +275,7 @@ class Plan:
         self.districts = list(districts)
         self.tallies: dict[typing.Hashable, Tally] = {}
         self.turn = 0
-        """How often it was changed: a sample of an earlier turn is stale."""
+        """The number of its changes: a sample of an earlier turn is stale."""
 
     @property
     def district_count(self) -> int:

@@ -23,7 +23,7 @@ MOST_HEAD_LINES = 64
 
 
 class TraceRefused(ReportRefused):
-    """A text is no whole trace that the program writes, or is one of another graph. `number` is
+    """A text that is not a complete trace of the program, or is one of another graph. `number` is
     that of the first line at which this shows, from 1."""
 
 
@@ -49,7 +49,7 @@ class TraceHead:
 # ---- where the lines come from
 
 class Lines(typing.Protocol):
-    """The lines of a text, and what has to be checked behind the last."""
+    """The lines of a text, and the checks after the last."""
 
     def read(self) -> bytes:
         """Returns the next line with its line end, or nothing at the end of the text."""
@@ -58,7 +58,7 @@ class Lines(typing.Protocol):
         """Raises what went wrong with the text's source."""
 
     def close(self) -> None:
-        """Lets go of the source; it may be called again."""
+        """Releases the source; a second call does nothing."""
 
 
 class FileLines:
@@ -72,7 +72,7 @@ class FileLines:
         return self.file.readline()
 
     def finish(self) -> None:
-        """A file has nothing behind its text."""
+        """Returns at once: a file has no error to raise after its text."""
 
     def close(self) -> None:
         """Closes the file."""
@@ -171,7 +171,7 @@ class Text:
         if not line.endswith(b"\n"):
             self.lines.finish()
             self.refuse("the text ends within a line" if line else
-                        f"the text ends where {expected} has to stand")
+                        f"the text ends where {expected} is expected")
         return line[:-1].decode("utf-8", "surrogateescape")
 
     def end(self) -> None:
@@ -232,7 +232,7 @@ class Text:
         return one
 
     def read_plan(self, form: re.Pattern[str], step: int) -> Shown:
-        """Returns the next line of a plan, which has a form and has to be that of a step."""
+        """Returns the next line of a plan, which must have the form and be that of the step."""
         line = self.line(f"the plan after {step} steps")
         parts = form.fullmatch(line)
         if parts is None:

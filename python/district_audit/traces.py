@@ -37,7 +37,7 @@ Scores = typing.Union[typing.Mapping[str, Score], typing.Sequence[typing.Union[s
 
 
 class StaleSample(RuntimeError):
-    """A sample was asked for its plan after the trace went on to the next."""
+    """A sample whose plan was asked for after the trace went on to the next."""
 
 
 # ---- samples
@@ -100,7 +100,7 @@ class Sample:
 
     @property
     def plan(self) -> Plan:
-        """The plan by the auditor's numbers. StaleSample once the trace has gone on."""
+        """The plan by the auditor's numbers. Raises StaleSample once the trace has gone on."""
         if self._turn != self._plan.turn:
             raise StaleSample(f"the trace has gone on from step {self.step} of trajectory "
                               f"{self.id}: call frozen() on a sample to keep its plan")
@@ -120,9 +120,11 @@ class Sample:
     def totals(self, column: str) -> dict[Foreign, int]:
         """Returns the total of a column of people or votes in each district, by its label.
 
-        Any column of whole numbers of the graph. KeyError where no unit has it, ValueError with the
-        unit's id where a value is missing, negative or not whole. Costs what the moves since the
-        last sample cost, and not a look at each unit.
+        Any column of whole numbers of the graph will do. The time depends on the moves since the
+        last sample, and not on the number of units.
+
+        Raises KeyError if no unit has the column, and ValueError with the unit's id if a value is
+        missing, negative or not whole.
         """
         plan = self.plan
         return dict(zip(plan.table.labels, plan.totals(column)))
@@ -139,8 +141,8 @@ class Sample:
         """Returns a GerryChain Partition of a graph with this plan.
 
         `graph` is a GerryChain Graph with the same nodes, and the other arguments are those of
-        `gerrychain.Partition`, as `updaters`. ValueError where a node is no unit of the trace, and
-        MissingExtra where GerryChain is not installed.
+        `gerrychain.Partition`, as `updaters`. Raises ValueError if a node is not a unit of the
+        trace, and MissingExtra if GerryChain is not installed.
         """
         gerrychain = extra("gerrychain")
         table, districts = self.plan.table, self.plan.districts
@@ -166,9 +168,11 @@ class Trace(typing.Iterator[Sample]):
     def __init__(self, lines: Lines, sent: Given, graph: object, words: Words, *,
                  ids: tuple[int, int] | None = None, elections: Elections | None = None,
                  last: bool = False, progress: bool = False, is_read: bool = False) -> None:
-        """`graph` and `words` are those of the call, and `sent` is what they came to. `ids` are the
-        first and the last that were asked for. `is_read` is true for a text that was written
-        before, whose head is compared with the graph."""
+        """Reads the head of the trace.
+
+        `graph` and `words` are those of the call, and `sent` has the bytes and words made of them.
+        `ids` are the first and the last that were asked for. `is_read` is true for a text from a
+        file, whose head is compared with the graph."""
         self.lines = lines
         self.text = Text(lines)
         self.elections: dict[str, tuple[str, str]] = dict(elections or {})
@@ -338,7 +342,7 @@ class Trace(typing.Iterator[Sample]):
 
     def columns_of(self, election: str | tuple[str, str] | None) -> tuple[str, str]:
         """Returns the columns of an election: those of a name, a pair of columns as it is, or
-        where it is None those that the program read. KeyError for an unknown name."""
+        where it is None those that the program read. Raises KeyError for an unknown name."""
         if election is None:
             return self.election
         if isinstance(election, str):
@@ -372,7 +376,7 @@ class Trace(typing.Iterator[Sample]):
         """Walks the rest of the trace, and returns a pandas DataFrame with a row for each sample.
 
         Its columns are those of `rows`. Fractions are floats, or with exact=True Fractions, as
-        `outlier_test` compares them exactly. MissingExtra where pandas is not installed.
+        `outlier_test` compares them exactly. Raises MissingExtra if pandas is not installed.
         """
         pandas = extra("pandas")
         return pandas.DataFrame(list(self.rows(scores, exact)))
@@ -405,7 +409,7 @@ def functions_of(scores: Scores, elections: Elections, length: str = "") -> dict
 
 
 def make_length_score(column: str) -> Score:
-    """Returns the score of the lengths of cut edges in a column. ValueError where none is named."""
+    """Returns the score of the cut edges' total length; raises ValueError without a column."""
     if not column:
         raise ValueError('the score cut_length needs lengths: trace(.., length="shared_perim")')
     return lambda sample: score_functions.cut_length(sample, column)

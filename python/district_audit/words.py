@@ -9,14 +9,15 @@ Key = typing.Union[str, bytes]
 
 
 def key_of(text: str) -> str:
-    """A key from an announced text: the 64 hexadecimal digits of the SHA-256 of its bytes in UTF-8.
+    """Returns the key of an announced text: the SHA-256 of its bytes in UTF-8, as 64 hexadecimal
+    digits.
     """
     return hashlib.sha256(text.encode("utf-8")).hexdigest()
 
 
 def word_of(value: object) -> str:
-    """A value as the program takes it: yes or no, digits, hexadecimal digits, or parts joined by
-    commas.
+    """Returns a value as the program takes it: yes or no, digits, hexadecimal digits, or parts
+    joined by commas.
     """
     if type(value).__name__ in ("bool", "bool_"):
         return "yes" if value else "no"
@@ -28,9 +29,8 @@ def word_of(value: object) -> str:
 
 
 def words_of(command: str, given: typing.Mapping[str, object]) -> list[str]:
-    """The words of a call: the command, and for each value that is not None its name and the value.
-
-    Which names there are, and which values are good, the program says.
+    """Returns the words of a call: the command, then the name and value of each value that is not
+    None. The program alone decides which names and values are allowed.
     """
     named = dict(given)
     if "population" in named and "pop" not in named:

@@ -38,14 +38,16 @@ def fail_or_skip(what: str) -> typing.NoReturn:
 
 
 def needs(module: str) -> types.ModuleType:
-    """The module, or what `fail_or_skip` does."""
+    """Returns the module, or does what `fail_or_skip` does."""
     if importlib.util.find_spec(module) is None:
         fail_or_skip(module)
     return importlib.import_module(module)
 
 
 def build_program(crate: str, variable: str) -> str:
-    """The real program that the test command leaves in out/, or the one that a variable names."""
+    """Returns the real program that the test command leaves in out/, or the one that a variable
+    names.
+    """
     path = os.environ.get(variable) or str(TOP / "crates" / crate / "out" / crate)
     if not os.access(path, os.X_OK):
         fail_or_skip(f"the program of crates/{crate}")
@@ -82,16 +84,18 @@ class ProgramCase(FolderCase):
         self.program = build_program("audit_program", "DISTRICT_AUDIT")
 
     def with_little_memory(self) -> str:
-        """A program that gets too little memory; a build with the address sanitizer reserves
-        terabytes, and is refused what it asks for in another way."""
+        """Returns a program that gets too little memory.
+
+        A build with the address sanitizer reserves terabytes, and is refused memory in another way.
+        """
         if b"AddressSanitizer" in pathlib.Path(self.program).read_bytes():
             few = f"allocator_may_return_null=1:max_allocation_size_mb=1:log_path={self.folder}/log"
             return self.wrapper(f"ASAN_OPTIONS={few} exec PROGRAM")
         return self.wrapper("ulimit -v 60000; exec PROGRAM")
 
     def wrapper(self, line: str) -> str:
-        """A program that runs the real one under other circumstances; in the line, PROGRAM stands
-        for it with its words.
+        """Returns a program that runs the real one under other circumstances; in the line, PROGRAM
+        stands for it with its words.
         """
         path = self.folder / "wrapper"
         call = line.replace("PROGRAM", f"'{self.program}' \"$@\"")
@@ -148,26 +152,26 @@ def blocks_of(text: str) -> typing.Iterator[str]:
 
 
 def readme_report() -> str:
-    """The report that the README prints, which a court's reader would copy."""
+    """Returns the report that the README prints, which a court's reader would copy."""
     text = (TOP / "README.md").read_text(encoding="utf-8")
     return next(block for block in blocks_of(text) if "ends seats" in block)
 
 
 def groups_report() -> str:
-    """The report on groups.json that examples/README.md prints, with each rule set and the source
-    told; the plain model prints it.
+    """Returns the report on groups.json in examples/README.md, with each rule and the source; the
+    plain model prints it.
     """
     text = (EXAMPLES / "README.md").read_text(encoding="utf-8").split("\n## groups.json\n")[1]
     return next(blocks_of(text))
 
 
 def anything(value: object) -> Value:
-    """Returns a value of a type that no checker judges, such as one that a call has to refuse."""
+    """Returns a value of a type that no checker judges, such as one that a call must refuse."""
     return value
 
 
 def find_in(form: str, text: str) -> re.Match[str]:
-    """Returns where a text has a form, which it has to have."""
+    """Returns the place of a form in a text; asserts that there is one."""
     found = re.search(form, text)
     assert found is not None, f"{form} is not in the text"
     return found

@@ -2,7 +2,7 @@
 """Shows and prints exhibits in headless Chromium: print_exhibits.py [FOLDER].
 
 It makes an exhibit of each kind of report, takes a screenshot of each and prints it to PDF with the
-network cut off. Each page has to be gray throughout, all words have to be in the PDF, and no sheet
+network cut off. Each page must be gray throughout, all words must be in the PDF, and no sheet
 may be empty. FOLDER keeps the pages and pictures, to be looked at.
 
 It needs Chromium and poppler-utils (Debian: chromium, poppler-utils), and is skipped without them.
@@ -60,7 +60,7 @@ def faults_of(folder: pathlib.Path, name: str, text: str) -> list[str]:
 
 
 def squeeze(text: str) -> str:
-    """A text without white space and without breaks within long words."""
+    """Returns a text without white space and without breaks within long words."""
     return re.sub(r"\s", "", text)
 
 
@@ -75,7 +75,7 @@ def main() -> bool:
 
 
 def print_all(folder: pathlib.Path) -> bool:
-    """Makes and prints all exhibits, and returns whether one is not as it has to be."""
+    """Makes and prints all exhibits, and returns whether one is not as it must be."""
     folder.mkdir(parents=True, exist_ok=True)
     pages = {name.replace(" ", "_"): page_of(text) for name, text in TEXTS.items()}
     pages["districts"] = page_of(

@@ -1,7 +1,7 @@
 #!/usr/bin/env python3
 """Runs all tests of the package, as `tests/run python` does.
 
-By hand the package has to be installed (`pip install -e ./python`), and PYTHONPATH has to name the
+A run by hand needs the package installed (`pip install -e ./python`), and PYTHONPATH must name the
 top of the repository, where tests of traces find the plain model.
 
 A failed test is printed once more by its name, with what was expected and what came. The last line

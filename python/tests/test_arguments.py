@@ -357,7 +357,7 @@ class Program(common.ProgramCase):
     """The package refuses exactly the arguments that the program refuses, by the same line."""
 
     def verdicts(self, command: str, named: arguments.Words) -> tuple[str, str]:
-        """The lines of the package and of the program; '' where the words are taken.
+        """Returns the lines of the package and of the program; '' where the words are taken.
 
         The graph is no JSON, so the program walks nothing.
         """

@@ -28,8 +28,8 @@ Refusal = typing.TypeVar("Refusal", bound=district_audit.AuditError)
 
 
 def allow_interrupts() -> None:
-    """In a child: an interrupt ends it, also where the tests themselves run in the background,
-    where it is ignored.
+    """Lets an interrupt end a child process, even if the tests run in the background, where it is
+    ignored.
     """
     signal.signal(signal.SIGINT, signal.SIG_DFL)
 
@@ -311,7 +311,7 @@ class Calls(common.ProgramCase):
                 with self.assertRaises(district_audit.WorkLeft):
                     district_audit.run(CYCLE, part=part, **words)
         except district_audit.WordsRefused as why:
-            self.fail(f"the program that is tried has no parts: {why}")
+            self.fail(f"the program under test has no parts: {why}")
         self.assertEqual(
             district_audit.run(CYCLE, part=1, **words),
             district_audit.run(CYCLE, program=self.program, **common.WALK),
@@ -405,8 +405,8 @@ class Exceptions(common.ProgramCase):
         self.assertEqual(error.labels, 'region 0 is "Kings"')
 
     def test_2_region_of_a_real_map(self) -> None:
-        """Which county of upstate New York is split too often, and what its number is, is counted
-        here from the file.
+        """The county of upstate New York that is split too often, and its number, are counted here
+        from the file.
         """
         nodes = common.example("ny8.json")["nodes"]
         split: dict[str, set[object]] = {}
@@ -878,7 +878,7 @@ class Kept(common.ProgramCase):
             )
         self.assertIn("there is no such folder", str(caught.exception))
 
-    def test_no_json_is_told_with_its_line_and_column(self) -> None:
+    def test_invalid_json_is_reported_with_its_line_and_column(self) -> None:
         for data, said in (
             (b"[", "line 1, column 2: Expecting value"),
             (b'{"a":\n 1,\n b}', "line 3, column 2: Expecting property name"),

@@ -116,7 +116,7 @@ class Faults(common.ProgramCase):
         )
         return answer
 
-    def test_every_fault_is_told(self) -> None:
+    def test_every_fault_is_reported(self) -> None:
         error = self.faults(common.example("apart.json"), slack=500)
         self.assertEqual(error.line, "plan: district 0 has population 2, outside 3 to 2")
         self.assertEqual(

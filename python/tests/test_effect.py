@@ -33,7 +33,7 @@ def powers(base: Surd, most: int, x: Fraction) -> list[Surd]:
 
 
 def exact_tail(walks: int, least: int, x: Fraction) -> Surd:
-    """P(X >= least) as a pair (a, b) that stands for a + b sqrt(x)."""
+    """Returns P(X >= least) as a pair (a, b) that stands for a + b sqrt(x)."""
     success = powers((Fraction(0), Fraction(1)), walks, x)
     failure = powers((Fraction(1), Fraction(-1)), walks, x)
     terms = [times(success[n], failure[walks - n], x) for n in range(least, walks + 1)]
@@ -121,14 +121,14 @@ class Chain:
         return self.districts * middle - 2 * sum(shares)
 
     def is_extreme(self, score: str, tail: str, start: int) -> list[bool]:
-        """For each plan whether it is at least as extreme as the start."""
+        """Returns for each plan whether it is at least as extreme as the start."""
         values = [self.value(score, plan) for plan in self.plans]
         if tail == "low":
             return [value <= values[start] for value in values]
         return [value >= values[start] for value in values]
 
     def counts(self, extreme: list[bool], start: int, steps: int) -> list[int]:
-        """For each count of extreme visits the number of DRAWS ** steps walks that have it."""
+        """Returns how many of DRAWS ** steps walks have each count of extreme visits."""
         now = {(start, 1): 1}
         for _ in range(steps):
             after: dict[tuple[int, int], int] = {}
@@ -144,7 +144,7 @@ class Chain:
 
 
 def chain_of(name: str, slack: int) -> Chain:
-    """The chain of an example's file."""
+    """Returns the chain of an example's file."""
     root = example(name)
     place = {node["id"]: i for i, node in enumerate(root["nodes"])}
     pairs = {

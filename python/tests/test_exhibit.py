@@ -71,13 +71,14 @@ class Page(html.parser.HTMLParser):
 
 
 def guide_report(word: str) -> str:
-    """The report of the guide with a line that begins so."""
+    """Returns the report of the guide with a line that begins so."""
     text = (TOP / "docs" / "user" / "GUIDE.md").read_text(encoding="utf-8")
     return next(block for block in common.blocks_of(text) if "\n" + word in block)
 
 
 def shift_report() -> str:
-    """The README's report with a histogram: 200002 plans, 44391 + 59205 of them seats:low."""
+    """Returns the README's report with a histogram: 200002 plans, 44391 + 59205 of them seats:low.
+    """
     text = readme_report().replace("district-audit 1", "district-audit 2")
     low = 44391 + 59205
     counts = [0, 0, 36, 15005, low - 15041, 89526, 6880, 0, 0]
@@ -85,7 +86,7 @@ def shift_report() -> str:
 
 
 def ends_report() -> str:
-    """The README's report with the parallel test alone."""
+    """Returns the README's report with the parallel test alone."""
     lines = [
         line.replace("walks 2", "walks 0")
         for line in readme_report().splitlines()
@@ -95,7 +96,7 @@ def ends_report() -> str:
 
 
 def many_walks_report() -> str:
-    """A report of nine walks, more than are shown one by one."""
+    """Returns a report of nine walks, more than are shown one by one."""
     lines = readme_report().replace("walks 2", "walks 9").splitlines()
     walks = [
         line.replace("walk 1", f"walk {number}")
@@ -124,7 +125,7 @@ def page_of(text: str, name: str = "", **options: common.Value) -> str:
 
 class ExhibitTests(FolderCase):
     def check_alone(self, text: str) -> Page:
-        """The page is whole, and nothing in it refers to anything outside of it."""
+        """Tests that the page is complete, and refers to nothing outside of it."""
         page = Page(text)
         self.assertEqual(page.faults, [])
         self.assertFalse(
@@ -408,7 +409,7 @@ class ExhibitTests(FolderCase):
 
 
 def show_label(label: str) -> str:
-    """A label as a page shows it: what cannot be seen is a code point."""
+    """Returns a label as a page shows it: what cannot be seen is a code point."""
     for hidden in "\u202e\x07\udc80":
         label = label.replace(hidden, f"\\u{ord(hidden):04x}")
     return label
@@ -419,7 +420,7 @@ class ProgramTests(ProgramCase):
         return next(words for words in page.words if words.startswith("district-audit "))
 
     def repeats(self, name: str, columns: common.Words, **words: common.Value) -> None:
-        """The command that an exhibit prints makes the report again, byte for byte."""
+        """Tests that the command that an exhibit prints makes the report again, byte for byte."""
         report = district_audit.run(
             str(EXAMPLES / "data" / name), program=self.program, key=KEY, **columns, **words
         )

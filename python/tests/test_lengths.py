@@ -88,9 +88,12 @@ class Preparing(unittest.TestCase):
             ((9, None, 5, 3), "edge 1 - 2: shared_perim is missing"),
             ((9, math.nan, 5, 3), "edge 1 - 2: shared_perim is missing"),
             ((9, -0.25, 5, 3), "edge 1 - 2: shared_perim, which is -0.25, is below 0"),
-            ((9, "7", 5, 3), 'edge 1 - 2: shared_perim, which is "7", is no number'),
-            ((9, True, 5, 3), "edge 1 - 2: shared_perim, which is true, is no number"),
-            ((9, math.inf, 5, 3), "edge 1 - 2: shared_perim, which is Infinity, is no number"),
+            ((9, "7", 5, 3), 'edge 1 - 2: shared_perim, which is "7", is not a number'),
+            ((9, True, 5, 3), "edge 1 - 2: shared_perim, which is true, is not a number"),
+            (
+                (9, math.inf, 5, 3),
+                "edge 1 - 2: shared_perim, which is Infinity, is not a number",
+            ),
             (
                 (9, 2**32, 5, 3),
                 "edge 1 - 2: shared_perim, which is 4294967296, is above 4294967295",

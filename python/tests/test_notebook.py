@@ -16,7 +16,7 @@ class Notebook(common.ProgramCase):
         self.book = json.loads(NOTEBOOK.read_text(encoding="utf-8"))
 
     def cells(self) -> list[str]:
-        """The text of each cell of code."""
+        """Returns the text of each cell of code."""
         cells = self.book["cells"]
         return ["".join(cell["source"]) for cell in cells if cell["cell_type"] == "code"]
 

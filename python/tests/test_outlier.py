@@ -13,9 +13,8 @@ class OfValues(unittest.TestCase):
     """The tests of any values, on numbers worked by hand."""
 
     def test_counts_and_bounds(self) -> None:
-        """Of 3, 1, 2, 3, 5 four are at most 3: the root of 8/5 is 1.2649110640..; three are at
-        least 3:
-        the root of 6/5 is 1.0954451150.. Both are rounded up."""
+        """Four of 3, 1, 2, 3, 5 are at most 3: the root of 8/5 is 1.2649110640.. Three are at least
+        3: the root of 6/5 is 1.0954451150.. Both are rounded up."""
         for tail, wanted in (
             ("low", "low count 4 of 5 bound 1.264911065"),
             ("high", "high count 3 of 5 bound 1.095445116"),

@@ -79,8 +79,8 @@ NEWER_ARGUMENTS = {
 
 
 def find_type_nodes(tree: ast.Module) -> set[ast.AST]:
-    """The parts of a module that no run looks at: annotations, where `from __future__ import
-    annotations` stands, and what only type checkers read.
+    """Returns the parts of a module that no run looks at: annotations, where `from __future__
+    import annotations` stands, and what only type checkers read.
     """
     found: set[ast.AST] = set()
     if any(
@@ -103,7 +103,7 @@ def find_type_nodes(tree: ast.Module) -> set[ast.AST]:
 
 
 def newer_than_3_9(tree: ast.Module) -> typing.Iterator[tuple[int, str]]:
-    """Each use, in a module, of what Python 3.9 does not have, with its line."""
+    """Yields each use, in a module, of what Python 3.9 does not have, with its line."""
     passed = find_type_nodes(tree)
     for node in ast.walk(tree):
         if node in passed:
@@ -251,7 +251,7 @@ assert "<table>" in district_audit.Report.parse(sys.argv[2])._repr_html_()
             env={**os.environ, "PYTHONPATH": str(PYTHON)}, check=True,
         )
 
-    def test_what_is_missing_is_told_with_its_extra_and_how_to_install_it(self) -> None:
+    def test_missing_modules_are_reported_with_their_extra_and_how_to_install_it(self) -> None:
         script = (
             HIDDEN
             + """

@@ -17,7 +17,9 @@ ROUGH: common.Words = dict(population="TOTPOP", first="DEM", second="REP", distr
 
 
 def square(**changed: common.Value) -> common.Root:
-    """Four units round a square; for each name of a column the values that stand there instead."""
+    """Returns four units round a square; for each name of a column the values that stand there
+    instead.
+    """
     columns: common.Words = {
         "pop": [1, 1, 1, 1],
         "a": [1, 2, 3, 4],
@@ -165,7 +167,7 @@ class Changes(unittest.TestCase):
         self.assertEqual(prepared.warnings, [])
         self.assertEqual(prepare_root(square(a=[0, 1, 1, 0])).warnings, [])
 
-    def test_parts_are_told_and_joined(self) -> None:
+    def test_parts_are_reported_and_joined(self) -> None:
         """Two islands, each a whole district, and one unit with no neighbour."""
         nodes = [{"id": place, "pop": 1, "a": 1, "b": 1, "d": place // 2} for place in range(7)]
         root = {
@@ -378,7 +380,7 @@ class Changes(unittest.TestCase):
             'g has a majority of w in 1 of 2 districts: "x" (of nobody)',
         )
 
-    def test_a_column_that_is_named_twice_is_told_of_once(self) -> None:
+    def test_a_column_that_is_named_twice_is_reported_once(self) -> None:
         prepared = prepare_root(square(a=[1.0, 2, 3, 4]), group="a", group_of="a")
         self.assertEqual(
             [str(change) for change in prepared.changes],
@@ -392,7 +394,7 @@ class Changes(unittest.TestCase):
     def test_columns_of_a_group_are_judged_as_the_others(self) -> None:
         self.refuse("no unit has a column bvap", square(), group="bvap")
         self.refuse("no unit has a column vap", square(g=[1, 1, 1, 1]), group="g", group_of="vap")
-        self.refuse("group_of is given, and no group is", square(), group_of="a")
+        self.refuse("group_of is given without group", square(), group_of="a")
         self.refuse(
             'unit "t" has no g (choose missing="zero" or "drop")', square(g=[1, None, 1, 1]),
             group="g",
@@ -451,7 +453,7 @@ class Changes(unittest.TestCase):
         self.refuse('an edge names "w", which is not a unit', root)
         self.refuse("4 nodes and 3 adjacency entries", {**square(), "adjacency": [[], [], []]})
         self.refuse(
-            "there is neither a list `adjacency` nor one of `links` or `edges`",
+            "the graph has none of the lists `adjacency`, `links` and `edges`",
             {"nodes": square()["nodes"]},
         )
         links = {
@@ -482,13 +484,13 @@ class Changes(unittest.TestCase):
     def test_what_is_no_graph(self) -> None:
         for graph, why in (
             (b"[]", "is not a graph of networkx"), (b"{", "cannot be read"),
-            ("/there/is/none.json", "cannot be read"), (7, "and this is int"),
+            ("/there/is/none.json", "cannot be read"), (7, "not of type int"),
         ):
             with self.subTest(graph=graph), self.assertRaises(PrepareRefused) as caught:
                 prepare(graph, **common.COLUMNS)
             self.assertIn(why, str(caught.exception))
         self.refuse(
-            "numbers is one of error, nearest, floor, and not 'round'", square(), numbers="round"
+            "numbers must be one of error, nearest, floor, not 'round'", square(), numbers="round"
         )
 
 

@@ -35,7 +35,7 @@ class Prepared(common.ProgramCase):
     WALK: common.Words = dict(key=common.KEY, steps=8, ask="gap:low")
 
     def calls(self) -> typing.Iterator[typing.Callable[..., object]]:
-        """Each call on a prepared graph."""
+        """Yields each call on a prepared graph."""
         program: common.Words = {"program": self.program}
         walk = {**program, **self.WALK}
         yield lambda prepared, **words: district_audit.check(prepared, **program, **words)

@@ -19,8 +19,8 @@ Kind = type[typing.Union[Report, PlanCheck]]
 
 
 def texts() -> list[tuple[int, typing.Optional[str], str]]:
-    """Each whole text that `case_runner` has to print: a check, a report, or the reports of several
-    plans.
+    """Returns each whole text that `case_runner` must print: a check, a report, or the reports of
+    several plans.
     """
     lines = (common.CASES / "stdout").read_text(encoding="utf-8").split("\n")
     found, at = [], 0
@@ -203,7 +203,7 @@ class Values(unittest.TestCase):
         said = [
             "6 regions, each in at most 200 districts", "at most 3 splits of regions in all",
             "at most 3 regions in more than one district",
-            "the group has a majority in 2 districts, and has to have one in 2",
+            "the group has a majority in 2 districts, and must have one in 2",
         ]
         self.assertEqual(report.rules.describe() + report.rules.describe_more(), said)
         for words in (
@@ -307,7 +307,7 @@ class Pictures(common.FolderCase):
             lines[1],
             (
                 "at most 3 splits of regions in all; at most 3 regions in more than one district; "
-                "the group has a majority in 2 districts, and has to have one in 2"
+                "the group has a majority in 2 districts, and must have one in 2"
             ),
         )
         self.assertEqual(

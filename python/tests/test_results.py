@@ -21,7 +21,8 @@ ELECTIONS = {"GOV18": ("DEM", "REP"), "SEN20": ("D2", "R2")}
 
 
 def root() -> common.Root:
-    """The grid with a second election, in which every other unit votes the other way round."""
+    """Returns the grid with a second election, in which every other unit votes the other way round.
+    """
     found = common.example("grid.json")
     for place, node in enumerate(found["nodes"]):
         votes = (node["DEM"], node["REP"])
@@ -174,7 +175,7 @@ class Named(unittest.TestCase):
         with self.assertRaises(KeyError) as caught:
             found["old"]
         self.assertIn(
-            "none has this name 'old'; the names are 'CD', 'new'", str(caught.exception)
+            "no report has the name 'old'; the names are 'CD', 'new'", str(caught.exception)
         )
         with self.assertRaises(KeyError):
             PlanReports([("CD", self.report), ("CD", self.other)])["CD"]
@@ -231,7 +232,7 @@ class Pictures(common.FolderCase):
         self.report = Report.parse(common.readme_report())
 
     def words(self, figure: common.Value) -> str:
-        """All words of a figure: those on it, the titles and the names of rows."""
+        """Returns all words of a figure: those on it, the titles and the names of rows."""
         found = [text.get_text() for text in figure.texts]
         for axes in figure.axes:
             found += [
@@ -278,7 +279,7 @@ class Pictures(common.FolderCase):
 
     def test_what_is_no_score_or_party(self) -> None:
         for words, why in (
-            (dict(scores=["sets"]), "'sets' is none of"),
+            (dict(scores=["sets"]), "'sets' is not one of"),
             (dict(scores="mean-median"), "the report has none of these"),
             (dict(parties="DR"), "the first and the second party"),
             (dict(parties=("D",)), "the first and the second party"),

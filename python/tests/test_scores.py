@@ -33,7 +33,7 @@ Rows = typing.Sequence[typing.Sequence[tuple[int, int, int, int, str]]]
 
 
 def graph_of(rows: Rows) -> common.Root:
-    """The rows as a graph in networkx's adjacency layout."""
+    """Returns the rows as a graph in networkx's adjacency layout."""
     places = [(row, column) for row in range(len(rows)) for column in range(len(rows[0]))]
     nodes = [
         dict(
@@ -70,7 +70,7 @@ class ScoreCase(common.FolderCase):
         start: int = 6,
         **more: common.Value,
     ) -> district_audit.Trace:
-        """A trace of a graph, whose lines of plans are given."""
+        """Returns a trace of a graph, whose lines of plans are given."""
         nodes, labels = root["nodes"], {node["d"] for node in root["nodes"]}
         edges = {
             frozenset((node["id"], other["id"]))
@@ -98,7 +98,7 @@ class ScoreCase(common.FolderCase):
         )
 
     def sample(self, rows: Rows = ROWS, **more: common.Value) -> district_audit.Sample:
-        """The sample of the enacted plan."""
+        """Returns the sample of the enacted plan."""
         return next(self.trace(graph_of(rows), "0 0 6\n1 0 6", **more))
 
 
@@ -484,7 +484,9 @@ class Compactness(ScoreCase):
 
 
 def slow_radius(points: typing.Iterable[compactness.Point]) -> float:
-    """The radius of the least circle around some points, among all circles through two or three."""
+    """Returns the radius of the least circle around some points, among all circles through two or
+    three.
+    """
     corners = list(dict.fromkeys(points))
     found = [(corners[0], 0.0)]
     for (ax, ay), (bx, by) in itertools.combinations(corners, 2):

@@ -23,8 +23,9 @@ class Pictures(common.FolderCase):
         common.needs("matplotlib")
 
     def save(self, draw: typing.Callable[[str], object]) -> str:
-        """The texts of a picture's SVG; both files are there, in grey alone, and the same each
-        time."""
+        """Returns the texts of a picture's SVG; both files are there, in gray alone, and the same
+        each time.
+        """
         both = []
         for name in ("first", "second"):
             draw(str(self.folder / name))

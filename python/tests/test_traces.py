@@ -65,7 +65,7 @@ trace id 2 steps 2 thin 2\n0 0 1 -4 2:0 => trace id 2 steps 2 thin 2\n0 0 0 -16 
 
 
 class Reading(TextCase):
-    """What is read of a text, and which texts are refused, at which line."""
+    """The values read from a text, and the lines at which other texts are refused."""
 
     def refuse(self, number: int, text: typing.Union[str, bytes], **more: common.Value) -> str:
         with self.assertRaises(district_audit.TraceRefused) as caught:
@@ -355,7 +355,7 @@ class Reading(TextCase):
         self.assertEqual(count, steps + 1)
         self.assertLess(peak, 100_000)
 
-    def test_missing_and_odd_values_are_told_by_the_units_id(self) -> None:
+    def test_missing_and_odd_values_are_reported_by_the_units_id(self) -> None:
         for value, why in (
             (None, "has no more"), (float("nan"), "has no more"), ("", "has no more"),
             (0.5, "is not whole"), (-1, "is negative"), ("7", "is not a number"),

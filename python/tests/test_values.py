@@ -42,7 +42,7 @@ ALIKE = [
 
 
 def make_missing() -> list[object]:
-    """Missing values of numpy and pandas, where these are installed."""
+    """Returns missing values of numpy and pandas, where these are installed."""
     numpy, pandas = common.needs("numpy"), common.needs("pandas")
     return [
         numpy.nan, numpy.float32("nan"), numpy.datetime64("NaT"), pandas.NA, pandas.NaT,
@@ -56,7 +56,7 @@ def root_of(
     units: typing.Sequence[object] = UNITS,
     **more: common.Value,
 ) -> common.Root:
-    """A cycle whose units have these labels in a column; d is the plan in any case."""
+    """Returns a cycle whose units have these labels in a column; d is the plan in any case."""
     nodes: list[dict[str, object]] = [
         {"id": unit, "pop": 1, "a": 1, "b": 2, "d": PLAN[name]} for unit, name in zip(units, UNITS)
     ]
@@ -67,7 +67,7 @@ def root_of(
 
 
 def replace_label(label: object, place: int = 3) -> list[object]:
-    """The labels of the plan, with another one in a place."""
+    """Returns the labels of the plan, with another one in a place."""
     found = list(PLAN.values())
     found[place] = label
     return found
@@ -111,7 +111,7 @@ class Values(unittest.TestCase):
 
 class Case(common.ProgramCase):
     def refuse(self, call: Call, *parts: str) -> PrepareRefused:
-        """A call is refused by a line that names the unit v and has these parts."""
+        """Tests that a call is refused by a line that names the unit v and has these parts."""
         with self.assertRaises(PrepareRefused) as caught:
             call()
         self.assertTrue(
@@ -125,7 +125,7 @@ class Case(common.ProgramCase):
         return caught.exception
 
     def calls(self, labels: typing.Sequence[object]) -> dict[str, Call]:
-        """Each way by which labels of units come into the package."""
+        """Returns each way by which labels of units come into the package."""
         plan = dict(zip(UNITS, labels))
         graph = common.StandInGraph(root_of(list(PLAN.values())))
         others = {name: column for name, column in WORDS.items() if name != "district"}
@@ -378,7 +378,9 @@ class Units(UnitsCase):
     """Ids: of the graph, of assignments, and of tables."""
 
     def pairs(self, pairs: typing.Iterable[tuple[object, object]]) -> common.StandInAssignment:
-        """An assignment whose items() have an id twice, as of a Series with a repeated index."""
+        """Returns an assignment whose items() have an id twice, as of a Series with a repeated
+        index.
+        """
         stand_in = common.StandInAssignment({})
         setattr(stand_in, "items", lambda: list(pairs))
         return stand_in
@@ -457,21 +459,21 @@ class Units(UnitsCase):
 
     def test_plans_that_are_none(self) -> None:
         self.no("this seems to be one assignment", lambda: self.plans(PLAN))
-        self.no("a table has 1 to 16 plans, and this one has 0", lambda: self.plans({}))
+        self.no("a table must have 1 to 16 plans, not 0", lambda: self.plans({}))
         self.no(
-            "a table has 1 to 16 plans, and this one has 17",
+            "a table must have 1 to 16 plans, not 17",
             lambda: self.plans({f"p{place}": PLAN for place in range(17)}),
         )
-        self.no("a table of plans is a dict", lambda: self.plans(7))
+        self.no("a table of plans must be a dict", lambda: self.plans(7))
         self.no(
-            "plan one: it is a list", lambda: self.plans({"one": list(PLAN.values()), "two": PLAN})
+            "plan one must be a dict", lambda: self.plans({"one": list(PLAN.values()), "two": PLAN})
         )
         self.no(
             "several plans of the table have the same name: 1",
             lambda: self.plans({1: PLAN, "1": PLAN}),
         )
         for name in (None, float("nan"), True, 1.5):
-            self.no("a plan's name is a text", lambda: self.plans({name: PLAN}))
+            self.no("a plan's name must be a text", lambda: self.plans({name: PLAN}))
         for word in ("Plan A", "\u00e9", "x" * 101, "a\nb"):
             self.no("and so no spaces", lambda: self.plans({word: PLAN}))
 
@@ -578,7 +580,7 @@ class Counts(UnitsCase):
         found = self.plans({"one": PLAN, "two": self.THREE}, districts="any")
         self.assertEqual([report.districts for _, report in found], [2, 2, 3])
         self.no(
-            'districts is "same" or "any", and not 3',
+            'districts must be "same" or "any", not 3',
             lambda: self.plans({"one": PLAN}, districts=3),
         )
 

@@ -67,8 +67,8 @@ class Drawn(typing.NamedTuple):
 
 
 def draw_graph(dice: random.Random) -> Root:
-    """A connected graph with a legal plan of contiguous districts, columns of counties, a group and
-    a second election, ids of both kinds, and the root object of its JSON."""
+    """Returns a connected graph with a legal plan of contiguous districts, columns of counties, a
+    group and a second election, ids of both kinds, and the root object of its JSON."""
     rows, columns = dice.randint(2, 5), dice.randint(3, 6)
     places = [(row, column) for row in range(rows) for column in range(columns)]
     pairs = [
@@ -116,7 +116,7 @@ def draw_graph(dice: random.Random) -> Root:
 
 
 def draw_words(dice: random.Random, steps: int = 120) -> Words:
-    """The words of a run, as keyword arguments of the package."""
+    """Returns the words of a run, as keyword arguments of the package."""
     has_lengths = dice.random() < 0.4
     scores = [*SCORES, "cut-length"] if has_lengths else SCORES
     asks = [
@@ -140,7 +140,7 @@ def draw_words(dice: random.Random, steps: int = 120) -> Words:
 
 
 def job_of(words: typing.Mapping[str, object], data: bytes) -> model.Job:
-    """The model's job; model.Refused where the plan or the words are refused."""
+    """Returns the model's job; raises model.Refused if the plan or the words are refused."""
     given = [
         part
         for name, value in words.items()
@@ -151,8 +151,9 @@ def job_of(words: typing.Mapping[str, object], data: bytes) -> model.Job:
 
 
 def visit(job: model.Job, number: int) -> list[tuple[typing.Sequence[int], int]]:
-    """The plans and the moves of a trajectory: a list of both after each step, and how many
-    steps."""
+    """Returns the plans and the moves of a trajectory: a list of both after each step, and how many
+    steps.
+    """
     setting, plan = job.setting, tuple(job.plan)
     if number < setting.walks:
         plans = job.walk(plan, 2 * number, setting.steps)[0]
@@ -170,7 +171,7 @@ def shown_steps(steps: int, thin: int) -> list[int]:
 
 
 def text_of(job: model.Job, first: int, last: int, thin: int) -> str:
-    """The trace of some trajectories."""
+    """Returns the trace of some trajectories."""
     setting, start = job.setting, tuple(job.plan)
     lines = [
         "district-trace 1",
@@ -259,7 +260,8 @@ def encode(root: object) -> bytes:
 
 
 def draw_jobs(seed: int, count: int) -> typing.Iterator[Drawn]:
-    """Drawn graphs with words that the model takes, the model's job, and ids and a thinning."""
+    """Yields drawn graphs with words that the model takes, the model's job, and ids and a thinning.
+    """
     dice = random.Random(seed)
     while count:
         root, words = draw_graph(dice), draw_words(dice)
@@ -274,7 +276,7 @@ def draw_jobs(seed: int, count: int) -> typing.Iterator[Drawn]:
 
 
 def tracing_program() -> str:
-    """The real program, which has to know `trace` with `--ids`."""
+    """Returns the real program, which must know `trace` with `--ids`."""
     program = common.build_program("audit_program", "DISTRICT_AUDIT")
     answer = subprocess.run(
         [program, "trace", "--ids", "0"], stdin=subprocess.DEVNULL, stdout=subprocess.DEVNULL,
