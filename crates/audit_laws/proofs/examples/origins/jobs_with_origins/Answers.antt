@@ -13,9 +13,9 @@ use Rattle.audit_statement.specs.Regions.{id_reading}
 use Rattle.audit_statement.specs.Table.{table_reading}
 use Rattle.audit_laws.proofs.examples.origins.jobs_with_origins.Goals as goal
 
-pub returns-clause-no_source : goal.returns-clause-no_source
+pub returns-clause-no_origin : goal.returns-clause-no_origin
 unfolding judged jobs_reading job_of job_with reading id_reading table_reading csv_on_literals digits is_utf8 chars encode_utf8 serde_json_on_literals count_below
-returns-clause-no_source c = refl
+returns-clause-no_origin c = refl
 
 pub returns-clause-observed : goal.returns-clause-observed
 unfolding judged jobs_reading job_of job_with reading id_reading table_reading csv_on_literals digits is_utf8 chars encode_utf8 serde_json_on_literals count_below
