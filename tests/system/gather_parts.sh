@@ -212,11 +212,11 @@ same_text untouched_other "$before" "$(sum_of other)"
 cp -r small-1 wrong
 PYTHONPATH=$top python3 - wrong/audit-0.ckpt wrong/audit-1.ckpt <<'END' || give_up wrong "a checkpoint with another outcome" "none"
 import sys
-from tests.oracle.model import sealed
+from tests.oracle.model import seal
 for name in sys.argv[1:]:
     data = bytearray(open(name, "rb").read())
     data[52 + 11] ^= 1
-    open(name, "wb").write(sealed(bytes(data[:-32])))
+    open(name, "wb").write(seal(bytes(data[:-32])))
 END
 gather differs refused 10 'gather: outcome 1 differs in ../small-1 and ../wrong' ../small-0 ../small-1 ../small-2 ../wrong
 expect_files refused ""

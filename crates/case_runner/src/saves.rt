@@ -6,15 +6,22 @@ use crate::noted::NotedFiles;
 use audit_io::file_calls::SystemCalls;
 use audit_io::slot_files::{Known, save_slot};
 use case_format::begin_case;
+use std::rt::Files;
 use std::{fs, io};
+
+// Saves in a slot through these files.
+fn save_through<R: Files>(files: &R, slot: u8, known: &mut Known) -> io::Result<()>
+    requires { slot < 2 }
+{
+    save_slot(&mut SystemCalls::new(files), slot, b"checkpoint", known)
+}
 
 // Saves in a slot, and prints each call.
 fn show_save(rt: &HostRuntime, slot: u8, known: &mut Known) -> io::Result<()>
     requires { slot < 2 }
 {
     println!(rt; "save in slot {slot}")?;
-    let files = NotedFiles { rt };
-    save_slot(&mut SystemCalls::new(&files), slot, b"checkpoint", known)
+    save_through(&NotedFiles { rt }, slot, known)
 }
 
 // Saves in three slots in turn, as a process does that has saved nothing before.
