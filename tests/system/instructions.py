@@ -37,7 +37,7 @@ from tests.places import DATA, TEST_DATA, package_command, package_environment
 RECORD = TEST_DATA / "instructions.json"
 MOST_TIMES, MORE_SEARCHES = 1.15, 0.5
 # Parts of the names of functions that search whether a unit may leave its district.
-SEARCHES = "searching_tells"
+SEARCHES = "decide_by_search"
 THREADS = "threads_of_four_workers"
 KEY = ["--key", "5" * 64]
 SMALL = [*"run --pop pop --first a --second b --district d --slack 5000".split(), *KEY]
@@ -295,8 +295,10 @@ def compare_run(name: str, came: Counted, recorded: dict[str, dict[str, float]])
     said += f"; {times:.3f} of the recorded {wanted['instructions']}"
     if times > MOST_TIMES:
         return name, False, f"{said}, and at most {MOST_TIMES} is expected"
+    if "searches" in wanted and came.searches is None:
+        return name, False, f"{said}; the program has no function {SEARCHES}"
     most = MOST_TIMES * wanted.get("searches", 0) + MORE_SEARCHES
-    if "searches" in wanted and came.searches is not None and came.searches > most:
+    if came.searches is not None and came.searches > most:
         return name, False, f"{said}; at most {most:.3f} searches are expected"
     return name, True, said
 
