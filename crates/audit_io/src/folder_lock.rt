@@ -6,7 +6,7 @@ use std::fs::{File, TryLockError};
 use std::rt::Files;
 
 /// The error that another process holds the lock of a folder.
-#[derive(Clone, Copy, Debug, PartialEq, Eq)]
+#[derive(Clone, Copy)]
 pub struct Taken;
 
 /// Interprets the result of an attempt to lock an opened folder. `WouldBlock` means that another process holds the

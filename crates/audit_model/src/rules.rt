@@ -28,7 +28,6 @@ impl Group {
 }
 
 /// The rules that a plan must meet beyond population and contiguity.
-#[derive(Drop)]
 pub struct Rules {
     /// The largest number of cut edges.
     pub max_cut: u32,
@@ -52,6 +51,25 @@ pub struct Rules {
     pub frozen: UnitList,
     /// The start plan, whose districts frozen units keep. Empty if `frozen` is empty.
     pub home: UnitList,
+}
+
+/// Drops the fields one by one. Written by hand so that a caller's proof has one call here, not one
+/// per field.
+impl Drop for Rules {
+    fn drop(self) {
+        let Rules {
+            max_cut: _,
+            regions: _regions,
+            max_split: _,
+            max_splits: _,
+            max_split_regions: _,
+            group: _group,
+            group_districts: _,
+            group_share: _,
+            frozen: _frozen,
+            home: _home,
+        } = self;
+    }
 }
 
 impl Rules {

@@ -15,7 +15,7 @@ use plan_core::job::Job;
 use std::alloc::Global;
 
 /// The finding in a folder: the folder's outcomes were added, or the reason why they were not.
-#[derive(Clone, Copy, Debug, PartialEq, Eq)]
+#[derive(Clone, Copy)]
 pub enum Finding {
     /// The folder's `count` outcomes were added. Of their ids, `new` were not in the union before. `beside` is true if
     /// the slot beside the newest one is broken.

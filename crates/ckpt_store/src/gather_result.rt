@@ -21,7 +21,7 @@ pub struct GatherResult {
 }
 
 /// The reason why a gathering failed.
-#[derive(Clone, Copy, Debug, PartialEq, Eq)]
+#[derive(Clone, Copy)]
 pub enum GatherError {
     /// Out of memory. No save was attempted.
     Memory,

@@ -21,7 +21,7 @@ use std::alloc::Global;
 const LIMIT: u64 = 8_000_084;
 
 /// The reason why the slots could not be loaded and decoded.
-#[derive(Clone, Copy, Debug, PartialEq, Eq)]
+#[derive(Clone, Copy)]
 pub enum LookFault {
     /// The keeper failed to load a slot.
     Failed,

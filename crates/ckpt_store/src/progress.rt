@@ -17,7 +17,7 @@ use plan_core::job::Job;
 use std::alloc::Global;
 
 /// The progress of a job, or the reason why the slots show none.
-#[derive(Clone, Copy, Debug, PartialEq, Eq)]
+#[derive(Clone, Copy)]
 pub enum Progress {
     /// The number of the job's outcomes in the newest slot, or 0 if both slots are empty.
     Done(u64),

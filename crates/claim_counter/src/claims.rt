@@ -21,7 +21,7 @@ pub struct Claims {
 }
 
 /// The result of closing a counter.
-#[derive(Clone, Copy, Debug, PartialEq, Eq)]
+#[derive(Clone, Copy)]
 pub struct Closed {
     /// The least number that was not given out. All numbers below it were.
     pub drawn: u32,

@@ -16,7 +16,7 @@ use plan_core::job::Job;
 use std::alloc::Global;
 
 /// The save settings of a run: the job's digest, the number of posts between saves, and the place of the first save.
-#[derive(Clone, Copy, Debug)]
+#[derive(Clone, Copy)]
 pub struct DeskPlan {
     pub digest: [u8; 32],
     pub save_every: u32,
