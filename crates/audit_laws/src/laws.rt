@@ -25,7 +25,7 @@ pub fn ended_calls_keep_their_promise()
 }
 
 /// States that the options of a run change neither the job's digest, nor what its trajectories find, nor its report.
-/// The options is the command, the number of workers, the budget, saving, resuming and the part. Therefore `plans`
+/// The options are the command, the number of workers, the budget, saving, resuming and the part. Therefore `plans`
 /// reports on each plan as `run` would on that plan alone. Asking for histograms or for the origin changes the report,
 /// but neither the digest nor which slots are consistent.
 pub fn reruns_are_alike()
