@@ -6,6 +6,7 @@ use audit_model::outcome::Counts;
 use audit_model::rules::Group;
 
 /// A graph with the data of its units: counts, group, frozen units, start plan and district labels.
+#[derive(Drop)]
 pub struct Parsed {
     pub graph: Graph,
     /// The population and votes of each unit, and the lengths of the edges.
@@ -20,19 +21,4 @@ pub struct Parsed {
     pub start: UnitList,
     /// The distinct labels of districts: integers by value, then texts by their bytes.
     pub labels: LabelList,
-}
-
-/// Drops the fields one by one. Written by hand so that a caller's proof has one call here, not one
-/// per field.
-impl Drop for Parsed {
-    fn drop(self) {
-        let Parsed {
-            graph: _graph,
-            counts: _counts,
-            group: _group,
-            frozen: _frozen,
-            start: _start,
-            labels: _labels,
-        } = self;
-    }
 }

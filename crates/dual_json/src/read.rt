@@ -251,10 +251,11 @@ fn lengths_in<'v>(
 }
 
 /// Adds the lengths of edges to the counts.
-fn with_lengths(counts: Counts, lengths: UnitList) -> Counts
+fn with_lengths(mut counts: Counts, lengths: UnitList) -> Counts
     ensures { result ≡ record counts { lengths = lengths } }
 {
-    Counts { lengths, ..counts }
+    counts.lengths = lengths;
+    counts
 }
 
 /// Checks the columns, then the numbers and flags, then the district labels, and returns each node's

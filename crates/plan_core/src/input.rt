@@ -162,7 +162,10 @@ impl Input {
     {
         let home = home_of(&self.rules.frozen, start)?;
         match self.rules.copy() {
-            Ok(rules) => Ok(Rules { home, ..rules }),
+            Ok(mut rules) => {
+                rules.home = home;
+                Ok(rules)
+            }
             Err(_) => Err(Memory),
         }
     }
