@@ -44,7 +44,7 @@ module _ {J : Type 0} where
     pub made : w.walker.job ≡ job
     pub room : total job ≤ length w.share.items + w.share.spare
 
-  -- the list of resting workers has capacity for one more
+  -- the list of idle workers has capacity for one more
   pub record HasPlace {A : Type 0} (job : Job) (idle_workers : Vec (IdleWorker J) A) : Type 0 where
     pub hands_are : All (IsIdleWorker job) idle_workers.items
     pub room : vec_len idle_workers < vec_capacity idle_workers
@@ -63,7 +63,7 @@ module _ {J : Type 0} where
     pub none : vec_len idle_workers ≡ 0
     pub room : vec_len workers ≤ vec_capacity idle_workers
 
-  -- `seats` resting workers, and capacity to give each a pass
+  -- `seats` idle workers, and capacity to give each a pass
   pub record IsBatchWorkers (job : Job) (seats : ℕ) (t : BatchWorkers J) : Type 0 where
     pub idle_workers : All (IsIdleWorker job) t.idle_workers.items
     pub count : vec_len t.idle_workers ≡ seats

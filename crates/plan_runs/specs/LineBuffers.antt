@@ -1,4 +1,4 @@
--- A job's pen: the previous plan, and capacity for any line.
+-- A job's line buffer: the previous plan, and capacity for any line.
 use Rattle.std.specs.Prelude.{◌≡◌, ℕ, ◌+◌, ◌≤◌, List, length}
 use Rattle.audit_model.specs.Job.{Job}
 use Rattle.audit_model.specs.Plan.{IsLegal}

@@ -18,7 +18,7 @@ use Rattle.plan_runs.specs.LineBuffers.{IsLineBuffer}
 use Rattle.report.specs.declared.ended.Ended.{Ended}
 use Rattle.report.specs.declared.ended.Ended.TheVariants as ended
 
--- a walker of the job, and a pen
+-- a walker of the job, and a line buffer
 pub record IsTracer {J : Type 0} (job : Job) (t : Tracer J) : Type 0 where
   pub made : t.walker.job ≡ job
   pub line_buffer : IsLineBuffer job t.line_buffer

@@ -21,7 +21,7 @@ pub struct LineBuffer {
     pub line: Bytes,
 }
 
-/// Allocates a pen whose previous plan is the start plan. Fails only if out of memory.
+/// Allocates a line buffer whose previous plan is the start plan. Fails only if out of memory.
 pub fn make_line_buffer(alloc: Global, job: &Job) -> Result<LineBuffer, Memory>
     ensures { IfOk result (λ p. IsLineBuffer job.now p) }
 {
