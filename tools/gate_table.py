@@ -8,10 +8,10 @@ standard output, or with `--into` into FILE in place of what stands between the 
 below; what `rt ci` says goes to standard error. Ends with the status of `rt ci`.
 
 Four times a second each process under `rt ci` is looked up in /proc. It belongs to the crate that
-its words, or those of the nearest process above it, name; to the edits where it works in a folder
-of an edit, else to the tests where its words say so, else to the proof. Seconds are of processor
-time, up to the last time that a process was seen. Memory is the most that the processes of one
-crate and one kind held at one time; what two of them share counts twice.
+its words, or those of the nearest process above it, name; to the tests where its words say so, else
+to the proof. Seconds are of processor time, up to the last time that a process was seen. Memory is
+the most that the processes of one crate and one kind held at one time; what two of them share
+counts twice.
 """
 import argparse
 import dataclasses
@@ -23,7 +23,7 @@ import typing
 
 
 BEGIN, END = "<!-- written by tools/gate_table.py -->", "<!-- end of what it wrote -->"
-KINDS = ["proof", "tests", "edits"]
+KINDS = ["proof", "tests"]
 TICKS, PAGE = os.sysconf("SC_CLK_TCK"), os.sysconf("SC_PAGE_SIZE")
 # A crate, and the kind of work.
 Use = tuple[str, str]
@@ -56,11 +56,6 @@ def lines_in(folder: str, ending: str) -> int:
     return count
 
 
-def edits_of(name: str) -> int:
-    folder = f"crates/{name}/must-fail"
-    return sum(one.endswith(".edit") for one in os.listdir(folder)) if os.path.isdir(folder) else 0
-
-
 def process(pid: int) -> typing.Optional[Process]:
     """The parent, the start, the seconds and the bytes of a process, or None if it has ended."""
     try:
@@ -76,23 +71,20 @@ def process(pid: int) -> typing.Optional[Process]:
     )
 
 
-def words_of(pid: int) -> tuple[list[str], str]:
+def words_of(pid: int) -> list[str]:
     try:
         with open(f"/proc/{pid}/cmdline", "rb") as file:
-            words = file.read().decode("utf-8", "replace").split("\0")[:-1]
-        return words, os.readlink(f"/proc/{pid}/cwd")
+            return file.read().decode("utf-8", "replace").split("\0")[:-1]
     except OSError:
-        return [], ""
+        return []
 
 
-def use_of(words: list[str], folder: str, crates: list[str]) -> typing.Optional[Use]:
+def use_of(words: list[str], crates: list[str]) -> typing.Optional[Use]:
     """The crate and the kind of work that the words of a process name, or None."""
     if not words:
         return None
     if "--crate-name" in words[:-1]:
         crate = words[words.index("--crate-name") + 1]
-        if os.path.basename(folder).startswith("rt-edit"):
-            return crate, "edits"
         return crate, "tests" if "--test" in words else "proof"
     ran = os.path.basename(words[0])
     for crate in crates:
@@ -140,8 +132,7 @@ class Watch:
     def find_use(self, pid: int, start: str) -> typing.Optional[Use]:
         # (a process may become another program, so one that named no crate is asked again)
         if not self.uses.get((pid, start)):
-            words, folder = words_of(pid)
-            self.uses[pid, start] = use_of(words, folder, self.crates)
+            self.uses[pid, start] = use_of(words_of(pid), self.crates)
         return self.uses[pid, start]
 
     def sums(self) -> dict[Use, float]:
@@ -178,16 +169,14 @@ def run(names: list[str], crates: list[str]) -> tuple[int, Watch]:
 
 def table(watch: Watch, crates: list[str]) -> str:
     sums = watch.sums()
-    heads = ["crate", "code", "definitions", "proofs", "edits"]
+    heads = ["crate", "code", "definitions", "proofs"]
     for kind in KINDS:
         heads += [f"{kind}, s", f"{kind}, GB"]
-    edits = {name: edits_of(name) for name in crates}
     rows: list[list[object]] = [[*heads], ["---"] * len(heads)]
     for name in crates:
         row: list[object] = [
             f"`{name}`", lines_in(f"crates/{name}/src", ".rt"),
             lines_in(f"crates/{name}/specs", ".antt"), lines_in(f"crates/{name}/proofs", ".antt"),
-            edits[name],
         ]
         for kind in KINDS:
             is_seen = (name, kind) in sums
@@ -197,7 +186,7 @@ def table(watch: Watch, crates: list[str]) -> str:
                 else ["", ""]
             )
         rows.append(row)
-    whole: list[object] = ["all", "", "", "", sum(edits.values())]
+    whole: list[object] = ["all", "", "", ""]
     for kind in KINDS:
         whole += [round(sum(amount for use, amount in sums.items() if use[1] == kind)), ""]
     rows.append(whole)

@@ -7,14 +7,16 @@ A planted error is a file crates/CRATE/planted/NAME.edit:
     old: TEXT                      a text that stands in the file exactly once
     new: TEXT                      the text in its place; more pairs may follow
 
-The prover checks that function and those that it calls in the same crate, over the libraries that
-`rt ci` left in this checkout. It must prove all of these except the named function. This takes a
-small part of the time that the crate's whole proof takes.
+All errors of a crate are tried in one copy of it, in one call of the prover over the libraries that
+`rt ci` left in this checkout. The prover checks the named functions and those that they call in the
+same crate. It must refuse each named function, but none because of a refused one that it calls, and
+prove all others.
 """
 # RUN:
 import concurrent.futures
 import dataclasses
 import functools
+import itertools
 import pathlib
 import re
 import shutil
@@ -52,34 +54,40 @@ def edit_of(path: pathlib.Path) -> Edit:
     return Edit(path.parent.parent.name, path.stem, file, only, pairs)
 
 
-def changed_crate(edit: Edit, room: pathlib.Path) -> pathlib.Path:
-    """Copies the crate's text to a new folder in the room, with the error in it."""
-    folder = room / f"{edit.crate}-{edit.name}"
-    shutil.copytree(CRATES / edit.crate, folder, ignore=shutil.ignore_patterns("out"))
-    file = folder / edit.file
-    text = file.read_text()
-    for old, new in edit.pairs:
-        text = text.replace(old, new)
-    file.write_text(text)
+def changed_crate(edits: list[Edit], room: pathlib.Path) -> pathlib.Path:
+    """Copies a crate's text to a new folder in the room, with its errors in it."""
+    folder = room / f"{edits[0].crate}-planted"
+    shutil.copytree(CRATES / edits[0].crate, folder, ignore=shutil.ignore_patterns("out"))
+    for edit in edits:
+        file = folder / edit.file
+        text = file.read_text()
+        for old, new in edit.pairs:
+            text = text.replace(old, new)
+        file.write_text(text)
     return folder
 
 
-def try_edit(kit: Kit, room: pathlib.Path, edit: Edit) -> End:
-    """Asks the prover about the changed function."""
-    root = "src/main.rt" if (CRATES / edit.crate / "src" / "main.rt").exists() else "src/lib.rt"
-    words = ["check", *kit.words(edit.crate, root), *kit.logic(), "--only", edit.only]
-    return kit.rattle(changed_crate(edit, room), words)
+def try_edits(kit: Kit, room: pathlib.Path, edits: list[Edit]) -> End:
+    """Asks the prover about the changed functions of a crate."""
+    crate = edits[0].crate
+    root = "src/main.rt" if (CRATES / crate / "src" / "main.rt").exists() else "src/lib.rt"
+    asked = [word for edit in edits for word in ("--only", edit.only)]
+    words = ["check", *kit.words(crate, root), *kit.logic(), *asked]
+    return kit.rattle(changed_crate(edits, room), words)
 
 
-def check_refusal(checks: Checks, edit: Edit, end: End) -> None:
-    """Checks that this function was refused, and no other."""
-    name, text = f"{edit.crate}/{edit.name}", end.out + end.note
-    checks.has_status(f"{name}_status", end, 1)
-    refused = re.search(rf"^fn {edit.crate}::{edit.only}: (not proved$|no proof: )", text, re.M)
-    checks.is_true(f"{name}_refused", refused, f"{edit.only} is not proved", text[-1500:])
+def check_refusals(checks: Checks, edits: list[Edit], end: End) -> None:
+    """Checks that these functions were refused, each by itself, and no other."""
+    crate, text = edits[0].crate, end.out + end.note
+    checks.has_status(f"{crate}_status", end, 1)
+    for edit in edits:
+        name = re.escape(f"{crate}::{edit.only}")
+        refused = re.search(rf"^fn {name}: (not proved$|no proof: (?!.*it calls `))", text, re.M)
+        wanted = f"{edit.only} is not proved, for no other function's sake"
+        checks.is_true(f"{crate}/{edit.name}_refused", refused, wanted, text[-1500:])
     counts = [(int(one), int(proved)) for one, proved in COUNTS.findall(text)]
-    is_alone = [one - proved for one, proved in counts] == [1]
-    checks.is_true(f"{name}_alone", is_alone, "all others proved", counts)
+    is_alone = [one - proved for one, proved in counts] == [len(edits)]
+    checks.is_true(f"{crate}_others", is_alone, "all others proved", counts)
 
 
 def main() -> int:
@@ -92,7 +100,8 @@ def main() -> int:
     kit = kit_of(checks)
     if kit is None or checks.failed:
         return checks.finish()
-    below = dict.fromkeys(name for edit in edits for name in kit.below(edit.crate))
+    by_crate = [list(some) for _, some in itertools.groupby(edits, lambda edit: edit.crate)]
+    below = dict.fromkeys(name for some in by_crate for name in kit.below(some[0].crate))
     if not has_libraries(checks, below):
         return checks.finish()
     with tempfile.TemporaryDirectory() as folder:
@@ -100,9 +109,9 @@ def main() -> int:
         for name in below:
             (room / name).symlink_to(CRATES / name)
         with concurrent.futures.ThreadPoolExecutor(AT_ONCE) as pool:
-            ends = pool.map(functools.partial(try_edit, kit, room), edits)
-            for edit, end in zip(edits, ends):
-                check_refusal(checks, edit, end)
+            ends = pool.map(functools.partial(try_edits, kit, room), by_crate)
+            for some, end in zip(by_crate, ends):
+                check_refusals(checks, some, end)
     return checks.finish()
 
 
