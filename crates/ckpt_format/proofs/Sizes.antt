@@ -8,7 +8,7 @@ use Rattle.sha2.specs.Sha256.{sha256}
 use Rattle.sha2.proofs.Facts256.{length-sha256}
 use Rattle.audit_model.specs.Room.{RoomyBytes}
 use Rattle.audit_model.specs.declared.outcome.Outcome.{Outcome}
-use Rattle.audit_statement.specs.Checkpoint.{IsOutcome, bin_bytes, checkpoint, checkpoint_body, has_histogram, outcome_bytes, outcome_size}
+use Rattle.audit_statement.specs.Checkpoint.{IsOutcome, bin_bytes, checkpoint, checkpoint_body, has_histogram, outcome_bytes, outcome_size, outcome_start, stated_version}
 use Rattle.ckpt_format.specs.Written.{AppendsBytes, bytes_by, head_bytes, size_by}
 
 -- the length of joined pieces of equal length
@@ -83,6 +83,10 @@ length-head_bytes version digest generation count wide =
     let both : length (digest ++ to_be_bytes w32 generation ++ to_be_bytes w32 count) ≡ 40 =
     length-append (digest ++ to_be_bytes w32 generation) (to_be_bytes w32 count) ∙ ap (λ n. n + 4) first in
     omega (arith, both)
+
+-- an outcome starts within the bytes if a later one does
+pub starts_within : (bytes : List ℕ) (k n : ℕ) → k ≤ n → outcome_start bytes n ≤ length bytes → outcome_start bytes k ≤ length bytes
+starts_within bytes k n l room = omega (arith, mul-le-mul_left (outcome_size (stated_version bytes)) l, room)
 
 -- the length of a checkpoint without its digest
 pub length-checkpoint_body : (version : ℕ) (digest : List ℕ) (generation : ℕ) (outcomes : List Outcome) → length digest ≡ 32 → AllByRecursion IsOutcome outcomes

@@ -44,7 +44,26 @@ fn hash_first(hasher: &mut Sha256, lengths: &[u32], rules: &Rules)
         hash_tag(hasher, "district-job 5");
         return;
     }
-    hash_name_of(hasher, rules);
+    let newer = has_newer_rules(rules);
+    let name = name_of_form(has_rules(rules), has_further_rules(rules), newer);
+    hash_tag(hasher, name);
+}
+
+/// Returns the name of the form that the rules need. The arguments are the results of `has_rules`, `has_further_rules`
+/// and `has_newer_rules`.
+fn name_of_form(limited: bool, further: bool, newer: bool) -> &'static str
+    ensures { result.now ≡ digest_name limited further newer }
+{
+    if newer {
+        return "district-job 4";
+    }
+    if further {
+        return "district-job 3";
+    }
+    if limited {
+        return "district-job 2";
+    }
+    "district-job 1"
 }
 
 /// Returns true if edges have lengths.
@@ -52,18 +71,6 @@ fn has_lengths(lengths: &[u32]) -> bool
     ensures { result ≡ has_lengths lengths.now }
 {
     !lengths.is_empty()
-}
-
-/// Hashes the name of the form that the rules need.
-fn hash_name_of(hasher: &mut Sha256, rules: &Rules)
-    ensures { Hashes hasher.old hasher.new (digest_name (has_rules rules.now) (has_further_rules rules.now) (has_newer_rules rules.now)) }
-{
-    hash_name(
-        hasher,
-        has_rules(rules),
-        has_further_rules(rules),
-        has_newer_rules(rules),
-    );
 }
 
 /// Returns true if the rules limit the cut edges, or have regions, a group or frozen units. The digest then needs at
@@ -115,22 +122,6 @@ fn has_newer_rules(rules: &Rules) -> bool
     ensures { result ≡ has_newer_rules rules.now }
 {
     has_share(rules) || has_frozen(rules)
-}
-
-/// Hashes the name of the form. The arguments are the results of `has_rules`, `has_further_rules` and
-/// `has_newer_rules`.
-fn hash_name(hasher: &mut Sha256, limited: bool, further: bool, newer: bool)
-    ensures { Hashes hasher.old hasher.new (digest_name limited further newer) }
-{
-    if newer {
-        hasher.update("district-job 4");
-    } else if further {
-        hasher.update("district-job 3");
-    } else if limited {
-        hasher.update("district-job 2");
-    } else {
-        hasher.update("district-job 1");
-    }
 }
 
 /// Hashes the numbers of units, edges and districts.

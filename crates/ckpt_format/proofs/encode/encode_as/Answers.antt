@@ -4,6 +4,14 @@ use Rattle.ckpt_format.proofs.Sizes.{length-checkpoint, length-head_bytes, lengt
 use Rattle.ckpt_format.proofs.Writing.{written}
 use Rattle.ckpt_format.proofs.encode.encode_as.Goals as goal
 
+pub append_head-requires : goal.append_head-requires
+append_head-requires c = omega (arith, c.clear.ensures.spare, c.requires.room)
+
+pub append_outcomes-requires : goal.append_outcomes-requires
+append_outcomes-requires c =
+    let head = length-head_bytes c.args.version c.args.digest.now c.args.generation (length c.args.outcomes.now) (search rules) in
+    omega (arith, head, c.clear.ensures.spare, c.append_head.ensures.spare, c.requires.room)
+
 pub append_digest-requires : goal.append_digest-requires
 append_digest-requires c =
     let head = length-head_bytes c.args.version c.args.digest.now c.args.generation (length c.args.outcomes.now) (search rules) in
