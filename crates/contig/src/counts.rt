@@ -171,7 +171,7 @@ fn is_before(plan: &[u32], unit: u32, district: u32, end: u32) -> bool
     requires { unit < length plan.now }
     ensures { result ≡ is_before plan.now end district unit }
 {
-    (plan[unit as usize] == district) & (unit < end)
+    plan[unit as usize] == district && unit < end
 }
 
 /// Counts the faces at a unit whose other units are all in a district and below `end`.
@@ -184,13 +184,26 @@ fn corners_in(member: Member, table: &FaceTable, district: u32, end: u32) -> u64
     let row = member.graph.neighbours(member.unit);
     let mut count = 0;
     for corner in table.at(member.unit) {
-        let inside = is_before(plan, row[corner.one as usize], district, end)
-            & (is_before(plan, row[corner.other as usize], district, end)
-                & (is_before(plan, corner.far, district, end)
-                    & is_before(plan, corner.further, district, end)));
+        let one = row[corner.one as usize];
+        let other = row[corner.other as usize];
+        let inside = are_before(plan, (one, other, corner.far, corner.further), district, end);
         count = with_one(count, inside);
     }
     count
+}
+
+/// Returns true if four units are in a district and below `end`. It tests no unit after one that is
+/// not.
+#[inline]
+fn are_before(plan: &[u32], units: (u32, u32, u32, u32), district: u32, end: u32) -> bool
+    requires neighbors { (units.0 < length plan.now) × (units.1 < length plan.now) }
+    requires opposite { (units.2 < length plan.now) × (units.3 < length plan.now) }
+    ensures { result ≡ is_filled (is_before plan.now end district) units }
+{
+    is_before(plan, units.0, district, end)
+        && is_before(plan, units.1, district, end)
+        && is_before(plan, units.2, district, end)
+        && is_before(plan, units.3, district, end)
 }
 
 /// Counts the faces at a unit whose other units are all in the district `one`. Then counts those
