@@ -173,10 +173,21 @@ side_turned x y = elim (cases_order x y) [
 ]
 
 -- pairs of the two units have one side
-pub pair_side : (a b x y : ℕ) → is_pair a b x y ≡ true → side a b ≡ side x y
+pair_side : (a b x y : ℕ) → is_pair a b x y ≡ true → side a b ≡ side x y
 pair_side a b x y h = elim (pair_is a b x y h) [
   | inl e ↦ ap (λ k. side k b) e.0 ∙ ap (λ k. side x k) e.1
   | inr e ↦ ap (λ k. side k b) e.0 ∙ ap (λ k. side y k) e.1 ∙ side_turned y x
+]
+
+-- a test that passes the sides of a triangle passes each of its pairs
+pub triangle_sides : (test : ℕ × ℕ → Bool) (a b c : ℕ) → test (side a b) ≡ true → test (side b c) ≡ true → test (side c a) ≡ true
+    → (x y : ℕ) → has_side (a ∷ b ∷ c ∷ []) x y ≡ true → test (side x y) ≡ true
+triangle_sides test a b c ab bc ca x y h = elim (or_cases (is_pair a b x y || is_pair b c x y) (is_pair c a x y) h) [
+  | inl e ↦ elim (or_cases (is_pair a b x y) (is_pair b c x y) e) [
+    | inl f ↦ subst (λ k. test k ≡ true) (pair_side a b x y f) ab
+    | inr f ↦ subst (λ k. test k ≡ true) (pair_side b c x y f) bc
+  ]
+  | inr f ↦ subst (λ k. test k ≡ true) (pair_side c a x y f) ca
 ]
 
 -- a test that passes the sides of a square passes each of its pairs

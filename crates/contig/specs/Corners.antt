@@ -3,6 +3,8 @@ use Rattle.std.specs.Prelude.{◌≡◌, ℕ, ◌<◌, ◌==◌, ◌&&◌, Bool,
 use Rattle.std.specs.List.{slice_index_or}
 use Rattle.audit_model.specs.Graph.{Graph}
 use Rattle.contig.specs.declared.corner.Corner.{Corner}
+use Rattle.contig.specs.declared.face.Face.{Face}
+use Rattle.contig.specs.declared.face.Face.TheVariants.{Triangle, Square, Pentagon}
 
 -- the corners at u, with one more if it is at u
 abbrev pub with_corner : ℕ → List (ℕ × ℕ × ℕ × ℕ) → ℕ → ℕ × ℕ × ℕ × ℕ → List (ℕ × ℕ × ℕ × ℕ)
@@ -17,6 +19,12 @@ with_face u corners (a ∷ b ∷ c ∷ d ∷ []) =
 with_face u corners (a ∷ b ∷ c ∷ d ∷ e ∷ []) =
     with_corner u (with_corner u (with_corner u (with_corner u (with_corner u corners a (b, e, c, d)) b (c, a, d, e)) c (d, b, e, a)) d (e, c, a, b)) e (a, d, b, c)
 with_face u corners _ = corners
+
+-- the first unit of a face, and the corner at it
+abbrev pub first_corner : Face → ℕ × ℕ × ℕ × ℕ × ℕ
+first_corner (Triangle a b c) = (a, b, c, c, c)
+first_corner (Square a b c d) = (a, b, d, c, c)
+first_corner (Pentagon a b c d e) = (a, b, e, c, d)
 
 -- the corners of the faces at u
 abbrev pub corners_at : ℕ → List (List ℕ) → List (ℕ × ℕ × ℕ × ℕ)

@@ -1,8 +1,9 @@
 //! Candidates for faces: three to five units in order.
 
-ghost use Rattle.std.specs.Prelude.{◌≡◌, ◌<◌, ◌==◌, ◌&&◌, not};
+ghost use Rattle.std.specs.Prelude.{◌≡◌, ◌<◌, ◌==◌, ◌&&◌, length, not};
 ghost use Rattle.audit_model.specs.Graph.{IsGraph, adjacent};
-ghost use Rattle.contig.specs.Rings.{goes_round, turned, differ, follow};
+ghost use Rattle.contig.specs.Listed.{own_side, side};
+ghost use Rattle.contig.specs.Rings.{goes_round, turned, differ, follow, ring_of};
 
 use dual_graph::graph::Graph;
 
@@ -24,18 +25,15 @@ impl Face {
     {
         let n = graph.units();
         match *self {
-            Face::Triangle(a, b, c) => a < n && b < n && c < n && is_triangle(graph, a, b, c),
+            Face::Triangle(a, b, c) => {
+                (a < n) & ((b < n) & (c < n)) && is_triangle(graph, a, b, c)
+            }
             Face::Square(a, b, c, d) => {
-                a < n && b < n && c < n && d < n && is_square(graph, a, b, c, d)
+                (a < n) & ((b < n) & ((c < n) & (d < n))) && is_square(graph, a, b, c, d)
             }
             Face::Pentagon(a, b, c, d, e) => {
-                a < n
-                    && b < n
-                    && c < n
-                    && d < n
-                    && e < n
-                    && differ(a, b, c, d, e)
-                    && follow(graph, a, b, c, d, e)
+                (a < n) & ((b < n) & ((c < n) & ((d < n) & (e < n))))
+                    && differ(a, b, c, d, e) & follow(graph, a, b, c, d, e)
             }
         }
     }
@@ -49,6 +47,28 @@ impl Face {
             Face::Square(a, b, c, d) => Face::Square(b, c, d, a),
             Face::Pentagon(a, b, c, d, e) => Face::Pentagon(b, c, d, e, a),
         }
+    }
+}
+
+/// Returns the number of units.
+pub(crate) fn length_of(ring: Face) -> usize
+    ensures { result ≡ length (ring_of ring) }
+{
+    match ring {
+        Face::Triangle(_, _, _) => 3,
+        Face::Square(_, _, _, _) => 4,
+        Face::Pentagon(_, _, _, _, _) => 5,
+    }
+}
+
+/// Returns the two units of the own side.
+pub(crate) fn first_two(ring: Face) -> (u32, u32)
+    ensures { side result.0 result.1 ≡ own_side ring }
+{
+    match ring {
+        Face::Triangle(a, b, _) => (a, b),
+        Face::Square(a, b, _, _) => (a, b),
+        Face::Pentagon(a, b, _, _, _) => (a, b),
     }
 }
 

@@ -7,7 +7,7 @@ ghost use Rattle.contig.specs.Faces.{AreFaces, has_side};
 ghost use Rattle.contig.specs.Listed.{rings, same_side, side, own_side};
 ghost use Rattle.contig.specs.Rings.{ring_of};
 
-use crate::face::Face;
+use crate::face::{Face, first_two, length_of};
 use audit_model::memory::Memory;
 use dual_graph::graph::Graph;
 use std::alloc::Global;
@@ -98,42 +98,24 @@ fn note(sides: &mut HashSet<(u32, u32)>, x: u32, y: u32) -> Result<(), Memory>
     Ok(())
 }
 
+/// Inserts the sides of a face.
 fn note_sides(sides: &mut HashSet<(u32, u32)>, face: Face) -> Result<(), Memory>
     ensures kept { (q : ℕ × ℕ) → IsTrue (contains same_side sides.old q) → IsTrue (contains same_side sides.new q) }
     ensures there { OnOk result ((x y : ℕ) → IsTrue (has_side (ring_of face) x y) → IsTrue (contains same_side sides.new (side x y))) }
 {
-    match face {
-        Face::Triangle(a, b, c) => {
-            note(sides, a, b)?;
-            note(sides, b, c)?;
-            note(sides, c, a)?;
-            Ok(())
-        }
-        Face::Square(a, b, c, d) => {
-            note(sides, a, b)?;
-            note(sides, b, c)?;
-            note(sides, c, d)?;
-            note(sides, d, a)?;
-            Ok(())
-        }
-        Face::Pentagon(a, b, c, d, e) => {
-            note(sides, a, b)?;
-            note(sides, b, c)?;
-            note(sides, c, d)?;
-            note(sides, d, e)?;
-            note(sides, e, a)?;
-            Ok(())
-        }
+    let mut turn = face;
+    for _ in 0..length_of(face) {
+        let (x, y) = first_two(turn);
+        note(sides, x, y)?;
+        turn = turn.rotate();
     }
+    Ok(())
 }
 
 /// Returns true if the own side of a face is in the set.
 fn has_own(sides: &HashSet<(u32, u32)>, face: Face) -> bool
     ensures { result ≡ contains same_side sides.now (own_side face) }
 {
-    match face {
-        Face::Triangle(a, b, _) => sides.contains(&side_of(a, b)),
-        Face::Square(a, b, _, _) => sides.contains(&side_of(a, b)),
-        Face::Pentagon(a, b, _, _, _) => sides.contains(&side_of(a, b)),
-    }
+    let (x, y) = first_two(face);
+    sides.contains(&side_of(x, y))
 }

@@ -7,7 +7,7 @@
 //!
 //! In this module, `link` and `are_linked` concern edges between mates, not faces.
 
-ghost use Rattle.std.specs.Prelude.{◌≡◌, ◌≢◌, ◌+◌, ◌<◌, ◌≤◌, ◌↔◌, ℕ, [], length, slice_index, IsTrue, IsFalse};
+ghost use Rattle.std.specs.Prelude.{◌≡◌, ◌≢◌, ◌+◌, ◌<◌, ◌≤◌, ◌↔◌, ◌⊎◌, ℕ, [], length, slice_index, slice_set, IsTrue, IsFalse};
 ghost use Rattle.std.specs.List.{slice_index_or};
 ghost use Rattle.audit_model.specs.Graph.{Graph as GraphValue, IsIn, IsGraph};
 ghost use Rattle.audit_model.specs.Local.{is_mate, stays_behind, IsLocal, MayLeave};
@@ -55,12 +55,10 @@ pub fn meet<L: Ledger>(
         let label = marks.label(unit);
         let before = marks.count();
         at += 1;
-        if spread(leaving, marks, roots, unit, label) && all_one(roots, last) {
+        if joins_all(leaving, marks, roots, last, unit, label) {
             return true;
         }
-        if marks.count() > before {
-            ends[label as usize] = marks.count();
-        } else if ends[label as usize] <= at && !goes_on(roots, &ends, last, label, at) {
+        if !can_grow(roots, &mut ends, marks, before, last, label, at) {
             return false;
         }
     }
@@ -148,6 +146,61 @@ fn spread(leaving: Member, marks: &mut Marks, roots: &mut [u8; 17], unit: u32, l
         }
     }
     met
+}
+
+/// Visits a marked unit as `spread` does, after which all labels may be joined. Returns true if they
+/// are.
+#[inline]
+fn joins_all(
+    leaving: Member,
+    marks: &mut Marks,
+    roots: &mut [u8; 17],
+    last: usize,
+    unit: u32,
+    label: u8,
+) -> bool
+    requires last { last ≤ 16 }
+    requires unit { unit < leaving.graph.now.units }
+    requires found { HoldsFoundParts leaving.graph.now (stays_behind leaving.plan.now leaving.unit) marks.old roots.old }
+    requires label { (0 < label) × (slice_index marks.old.labels unit ≡ label) }
+    requires parted { NotOne roots.old last }
+    ensures spread { IsSpread leaving.entry.graph.now (stays_behind leaving.entry.plan.now leaving.entry.unit) (slice_index_or leaving.entry.graph.now.neighbours unit [])
+        label marks.old marks.new roots.old roots.new }
+    ensures yes { IsTrue result → AllOne roots.new last }
+    ensures no { IsFalse result → NotOne roots.new last }
+{
+    if spread(leaving, marks, roots, unit, label) {
+        return all_one(roots, last);
+    }
+    false
+}
+
+/// Records in `ends` that a visit marked units with this label, if there are more marks than
+/// `before`. Returns true if the label's part can still grow, as in `goes_on`.
+#[inline]
+fn can_grow(
+    roots: &[u8],
+    ends: &mut [usize; 17],
+    marks: &Marks,
+    before: usize,
+    last: usize,
+    label: u8,
+    at: usize,
+) -> bool
+    requires last { (last ≤ 16) × (last < length roots.now) }
+    requires label { label ≤ last }
+    ensures ends { (ends.new ≡ slice_set ends.old label (length marks.now.items)) ⊎ ((ends.new ≡ ends.old) × (length marks.now.items ≤ before)) }
+    ensures no { IsFalse result → (l : ℕ) → 0 < l → l ≤ last → slice_index roots.now l ≡ slice_index roots.now label → slice_index ends.new l ≤ at }
+{
+    let count = marks.count();
+    if count > before {
+        ends[label as usize] = count;
+        return true;
+    }
+    if ends[label as usize] > at {
+        return true;
+    }
+    goes_on(roots, ends, last, label, at)
 }
 
 /// Returns true if the part of a label, with the parts joined to it, can still grow: one of its

@@ -1,7 +1,7 @@
 //! Puts rings in an order in which they can become faces. The order is not proved: it only decides
 //! how many rings the list of faces accepts.
 
-use crate::face::Face;
+use crate::face::{Face, first_two, length_of};
 use audit_model::memory::Memory;
 use dual_graph::graph::Graph;
 use std::alloc::Global;
@@ -19,7 +19,6 @@ const CLASSES: usize = 181;
 ///
 /// Each entry of the units' lists of neighbors has an index. The index of a side is that of the
 /// greater unit in the list of the lesser unit.
-#[derive(Drop)]
 pub struct Sides {
     /// For each unit, the index of the first entry of its list of neighbors.
     begins: Vec<usize>,
@@ -27,6 +26,19 @@ pub struct Sides {
     sums: Vec<usize>,
     /// Sides that had a single ring when they were added here.
     singles: Vec<usize>,
+}
+
+// Written by hand, so that the proof of a function that drops sides has one step for them and not one
+// for each field.
+impl Drop for Sides {
+    fn drop(self) {
+        let Sides {
+            begins: _begins,
+            counts: _counts,
+            sums: _sums,
+            singles: _singles,
+        } = self;
+    }
 }
 
 impl Sides {
@@ -61,18 +73,13 @@ impl Sides {
         if side >= self.counts.len() || side >= self.sums.len() {
             return Ok(());
         }
-        let before = self.counts[side];
-        let after = if more {
-            before.wrapping_add(1)
-        } else {
-            before.wrapping_sub(1)
-        };
-        self.counts[side] = after;
         self.sums[side] ^= number;
-        if !more && after == 1 {
-            self.singles.push(side)?;
+        if more {
+            self.counts[side] = self.counts[side].wrapping_add(1);
+            return Ok(());
         }
-        Ok(())
+        self.counts[side] = self.counts[side].wrapping_sub(1);
+        self.see(side)
     }
 
     /// Adds one ring to all of its sides, or removes it from them.
@@ -184,8 +191,6 @@ struct Peeling {
     sides: Sides,
     /// For each ring, whether it remains.
     left: Vec<bool>,
-    /// The rings to keep, in the order in which they were taken off.
-    kept: Vec<Face>,
 }
 
 impl Peeling {
@@ -194,7 +199,6 @@ impl Peeling {
         Ok(Peeling {
             sides: Sides::of(alloc, graph, rings)?,
             left,
-            kept: Vec::new(alloc),
         })
     }
 
@@ -208,27 +212,32 @@ impl Peeling {
         Ok(true)
     }
 
-    /// Takes a ring off and keeps it, turned to begin with this side.
+    /// Takes a ring off and adds it to `kept`, turned to begin with this side.
     fn keep(
         &mut self,
         graph: &Graph,
         rings: &[Face],
         side: usize,
         number: usize,
+        kept: &mut Vec<Face>,
     ) -> Result<(), Memory> {
         if self.take_off(graph, rings, number)? && number < rings.len() {
-            self.kept
-                .push(self.sides.rotate_to(graph, rings[number], side))?;
+            kept.push(self.sides.rotate_to(graph, rings[number], side))?;
         }
         Ok(())
     }
 
     /// Takes off and keeps rings that alone have some side, until no such ring remains.
-    fn keep_singles(&mut self, graph: &Graph, rings: &[Face]) -> Result<(), Memory> {
+    fn keep_singles(
+        &mut self,
+        graph: &Graph,
+        rings: &[Face],
+        kept: &mut Vec<Face>,
+    ) -> Result<(), Memory> {
         for _ in 0..u64::MAX {
             match self.sides.next() {
                 None => return Ok(()),
-                Some((side, number)) => self.keep(graph, rings, side, number)?,
+                Some((side, number)) => self.keep(graph, rings, side, number, kept)?,
             }
         }
         Ok(())
@@ -236,26 +245,33 @@ impl Peeling {
 
     /// Drops the rings that remain, in this order. Before each next one, those that alone have some
     /// side are kept.
-    fn drop_rings(&mut self, graph: &Graph, rings: &[Face], order: &[usize]) -> Result<(), Memory> {
+    fn drop_rings(
+        &mut self,
+        graph: &Graph,
+        rings: &[Face],
+        order: &[usize],
+        kept: &mut Vec<Face>,
+    ) -> Result<(), Memory> {
         for number in order {
             self.take_off(graph, rings, *number)?;
-            self.keep_singles(graph, rings)?;
+            self.keep_singles(graph, rings, kept)?;
         }
         Ok(())
     }
 
-    /// Keeps as many rings as it can. `all` has the sides of all rings.
+    /// Adds as many rings as it can to `kept`, in the order in which they are taken off.
     fn peel(
         &mut self,
         alloc: Global,
         graph: &Graph,
         rings: &[Face],
-        all: &[u32],
+        kept: &mut Vec<Face>,
     ) -> Result<(), Memory> {
-        self.keep_singles(graph, rings)?;
-        if self.kept.len() < rings.len() {
-            let order = drop_order(alloc, graph, &self.sides, all, rings)?;
-            self.drop_rings(graph, rings, &order)?;
+        let all = self.sides.counts.clone()?;
+        self.keep_singles(graph, rings, kept)?;
+        if kept.len() < rings.len() {
+            let order = drop_order(alloc, graph, &self.sides, &all, rings)?;
+            self.drop_rings(graph, rings, &order, kept)?;
         }
         Ok(())
     }
@@ -268,15 +284,9 @@ impl Peeling {
 /// remaining ring has, this ring is taken off and kept. If no remaining ring has one, a ring is
 /// dropped.
 pub fn order_by_peeling(alloc: Global, graph: &Graph, rings: &[Face]) -> Result<Vec<Face>, Memory> {
+    let mut order = Vec::new(alloc);
     let mut peeling = Peeling::of(alloc, graph, rings)?;
-    let all = peeling.sides.counts.clone()?;
-    peeling.peel(alloc, graph, rings, &all)?;
-    let Peeling {
-        sides: _sides,
-        left: _left,
-        kept,
-    } = peeling;
-    let mut order = kept;
+    peeling.peel(alloc, graph, rings, &mut order)?;
     order.reverse();
     Ok(order)
 }
@@ -382,20 +392,4 @@ fn begins_of(alloc: Global, graph: &Graph) -> Result<(Vec<usize>, usize), Memory
         end = end.wrapping_add(graph.neighbours(u).len());
     }
     Ok((begins, end))
-}
-
-fn length_of(ring: Face) -> usize {
-    match ring {
-        Face::Triangle(_, _, _) => 3,
-        Face::Square(_, _, _, _) => 4,
-        Face::Pentagon(_, _, _, _, _) => 5,
-    }
-}
-
-fn first_two(ring: Face) -> (u32, u32) {
-    match ring {
-        Face::Triangle(a, b, _) => (a, b),
-        Face::Square(a, b, _, _) => (a, b),
-        Face::Pentagon(a, b, _, _, _) => (a, b),
-    }
 }

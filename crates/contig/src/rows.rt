@@ -3,13 +3,13 @@
 ghost use Rattle.std.specs.Prelude.{◌≡◌, ◌<◌, ℕ, List, [], length, slice_index, IsTrue, IfOk, OnOk};
 ghost use Rattle.std.specs.List.{slice_index_or};
 ghost use Rattle.audit_model.specs.Graph.{adjacent, has};
-ghost use Rattle.contig.specs.Corners.{HasCorners, with_corner, with_face, corners_at};
+ghost use Rattle.contig.specs.Corners.{HasCorners, first_corner, with_corner, with_face, corners_at};
 ghost use Rattle.contig.specs.Faces.{IsRing, AreFaces};
 ghost use Rattle.contig.specs.Listed.{rings};
 ghost use Rattle.contig.specs.Rings.{ring_of};
 
 use crate::corner::{Corner, CornerList};
-use crate::face::Face;
+use crate::face::{Face, length_of};
 use audit_model::memory::Memory;
 use dual_graph::graph::Graph;
 use std::alloc::Global;
@@ -68,6 +68,18 @@ fn add_corner(
     Ok(())
 }
 
+/// Returns the first unit of a face, the two units next to it, and then `far` and `further`.
+fn first_corner(face: Face) -> (u32, u32, u32, u32, u32)
+    ensures { result ≡ first_corner face }
+{
+    match face {
+        Face::Triangle(a, b, c) => (a, b, c, c, c),
+        Face::Square(a, b, c, d) => (a, b, d, c, c),
+        Face::Pentagon(a, b, c, d, e) => (a, b, e, c, d),
+    }
+}
+
+/// Adds the corners of a face.
 fn add_face(graph: &Graph, rows: &mut Vec<CornerList>, face: Face) -> Result<(), Memory>
     requires ring { IsRing graph.now (ring_of face) }
     requires rows { length rows.old.items ≡ graph.now.units }
@@ -75,29 +87,13 @@ fn add_face(graph: &Graph, rows: &mut Vec<CornerList>, face: Face) -> Result<(),
     ensures added { OnOk result ((corners : ℕ → List (ℕ × ℕ × ℕ × ℕ)) → HasCorners graph.now corners rows.old.items →
         HasCorners graph.now (λ w. with_face w (corners w) (ring_of face)) rows.new.items) }
 {
-    match face {
-        Face::Triangle(a, b, c) => {
-            add_corner(graph, rows, a, b, c, (c, c))?;
-            add_corner(graph, rows, b, c, a, (a, a))?;
-            add_corner(graph, rows, c, a, b, (b, b))?;
-            Ok(())
-        }
-        Face::Square(a, b, c, d) => {
-            add_corner(graph, rows, a, b, d, (c, c))?;
-            add_corner(graph, rows, b, c, a, (d, d))?;
-            add_corner(graph, rows, c, d, b, (a, a))?;
-            add_corner(graph, rows, d, a, c, (b, b))?;
-            Ok(())
-        }
-        Face::Pentagon(a, b, c, d, e) => {
-            add_corner(graph, rows, a, b, e, (c, d))?;
-            add_corner(graph, rows, b, c, a, (d, e))?;
-            add_corner(graph, rows, c, d, b, (e, a))?;
-            add_corner(graph, rows, d, e, c, (a, b))?;
-            add_corner(graph, rows, e, a, d, (b, c))?;
-            Ok(())
-        }
+    let mut turn = face;
+    for _ in 0..length_of(face) {
+        let (unit, one, other, far, further) = first_corner(turn);
+        add_corner(graph, rows, unit, one, other, (far, further))?;
+        turn = turn.rotate();
     }
+    Ok(())
 }
 
 fn no_rows(alloc: Global, units: u32) -> Result<Vec<CornerList>, Memory>

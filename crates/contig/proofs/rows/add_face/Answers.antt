@@ -1,95 +1,37 @@
-use Rattle.std.proofs.Common.{◌∷◌, [], sym, subst}
-use Rattle.contig.specs.Faces.{IsRing}
-use Rattle.contig.specs.Rings.{ring_of}
-use Rattle.contig.specs.declared.face.Face.{Face}
-use Rattle.contig.specs.Corners.{HasCorners, with_face}
+use Rattle.std.proofs.Common.{ℕ, refl, sym, subst, arith}
+use Rattle.contig.proofs.Turning.{turned_next, Fits, AllFit, ring_fits, turned_fit, first_fits, with_corners, corners_next, corners_whole}
 use Rattle.contig.proofs.rows.add_face.Goals as goal
-use Rattle.audit_model.proofs.ListFacts.{first_has, has_2, has_3, has_4}
-use Rattle.contig.proofs.Rings.{has_5}
 
-pub add_corner-requires-clause-units : goal.add_corner-requires-clause-units
-add_corner-requires-clause-units c =
-    let w = c.in-Triangle in
-    let below = (subst (λ (f : Face). IsRing c.args.graph.now (ring_of f)) w.is c.requires.ring).below in
-    (below w.a (first_has w.a (w.b ∷ w.c ∷ [])), below w.c (has_3 w.a w.b w.c []), below w.c (has_3 w.a w.b w.c []))
+pub loop-init : goal.loop-init
+loop-init c = record {
+  turn = refl;
+  fit = ring_fits c.args.graph.now c.args.face c.requires.ring;
+  width = c.requires.rows;
+  added = λ corners h. h;
+}
 
-pub add_corner-requires-in-Triangle-clause-units : goal.add_corner-requires-in-Triangle-clause-units
-add_corner-requires-in-Triangle-clause-units c =
-    let w = c.in-Triangle in
-    let below = (subst (λ (f : Face). IsRing c.args.graph.now (ring_of f)) w.is c.requires.ring).below in
-    (below w.b (has_2 w.a w.b (w.c ∷ [])), below w.a (first_has w.a (w.b ∷ w.c ∷ [])), below w.a (first_has w.a (w.b ∷ w.c ∷ [])))
+pub add_corner-requires : goal.add_corner-requires
+add_corner-requires c =
+    let g = c.args.graph.now in
+    let fits = subst (λ (t : ℕ × ℕ × ℕ × ℕ × ℕ). Fits g t.0 t.1 t.2 t.3 t.4) (sym c.first_corner-unit.ensures) (first_fits g c.loop.turn c.loop.invariant.fit) in
+    record { units = fits.units; near = fits.near; rows = c.loop.invariant.width }
 
-pub add_corner-requires-in-Triangle-2-clause-units : goal.add_corner-requires-in-Triangle-2-clause-units
-add_corner-requires-in-Triangle-2-clause-units c =
-    let w = c.in-Triangle in
-    let below = (subst (λ (f : Face). IsRing c.args.graph.now (ring_of f)) w.is c.requires.ring).below in
-    (below w.c (has_3 w.a w.b w.c []), below w.b (has_2 w.a w.b (w.c ∷ [])), below w.b (has_2 w.a w.b (w.c ∷ [])))
+pub loop-preserved : goal.loop-preserved
+loop-preserved c =
+    let g = c.args.graph.now in
+    let s = c.loop.invariant in
+    record {
+      turn = turned_next c.loop.counter c.args.face c.loop.turn c.rotate-turn.result s.turn c.rotate-turn.ensures;
+      fit = subst (AllFit g) (sym c.rotate-turn.ensures) (turned_fit g c.loop.turn s.fit);
+      width = c.add_corner.ensures.width;
+      added = λ corners h. corners_next g corners c.add_corner.new.rows.items c.args.face c.loop.turn c.loop.counter c.first_corner-unit.result s.turn c.first_corner-unit.ensures
+          (c.in_ok-add_corner.ensures.added (λ w. with_corners w (corners w) c.args.face c.loop.counter) (s.added corners h));
+    }
 
-pub add_corner-requires-in-Square-clause-units : goal.add_corner-requires-in-Square-clause-units
-add_corner-requires-in-Square-clause-units c =
-    let w = c.in-Square in
-    let below = (subst (λ (f : Face). IsRing c.args.graph.now (ring_of f)) w.is c.requires.ring).below in
-    (below w.a (first_has w.a (w.b ∷ w.c ∷ w.d ∷ [])), below w.c (has_3 w.a w.b w.c (w.d ∷ [])), below w.c (has_3 w.a w.b w.c (w.d ∷ [])))
+pub returns-clause-width : goal.returns-clause-width
+returns-clause-width c = c.loop.invariant.width
 
-pub add_corner-requires-in-Square-2-clause-units : goal.add_corner-requires-in-Square-2-clause-units
-add_corner-requires-in-Square-2-clause-units c =
-    let w = c.in-Square in
-    let below = (subst (λ (f : Face). IsRing c.args.graph.now (ring_of f)) w.is c.requires.ring).below in
-    (below w.b (has_2 w.a w.b (w.c ∷ w.d ∷ [])), below w.d (has_4 w.a w.b w.c w.d []), below w.d (has_4 w.a w.b w.c w.d []))
-
-pub add_corner-requires-in-Square-3-clause-units : goal.add_corner-requires-in-Square-3-clause-units
-add_corner-requires-in-Square-3-clause-units c =
-    let w = c.in-Square in
-    let below = (subst (λ (f : Face). IsRing c.args.graph.now (ring_of f)) w.is c.requires.ring).below in
-    (below w.c (has_3 w.a w.b w.c (w.d ∷ [])), below w.a (first_has w.a (w.b ∷ w.c ∷ w.d ∷ [])), below w.a (first_has w.a (w.b ∷ w.c ∷ w.d ∷ [])))
-
-pub add_corner-requires-in-Square-4-clause-units : goal.add_corner-requires-in-Square-4-clause-units
-add_corner-requires-in-Square-4-clause-units c =
-    let w = c.in-Square in
-    let below = (subst (λ (f : Face). IsRing c.args.graph.now (ring_of f)) w.is c.requires.ring).below in
-    (below w.d (has_4 w.a w.b w.c w.d []), below w.b (has_2 w.a w.b (w.c ∷ w.d ∷ [])), below w.b (has_2 w.a w.b (w.c ∷ w.d ∷ [])))
-
-pub returns-in_ok-add_corner-in-Triangle-3-clause-added : goal.returns-in_ok-add_corner-in-Triangle-3-clause-added
-returns-in_ok-add_corner-in-Triangle-3-clause-added c corners h =
-    subst (λ (f : Face). HasCorners c.args.graph.now (λ w. with_face w (corners w) (ring_of f)) c.add_corner-in-Triangle-2.new.rows.items) (sym c.in-Triangle.is)
-    (c.in_ok-add_corner-in-Triangle-3.ensures.added _ (c.in_ok-add_corner-in-Triangle-2.ensures.added _ (c.in_ok-add_corner-in-Triangle.ensures.added corners h)))
-
-pub returns-in_ok-add_corner-in-Square-4-clause-added : goal.returns-in_ok-add_corner-in-Square-4-clause-added
-returns-in_ok-add_corner-in-Square-4-clause-added c corners h =
-    subst (λ (f : Face). HasCorners c.args.graph.now (λ w. with_face w (corners w) (ring_of f)) c.add_corner-in-Square-4.new.rows.items) (sym c.in-Square.is)
-    (c.in_ok-add_corner-in-Square-4.ensures.added _ (c.in_ok-add_corner-in-Square-3.ensures.added _ (c.in_ok-add_corner-in-Square-2.ensures.added _ (c.in_ok-add_corner-in-Square.ensures.added corners h))))
-
-pub add_corner-requires-in-Pentagon-clause-units : goal.add_corner-requires-in-Pentagon-clause-units
-add_corner-requires-in-Pentagon-clause-units c =
-    let w = c.in-Pentagon in
-    let below = (subst (λ (f : Face). IsRing c.args.graph.now (ring_of f)) w.is c.requires.ring).below in
-    (below w.a (first_has w.a (w.b ∷ w.c ∷ w.d ∷ w.e ∷ [])), below w.c (has_3 w.a w.b w.c (w.d ∷ w.e ∷ [])), below w.d (has_4 w.a w.b w.c w.d (w.e ∷ [])))
-
-pub add_corner-requires-in-Pentagon-2-clause-units : goal.add_corner-requires-in-Pentagon-2-clause-units
-add_corner-requires-in-Pentagon-2-clause-units c =
-    let w = c.in-Pentagon in
-    let below = (subst (λ (f : Face). IsRing c.args.graph.now (ring_of f)) w.is c.requires.ring).below in
-    (below w.b (has_2 w.a w.b (w.c ∷ w.d ∷ w.e ∷ [])), below w.d (has_4 w.a w.b w.c w.d (w.e ∷ [])), below w.e (has_5 w.a w.b w.c w.d w.e []))
-
-pub add_corner-requires-in-Pentagon-3-clause-units : goal.add_corner-requires-in-Pentagon-3-clause-units
-add_corner-requires-in-Pentagon-3-clause-units c =
-    let w = c.in-Pentagon in
-    let below = (subst (λ (f : Face). IsRing c.args.graph.now (ring_of f)) w.is c.requires.ring).below in
-    (below w.c (has_3 w.a w.b w.c (w.d ∷ w.e ∷ [])), below w.e (has_5 w.a w.b w.c w.d w.e []), below w.a (first_has w.a (w.b ∷ w.c ∷ w.d ∷ w.e ∷ [])))
-
-pub add_corner-requires-in-Pentagon-4-clause-units : goal.add_corner-requires-in-Pentagon-4-clause-units
-add_corner-requires-in-Pentagon-4-clause-units c =
-    let w = c.in-Pentagon in
-    let below = (subst (λ (f : Face). IsRing c.args.graph.now (ring_of f)) w.is c.requires.ring).below in
-    (below w.d (has_4 w.a w.b w.c w.d (w.e ∷ [])), below w.a (first_has w.a (w.b ∷ w.c ∷ w.d ∷ w.e ∷ [])), below w.b (has_2 w.a w.b (w.c ∷ w.d ∷ w.e ∷ [])))
-
-pub add_corner-requires-in-Pentagon-5-clause-units : goal.add_corner-requires-in-Pentagon-5-clause-units
-add_corner-requires-in-Pentagon-5-clause-units c =
-    let w = c.in-Pentagon in
-    let below = (subst (λ (f : Face). IsRing c.args.graph.now (ring_of f)) w.is c.requires.ring).below in
-    (below w.e (has_5 w.a w.b w.c w.d w.e []), below w.b (has_2 w.a w.b (w.c ∷ w.d ∷ w.e ∷ [])), below w.c (has_3 w.a w.b w.c (w.d ∷ w.e ∷ [])))
-
-pub returns-in_ok-add_corner-in-Pentagon-5-clause-added : goal.returns-in_ok-add_corner-in-Pentagon-5-clause-added
-returns-in_ok-add_corner-in-Pentagon-5-clause-added c corners h =
-    subst (λ (f : Face). HasCorners c.args.graph.now (λ w. with_face w (corners w) (ring_of f)) c.add_corner-in-Pentagon-5.new.rows.items) (sym c.in-Pentagon.is)
-    (c.in_ok-add_corner-in-Pentagon-5.ensures.added _ (c.in_ok-add_corner-in-Pentagon-4.ensures.added _ (c.in_ok-add_corner-in-Pentagon-3.ensures.added _ (c.in_ok-add_corner-in-Pentagon-2.ensures.added _ (c.in_ok-add_corner-in-Pentagon.ensures.added corners h)))))
+pub returns-clause-added : goal.returns-clause-added
+returns-clause-added c corners h =
+    corners_whole c.args.graph.now corners c.loop.rows.items c.args.face c.loop.counter (omega (arith, c.length_of-end.ensures, c.loop-test.false, c.loop.auto.counter-end))
+    (c.loop.invariant.added corners h)
