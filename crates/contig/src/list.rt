@@ -16,10 +16,20 @@ use std::marker::Model;
 
 /// A list of faces. The own side of each face belongs to no face that was added before it. Proofs
 /// see the list in reverse: the last face comes first.
-#[derive(Drop)]
 pub struct FaceList {
     faces: Vec<Face>,
     sides: HashSet<(u32, u32)>,
+}
+
+/// Drops the fields one by one. Written by hand so that a caller's proof has one call here, not one
+/// per field.
+impl Drop for FaceList {
+    fn drop(self) {
+        let FaceList {
+            faces: _faces,
+            sides: _sides,
+        } = self;
+    }
 }
 
 impl Model for FaceList {

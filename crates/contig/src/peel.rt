@@ -28,8 +28,8 @@ pub struct Sides {
     singles: Vec<usize>,
 }
 
-// Written by hand, so that the proof of a function that drops sides has one step for them and not one
-// for each field.
+/// Drops the fields one by one. Written by hand so that a caller's proof has one call here, not one
+/// per field.
 impl Drop for Sides {
     fn drop(self) {
         let Sides {
@@ -101,19 +101,31 @@ impl Sides {
 
     /// Counts the rings at each side of the graph. Fails if there is no memory.
     pub fn of(alloc: Global, graph: &Graph, rings: &[Face]) -> Result<Sides, Memory> {
-        let mut sides = Sides::without_rings(alloc, graph)?;
+        let mut sides = Sides::new(alloc);
+        sides.add_sides(graph)?;
         sides.add_rings(graph, rings)?;
         Ok(sides)
     }
 
-    fn without_rings(alloc: Global, graph: &Graph) -> Result<Sides, Memory> {
-        let (begins, all) = begins_of(alloc, graph)?;
-        Ok(Sides {
-            begins,
-            counts: vec![in alloc; 0; all]?,
-            sums: vec![in alloc; 0; all]?,
+    fn new(alloc: Global) -> Sides {
+        Sides {
+            begins: Vec::new(alloc),
+            counts: Vec::new(alloc),
+            sums: Vec::new(alloc),
             singles: Vec::new(alloc),
-        })
+        }
+    }
+
+    /// Adds the sides of the graph, without rings.
+    fn add_sides(&mut self, graph: &Graph) -> Result<(), Memory> {
+        let mut all = 0usize;
+        for u in 0..graph.units() {
+            self.begins.push(all)?;
+            all = all.wrapping_add(graph.neighbours(u).len());
+        }
+        self.counts.resize(all, 0)?;
+        self.sums.resize(all, 0)?;
+        Ok(())
     }
 
     fn add_rings(&mut self, graph: &Graph, rings: &[Face]) -> Result<(), Memory> {
@@ -380,16 +392,4 @@ fn put(order: &mut [usize], places: &mut [usize], class: usize, number: usize) {
         order[place] = number;
         places[class] = place.wrapping_add(1);
     }
-}
-
-/// Returns the index of the first entry of each unit's list of neighbors, and the number of all
-/// entries.
-fn begins_of(alloc: Global, graph: &Graph) -> Result<(Vec<usize>, usize), Memory> {
-    let mut begins = Vec::with_capacity(alloc, graph.units() as usize)?;
-    let mut end = 0usize;
-    for u in 0..graph.units() {
-        begins.push(end)?;
-        end = end.wrapping_add(graph.neighbours(u).len());
-    }
-    Ok((begins, end))
 }

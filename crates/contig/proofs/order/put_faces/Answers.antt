@@ -1,9 +1,11 @@
-use Rattle.std.proofs.Common.{ℕ, ◌<◌, List, [], ◌∷◌, ◌++◌, length, get_or, map, take, refl, sym, ap, ◌∙◌, subst}
-use Rattle.std.proofs.lemmas.List.{map_push, take_more}
+use Rattle.std.proofs.Common.{ℕ, ◌<◌, List, [], ◌∷◌, ◌++◌, length, get_or, map, take, refl, sym, ap, ◌∙◌, subst, arith}
+use Rattle.std.proofs.lemmas.List.{map_push, take_all, take_more}
 use Rattle.std.proofs.lemmas.List.Elements.{All-get_or}
 use Rattle.contig.specs.declared.corner.Corner.{Corner}
 use Rattle.contig.specs.Corners.{IsOnRow, units_of}
-use Rattle.contig.specs.Order.{HasSeats, IsPut}
+use Rattle.std.specs.Prelude.{All}
+use Rattle.contig.specs.declared.sector.Sector.{Sector}
+use Rattle.contig.specs.Order.{HasNear, HasSeats, IsOnGraph, IsPut}
 use Rattle.contig.proofs.Seating.{near_kept, none_seated, put_near, put_width, put_within, seated_more}
 use Rattle.contig.proofs.order.put_faces.Goals as goal
 
@@ -39,3 +41,27 @@ loop-corner-preserved c =
 pub returns-clause-near : goal.returns-clause-near
 returns-clause-near c =
     near_kept c.args.row.now c.args.sectors.now.items c.loop-corner.sectors.items c.loop-corner.invariant.width c.loop-corner.invariant.near c.requires.unfaced.near
+
+pub returns-clause-within : goal.returns-clause-within
+returns-clause-within c = c.loop-corner.invariant.within
+
+pub returns-clause-seats : goal.returns-clause-seats
+returns-clause-seats c _ =
+    subst (λ (t : List Corner). HasSeats (map (units_of c.args.row.now) t) c.loop-corner.sectors.items)
+    (take_all c.loop-corner.corner-index c.args.corners.now (omega (arith, c.loop-corner-test.false))) c.loop-corner.invariant.seats
+
+pub returns-then-corner-clause-near : goal.returns-then-corner-clause-near
+returns-then-corner-clause-near c =
+    near_kept c.args.row.now c.args.sectors.now.items c.loop-corner.sectors.items c.loop-corner.invariant.width c.loop-corner.invariant.near c.requires.unfaced.near
+
+pub returns-then-corner-clause-within : goal.returns-then-corner-clause-within
+returns-then-corner-clause-within c = c.loop-corner.invariant.within
+
+pub returns-then-not-put_face-clause-near : goal.returns-then-not-put_face-clause-near
+returns-then-not-put_face-clause-near c =
+    subst (λ (t : List Sector). HasNear c.args.row.now t) (sym (c.put_face.ensures.unchanged c.if-not-put_face.true))
+    (near_kept c.args.row.now c.args.sectors.now.items c.loop-corner.sectors.items c.loop-corner.invariant.width c.loop-corner.invariant.near c.requires.unfaced.near)
+
+pub returns-then-not-put_face-clause-within : goal.returns-then-not-put_face-clause-within
+returns-then-not-put_face-clause-within c =
+    subst (λ (t : List Sector). All (IsOnGraph c.args.graph.now) t) (sym (c.put_face.ensures.unchanged c.if-not-put_face.true)) c.loop-corner.invariant.within

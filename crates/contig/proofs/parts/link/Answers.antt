@@ -1,5 +1,6 @@
-use Rattle.std.proofs.Common.{◌≡◌, ℕ, ◌+◌, ◌<◌, ◌++◌, ◌∷◌, Bool, true, length, take, get_or, List, [], arith, sym, ap, subst, ◌∙◌}
-use Rattle.std.proofs.lemmas.List.{take_more}
+use Rattle.std.proofs.Common.{◌≡◌, ℕ, ◌+◌, ◌<◌, ◌++◌, ◌∷◌, Bool, true, length, take, get_or, List, [], arith, refl, sym, ap, subst, ◌∙◌, inl}
+use Rattle.std.proofs.lemmas.List.{take_all, take_more}
+use Rattle.std.proofs.lemmas.Bool.{false≢true}
 use Rattle.audit_model.specs.Graph.{Graph, has, adjacent}
 use Rattle.audit_model.specs.Local.{is_mate}
 use Rattle.audit_model.proofs.ListFacts.{at_has}
@@ -51,3 +52,27 @@ loop-other-preserved c =
             ],
           )))
     ]
+
+pub loop-other-init : goal.loop-other-init
+loop-other-init c = record {
+  units = refl;
+  marked = c.requires.seeded.marked;
+  longer = omega arith;
+  front = λ k l. refl;
+  kept = λ v p. refl;
+  fresh = λ v. inl refl;
+  added = λ k a b. absurd (omega (arith, a, b));
+  each = λ v i h. absurd (false≢true h);
+  coarser = λ a b la lb e. e;
+  joined = c.requires.joined;
+  width = refl;
+}
+
+pub returns : goal.returns
+returns c =
+    let g : Graph = c.args.leaving.graph.now in
+    let m : Marked = c.args.marks.now in
+    subst (λ (xs : List ℕ). IsSpread g (is_mate g c.args.leaving.plan.now c.args.leaving.unit) xs (get_or m.labels c.args.unit 0) m m c.args.roots.now c.loop-other.roots)
+    (take_all c.loop-other.other-index c.neighbours-other-items.result.now (omega (arith, c.loop-other-test.false)) ∙ c.neighbours-other-items.ensures.list)
+    (subst (λ (t : ℕ). IsSpread g (is_mate g c.args.leaving.plan.now c.args.leaving.unit) (take c.loop-other.other-index c.neighbours-other-items.result.now) t m m c.args.roots.now c.loop-other.roots)
+    c.label-label.ensures c.loop-other.invariant)

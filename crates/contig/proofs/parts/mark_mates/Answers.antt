@@ -1,7 +1,7 @@
-use Rattle.std.proofs.Common.{◌≡◌, ℕ, ◌+◌, ◌<◌, ◌++◌, ◌∷◌, true, length, take, get_or, List, [], arith, sym, subst}
+use Rattle.std.proofs.Common.{◌≡◌, ℕ, ◌+◌, ◌<◌, ◌++◌, ◌∷◌, true, length, take, get_or, List, [], arith, sym, subst, ◌∙◌}
 use Rattle.std.specs.Prelude.{slice_index}
 use Rattle.std.proofs.lemmas.Bool.{and_parts, and_from, eqb-true, eq-eqb}
-use Rattle.std.proofs.lemmas.List.{take_more}
+use Rattle.std.proofs.lemmas.List.{take_all, take_more}
 use Rattle.audit_model.specs.Graph.{Graph, has, adjacent}
 use Rattle.audit_model.specs.District.{in_district}
 use Rattle.audit_model.proofs.ListFacts.{at_has}
@@ -57,3 +57,25 @@ loop-other-preserved c =
         few = omega (arith, w.count-is, c.loop-other.invariant.few);
       }
     ]
+
+pub returns-then-count-eq-MOST-clause-seeded : goal.returns-then-count-eq-MOST-clause-seeded
+returns-then-count-eq-MOST-clause-seeded c most = absurd (omega (arith, most))
+
+pub returns-clause-seeded : goal.returns-clause-seeded
+returns-clause-seeded c few =
+    let g : Graph = c.args.leaving.graph.now in
+    let plan : List ℕ = c.args.leaving.plan.now in
+    let u : ℕ = c.args.leaving.unit in
+    let s = subst (λ (xs : List ℕ). IsSeeding g plan u xs c.loop-other.count c.loop-other.marks)
+    (take_all c.loop-other.other-index c.neighbours-other-items.result.now (omega (arith, c.loop-other-test.false)) ∙ c.neighbours-other-items.ensures.list) c.loop-other.invariant.seeding in
+    record {
+      few = few;
+      units = s.units;
+      marked = s.marked;
+      small = s.small;
+      seeds = s.seeds;
+      single = s.single;
+      mates = λ v p. (s.mates v p).0;
+      complete = λ v i. s.complete v i (and_parts (adjacent g u v) (in_district plan (slice_index plan u) v) i.1).0;
+      order = s.order;
+    }

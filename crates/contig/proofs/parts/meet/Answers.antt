@@ -1,4 +1,4 @@
-use Rattle.std.proofs.Common.{◌≡◌, ℕ, ◌+◌, ◌<◌, ◌≤◌, ◌⊎◌, length, get_or, set, refl, arith, sym, ap, subst, ◌∙◌}
+use Rattle.std.proofs.Common.{◌≡◌, ℕ, ◌+◌, ◌<◌, ◌≤◌, ◌⊎◌, length, get_or, set, List, refl, arith, sym, ap, subst, ◌∙◌}
 use Rattle.std.proofs.lemmas.Bool.{false≢true}
 use Rattle.audit_model.specs.Local.{stays_behind}
 use Rattle.audit_model.proofs.ListFacts.{at_has}
@@ -6,7 +6,31 @@ use Rattle.dual_graph.specs.Marked.{Marked}
 use Rattle.dual_graph.proofs.Marking.{items_le}
 use Rattle.contig.proofs.Growing.{grow_more, grow_parted, part_done}
 use Rattle.contig.proofs.Ending.{all_leave}
+use Rattle.contig.proofs.Places.{own_at}
 use Rattle.contig.proofs.parts.meet.Goals as goal
+
+pub loop-at-init : goal.loop-at-init
+loop-at-init g c =
+    let s = c.requires.seeded in
+    let labels : List ℕ = c.args.marks.now.labels in
+    let items : List ℕ = c.args.marks.now.items in
+    record {
+      growing = record {
+        units = s.units;
+        marked = s.marked;
+        joined = c.requires.joined;
+        small = s.small;
+        seeds = s.seeds;
+        closed = λ k l. absurd (omega (arith, l));
+        ended = λ k l.
+            let label : ℕ = get_or labels (get_or items k 0) 0 in
+            omega (arith, s.order k l, own_at label (omega (arith, s.small (get_or items k 0), s.few)));
+        parted = c.requires.parted;
+        widths = (c.told-roots, refl);
+        bound = omega arith;
+      };
+      complete = s.complete;
+    }
 
 pub joins_all-requires-clause-unit : goal.joins_all-requires-clause-unit
 joins_all-requires-clause-unit g c =

@@ -1,7 +1,7 @@
-use Rattle.std.proofs.Common.{◌≡◌, ℕ, ◌+◌, ◌<◌, ◌++◌, ◌∷◌, Bool, true, not, length, take, get_or, List, [], arith, sym, ap, subst, ◌∙◌}
+use Rattle.std.proofs.Common.{◌≡◌, ℕ, ◌+◌, ◌<◌, ◌++◌, ◌∷◌, Bool, true, not, length, take, get_or, List, [], arith, refl, sym, ap, subst, ◌∙◌, inl}
 use Rattle.std.specs.Prelude.{◌==◌, slice_index}
 use Rattle.std.proofs.lemmas.Bool.{and_parts, and_from, eqb-true, eq-eqb, ne_eqb, both_ways, not_from_false, not-true, false≢true}
-use Rattle.std.proofs.lemmas.List.{take_more}
+use Rattle.std.proofs.lemmas.List.{take_all, take_more}
 use Rattle.audit_model.specs.Graph.{Graph, has, adjacent, IsIn}
 use Rattle.audit_model.specs.Local.{stays_behind}
 use Rattle.audit_model.specs.District.{in_district}
@@ -78,3 +78,52 @@ loop-other-preserved c =
         same = λ h. w.roots-is ∙ c.loop-other.invariant.same (sym w.met-is ∙ h);
       }
     ]
+
+pub loop-other-init : goal.loop-other-init
+loop-other-init c = record {
+  spread = record {
+    units = refl;
+    marked = c.requires.found.marked;
+    longer = omega arith;
+    front = λ k l. refl;
+    kept = λ v p. refl;
+    fresh = λ v. inl refl;
+    added = λ k a b. absurd (omega (arith, a, b));
+    each = λ v i h. absurd (false≢true h);
+    coarser = λ a b la lb e. e;
+    joined = c.requires.found.joined;
+    width = refl;
+  };
+  same = λ h. refl;
+}
+
+pub bounds-plan-v : goal.bounds-plan-v
+bounds-plan-v c =
+    let row : List ℕ = c.neighbours-other-items.result.now in
+    let i : ℕ = c.loop-other.other-index in
+    subst (λ t. get_or row i 0 < t) (sym c.args.leaving.complete) (c.neighbours-other-items.ensures.below i 0 c.loop-other-test.true)
+
+pub label-there-requires : goal.label-there-requires
+label-there-requires c =
+    let row : List ℕ = c.neighbours-other-items.result.now in
+    let i : ℕ = c.loop-other.other-index in
+    subst (λ t. get_or row i 0 < t) (sym (c.loop-other.invariant.spread.units ∙ c.requires.found.units)) (c.neighbours-other-items.ensures.below i 0 c.loop-other-test.true)
+
+pub mark_as-requires-clause-unit : goal.mark_as-requires-clause-unit
+mark_as-requires-clause-unit c =
+    let row : List ℕ = c.neighbours-other-items.result.now in
+    let i : ℕ = c.loop-other.other-index in
+    subst (λ t. get_or row i 0 < t) (sym (c.loop-other.invariant.spread.units ∙ c.requires.found.units)) (c.neighbours-other-items.ensures.below i 0 c.loop-other-test.true)
+
+pub mark_as-requires-clause-absent : goal.mark_as-requires-clause-absent
+mark_as-requires-clause-absent c = sym c.label-there.ensures ∙ c.if-there-eq0.true
+
+pub returns-clause-spread : goal.returns-clause-spread
+returns-clause-spread c =
+    let g : Graph = c.args.leaving.graph.now in
+    let row : List ℕ = c.neighbours-other-items.result.now in
+    subst (λ (xs : List ℕ). IsSpread g (stays_behind c.args.leaving.plan.now c.args.leaving.unit) xs c.args.label c.args.marks.now c.loop-other.marks c.args.roots.now c.loop-other.roots)
+    (take_all c.loop-other.other-index row (omega (arith, c.loop-other-test.false)) ∙ c.neighbours-other-items.ensures.list) c.loop-other.invariant.spread
+
+pub returns-clause-same : goal.returns-clause-same
+returns-clause-same c = c.loop-other.invariant.same
