@@ -1,27 +1,28 @@
 //! The parts of a job, before its start plan is checked.
 
 ghost use Rattle.std.specs.Prelude.{◌≡◌, ◌<◌, ◌≤◌, ℕ, length, slice_index, IfOk};
-ghost use Rattle.std.specs.List.{list_any};
 ghost use Rattle.audit_model.specs.Job.{home_of, total_population, total_votes, rules};
-ghost use Rattle.audit_model.specs.JobOf.{is_gap, has_no_votes, bounds_fault, path_fault, cut_fault, group_fault, length_fault, plan_fault, job_from};
+ghost use Rattle.audit_model.specs.JobOf.{has_no_votes, bounds_fault, path_fault, cut_fault, group_fault, length_fault, plan_fault, job_from};
 ghost use Rattle.audit_model.specs.Length.{cut_length};
 ghost use Rattle.audit_model.specs.Limits.{IsWithinLimits, most_districts};
 ghost use Rattle.audit_model.specs.Meets.{keeps_frozen, majorities};
 ghost use Rattle.audit_model.specs.Plan.{least_population, greatest_population};
 ghost use Rattle.dual_graph.specs.Read.{parsed_of};
 
+use crate::asks::asks_gap;
 use crate::bounds::{first_outside, limits_of};
+use crate::copies::{copy_map, home_of};
 use crate::group::count_majorities;
 use crate::search::find_disconnected_pair;
 use crate::splits::count_splits;
-use crate::sums::{district_sums, sum_of};
+use crate::sums::{district_sums, sum_of, sum_votes};
 use audit_model::fault::PlanFault;
 use audit_model::lists::UnitList;
 use audit_model::memory::Memory;
 use audit_model::origin::Origin;
 use audit_model::outcome::Counts;
 use audit_model::rules::Rules;
-use audit_model::setting::{Ask, Score, Setting};
+use audit_model::setting::Setting;
 use district_sums::lengths::measure_cut;
 use district_sums::scratch::count_cut;
 use dual_graph::graph::Graph;
@@ -47,20 +48,25 @@ pub struct Input {
 }
 
 /// Drops the fields one by one. Written by hand so that a caller's proof has one call here, not one
-/// per field.
+/// per field. Each call of `drop` in turn keeps this proof short.
 impl Drop for Input {
     fn drop(self) {
         let Input {
-            graph: _graph,
-            counts: _counts,
-            start: _start,
+            graph,
+            counts,
+            start,
             districts: _,
-            setting: _setting,
-            rules: _rules,
+            setting,
+            rules,
             origin: _,
             population: _,
             votes: _,
         } = self;
+        drop(graph);
+        drop(counts);
+        drop(start);
+        drop(setting);
+        drop(rules);
     }
 }
 
@@ -78,34 +84,6 @@ impl Model for Input {
         i.rules i.population i.votes };
 }
 
-fn is_gap(score: Score) -> bool
-    ensures { result ≡ is_gap score }
-{
-    match score {
-        Score::Gap => true,
-        Score::Seats | Score::MeanMedian | Score::CutEdges | Score::CutLength => false,
-    }
-}
-
-/// Returns true if the efficiency gap is among the asks.
-fn asks_gap(asks: &[Ask]) -> bool
-    ensures { result ≡ list_any (λ ask. is_gap ask.score) asks.now }
-{
-    asks.iter().any(|ask| is_gap(ask.score))
-}
-
-/// Returns a copy of the start plan, whose districts the frozen units keep. Without a column of frozen
-/// units the list is empty.
-fn home_of(frozen: &UnitList, start: &UnitList) -> Result<UnitList, Memory>
-    ensures { IfOk result (λ home. home ≡ home_of frozen.now start.now) }
-{
-    if frozen.len() == 0 {
-        frozen.copy()
-    } else {
-        start.copy()
-    }
-}
-
 impl Input {
     ghost use Rattle.plan_core.specs.Input.{GivesDistricts, with_start, many_splits, many_regions, regions_fault, shape_fault};
 
@@ -115,7 +93,27 @@ impl Input {
         requires { IsWithinLimits (job_from (parsed_of parsed) setting regions) }
         ensures { IfOk result (λ input. input ≡ job_from (parsed_of parsed) setting regions) }
     {
-        let home = home_of(&parsed.frozen, &parsed.start)?;
+        match home_of(&parsed.frozen, &parsed.start) {
+            Ok(home) => Ok(Input::with_home(parsed, setting, regions, home)),
+            Err(_) => {
+                drop(parsed);
+                drop(setting);
+                drop(regions);
+                Err(Memory)
+            }
+        }
+    }
+
+    // Does the work of `new`, given the plan whose districts frozen units keep.
+    fn with_home(parsed: Parsed, setting: Setting, regions: UnitList, home: UnitList) -> Input
+        requires within { IsWithinLimits (job_from (parsed_of parsed) setting regions) }
+        requires home { home ≡ home_of parsed.frozen parsed.start }
+        ensures { result ≡ job_from (parsed_of parsed) setting regions }
+    {
+        let population = sum_of(parsed.counts.population.as_slice());
+        let votes = sum_votes(&parsed.counts);
+        let districts = parsed.labels.len() as u32;
+        drop(parsed.labels);
         let rules = Rules {
             max_cut: setting.max_cut,
             regions,
@@ -128,30 +126,16 @@ impl Input {
             frozen: parsed.frozen,
             home,
         };
-        let population = sum_of(parsed.counts.population.as_slice());
-        let votes = sum_of(parsed.counts.first.as_slice())
-            + sum_of(parsed.counts.second.as_slice());
-        Ok(Input {
+        Input {
             graph: parsed.graph,
             counts: parsed.counts,
             start: parsed.start,
-            districts: parsed.labels.len() as u32,
+            districts,
             setting,
             rules,
             origin: None,
             population,
             votes,
-        })
-    }
-
-    // Copies the graph and the counts. Fails if there is no memory.
-    fn copy_map(&self) -> Result<(Graph, Counts), Memory>
-        ensures { IfOk result (λ m. (m.0 ≡ self.now.graph) × (m.1 ≡ self.now.counts)) }
-    {
-        let graph = self.graph.copy()?;
-        match self.counts.copy() {
-            Ok(counts) => Ok((graph, counts)),
-            Err(_) => Err(Memory),
         }
     }
 
@@ -175,10 +159,29 @@ impl Input {
     fn copy_words(&self, start: &UnitList) -> Result<(Setting, Rules), Memory>
         ensures { IfOk result (λ w. (w.0 ≡ self.now.setting) × (w.1 ≡ record (rules self.now) { home = home_of self.now.frozen start.now })) }
     {
-        let setting = self.setting.copy()?;
-        match self.copy_rules(start) {
-            Ok(rules) => Ok((setting, rules)),
-            Err(_) => Err(Memory),
+        let rules = self.copy_rules(start)?;
+        match self.setting.copy() {
+            Ok(setting) => Ok((setting, rules)),
+            Err(_) => {
+                drop(rules);
+                Err(Memory)
+            }
+        }
+    }
+
+    // Copies all but the start plan, for a job with another one. Fails if there is no memory.
+    fn copy_rest(&self, start: &UnitList) -> Result<(Graph, Counts, Setting, Rules), Memory>
+        ensures { IfOk result (λ r. (r.0 ≡ self.now.graph) × (r.1 ≡ self.now.counts) × (r.2 ≡ self.now.setting)
+            × (r.3 ≡ record (rules self.now) { home = home_of self.now.frozen start.now })) }
+    {
+        let (graph, counts) = copy_map(&self.graph, &self.counts)?;
+        match self.copy_words(start) {
+            Ok((setting, rules)) => Ok((graph, counts, setting, rules)),
+            Err(_) => {
+                drop(graph);
+                drop(counts);
+                Err(Memory)
+            }
         }
     }
 
@@ -190,19 +193,23 @@ impl Input {
         requires few { districts ≤ most_districts }
         ensures { IfOk result (λ input. input ≡ record self.now { start = start; districts = districts }) }
     {
-        let (graph, counts) = self.copy_map()?;
-        let (setting, rules) = self.copy_words(&start)?;
-        Ok(Input {
-            graph,
-            counts,
-            start,
-            districts,
-            setting,
-            rules,
-            origin: self.origin,
-            population: self.population,
-            votes: self.votes,
-        })
+        match self.copy_rest(&start) {
+            Ok((graph, counts, setting, rules)) => Ok(Input {
+                graph,
+                counts,
+                start,
+                districts,
+                setting,
+                rules,
+                origin: self.origin,
+                population: self.population,
+                votes: self.votes,
+            }),
+            Err(_) => {
+                drop(start);
+                Err(Memory)
+            }
+        }
     }
 
     /// Returns the input with this origin.

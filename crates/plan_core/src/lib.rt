@@ -1,7 +1,9 @@
 //! Jobs: a graph with its counts, a legal start plan, a setting and the rules for plans.
 #![tactic(auto)]
 
+mod asks;
 mod bounds;
+mod copies;
 mod group;
 mod input;
 pub mod job;

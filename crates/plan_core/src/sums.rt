@@ -1,8 +1,10 @@
 //! Sums of a column.
 
-ghost use Rattle.std.specs.Prelude.{◌≡◌, ◌^◌, ◌*◌, ◌<◌, ◌≤◌, ℕ, length, slice_index, All, sum};
+ghost use Rattle.std.specs.Prelude.{◌≡◌, ◌+◌, ◌^◌, ◌*◌, ◌<◌, ◌≤◌, ℕ, length, slice_index, All, sum};
 ghost use Rattle.audit_model.specs.District.{district_sum};
 ghost use Rattle.audit_model.specs.Limits.{IsColumn, most_units, most_people, most_districts};
+
+use audit_model::outcome::Counts;
 
 /// Returns the sum of a column over all units.
 pub fn sum_of(column: &[u64]) -> u64
@@ -32,4 +34,13 @@ pub fn district_sums(column: &[u64], plan: &[u32]) -> [u64; 200]
         sums[district] += column[unit];
     }
     sums
+}
+
+/// Returns the votes of both parties in all units.
+pub fn sum_votes(counts: &Counts) -> u64
+    requires first { (length counts.now.first ≤ most_units) × All (λ n. n ≤ most_people) counts.now.first }
+    requires second { (length counts.now.second ≤ most_units) × All (λ n. n ≤ most_people) counts.now.second }
+    ensures { result ≡ sum counts.now.first + sum counts.now.second }
+{
+    sum_of(counts.first.as_slice()) + sum_of(counts.second.as_slice())
 }

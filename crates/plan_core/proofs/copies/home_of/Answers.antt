@@ -1,7 +1,7 @@
 use Rattle.std.proofs.Common.{◌≡◌, ℕ, List, IfOk, sym, ◌∙◌, subst}
 use Rattle.std.proofs.lemmas.List.{nil_from_length}
 use Rattle.plan_core.proofs.Freezing.{home_of_none, home_of_some}
-use Rattle.plan_core.proofs.input.home_of.Goals as goal
+use Rattle.plan_core.proofs.copies.home_of.Goals as goal
 
 pub returns-then-len-eq0 : goal.returns-then-len-eq0
 returns-then-len-eq0 c =
