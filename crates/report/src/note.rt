@@ -1,7 +1,8 @@
 //! The diagnostic of a call: one line that says why the call ended. Nothing here allocates, so that
 //! out of memory can be reported.
 
-ghost use Rattle.std.specs.Prelude.{◌≡◌, ◌∷◌, codes, decimal, []};
+ghost use Rattle.std.specs.Prelude.{◌≡◌, ◌∷◌, codes, decimal, map, []};
+ghost use Rattle.report.specs.Pieces.{piece_text};
 ghost use Rattle.report.specs.Ended.{ending_of, columns_kept};
 ghost use Rattle.audit_statement.specs.Endings.{AddsLine, WritesEnding};
 ghost use Rattle.audit_statement.specs.Status.{status_of};
@@ -19,7 +20,7 @@ use crate::ended::Ended;
 use crate::note::arguments::word_line;
 use crate::note::checkpoint::{write_damaged, write_other_job};
 use crate::note::graph::{graph_line, region_line};
-use crate::note::line::count_of_line;
+use crate::note::line::{Line, counts_line};
 use crate::note::output::{write_note, write_text};
 use crate::note::plan::{plan_line, write_named};
 use crate::note::table::table_line;
@@ -42,20 +43,14 @@ fn write_reason<N: Sink>(why: &Ended, note: &mut N)
 {
     match why {
         Ended::Done => {}
-        Ended::BadWords(fault) => write_note(note, &[Text("words: ")], &word_line(fault)),
+        Ended::BadWords(fault) => write_fault(note, "words: ", word_line(fault)),
         Ended::TooManyBytes => write_text(note, "graph: more than 67108864 bytes"),
-        Ended::BadGraph(fault, columns) => write_note(
-            note,
-            &[Text("graph: ")],
-            &graph_line(fault, columns),
-        ),
-        Ended::BadRegions(fault, column) => write_note(
-            note,
-            &[Text("graph: ")],
-            &region_line(fault, column),
-        ),
-        Ended::BadPlan(fault) => write_note(note, &[Text("plan: ")], &plan_line(fault)),
-        Ended::BadTable(fault) => write_note(note, &[Text("table: ")], &table_line(fault)),
+        Ended::BadGraph(fault, columns) => write_fault(note, "graph: ", graph_line(fault, columns)),
+        Ended::BadRegions(fault, column) => {
+            write_fault(note, "graph: ", region_line(fault, column))
+        }
+        Ended::BadPlan(fault) => write_fault(note, "plan: ", plan_line(fault)),
+        Ended::BadTable(fault) => write_fault(note, "table: ", table_line(fault)),
         Ended::BadPlanNamed(name, fault) => write_named(note, name, fault),
         Ended::NoMemory => write_text(note, "memory"),
         Ended::ReadFault => write_text(note, "read fault"),
@@ -72,7 +67,18 @@ fn write_reason<N: Sink>(why: &Ended, note: &mut N)
 fn write_stopped<N: Sink>(note: &mut N, done: u32, total: u32)
     ensures { AddsLine (N.state note.old) (N.state note.new) (terms.as_line (codes "stopped: " ∷ decimal done ∷ codes " of " ∷ decimal total ∷ codes " done" ∷ [])) }
 {
-    write_note(note, &[Text("stopped: ")], &count_of_line(done, total));
+    write_fault(
+        note,
+        "stopped: ",
+        counts_line(u64::from(done), " of ", u64::from(total), " done"),
+    );
+}
+
+// Writes the subject of a fault and the line about it.
+fn write_fault<N: Sink>(note: &mut N, subject: &str, line: Line)
+    ensures { AddsLine (N.state note.old) (N.state note.new) (terms.as_line (subject.now ∷ map piece_text line.entry)) }
+{
+    write_note(note, &[Text(subject)], &line);
 }
 
 pub(crate) fn status(why: &Ended) -> u8

@@ -5,8 +5,7 @@ ghost use Rattle.report.specs.Pieces.{piece_text};
 ghost use Rattle.audit_model.specs.Names.{name_text};
 ghost use Rattle.audit_statement.specs.Note as terms;
 
-use crate::note::line::{Line, line_of, text_line};
-use crate::piece::Piece::Text;
+use crate::note::line::{Line, text_line, words_line};
 use audit_model::fault::{Name, WordFault};
 
 /// Makes the diagnostic of refused arguments.
@@ -15,15 +14,12 @@ pub(crate) fn word_line(fault: &WordFault) -> Line<'_>
 {
     match fault {
         WordFault::NoCommand => text_line("no command"),
-        WordFault::UnknownCommand(word) => line_of(&[
-            Text("unknown command "),
-            Text(word.as_str()),
-        ]),
-        WordFault::UnknownName(word) => line_of(&[Text("unknown name "), Text(word.as_str())]),
-        WordFault::Twice(name) => line_of(&[Text(spelling_of(name)), Text(" is given twice")]),
-        WordFault::NoValue(name) => line_of(&[Text("no value for "), Text(spelling_of(name))]),
-        WordFault::MissingName(name) => line_of(&[Text(spelling_of(name)), Text(" is missing")]),
-        WordFault::BadValue(name) => line_of(&[Text("bad value for "), Text(spelling_of(name))]),
+        WordFault::UnknownCommand(word) => words_line("unknown command ", word.as_str()),
+        WordFault::UnknownName(word) => words_line("unknown name ", word.as_str()),
+        WordFault::Twice(name) => words_line(spelling_of(name), " is given twice"),
+        WordFault::NoValue(name) => words_line("no value for ", spelling_of(name)),
+        WordFault::MissingName(name) => words_line(spelling_of(name), " is missing"),
+        WordFault::BadValue(name) => words_line("bad value for ", spelling_of(name)),
         WordFault::Memory => text_line("memory"),
     }
 }

@@ -2,10 +2,11 @@
 
 ghost use Rattle.std.specs.Prelude.{◌≡◌, ◌∷◌, codes, decimal, map, []};
 ghost use Rattle.report.specs.Pieces.{piece_text};
-ghost use Rattle.audit_model.specs.declared.fault.GraphFault.TheVariants.{LengthsDiffer, SameId};
 ghost use Rattle.audit_statement.specs.Note as terms;
 
-use crate::note::line::{Line, count_line, line_of, numbered_line, text_line};
+use crate::note::line::{
+    Line, count_line, counts_line, line_of, numbered_line, text_line, two_line, words_line,
+};
 use crate::piece::Piece::{Number, Text};
 use audit_model::fault::{Column, GraphFault, Part, RegionFault};
 use audit_model::setting::Columns;
@@ -17,12 +18,16 @@ pub(crate) fn graph_line<'a>(fault: &GraphFault, columns: &'a Columns) -> Line<'
 {
     match fault {
         GraphFault::NotJson => text_line("not JSON"),
-        GraphFault::BadShape(part) => line_of(&[Text("bad shape of "), Text(part_name(*part))]),
+        GraphFault::BadShape(part) => words_line("bad shape of ", part_name(*part)),
         GraphFault::Directed => text_line("directed"),
-        GraphFault::LengthsDiffer { nodes, adjacency } => counts_line(*nodes, *adjacency),
+        GraphFault::LengthsDiffer { nodes, adjacency } => {
+            counts_line(*nodes, " nodes and ", *adjacency, " adjacency entries")
+        }
         GraphFault::TooManyUnits(n) => count_line(*n, " units, more than 100000"),
         GraphFault::BadId(node) => node_line(*node, " has no usable id"),
-        GraphFault::SameId { first, second } => same_id_line(*first, *second),
+        GraphFault::SameId { first, second } => {
+            two_line("nodes ", *first, *second, " have the same id")
+        }
         GraphFault::BadNeighbour { node, place } => {
             neighbor_line(*place, *node, " has no usable id")
         }
@@ -30,8 +35,12 @@ pub(crate) fn graph_line<'a>(fault: &GraphFault, columns: &'a Columns) -> Line<'
             neighbor_line(*place, *node, " is unknown")
         }
         GraphFault::TooManyEdges(n) => count_line(*n, " edges, more than 400000"),
-        GraphFault::Missing { node, column } => missing_line(*node, columns, *column),
-        GraphFault::BadNumber { node, column } => value_line(*node, columns, *column),
+        GraphFault::Missing { node, column } => {
+            column_line(*node, " has no column ", columns, *column)
+        }
+        GraphFault::BadNumber { node, column } => {
+            column_line(*node, no_value(*column), columns, *column)
+        }
         GraphFault::BadLabel(node) => node_line(*node, " has no usable label"),
         GraphFault::DistrictCount(n) => count_line(*n, " districts, not 2 to 200"),
         GraphFault::MissingLength { node, place } => {
@@ -49,31 +58,6 @@ pub(crate) fn graph_line<'a>(fault: &GraphFault, columns: &'a Columns) -> Line<'
     }
 }
 
-// Returns the line about unequal numbers of nodes and of adjacency entries.
-fn counts_line<'a>(nodes: u64, adjacency: u64) -> Line<'a>
-    ensures { terms.as_line (map piece_text result) ≡ terms.as_line (decimal nodes ∷ codes " nodes and " ∷ decimal adjacency ∷ codes " adjacency entries" ∷ []) }
-{
-    line_of(&[
-        Number(nodes),
-        Text(" nodes and "),
-        Number(adjacency),
-        Text(" adjacency entries"),
-    ])
-}
-
-// Returns the line about two nodes with the same id.
-fn same_id_line<'a>(first: u32, second: u32) -> Line<'a>
-    ensures { terms.as_line (map piece_text result) ≡ terms.as_line (codes "nodes " ∷ decimal first ∷ codes " and " ∷ decimal second ∷ codes " have the same id" ∷ []) }
-{
-    line_of(&[
-        Text("nodes "),
-        Number(u64::from(first)),
-        Text(" and "),
-        Number(u64::from(second)),
-        Text(" have the same id"),
-    ])
-}
-
 // Returns the line about a node.
 fn node_line(node: u32, words: &str) -> Line<'_>
     ensures { terms.as_line (map piece_text result) ≡ terms.as_line (codes "node " ∷ decimal node ∷ words.now ∷ []) }
@@ -81,26 +65,14 @@ fn node_line(node: u32, words: &str) -> Line<'_>
     numbered_line("node ", u64::from(node), words)
 }
 
-// Returns the line about a node without a column.
-fn missing_line(node: u32, columns: &Columns, column: Column) -> Line<'_>
-    ensures { terms.as_line (map piece_text result) ≡ terms.as_line (codes "node " ∷ decimal node ∷ codes " has no column " ∷ terms.column_name columns.now column ∷ []) }
+// Returns the line about a node and one of the columns.
+fn column_line<'a>(node: u32, words: &'static str, columns: &'a Columns, column: Column) -> Line<'a>
+    ensures { terms.as_line (map piece_text result) ≡ terms.as_line (codes "node " ∷ decimal node ∷ words.now ∷ terms.column_name columns.now column ∷ []) }
 {
     line_of(&[
         Text("node "),
         Number(u64::from(node)),
-        Text(" has no column "),
-        Text(column_name(columns, column)),
-    ])
-}
-
-// Returns the line about a node without a valid value in a column.
-fn value_line(node: u32, columns: &Columns, column: Column) -> Line<'_>
-    ensures { terms.as_line (map piece_text result) ≡ terms.as_line (codes "node " ∷ decimal node ∷ terms.no_value column ∷ terms.column_name columns.now column ∷ []) }
-{
-    line_of(&[
-        Text("node "),
-        Number(u64::from(node)),
-        Text(no_value(column)),
+        Text(words),
         Text(column_name(columns, column)),
     ])
 }
@@ -145,21 +117,25 @@ pub(crate) fn region_line<'a>(fault: &RegionFault, column: &'a text::Text) -> Li
     ensures { terms.as_line (map piece_text result) ≡ terms.as_line (terms.region_note column.now fault.now) }
 {
     match fault {
-        RegionFault::Missing(node) => line_of(&[
-            Text("node "),
-            Number(u64::from(*node)),
-            Text(" has no column "),
-            Text(column.as_str()),
-        ]),
-        RegionFault::BadLabel(node) => line_of(&[
-            Text("node "),
-            Number(u64::from(*node)),
-            Text(" has no usable label in column "),
-            Text(column.as_str()),
-        ]),
-        RegionFault::TooMany(n) => line_of(&[Number(*n), Text(" regions, more than 5000")]),
+        RegionFault::Missing(node) => label_line(*node, " has no column ", column),
+        RegionFault::BadLabel(node) => {
+            label_line(*node, " has no usable label in column ", column)
+        }
+        RegionFault::TooMany(n) => count_line(*n, " regions, more than 5000"),
         RegionFault::Memory => text_line("memory"),
     }
+}
+
+// Returns the line about a node and the column of the regions.
+fn label_line<'a>(node: u32, words: &'static str, column: &'a text::Text) -> Line<'a>
+    ensures { terms.as_line (map piece_text result) ≡ terms.as_line (codes "node " ∷ decimal node ∷ words.now ∷ column.now ∷ []) }
+{
+    line_of(&[
+        Text("node "),
+        Number(u64::from(node)),
+        Text(words),
+        Text(column.as_str()),
+    ])
 }
 
 fn part_name<'a>(part: Part) -> &'a str

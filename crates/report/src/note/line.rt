@@ -41,14 +41,29 @@ pub(crate) fn numbered_line<'a>(noun: &'a str, number: u64, words: &'a str) -> L
     line_of(&[Text(noun), Number(number), Text(words)])
 }
 
-/// Makes a diagnostic of a count of finished trajectories out of all.
-pub(crate) fn count_of_line<'a>(done: u32, total: u32) -> Line<'a>
-    ensures { terms.as_line (map piece_text result) ≡ terms.as_line (decimal done ∷ codes " of " ∷ decimal total ∷ codes " done" ∷ []) }
+/// Makes a diagnostic of two texts.
+pub(crate) fn words_line<'a>(first: &'a str, second: &'a str) -> Line<'a>
+    ensures { terms.as_line (map piece_text result) ≡ terms.as_line (first.now ∷ second.now ∷ []) }
+{
+    line_of(&[Text(first), Text(second)])
+}
+
+/// Makes a diagnostic of two counts with words behind each.
+pub(crate) fn counts_line<'a>(first: u64, between: &'a str, second: u64, after: &'a str) -> Line<'a>
+    ensures { terms.as_line (map piece_text result) ≡ terms.as_line (decimal first ∷ between.now ∷ decimal second ∷ after.now ∷ []) }
+{
+    line_of(&[Number(first), Text(between), Number(second), Text(after)])
+}
+
+/// Makes a diagnostic of a noun, two numbers and the words behind them.
+pub(crate) fn two_line<'a>(noun: &'a str, one: u32, other: u32, words: &'a str) -> Line<'a>
+    ensures { terms.as_line (map piece_text result) ≡ terms.as_line (noun.now ∷ decimal one ∷ codes " and " ∷ decimal other ∷ words.now ∷ []) }
 {
     line_of(&[
-        Number(u64::from(done)),
-        Text(" of "),
-        Number(u64::from(total)),
-        Text(" done"),
+        Text(noun),
+        Number(u64::from(one)),
+        Text(" and "),
+        Number(u64::from(other)),
+        Text(words),
     ])
 }

@@ -2,10 +2,10 @@
 
 ghost use Rattle.std.specs.Prelude.{◌≡◌, map};
 ghost use Rattle.report.specs.Pieces.{piece_text};
-ghost use Rattle.audit_model.specs.declared.fault.TableFault.TheVariants.{DistrictCount, SharedId};
+ghost use Rattle.audit_model.specs.declared.fault.TableFault.TheVariants.{DistrictCount};
 ghost use Rattle.audit_statement.specs.Note as terms;
 
-use crate::note::line::{Line, count_line, line_of, numbered_line, text_line};
+use crate::note::line::{Line, count_line, line_of, numbered_line, text_line, two_line};
 use crate::piece::Piece::{Number, Text};
 use audit_model::fault::TableFault;
 
@@ -20,26 +20,13 @@ pub(crate) fn table_line(fault: &TableFault) -> Line<'static>
         TableFault::BadName(plan) => {
             numbered_line("plan ", u64::from(*plan), " has no usable name")
         }
-        TableFault::SharedId { one, other } => shared_id_line(*one, *other),
+        TableFault::SharedId { one, other } => two_line("units ", *one, *other, " share an id"),
         TableFault::UnknownId(record) => numbered_line("record ", *record, " names no unit"),
         TableFault::Twice(record) => numbered_line("record ", *record, " repeats a unit"),
         TableFault::MissingUnit(unit) => numbered_line("unit ", u64::from(*unit), " is missing"),
         TableFault::DistrictCount { plan, count } => districts_line(*plan, *count),
         TableFault::Memory => text_line("memory"),
     }
-}
-
-// Returns the line about two units that share an id.
-fn shared_id_line(one: u32, other: u32) -> Line<'static>
-    ensures { terms.as_line (map piece_text result) ≡ terms.as_line (terms.table_note (SharedId one other)) }
-{
-    line_of(&[
-        Text("units "),
-        Number(u64::from(one)),
-        Text(" and "),
-        Number(u64::from(other)),
-        Text(" share an id"),
-    ])
 }
 
 // Returns the line about a plan with too few or too many districts.

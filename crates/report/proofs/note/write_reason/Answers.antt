@@ -3,19 +3,19 @@ use Rattle.report.proofs.NoteLines.{adds_line}
 use Rattle.report.proofs.note.write_reason.Goals as goal
 
 pub returns-in-BadWords : goal.returns-in-BadWords
-returns-in-BadWords g c = rw c.in-BadWords.is (adds_line c.write_note.ensures (ap (λ (t : List ℕ). codes "words: " ++ t) c.word_line.ensures))
+returns-in-BadWords g c = rw c.in-BadWords.is (adds_line c.write_fault.ensures (ap (λ (t : List ℕ). codes "words: " ++ t) c.word_line.ensures))
 
 pub returns-in-BadGraph : goal.returns-in-BadGraph
-returns-in-BadGraph g c = rw c.in-BadGraph.is (adds_line c.write_note-in-BadGraph.ensures (ap (λ (t : List ℕ). codes "graph: " ++ t) c.graph_line.ensures))
+returns-in-BadGraph g c = rw c.in-BadGraph.is (adds_line c.write_fault-in-BadGraph.ensures (ap (λ (t : List ℕ). codes "graph: " ++ t) c.graph_line.ensures))
 
 pub returns-in-BadRegions : goal.returns-in-BadRegions
-returns-in-BadRegions g c = rw c.in-BadRegions.is (adds_line c.write_note-in-BadRegions.ensures (ap (λ (t : List ℕ). codes "graph: " ++ t) c.region_line.ensures))
+returns-in-BadRegions g c = rw c.in-BadRegions.is (adds_line c.write_fault-in-BadRegions.ensures (ap (λ (t : List ℕ). codes "graph: " ++ t) c.region_line.ensures))
 
 pub returns-in-BadPlan : goal.returns-in-BadPlan
-returns-in-BadPlan g c = rw c.in-BadPlan.is (adds_line c.write_note-in-BadPlan.ensures (ap (λ (t : List ℕ). codes "plan: " ++ t) c.plan_line.ensures))
+returns-in-BadPlan g c = rw c.in-BadPlan.is (adds_line c.write_fault-in-BadPlan.ensures (ap (λ (t : List ℕ). codes "plan: " ++ t) c.plan_line.ensures))
 
 pub returns-in-BadTable : goal.returns-in-BadTable
-returns-in-BadTable g c = rw c.in-BadTable.is (adds_line c.write_note-in-BadTable.ensures (ap (λ (t : List ℕ). codes "table: " ++ t) c.table_line.ensures))
+returns-in-BadTable g c = rw c.in-BadTable.is (adds_line c.write_fault-in-BadTable.ensures (ap (λ (t : List ℕ). codes "table: " ++ t) c.table_line.ensures))
 
 pub returns-in-OtherJob : goal.returns-in-OtherJob
 returns-in-OtherJob g c = rw c.in-OtherJob.is c.write_other_job.ensures

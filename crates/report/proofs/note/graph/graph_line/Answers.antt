@@ -5,7 +5,7 @@ pub returns-in-NotJson : goal.returns-in-NotJson
 returns-in-NotJson c = c.text_line.ensures ∙ rw c.in-NotJson.is
 
 pub returns-in-BadShape : goal.returns-in-BadShape
-returns-in-BadShape c = c.line_of.ensures ∙ rw (c.in-BadShape.is, c.part_name.ensures)
+returns-in-BadShape c = c.words_line.ensures ∙ rw (c.in-BadShape.is, c.part_name.ensures)
 
 pub returns-in-Directed : goal.returns-in-Directed
 returns-in-Directed c = c.text_line-in-Directed.ensures ∙ rw c.in-Directed.is
@@ -20,7 +20,7 @@ pub returns-in-BadId : goal.returns-in-BadId
 returns-in-BadId c = c.node_line.ensures ∙ rw c.in-BadId.is
 
 pub returns-in-SameId : goal.returns-in-SameId
-returns-in-SameId c = c.same_id_line.ensures ∙ rw c.in-SameId.is
+returns-in-SameId c = c.two_line.ensures ∙ rw c.in-SameId.is
 
 pub returns-in-BadNeighbour : goal.returns-in-BadNeighbour
 returns-in-BadNeighbour c = c.neighbor_line.ensures ∙ rw c.in-BadNeighbour.is
@@ -32,10 +32,10 @@ pub returns-in-TooManyEdges : goal.returns-in-TooManyEdges
 returns-in-TooManyEdges c = c.count_line-in-TooManyEdges.ensures ∙ rw c.in-TooManyEdges.is
 
 pub returns-in-Missing : goal.returns-in-Missing
-returns-in-Missing c = c.missing_line.ensures ∙ rw c.in-Missing.is
+returns-in-Missing c = c.column_line.ensures ∙ rw c.in-Missing.is
 
 pub returns-in-BadNumber : goal.returns-in-BadNumber
-returns-in-BadNumber c = c.value_line.ensures ∙ rw c.in-BadNumber.is
+returns-in-BadNumber c = c.column_line-in-BadNumber.ensures ∙ rw (c.in-BadNumber.is, c.no_value.ensures)
 
 pub returns-in-BadLabel : goal.returns-in-BadLabel
 returns-in-BadLabel c = c.node_line-in-BadLabel.ensures ∙ rw c.in-BadLabel.is

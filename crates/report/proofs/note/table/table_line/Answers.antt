@@ -14,7 +14,7 @@ pub returns-in-BadName : goal.returns-in-BadName
 returns-in-BadName c = c.numbered_line-in-BadName.ensures ∙ rw (c.in-BadName.is, c.from.ensures)
 
 pub returns-in-SharedId : goal.returns-in-SharedId
-returns-in-SharedId c = c.shared_id_line.ensures ∙ rw c.in-SharedId.is
+returns-in-SharedId c = c.two_line.ensures ∙ rw c.in-SharedId.is
 
 pub returns-in-UnknownId : goal.returns-in-UnknownId
 returns-in-UnknownId c = c.numbered_line-in-UnknownId.ensures ∙ rw c.in-UnknownId.is

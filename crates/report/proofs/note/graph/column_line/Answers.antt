@@ -1,5 +1,5 @@
 use Rattle.std.proofs.Common.{◌∙◌}
-use Rattle.report.proofs.note.graph.missing_line.Goals as goal
+use Rattle.report.proofs.note.graph.column_line.Goals as goal
 
 pub returns : goal.returns
 returns c = c.line_of.ensures ∙ rw (c.from.ensures, c.column_name.ensures)

@@ -1,5 +1,5 @@
 use Rattle.std.proofs.Common.{◌∙◌}
-use Rattle.report.proofs.note.line.count_of_line.Goals as goal
+use Rattle.report.proofs.note.line.two_line.Goals as goal
 
 pub returns : goal.returns
 returns c = c.line_of.ensures ∙ rw (c.from.ensures, c.from-2.ensures)

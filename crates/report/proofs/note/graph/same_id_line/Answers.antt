@@ -1,5 +1,0 @@
-use Rattle.std.proofs.Common.{◌∙◌}
-use Rattle.report.proofs.note.graph.same_id_line.Goals as goal
-
-pub returns : goal.returns
-returns c = c.line_of.ensures ∙ rw (c.from.ensures, c.from-2.ensures)
