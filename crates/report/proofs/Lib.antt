@@ -2,6 +2,7 @@ mod NoteLines
 pub mod Appended
 pub mod Changes
 pub mod Escapes
+pub mod Heads
 pub mod Limits
 pub mod Longest
 pub mod Pieces

@@ -11,6 +11,7 @@ use Rattle.audit_model.specs.declared.setting.Score.TheVariants.{Seats}
 use Rattle.audit_model.specs.declared.setting.Tail.TheVariants.{Low}
 use Rattle.audit_model.specs.Job.{Job}
 use Rattle.report.specs.Lines.{AppendsText}
+use Rattle.report.specs.Parts.{ask_at}
 use Rattle.audit_model.specs.Stopping.{placed_asks}
 use Rattle.report.proofs.Written.{IsWritten, written-more, written-err}
 
@@ -60,41 +61,40 @@ abbrev pub no_ask : Ask
 no_ask = record { score = Seats; tail = Low }
 
 -- the ask at a place
-pub placed : (job : Job) (asks : List Ask) (place : ℕ) → asks ≡ job.setting.asks → place < length asks
-    → get_or (placed_asks job) place (0, no_ask) ≡ (place, get_or asks place no_ask)
-placed job asks place e l =
-    let at = get_or-enumerate_from 0 job.setting.asks place (0, no_ask) (subst (λ xs. place < length xs) e l) in
-    at ∙ ap (λ k. (k, get_or job.setting.asks place no_ask)) (zero-add place)
-    ∙ ap (λ xs. (place, get_or xs place no_ask)) (sym e)
+placed : (job : Job) (place : ℕ) → place < length job.setting.asks → get_or (placed_asks job) place (0, no_ask) ≡ (place, ask_at job place)
+placed job place l = get_or-enumerate_from 0 job.setting.asks place (0, no_ask) l ∙ ap (λ k. (k, ask_at job place)) (zero-add place)
 
--- the place of an ask is one of the asks with their places
-pub placed_within : (job : Job) (asks : List Ask) (place : ℕ) → asks ≡ job.setting.asks → place < length asks → place < length (placed_asks job)
-placed_within job asks place e l = omega (arith, length-enumerate_from 0 job.setting.asks, ap length e)
+module _ (job : Job) (piece : ℕ × Ask → List ℕ) (place : ℕ) (old now : RoomyBytes) (before : ArePieces piece (placed_asks job) place old now) where
+  -- the piece of one more ask is appended
+  pub asks-more : (new : RoomyBytes) → place < length job.setting.asks → AppendsText now new (piece (place, ask_at job place)) (Ok tt) → ArePieces piece (placed_asks job) (place + 1) old new
+  asks-more new l more =
+      pieces-more piece (placed_asks job) place (place, ask_at job place) (0, no_ask) old now new (omega (arith, l, length-enumerate_from 0 job.setting.asks)) (placed job place l) before more
 
--- after the last ask there is no placed ask
-pub placed_all : (job : Job) (asks : List Ask) (place : ℕ) → asks ≡ job.setting.asks → length asks ≤ place → length (placed_asks job) ≤ place
-placed_all job asks place e l = omega (arith, length-enumerate_from 0 job.setting.asks, ap length e)
+  -- if the piece of an ask cannot be appended, the whole cannot
+  pub asks-err : (new : RoomyBytes) (e : Memory) → place < length job.setting.asks → AppendsText now new (piece (place, ask_at job place)) (Err e)
+      → AppendsText old new (flat_map piece (placed_asks job)) (Err e)
+  asks-err new e l failed =
+      pieces-err piece (placed_asks job) place (place, ask_at job place) (0, no_ask) old now new e (omega (arith, l, length-enumerate_from 0 job.setting.asks)) (placed job place l) before failed
+
+  -- if the piece of each ask is appended, the whole is
+  pub asks-all : length job.setting.asks ≤ place → AppendsText old now (flat_map piece (placed_asks job)) (Ok tt)
+  asks-all over = pieces-all piece (placed_asks job) place old now (omega (arith, over, length-enumerate_from 0 job.setting.asks)) before
 
 -- ---- the asks, each with the stop of its test
 
--- each place has the ask and the stop of that place
-pub zipped : (job : Job) (asks : List Ask) (stops : List (List ℕ)) (place : ℕ) → asks ≡ job.setting.asks → length stops ≡ length job.setting.asks → place < length asks
-    → get_or (zip job.setting.asks stops) place (no_ask, []) ≡ (get_or asks place no_ask, get_or stops place [])
-zipped job asks stops place e count l =
-    let inside : place < length job.setting.asks = subst (λ xs. place < length xs) e l in
-    get_or-zip job.setting.asks stops place (no_ask, []) inside (omega (arith, inside, count))
-    ∙ ap (λ xs. (get_or xs place no_ask, get_or stops place [])) (sym e)
+module _ (job : Job) (stops : List (List ℕ)) (place : ℕ) (count : length stops ≡ length job.setting.asks) where
+  -- each place has the ask and the stop of that place
+  pub zipped : place < length job.setting.asks → get_or (zip job.setting.asks stops) place (no_ask, []) ≡ (ask_at job place, get_or stops place [])
+  zipped l = get_or-zip job.setting.asks stops place (no_ask, []) l (omega (arith, l, count))
 
--- with as many stops as asks, zipping keeps the number
-zipped_length : (job : Job) (stops : List (List ℕ)) → length stops ≡ length job.setting.asks → length (zip job.setting.asks stops) ≡ length job.setting.asks
-zipped_length job stops count = length-zip job.setting.asks stops ∙ omega (arith, count)
+  -- with as many stops as asks, zipping keeps the number
+  zipped_length : length (zip job.setting.asks stops) ≡ length job.setting.asks
+  zipped_length = length-zip job.setting.asks stops ∙ omega (arith, count)
 
--- the place of an ask is one of the asks with their stops
-pub zipped_within : (job : Job) (asks : List Ask) (stops : List (List ℕ)) (place : ℕ) → asks ≡ job.setting.asks → length stops ≡ length job.setting.asks → place < length asks
-    → place < length (zip job.setting.asks stops)
-zipped_within job asks stops place e count l = omega (arith, zipped_length job stops count, ap length e)
+  -- the place of an ask is one of the asks with their stops
+  pub zipped_within : place < length job.setting.asks → place < length (zip job.setting.asks stops)
+  zipped_within l = omega (arith, zipped_length, l)
 
--- after the last ask there is no ask with its stop
-pub zipped_all : (job : Job) (asks : List Ask) (stops : List (List ℕ)) (place : ℕ) → asks ≡ job.setting.asks → length stops ≡ length job.setting.asks → length asks ≤ place
-    → length (zip job.setting.asks stops) ≤ place
-zipped_all job asks stops place e count l = omega (arith, zipped_length job stops count, ap length e)
+  -- after the last ask there is no ask with its stop
+  pub zipped_all : length job.setting.asks ≤ place → length (zip job.setting.asks stops) ≤ place
+  zipped_all over = omega (arith, zipped_length, over)

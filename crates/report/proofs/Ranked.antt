@@ -1,9 +1,11 @@
 -- The lines of the parallel test depend on its own outcomes alone.
-use Rattle.std.proofs.Common.{◌≡◌, ℕ, zero, suc, List, flat_map, filter, refl, ap, sym, ◌∙◌}
+use Rattle.std.proofs.Common.{◌≡◌, ℕ, zero, suc, ◌+◌, ◌≤◌, ℤ, List, length, arith, flat_map, filter, refl, ap, sym, ◌∙◌}
 use Rattle.std.specs.Prelude.{nat_le}
 use Rattle.audit_model.specs.declared.outcome.Outcome.{Outcome}
 use Rattle.audit_model.specs.Job.{Job}
-use Rattle.audit_model.specs.Trajectory.{plan_value, rank_among}
+use Rattle.std.proofs.lemmas.List.Sums.{count_by-le-length}
+use Rattle.audit_model.specs.declared.setting.Tail.{Tail}
+use Rattle.audit_model.specs.Trajectory.{in_tail, plan_value, rank_among, value_at}
 use Rattle.audit_model.specs.Stopping.{placed_asks}
 use Rattle.audit_statement.specs.Report.{ends_line, ends_lines}
 use Rattle.report.specs.Outcomes.{AreEndsOf}
@@ -28,3 +30,14 @@ pub lines_alone : (n : ℕ) (job : Job) (os ends : List Outcome) → (n ≡ 0 �
 unfolding lines_among
 lines_alone n job os ends some all h =
     ap (lines_among job) (ends_all job.setting.walks ends h.ids ∙ all) ∙ sym (lines_of_ends n job os some)
+
+-- a rank is one of the numbers from 1 to the number of endpoints and one
+pub rank_within : (tail : Tail) (start : ℤ) (place n r : ℕ) (ends : List Outcome) → r ≡ rank_among tail start place ends → length ends ≡ n → (1 ≤ r) × (r ≤ n + 1)
+rank_within tail start place n r ends is count =
+    let few = count_by-le-length (λ o. in_tail tail (value_at o place) start) ends in
+    (omega (arith, is), omega (arith, is, few, count))
+
+-- equal tails and values have equal ranks
+pub same_rank : (tail own : Tail) (start value : ℤ) (place r : ℕ) (ends : List Outcome) → r ≡ rank_among tail start place ends → tail ≡ own → start ≡ value
+    → r ≡ rank_among own value place ends
+same_rank tail own start value place r ends is tails values = is ∙ ap (λ t. rank_among t start place ends) tails ∙ ap (λ s. rank_among own s place ends) values

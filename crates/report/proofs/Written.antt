@@ -105,3 +105,14 @@ appends-err old new a b e first = written-err old old new (a ++ b) a b e (writte
 -- the appended text may be replaced by an equal one
 pub appends-by : (old new : RoomyBytes) (a b : List ℕ) (r : Result (Unit {0}) Memory) → a ≡ b → AppendsText old new a r → AppendsText old new b r
 appends-by old new a b r e h = subst (λ t. AppendsText old new t r) e h
+
+-- three texts are appended one after the other, as an equal text
+module _ (old : RoomyBytes) (a b c text : List ℕ) (is : (a ++ b) ++ c ≡ text) where
+  pub three-first : (new : RoomyBytes) (e : Memory) → AppendsText old new a (Err e) → AppendsText old new text (Err e)
+  three-first new e first = appends-by old new ((a ++ b) ++ c) text (Err e) is (appends-err old new (a ++ b) c e (appends-err old new a b e first))
+
+  pub three-second : (mid new : RoomyBytes) (e : Memory) → AppendsText old mid a (Ok tt) → AppendsText mid new b (Err e) → AppendsText old new text (Err e)
+  three-second mid new e first second = appends-by old new ((a ++ b) ++ c) text (Err e) is (appends-err old new (a ++ b) c e (appends-two old mid new a b (Err e) first second))
+
+  pub three-all : (mid next new : RoomyBytes) (r : Result (Unit {0}) Memory) → AppendsText old mid a (Ok tt) → AppendsText mid next b (Ok tt) → AppendsText next new c r → AppendsText old new text r
+  three-all mid next new r first second third = appends-by old new ((a ++ b) ++ c) text r is (appends-two old next new (a ++ b) c r (appends-two old mid next a b (Ok tt) first second) third)

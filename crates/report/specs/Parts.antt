@@ -1,11 +1,13 @@
 -- Parts of the report.
-use Rattle.std.specs.Prelude.{ℕ, List, [], ◌∷◌, ◌++◌, ◌+◌, length, codes, decimal, flat_map, Option}
+use Rattle.std.specs.Prelude.{ℕ, List, [], ◌∷◌, ◌++◌, ◌+◌, length, get_or, codes, decimal, flat_map, Option}
 use Rattle.hex.specs.Hex.{encode_lower}
 use Rattle.json.specs.Print.{quoted}
 use Rattle.audit_model.specs.declared.origin.Origin.{Origin}
 use Rattle.audit_model.specs.declared.outcome.Outcome.{Outcome}
 use Rattle.audit_model.specs.declared.setting.Ask.{Ask}
 use Rattle.audit_model.specs.declared.setting.Columns.{Columns}
+use Rattle.audit_model.specs.declared.setting.Score.TheVariants.{Seats}
+use Rattle.audit_model.specs.declared.setting.Tail.TheVariants.{Low}
 use Rattle.audit_model.specs.Job.{Job}
 use Rattle.audit_model.specs.Test.{p_value}
 use Rattle.audit_model.specs.Stopping.{placed_asks}
@@ -36,6 +38,14 @@ last_columns columns = spaced (frozen_words columns.frozen) ++ spaced (length_wo
 abbrev pub key_line : Job → List ℕ
 key_line job = line (codes "key" ∷ encode_lower job.setting.key ∷ [])
 
+-- the lines of the graph, of the population and of the rules
+abbrev pub plan_lines : Job → List ℕ
+plan_lines job = graph_line job ++ population_line job ++ rule_lines job
+
+-- the lines of a job that a report and a trace share
+abbrev pub job_lines : Job → List ℕ
+job_lines job = origin_lines job job.origin ++ key_line job ++ plan_lines job ++ setting_line job
+
 -- the lines before those of the asks
 abbrev pub head : Job → List ℕ
 head job =
@@ -51,6 +61,10 @@ head job =
 -- the lines of an outlier walk, one for each ask
 abbrev pub lines_of : Job → Outcome → List ℕ
 lines_of job found = flat_map (walk_line job found) (placed_asks job)
+
+-- the ask at a place. Past the last ask it is this default.
+abbrev pub ask_at : Job → ℕ → Ask
+ask_at job place = get_or job.setting.asks place (record { score = Seats; tail = Low })
 
 -- the line of an ask with this rank of the start plan's value
 abbrev pub rank_line : Job → Ask → ℕ → List ℕ

@@ -3,13 +3,12 @@
 ghost use Rattle.std.specs.Prelude.{◌≡◌, ◌+◌, ◌∷◌, ◌≤◌, ◌++◌, [], length};
 ghost use Rattle.report.specs.Lines.{AppendsText};
 ghost use Rattle.report.specs.Outcomes.{AreOutcomesOf, AreStopsOf, IsSerialOf};
-ghost use Rattle.report.specs.Parts.{head, key_line, report_by_parts};
+ghost use Rattle.report.specs.Parts.{head, job_lines, key_line, report_by_parts};
 ghost use Rattle.audit_statement.specs.Report as definition;
 
-use crate::check::{push_graph_line, push_population_line};
+use crate::check::push_plan_lines;
 use crate::lines::{Word, push_line};
 use crate::origin::push_origin_lines;
-use crate::rules::push_rule_lines;
 use crate::serial::push_serial_lines;
 use crate::shift::push_shift_line;
 use crate::stops::push_test_lines;
@@ -66,13 +65,18 @@ fn push_head(job: &Job, out: &mut Bytes) -> Result<(), Memory>
     ensures { AppendsText out.old out.new (head job.now) result }
 {
     push_title_line(job, out)?;
+    push_job_lines(job, out)?;
+    push_stop_line(job, out)
+}
+
+/// Appends the lines of a job that a report and a trace share.
+pub fn push_job_lines(job: &Job, out: &mut Bytes) -> Result<(), Memory>
+    ensures { AppendsText out.old out.new (job_lines job.now) result }
+{
     push_origin_lines(job, out)?;
     push_key_line(job, out)?;
-    push_graph_line(job, out)?;
-    push_population_line(job, out)?;
-    push_rule_lines(job, out)?;
-    push_setting_line(job, out)?;
-    push_stop_line(job, out)
+    push_plan_lines(job, out)?;
+    push_setting_line(job, out)
 }
 
 /// Appends the title line.
@@ -94,14 +98,14 @@ fn title_of(shift: bool) -> &'static str
 }
 
 /// Appends the line with the key.
-pub fn push_key_line(job: &Job, out: &mut Bytes) -> Result<(), Memory>
+fn push_key_line(job: &Job, out: &mut Bytes) -> Result<(), Memory>
     ensures { AppendsText out.old out.new (key_line job.now) result }
 {
     push_line(out, &[Word::Text("key"), Word::Key(&job.setting().key)])
 }
 
 /// Appends the line with the counts and lengths of the trajectories.
-pub fn push_setting_line(job: &Job, out: &mut Bytes) -> Result<(), Memory>
+fn push_setting_line(job: &Job, out: &mut Bytes) -> Result<(), Memory>
     ensures { AppendsText out.old out.new (definition.setting_line job.now) result }
 {
     let setting = job.setting();

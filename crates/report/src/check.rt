@@ -2,6 +2,7 @@
 
 ghost use Rattle.std.specs.Prelude.{◌≡◌, ◌++◌, OnOk, OnErr};
 ghost use Rattle.report.specs.Lines.{AppendsText};
+ghost use Rattle.report.specs.Parts.{plan_lines};
 ghost use Rattle.audit_statement.specs.Report as definition;
 
 use crate::lines::{Word, push_line};
@@ -28,10 +29,17 @@ fn push_check(job: &Job, out: &mut Bytes) -> Result<(), Memory>
 {
     push_line(out, &[Word::Text("plan-check 1")])?;
     push_origin_lines(job, out)?;
+    push_plan_lines(job, out)?;
+    push_line(out, &[Word::Text("end")])
+}
+
+/// Appends the lines of the graph, of the population and of the rules.
+pub(crate) fn push_plan_lines(job: &Job, out: &mut Bytes) -> Result<(), Memory>
+    ensures { AppendsText out.old out.new (plan_lines job.now) result }
+{
     push_graph_line(job, out)?;
     push_population_line(job, out)?;
-    push_rule_lines(job, out)?;
-    push_line(out, &[Word::Text("end")])
+    push_rule_lines(job, out)
 }
 
 /// Appends the line with the numbers of units, edges and districts.

@@ -1,6 +1,7 @@
 //! The texts that an audit writes: the report, the text of a check, and the diagnostic with the exit status.
 #![tactic(auto)]
 
+mod asks;
 mod audit;
 pub mod check;
 pub mod ended;

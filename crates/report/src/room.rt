@@ -1,12 +1,12 @@
 //! The capacity that a report needs.
 
-ghost use Rattle.std.specs.Prelude.{◌≡◌, ◌+◌, ◌*◌, ◌^◌, ◌≤◌, ℕ, List, length, Option, None, Some, IfSome, OnOk, OnErr};
+ghost use Rattle.std.specs.Prelude.{◌≡◌, ◌+◌, ◌*◌, ◌^◌, ◌≤◌, ℕ, List, length, Option, None, Some, IfSome, OnOk, OnErr, sum};
 ghost use Rattle.audit_model.specs.declared.outcome.Outcome.{Outcome};
 ghost use Rattle.report.specs.Outcomes.{AreOutcomesOf, AreStopsOf, IsSerialOf};
 ghost use Rattle.report.specs.Parts.{names_length, source_line};
 ghost use Rattle.audit_statement.specs.Report as definition;
 
-use crate::values::asks_of;
+use crate::asks::ask_count;
 use audit_model::buffers::Bytes;
 use audit_model::memory::Memory;
 use audit_model::origin::Origin;
@@ -72,7 +72,7 @@ fn lines_room(job: &Job) -> usize
     ensures few { result ≤ 90000000 }
 {
     let lines_of_ask = job.setting().walks as usize + 2;
-    FRAME_ROOM + lines_of_ask * asks_of(job).len() * LINE_ROOM
+    FRAME_ROOM + lines_of_ask * ask_count(job) * LINE_ROOM
 }
 
 /// Returns an upper bound on the bytes of the lines of the job's origin.
@@ -121,15 +121,28 @@ fn names_len(setting: &Setting) -> Option<usize>
     ensures none { result ≡ None → 2 ^ 61 ≤ names_length setting.now.columns setting.now.region }
 {
     let columns = &setting.columns;
-    columns
-        .population
-        .len()
-        .checked_add(columns.first.len())?
-        .checked_add(columns.second.len())?
-        .checked_add(columns.district.len())?
-        .checked_add(columns.group.len())?
-        .checked_add(columns.whole.len())?
-        .checked_add(columns.frozen.len())?
-        .checked_add(columns.length.len())?
-        .checked_add(setting.region.len())
+    checked_sum(&[
+        columns.population.len(),
+        columns.first.len(),
+        columns.second.len(),
+        columns.district.len(),
+        columns.group.len(),
+        columns.whole.len(),
+        columns.frozen.len(),
+        columns.length.len(),
+        setting.region.len(),
+    ])
+}
+
+/// Returns the sum, if it fits in `usize`.
+#[tactic(auto, using(std::proofs::lemmas::List::Sums::sum_by_more_le))]
+fn checked_sum(numbers: &[usize]) -> Option<usize>
+    ensures value { IfSome result (λ total. total ≡ sum numbers.now) }
+    ensures none { result ≡ None → 2 ^ 64 ≤ sum numbers.now }
+{
+    let mut total: usize = 0;
+    for number in numbers {
+        total = total.checked_add(*number)?;
+    }
+    Some(total)
 }

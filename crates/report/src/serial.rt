@@ -1,19 +1,17 @@
 //! The lines of the serial test.
 
-ghost use Rattle.std.specs.Prelude.{◌≡◌, ◌<◌, ◌≤◌, flat_map, slice_index};
-ghost use Rattle.audit_model.specs.Trajectory.{plan_value};
+ghost use Rattle.std.specs.Prelude.{◌<◌, flat_map, length};
 ghost use Rattle.report.specs.Lines.{AppendsText};
 ghost use Rattle.report.specs.Outcomes.{IsSerialOf, AreRanks, IsRank};
-ghost use Rattle.report.specs.Parts.{place_line};
+ghost use Rattle.report.specs.Parts.{ask_at, place_line};
 ghost use Rattle.audit_statement.specs.Report as definition;
 ghost use Rattle.audit_model.specs.Stopping.{placed_asks};
 
+use crate::asks::{ask_count, ask_words};
 use crate::lines::{Word, push_line};
-use crate::names::{score_text, tail_text};
-use crate::values::{asks_of, denominator_of, visits};
+use crate::values::visits;
 use audit_model::buffers::Bytes;
 use audit_model::memory::Memory;
-use audit_model::setting::Ask;
 use outlier_tests::p_value;
 use plan_core::job::Job;
 
@@ -40,34 +38,34 @@ fn push_ranks(job: &Job, place: u32, ranks: &[u64; 4], out: &mut Bytes) -> Resul
     requires { AreRanks job.now ranks.now }
     ensures { AppendsText out.old out.new (flat_map (definition.serial_line job.now place ranks.now) (placed_asks job.now)) result }
 {
-    for (k, ask) in asks_of(job).iter().enumerate() {
-        push_serial_line(job, place, *ask, job.start_value(k as u32), ranks[k], out)?;
+    for k in 0..ask_count(job) {
+        push_serial_line(job, k, place, ranks[k], out)?;
     }
     Ok(())
 }
 
-/// Appends the line of an ask. `start` is the start plan's value, and `rank` its rank.
+/// Appends the line of the ask with the index `k`. `rank` is the rank of the start plan's value.
 fn push_serial_line(
     job: &Job,
+    k: usize,
     place: u32,
-    ask: Ask,
-    start: i64,
     rank: u64,
     out: &mut Bytes,
 ) -> Result<(), Memory>
-    requires start { start ≡ plan_value job.now job.now.start ask.score }
+    requires asked { k < length job.now.setting.asks }
     requires rank { IsRank job.now.setting.steps rank }
-    ensures { AppendsText out.old out.new (place_line job.now place ask rank) result }
+    ensures { AppendsText out.old out.new (place_line job.now place (ask_at job.now k) rank) result }
 {
     let visits = visits(job);
+    let words = ask_words(job, k);
     push_line(
         out,
         &[
             Word::Text("serial"),
-            Word::Text(score_text(ask.score)),
-            Word::Text(tail_text(ask.tail)),
+            words.score,
+            words.tail,
             Word::Text("start"),
-            Word::Fraction(start, denominator_of(job, ask.score)),
+            words.start,
             Word::Text("place"),
             Word::Number(u64::from(place)),
             Word::Text("rank"),

@@ -1,19 +1,17 @@
 //! The lines of the parallel test, over all endpoints or with an early stop.
 
-ghost use Rattle.std.specs.Prelude.{◌≡◌, ◌<◌, zip, flat_map};
-ghost use Rattle.audit_model.specs.Trajectory.{plan_value};
+ghost use Rattle.std.specs.Prelude.{◌<◌, length, zip, flat_map};
 ghost use Rattle.report.specs.Lines.{AppendsText};
 ghost use Rattle.report.specs.Outcomes.{AreOutcomesOf, AreStopsOf, AreStops, IsStopOf};
+ghost use Rattle.report.specs.Parts.{ask_at};
 ghost use Rattle.audit_statement.specs.Report as definition;
 
+use crate::asks::{ask_count, ask_words};
 use crate::ends::push_ends_lines;
 use crate::lines::{Word, push_line};
-use crate::names::{score_text, tail_text};
-use crate::values::{asks_of, denominator_of};
 use audit_model::buffers::Bytes;
 use audit_model::memory::Memory;
 use audit_model::outcome::Outcome;
-use audit_model::setting::Ask;
 use outlier_tests::p_value;
 use plan_core::job::Job;
 
@@ -38,34 +36,29 @@ fn push_stops(job: &Job, stops: &[[u32; 3]], out: &mut Bytes) -> Result<(), Memo
     requires { AreStops job.now stops.now }
     ensures { AppendsText out.old out.new (flat_map (definition.stopped_line job.now) (zip job.now.setting.asks stops.now)) result }
 {
-    for (place, ask) in asks_of(job).iter().enumerate() {
-        push_stopped_line(job, *ask, job.start_value(place as u32), stops[place], out)?;
+    for k in 0..ask_count(job) {
+        push_stopped_line(job, k, stops[k], out)?;
     }
     Ok(())
 }
 
-/// Appends the line of an ask. `start` is the start plan's value. `stop` has the stopping place and
-/// the numerator and denominator of the p-value.
-fn push_stopped_line(
-    job: &Job,
-    ask: Ask,
-    start: i64,
-    stop: [u32; 3],
-    out: &mut Bytes,
-) -> Result<(), Memory>
-    requires start { start ≡ plan_value job.now job.now.start ask.score }
+/// Appends the line of the ask with the index `k`. `stop` has the stopping place and the numerator
+/// and denominator of the p-value.
+fn push_stopped_line(job: &Job, k: usize, stop: [u32; 3], out: &mut Bytes) -> Result<(), Memory>
+    requires asked { k < length job.now.setting.asks }
     requires stop { IsStopOf job.now.setting.ends stop }
-    ensures { AppendsText out.old out.new (definition.stopped_line job.now (ask, stop)) result }
+    ensures { AppendsText out.old out.new (definition.stopped_line job.now (ask_at job.now k, stop)) result }
 {
     let [place, top, of] = stop;
+    let words = ask_words(job, k);
     push_line(
         out,
         &[
             Word::Text("stop"),
-            Word::Text(score_text(ask.score)),
-            Word::Text(tail_text(ask.tail)),
+            words.score,
+            words.tail,
             Word::Text("start"),
-            Word::Fraction(start, denominator_of(job, ask.score)),
+            words.start,
             Word::Text("place"),
             Word::Number(u64::from(place)),
             Word::Text("value"),

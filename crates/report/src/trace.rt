@@ -5,23 +5,17 @@ ghost use Rattle.std.specs.List.{slice_index_or};
 ghost use Rattle.std.specs.Fmt.{signed_decimal};
 ghost use Rattle.audit_model.specs.Plan.{IsLegal};
 ghost use Rattle.audit_model.specs.Stopping.{placed_asks};
-ghost use Rattle.audit_model.specs.Trajectory.{plan_value};
 ghost use Rattle.audit_statement.specs.Along.{ask_values, own_steps};
 ghost use Rattle.audit_statement.specs.Trace as definition;
 ghost use Rattle.report.specs.Lines.{AppendsText, spaced};
-ghost use Rattle.report.specs.Parts.{key_line};
+ghost use Rattle.report.specs.Parts.{ask_at};
 
-use crate::audit::{push_key_line, push_setting_line};
-use crate::check::{push_graph_line, push_population_line};
+use crate::asks::{ask_count, ask_words};
+use crate::audit::push_job_lines;
 use crate::lines::{Word, push_line, push_next};
-use crate::names::{score_text, tail_text};
 use crate::numbers::push_number;
-use crate::origin::push_origin_lines;
-use crate::rules::push_rule_lines;
-use crate::values::{asks_of, denominator_of};
 use audit_model::buffers::Bytes;
 use audit_model::memory::Memory;
-use audit_model::setting::Ask;
 use plan_core::job::Job;
 
 /// An upper bound on the bytes of a plan's line without its units, and of the line that starts a trajectory.
@@ -35,12 +29,7 @@ pub fn push_trace_head(job: &Job, out: &mut Bytes) -> Result<(), Memory>
     ensures { AppendsText out.old out.new (definition.trace_head job.now) result }
 {
     push_line(out, &[Word::Text("district-trace 1")])?;
-    push_origin_lines(job, out)?;
-    push_key_line(job, out)?;
-    push_graph_line(job, out)?;
-    push_population_line(job, out)?;
-    push_rule_lines(job, out)?;
-    push_setting_line(job, out)?;
+    push_job_lines(job, out)?;
     push_ask_lines(job, out)
 }
 
@@ -130,25 +119,26 @@ fn push_change(unit: u64, district: u32, out: &mut Bytes) -> Result<(), Memory>
 fn push_ask_lines(job: &Job, out: &mut Bytes) -> Result<(), Memory>
     ensures { AppendsText out.old out.new (flat_map (definition.ask_line job.now) (placed_asks job.now)) result }
 {
-    for (place, ask) in asks_of(job).iter().enumerate() {
-        push_ask_line(job, *ask, job.start_value(place as u32), out)?;
+    for place in 0..ask_count(job) {
+        push_ask_line(job, place, out)?;
     }
     Ok(())
 }
 
-/// Appends the line of an ask. `start` is the start plan's value.
-fn push_ask_line(job: &Job, ask: Ask, start: i64, out: &mut Bytes) -> Result<(), Memory>
-    requires { start ≡ plan_value job.now job.now.start ask.score }
-    ensures { AppendsText out.old out.new (definition.ask_line job.now (0, ask)) result }
+/// Appends the line of the ask with the index `place`.
+fn push_ask_line(job: &Job, place: usize, out: &mut Bytes) -> Result<(), Memory>
+    requires { place < length job.now.setting.asks }
+    ensures { AppendsText out.old out.new (definition.ask_line job.now (place, ask_at job.now place)) result }
 {
+    let words = ask_words(job, place);
     push_line(
         out,
         &[
             Word::Text("ask"),
-            Word::Text(score_text(ask.score)),
-            Word::Text(tail_text(ask.tail)),
+            words.score,
+            words.tail,
             Word::Text("start"),
-            Word::Fraction(start, denominator_of(job, ask.score)),
+            words.start,
         ],
     )
 }

@@ -1,11 +1,11 @@
 //! Numbers of a job that the lines of its report contain.
 
-ghost use Rattle.std.specs.Prelude.{◌≡◌, ◌+◌, ◌≤◌, length};
+ghost use Rattle.std.specs.Prelude.{◌≡◌, ◌+◌, ◌≤◌};
 ghost use Rattle.audit_model.specs.Job.{total_votes};
 ghost use Rattle.audit_model.specs.JobOf.{IsJob};
 ghost use Rattle.audit_model.specs.Score as definition;
 
-use audit_model::setting::{Ask, Score};
+use audit_model::setting::Score;
 use plan_core::job::Job;
 use scores::denominator;
 
@@ -32,12 +32,4 @@ pub fn ranked_count(job: &Job) -> u64
     ensures few { result ≤ 100001 }
 {
     u64::from(job.setting().ends) + 1
-}
-
-/// Returns the job's asks, at most four.
-pub fn asks_of(job: &Job) -> &[Ask]
-    ensures value { result.now ≡ job.now.setting.asks }
-    ensures few { length result.now ≤ 4 }
-{
-    job.setting().asks.as_slice()
 }

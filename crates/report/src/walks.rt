@@ -2,20 +2,19 @@
 
 ghost use Rattle.std.specs.Prelude.{◌≡◌, ◌<◌, length, Some, slice_get, flat_map};
 ghost use Rattle.std.specs.List.{All};
-ghost use Rattle.audit_model.specs.Trajectory.{plan_value, value_at};
+ghost use Rattle.audit_model.specs.Trajectory.{value_at};
 ghost use Rattle.report.specs.Lines.{AppendsText};
 ghost use Rattle.report.specs.Outcomes.{AreOutcomesOf, HasCounts, IsCount};
-ghost use Rattle.report.specs.Parts.{lines_of};
+ghost use Rattle.report.specs.Parts.{ask_at, lines_of};
 ghost use Rattle.audit_statement.specs.Report.{walk_line, walk_lines};
 
+use crate::asks::{ask_count, ask_words};
 use crate::lines::{Word, push_line};
-use crate::names::{score_text, tail_text};
 use crate::outcomes::walks_of;
-use crate::values::{asks_of, denominator_of, visits};
+use crate::values::visits;
 use audit_model::buffers::Bytes;
 use audit_model::memory::Memory;
 use audit_model::outcome::Outcome;
-use audit_model::setting::Ask;
 use outlier_tests::bound;
 use plan_core::job::Job;
 
@@ -42,28 +41,22 @@ fn push_walk(job: &Job, found: &Outcome, out: &mut Bytes) -> Result<(), Memory>
     requires { HasCounts job.now found.now }
     ensures { AppendsText out.old out.new (lines_of job.now found.now) result }
 {
-    for (place, ask) in asks_of(job).iter().enumerate() {
-        push_walk_line(job, found, place, *ask, job.start_value(place as u32), out)?;
+    for place in 0..ask_count(job) {
+        push_walk_line(job, found, place, out)?;
     }
     Ok(())
 }
 
-/// Appends the line of the ask with the index `place`. `start` is the start plan's value.
-fn push_walk_line(
-    job: &Job,
-    found: &Outcome,
-    place: usize,
-    ask: Ask,
-    start: i64,
-    out: &mut Bytes,
-) -> Result<(), Memory>
-    requires place { place < 4 }
-    requires start { start ≡ plan_value job.now job.now.start ask.score }
+/// Appends the line of the ask with the index `place`.
+fn push_walk_line(job: &Job, found: &Outcome, place: usize, out: &mut Bytes) -> Result<(), Memory>
+    requires asked { place < length job.now.setting.asks }
+    requires few { place < 4 }
     requires count { IsCount job.now.setting.steps (value_at found.now place) }
-    ensures { AppendsText out.old out.new (walk_line job.now found.now (place, ask)) result }
+    ensures { AppendsText out.old out.new (walk_line job.now found.now (place, ask_at job.now place)) result }
 {
     let count = found.values[place];
     let visits = visits(job);
+    let words = ask_words(job, place);
     push_line(
         out,
         &[
@@ -71,10 +64,10 @@ fn push_walk_line(
             Word::Number(u64::from(found.id)),
             Word::Text("moved"),
             Word::Number(found.moved),
-            Word::Text(score_text(ask.score)),
-            Word::Text(tail_text(ask.tail)),
+            words.score,
+            words.tail,
             Word::Text("start"),
-            Word::Fraction(start, denominator_of(job, ask.score)),
+            words.start,
             Word::Text("count"),
             Word::Signed(count),
             Word::Text("of"),

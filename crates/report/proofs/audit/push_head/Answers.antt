@@ -1,180 +1,26 @@
-use Rattle.std.proofs.Common.{◌++◌, Err}
+use Rattle.audit_statement.specs.Report.{stop_line, title_line}
+use Rattle.report.specs.Parts.{head, job_lines}
+use Rattle.report.proofs.Heads.{report_head}
 use Rattle.std.proofs.lemmas.Result.{err_from_is_err_and}
-use Rattle.report.proofs.Written.{appends-err, appends-two}
-use Rattle.audit_statement.specs.Report.{graph_line, origin_lines, population_line, rule_lines, setting_line, stop_line, title_line}
-use Rattle.report.specs.Parts.{key_line}
+use Rattle.report.proofs.Written.{three-first, three-second, three-all}
 use Rattle.report.proofs.audit.push_head.Goals as goal
 
 pub returns-in_err-push_title_line : goal.returns-in_err-push_title_line
 returns-in_err-push_title_line c =
     let job = c.args.job.now in
-    let out = c.args.out.now in
-    let t1 = title_line job.setting.shift in
-    let t2 = t1 ++ origin_lines job job.origin in
-    let t3 = t2 ++ key_line job in
-    let t4 = t3 ++ graph_line job in
-    let t5 = t4 ++ population_line job in
-    let t6 = t5 ++ rule_lines job in
-    let t7 = t6 ++ setting_line job in
-    let e = c.in_err-push_title_line.field-0.0 in
     let p = err_from_is_err_and c.from_residual.result c.from_residual.ensures.1 in
-    let f1 = c.in_err-push_title_line.ensures in
-    let f2 = appends-err out c.push_title_line.new.out t1 (origin_lines job job.origin) e f1 in
-    let f3 = appends-err out c.push_title_line.new.out t2 (key_line job) e f2 in
-    let f4 = appends-err out c.push_title_line.new.out t3 (graph_line job) e f3 in
-    let f5 = appends-err out c.push_title_line.new.out t4 (population_line job) e f4 in
-    let f6 = appends-err out c.push_title_line.new.out t5 (rule_lines job) e f5 in
-    let f7 = appends-err out c.push_title_line.new.out t6 (setting_line job) e f6 in
-    rw (p.1, p.2) (appends-err out c.push_title_line.new.out t7 (stop_line job.setting.stop) e f7)
+    rw (p.1, p.2) (three-first c.args.out.now (title_line job.setting.shift) (job_lines job) (stop_line job.setting.stop) (head job) (report_head job) c.push_title_line.new.out c.in_err-push_title_line.field-0.0 c.in_err-push_title_line.ensures)
 
-pub returns-in_err-push_origin_lines : goal.returns-in_err-push_origin_lines
-returns-in_err-push_origin_lines c =
+pub returns-in_err-push_job_lines : goal.returns-in_err-push_job_lines
+returns-in_err-push_job_lines c =
     let job = c.args.job.now in
-    let out = c.args.out.now in
-    let t1 = title_line job.setting.shift in
-    let t2 = t1 ++ origin_lines job job.origin in
-    let t3 = t2 ++ key_line job in
-    let t4 = t3 ++ graph_line job in
-    let t5 = t4 ++ population_line job in
-    let t6 = t5 ++ rule_lines job in
-    let t7 = t6 ++ setting_line job in
-    let e = c.in_err-push_origin_lines.field-0.0 in
-    let p = err_from_is_err_and c.from_residual-in_err-push_origin_lines.result c.from_residual-in_err-push_origin_lines.ensures.1 in
-    let d1 = c.in_ok-push_title_line.ensures in
-    let f2 = appends-two out c.push_title_line.new.out c.push_origin_lines.new.out t1 (origin_lines job job.origin) (Err e) d1 c.in_err-push_origin_lines.ensures in
-    let f3 = appends-err out c.push_origin_lines.new.out t2 (key_line job) e f2 in
-    let f4 = appends-err out c.push_origin_lines.new.out t3 (graph_line job) e f3 in
-    let f5 = appends-err out c.push_origin_lines.new.out t4 (population_line job) e f4 in
-    let f6 = appends-err out c.push_origin_lines.new.out t5 (rule_lines job) e f5 in
-    let f7 = appends-err out c.push_origin_lines.new.out t6 (setting_line job) e f6 in
-    rw (p.1, p.2) (appends-err out c.push_origin_lines.new.out t7 (stop_line job.setting.stop) e f7)
-
-pub returns-in_err-push_key_line : goal.returns-in_err-push_key_line
-returns-in_err-push_key_line c =
-    let job = c.args.job.now in
-    let out = c.args.out.now in
-    let t1 = title_line job.setting.shift in
-    let t2 = t1 ++ origin_lines job job.origin in
-    let t3 = t2 ++ key_line job in
-    let t4 = t3 ++ graph_line job in
-    let t5 = t4 ++ population_line job in
-    let t6 = t5 ++ rule_lines job in
-    let t7 = t6 ++ setting_line job in
-    let e = c.in_err-push_key_line.field-0.0 in
-    let p = err_from_is_err_and c.from_residual-in_err-push_key_line.result c.from_residual-in_err-push_key_line.ensures.1 in
-    let d1 = c.in_ok-push_title_line.ensures in
-    let d2 = appends-two out c.push_title_line.new.out c.push_origin_lines.new.out t1 (origin_lines job job.origin) _ d1 c.in_ok-push_origin_lines.ensures in
-    let f3 = appends-two out c.push_origin_lines.new.out c.push_key_line.new.out t2 (key_line job) (Err e) d2 c.in_err-push_key_line.ensures in
-    let f4 = appends-err out c.push_key_line.new.out t3 (graph_line job) e f3 in
-    let f5 = appends-err out c.push_key_line.new.out t4 (population_line job) e f4 in
-    let f6 = appends-err out c.push_key_line.new.out t5 (rule_lines job) e f5 in
-    let f7 = appends-err out c.push_key_line.new.out t6 (setting_line job) e f6 in
-    rw (p.1, p.2) (appends-err out c.push_key_line.new.out t7 (stop_line job.setting.stop) e f7)
-
-pub returns-in_err-push_graph_line : goal.returns-in_err-push_graph_line
-returns-in_err-push_graph_line c =
-    let job = c.args.job.now in
-    let out = c.args.out.now in
-    let t1 = title_line job.setting.shift in
-    let t2 = t1 ++ origin_lines job job.origin in
-    let t3 = t2 ++ key_line job in
-    let t4 = t3 ++ graph_line job in
-    let t5 = t4 ++ population_line job in
-    let t6 = t5 ++ rule_lines job in
-    let t7 = t6 ++ setting_line job in
-    let e = c.in_err-push_graph_line.field-0.0 in
-    let p = err_from_is_err_and c.from_residual-in_err-push_graph_line.result c.from_residual-in_err-push_graph_line.ensures.1 in
-    let d1 = c.in_ok-push_title_line.ensures in
-    let d2 = appends-two out c.push_title_line.new.out c.push_origin_lines.new.out t1 (origin_lines job job.origin) _ d1 c.in_ok-push_origin_lines.ensures in
-    let d3 = appends-two out c.push_origin_lines.new.out c.push_key_line.new.out t2 (key_line job) _ d2 c.in_ok-push_key_line.ensures in
-    let f4 = appends-two out c.push_key_line.new.out c.push_graph_line.new.out t3 (graph_line job) (Err e) d3 c.in_err-push_graph_line.ensures in
-    let f5 = appends-err out c.push_graph_line.new.out t4 (population_line job) e f4 in
-    let f6 = appends-err out c.push_graph_line.new.out t5 (rule_lines job) e f5 in
-    let f7 = appends-err out c.push_graph_line.new.out t6 (setting_line job) e f6 in
-    rw (p.1, p.2) (appends-err out c.push_graph_line.new.out t7 (stop_line job.setting.stop) e f7)
-
-pub returns-in_err-push_population_line : goal.returns-in_err-push_population_line
-returns-in_err-push_population_line c =
-    let job = c.args.job.now in
-    let out = c.args.out.now in
-    let t1 = title_line job.setting.shift in
-    let t2 = t1 ++ origin_lines job job.origin in
-    let t3 = t2 ++ key_line job in
-    let t4 = t3 ++ graph_line job in
-    let t5 = t4 ++ population_line job in
-    let t6 = t5 ++ rule_lines job in
-    let t7 = t6 ++ setting_line job in
-    let e = c.in_err-push_population_line.field-0.0 in
-    let p = err_from_is_err_and c.from_residual-in_err-push_population_line.result c.from_residual-in_err-push_population_line.ensures.1 in
-    let d1 = c.in_ok-push_title_line.ensures in
-    let d2 = appends-two out c.push_title_line.new.out c.push_origin_lines.new.out t1 (origin_lines job job.origin) _ d1 c.in_ok-push_origin_lines.ensures in
-    let d3 = appends-two out c.push_origin_lines.new.out c.push_key_line.new.out t2 (key_line job) _ d2 c.in_ok-push_key_line.ensures in
-    let d4 = appends-two out c.push_key_line.new.out c.push_graph_line.new.out t3 (graph_line job) _ d3 c.in_ok-push_graph_line.ensures in
-    let f5 = appends-two out c.push_graph_line.new.out c.push_population_line.new.out t4 (population_line job) (Err e) d4 c.in_err-push_population_line.ensures in
-    let f6 = appends-err out c.push_population_line.new.out t5 (rule_lines job) e f5 in
-    let f7 = appends-err out c.push_population_line.new.out t6 (setting_line job) e f6 in
-    rw (p.1, p.2) (appends-err out c.push_population_line.new.out t7 (stop_line job.setting.stop) e f7)
-
-pub returns-in_err-push_rule_lines : goal.returns-in_err-push_rule_lines
-returns-in_err-push_rule_lines c =
-    let job = c.args.job.now in
-    let out = c.args.out.now in
-    let t1 = title_line job.setting.shift in
-    let t2 = t1 ++ origin_lines job job.origin in
-    let t3 = t2 ++ key_line job in
-    let t4 = t3 ++ graph_line job in
-    let t5 = t4 ++ population_line job in
-    let t6 = t5 ++ rule_lines job in
-    let t7 = t6 ++ setting_line job in
-    let e = c.in_err-push_rule_lines.field-0.0 in
-    let p = err_from_is_err_and c.from_residual-in_err-push_rule_lines.result c.from_residual-in_err-push_rule_lines.ensures.1 in
-    let d1 = c.in_ok-push_title_line.ensures in
-    let d2 = appends-two out c.push_title_line.new.out c.push_origin_lines.new.out t1 (origin_lines job job.origin) _ d1 c.in_ok-push_origin_lines.ensures in
-    let d3 = appends-two out c.push_origin_lines.new.out c.push_key_line.new.out t2 (key_line job) _ d2 c.in_ok-push_key_line.ensures in
-    let d4 = appends-two out c.push_key_line.new.out c.push_graph_line.new.out t3 (graph_line job) _ d3 c.in_ok-push_graph_line.ensures in
-    let d5 = appends-two out c.push_graph_line.new.out c.push_population_line.new.out t4 (population_line job) _ d4 c.in_ok-push_population_line.ensures in
-    let f6 = appends-two out c.push_population_line.new.out c.push_rule_lines.new.out t5 (rule_lines job) (Err e) d5 c.in_err-push_rule_lines.ensures in
-    let f7 = appends-err out c.push_rule_lines.new.out t6 (setting_line job) e f6 in
-    rw (p.1, p.2) (appends-err out c.push_rule_lines.new.out t7 (stop_line job.setting.stop) e f7)
-
-pub returns-in_err-push_setting_line : goal.returns-in_err-push_setting_line
-returns-in_err-push_setting_line c =
-    let job = c.args.job.now in
-    let out = c.args.out.now in
-    let t1 = title_line job.setting.shift in
-    let t2 = t1 ++ origin_lines job job.origin in
-    let t3 = t2 ++ key_line job in
-    let t4 = t3 ++ graph_line job in
-    let t5 = t4 ++ population_line job in
-    let t6 = t5 ++ rule_lines job in
-    let t7 = t6 ++ setting_line job in
-    let e = c.in_err-push_setting_line.field-0.0 in
-    let p = err_from_is_err_and c.from_residual-in_err-push_setting_line.result c.from_residual-in_err-push_setting_line.ensures.1 in
-    let d1 = c.in_ok-push_title_line.ensures in
-    let d2 = appends-two out c.push_title_line.new.out c.push_origin_lines.new.out t1 (origin_lines job job.origin) _ d1 c.in_ok-push_origin_lines.ensures in
-    let d3 = appends-two out c.push_origin_lines.new.out c.push_key_line.new.out t2 (key_line job) _ d2 c.in_ok-push_key_line.ensures in
-    let d4 = appends-two out c.push_key_line.new.out c.push_graph_line.new.out t3 (graph_line job) _ d3 c.in_ok-push_graph_line.ensures in
-    let d5 = appends-two out c.push_graph_line.new.out c.push_population_line.new.out t4 (population_line job) _ d4 c.in_ok-push_population_line.ensures in
-    let d6 = appends-two out c.push_population_line.new.out c.push_rule_lines.new.out t5 (rule_lines job) _ d5 c.in_ok-push_rule_lines.ensures in
-    let f7 = appends-two out c.push_rule_lines.new.out c.push_setting_line.new.out t6 (setting_line job) (Err e) d6 c.in_err-push_setting_line.ensures in
-    rw (p.1, p.2) (appends-err out c.push_setting_line.new.out t7 (stop_line job.setting.stop) e f7)
+    let p = err_from_is_err_and c.from_residual-in_err-push_job_lines.result c.from_residual-in_err-push_job_lines.ensures.1 in
+    rw (p.1, p.2)
+    (three-second c.args.out.now (title_line job.setting.shift) (job_lines job) (stop_line job.setting.stop) (head job) (report_head job) c.push_title_line.new.out c.push_job_lines.new.out c.in_err-push_job_lines.field-0.0
+    c.in_ok-push_title_line.ensures c.in_err-push_job_lines.ensures)
 
 pub returns : goal.returns
 returns c =
     let job = c.args.job.now in
-    let out = c.args.out.now in
-    let t1 = title_line job.setting.shift in
-    let t2 = t1 ++ origin_lines job job.origin in
-    let t3 = t2 ++ key_line job in
-    let t4 = t3 ++ graph_line job in
-    let t5 = t4 ++ population_line job in
-    let t6 = t5 ++ rule_lines job in
-    let t7 = t6 ++ setting_line job in
-    let d1 = c.in_ok-push_title_line.ensures in
-    let d2 = appends-two out c.push_title_line.new.out c.push_origin_lines.new.out t1 (origin_lines job job.origin) _ d1 c.in_ok-push_origin_lines.ensures in
-    let d3 = appends-two out c.push_origin_lines.new.out c.push_key_line.new.out t2 (key_line job) _ d2 c.in_ok-push_key_line.ensures in
-    let d4 = appends-two out c.push_key_line.new.out c.push_graph_line.new.out t3 (graph_line job) _ d3 c.in_ok-push_graph_line.ensures in
-    let d5 = appends-two out c.push_graph_line.new.out c.push_population_line.new.out t4 (population_line job) _ d4 c.in_ok-push_population_line.ensures in
-    let d6 = appends-two out c.push_population_line.new.out c.push_rule_lines.new.out t5 (rule_lines job) _ d5 c.in_ok-push_rule_lines.ensures in
-    let d7 = appends-two out c.push_rule_lines.new.out c.push_setting_line.new.out t6 (setting_line job) _ d6 c.in_ok-push_setting_line.ensures in
-    appends-two out c.push_setting_line.new.out c.push_stop_line.new.out t7 (stop_line job.setting.stop) _ d7 c.push_stop_line.ensures
+    three-all c.args.out.now (title_line job.setting.shift) (job_lines job) (stop_line job.setting.stop) (head job) (report_head job) c.push_title_line.new.out c.push_job_lines.new.out c.push_stop_line.new.out c.push_stop_line.result
+    c.in_ok-push_title_line.ensures c.in_ok-push_job_lines.ensures c.push_stop_line.ensures

@@ -1,32 +1,34 @@
-use Rattle.std.proofs.Common.{arith}
+use Rattle.std.proofs.Common.{◌<◌, ◌≤◌, subst, arith}
 use Rattle.std.proofs.lemmas.Result.{err_from_is_err_and}
-use Rattle.audit_model.specs.Stopping.{placed_asks}
 use Rattle.audit_statement.specs.Report.{walk_line}
-use Rattle.report.proofs.Pieces.{no_ask, placed, placed_within, placed_all, pieces-more, pieces-err, pieces-all}
+use Rattle.report.proofs.Pieces.{asks-more, asks-err, asks-all}
 use Rattle.report.proofs.walks.push_walk.Goals as goal
+
+pub push_walk_line-requires-clause-asked : goal.push_walk_line-requires-clause-asked
+push_walk_line-requires-clause-asked c = subst (λ n. c.loop-place.place < n) c.ask_count-place-end.ensures.value c.loop-place-test.true
+
+pub push_walk_line-requires-clause-few : goal.push_walk_line-requires-clause-few
+push_walk_line-requires-clause-few c = omega arith
+
+pub push_walk_line-requires-clause-count : goal.push_walk_line-requires-clause-count
+push_walk_line-requires-clause-count c = c.requires c.loop-place.place (subst (λ n. c.loop-place.place < n) c.ask_count-place-end.ensures.value c.loop-place-test.true)
 
 pub loop-place-preserved : goal.loop-place-preserved
 loop-place-preserved c =
     let job = c.args.job.now in
-    let asks = c.asks_of-ask-items.result.now in
-    pieces-more (walk_line job c.args.found.now) (placed_asks job) c.loop-place.place _ (0, no_ask) c.args.out.now c.loop-place.out c.push_walk_line.new.out
-    (placed_within job asks c.loop-place.place c.asks_of-ask-items.ensures.value (omega arith))
-    (placed job asks c.loop-place.place c.asks_of-ask-items.ensures.value (omega arith))
-    c.loop-place.invariant c.in_ok-push_walk_line.ensures
+    asks-more job (walk_line job c.args.found.now) c.loop-place.place c.args.out.now c.loop-place.out c.loop-place.invariant c.push_walk_line.new.out
+    (subst (λ n. c.loop-place.place < n) c.ask_count-place-end.ensures.value c.loop-place-test.true) c.in_ok-push_walk_line.ensures
 
 pub returns-in_err-push_walk_line : goal.returns-in_err-push_walk_line
 returns-in_err-push_walk_line c =
-    let p = err_from_is_err_and c.from_residual.result c.from_residual.ensures.1 in
     let job = c.args.job.now in
-    let asks = c.asks_of-ask-items.result.now in
+    let p = err_from_is_err_and c.from_residual.result c.from_residual.ensures.1 in
     rw (p.1, p.2)
-    (pieces-err (walk_line job c.args.found.now) (placed_asks job) c.loop-place.place _ (0, no_ask) c.args.out.now c.loop-place.out c.push_walk_line.new.out c.in_err-push_walk_line.field-0.0
-    (placed_within job asks c.loop-place.place c.asks_of-ask-items.ensures.value (omega arith))
-    (placed job asks c.loop-place.place c.asks_of-ask-items.ensures.value (omega arith))
-    c.loop-place.invariant c.in_err-push_walk_line.ensures)
+    (asks-err job (walk_line job c.args.found.now) c.loop-place.place c.args.out.now c.loop-place.out c.loop-place.invariant c.push_walk_line.new.out
+    c.in_err-push_walk_line.field-0.0 (subst (λ n. c.loop-place.place < n) c.ask_count-place-end.ensures.value c.loop-place-test.true) c.in_err-push_walk_line.ensures)
 
 pub returns : goal.returns
 returns c =
     let job = c.args.job.now in
-    pieces-all (walk_line job c.args.found.now) (placed_asks job) c.loop-place.place c.args.out.now c.loop-place.out
-    (placed_all job c.asks_of-ask-items.result.now c.loop-place.place c.asks_of-ask-items.ensures.value (omega arith)) c.loop-place.invariant
+    asks-all job (walk_line job c.args.found.now) c.loop-place.place c.args.out.now c.loop-place.out c.loop-place.invariant
+    (subst (λ n. n ≤ c.loop-place.place) c.ask_count-place-end.ensures.value c.loop-place-test.false)
