@@ -65,8 +65,7 @@ ring_fits g (Triangle a b c) is =
     let lc = is.below c (has_3 a b c []) in
     let ab : has_side (a ∷ b ∷ c ∷ []) a b ≡ true = or_left (is_pair a b a b || is_pair b c a b) (is_pair c a a b) (or_left (is_pair a b a b) (is_pair b c a b) (pair_same a b)) in
     let bc : has_side (a ∷ b ∷ c ∷ []) b c ≡ true = or_left (is_pair a b b c || is_pair b c b c) (is_pair c a b c) (or_right (is_pair a b b c) (is_pair b c b c) (pair_same b c)) in
-    let ca : has_side (a ∷ b ∷ c ∷ []) c a ≡ true = or_right (is_pair a b c a || is_pair b c c a) (is_pair c a c a) (pair_same c a) in
-    (
+    let ca : has_side (a ∷ b ∷ c ∷ []) c a ≡ true = or_right (is_pair a b c a || is_pair b c c a) (is_pair c a c a) (pair_same c a) in (
       record { units = (la, lc, lc); near = (is.sides a b ab, is.sides a c (side_turned (a ∷ b ∷ c ∷ []) c a ca)) },
       record { units = (lb, la, la); near = (is.sides b c bc, is.sides b a (side_turned (a ∷ b ∷ c ∷ []) a b ab)) },
       record { units = (lc, lb, lb); near = (is.sides c a ca, is.sides c b (side_turned (a ∷ b ∷ c ∷ []) b c bc)) },
@@ -79,8 +78,7 @@ ring_fits g (Square a b c d) is =
     let ab : has_side (a ∷ b ∷ c ∷ d ∷ []) a b ≡ true = in_1 (is_pair a b a b) (is_pair b c a b) (is_pair c d a b) (is_pair d a a b) (pair_same a b) in
     let bc : has_side (a ∷ b ∷ c ∷ d ∷ []) b c ≡ true = in_2 (is_pair a b b c) (is_pair b c b c) (is_pair c d b c) (is_pair d a b c) (pair_same b c) in
     let cd : has_side (a ∷ b ∷ c ∷ d ∷ []) c d ≡ true = in_3 (is_pair a b c d) (is_pair b c c d) (is_pair c d c d) (is_pair d a c d) (pair_same c d) in
-    let da : has_side (a ∷ b ∷ c ∷ d ∷ []) d a ≡ true = in_4 (is_pair a b d a) (is_pair b c d a) (is_pair c d d a) (is_pair d a d a) (pair_same d a) in
-    (
+    let da : has_side (a ∷ b ∷ c ∷ d ∷ []) d a ≡ true = in_4 (is_pair a b d a) (is_pair b c d a) (is_pair c d d a) (is_pair d a d a) (pair_same d a) in (
       record { units = (la, lc, lc); near = (is.sides a b ab, is.sides a d (side_turned (a ∷ b ∷ c ∷ d ∷ []) d a da)) },
       record { units = (lb, ld, ld); near = (is.sides b c bc, is.sides b a (side_turned (a ∷ b ∷ c ∷ d ∷ []) a b ab)) },
       record { units = (lc, la, la); near = (is.sides c d cd, is.sides c b (side_turned (a ∷ b ∷ c ∷ d ∷ []) b c bc)) },
@@ -96,8 +94,7 @@ ring_fits g (Pentagon a b c d e) is =
     let bc : has_side (a ∷ b ∷ c ∷ d ∷ e ∷ []) b c ≡ true = five_2 (is_pair a b b c) (is_pair b c b c) (is_pair c d b c) (is_pair d e b c) (is_pair e a b c) (pair_same b c) in
     let cd : has_side (a ∷ b ∷ c ∷ d ∷ e ∷ []) c d ≡ true = five_3 (is_pair a b c d) (is_pair b c c d) (is_pair c d c d) (is_pair d e c d) (is_pair e a c d) (pair_same c d) in
     let de : has_side (a ∷ b ∷ c ∷ d ∷ e ∷ []) d e ≡ true = five_4 (is_pair a b d e) (is_pair b c d e) (is_pair c d d e) (is_pair d e d e) (is_pair e a d e) (pair_same d e) in
-    let ea : has_side (a ∷ b ∷ c ∷ d ∷ e ∷ []) e a ≡ true = five_5 (is_pair a b e a) (is_pair b c e a) (is_pair c d e a) (is_pair d e e a) (is_pair e a e a) (pair_same e a) in
-    (
+    let ea : has_side (a ∷ b ∷ c ∷ d ∷ e ∷ []) e a ≡ true = five_5 (is_pair a b e a) (is_pair b c e a) (is_pair c d e a) (is_pair d e e a) (is_pair e a e a) (pair_same e a) in (
       record { units = (la, lc, ld); near = (is.sides a b ab, is.sides a e (side_turned (a ∷ b ∷ c ∷ d ∷ e ∷ []) e a ea)) },
       record { units = (lb, ld, le); near = (is.sides b c bc, is.sides b a (side_turned (a ∷ b ∷ c ∷ d ∷ e ∷ []) a b ab)) },
       record { units = (lc, le, la); near = (is.sides c d cd, is.sides c b (side_turned (a ∷ b ∷ c ∷ d ∷ e ∷ []) b c bc)) },

@@ -186,14 +186,18 @@ fn corners_in(member: Member, table: &FaceTable, district: u32, end: u32) -> u64
     for corner in table.at(member.unit) {
         let one = row[corner.one as usize];
         let other = row[corner.other as usize];
-        let inside = are_before(plan, (one, other, corner.far, corner.further), district, end);
+        let inside = are_before(
+            plan,
+            (one, other, corner.far, corner.further),
+            district,
+            end,
+        );
         count = with_one(count, inside);
     }
     count
 }
 
-/// Returns true if four units are in a district and below `end`. It tests no unit after one that is
-/// not.
+/// Returns true if four units are in a district and below `end`. Stops at the first that is not.
 #[inline]
 fn are_before(plan: &[u32], units: (u32, u32, u32, u32), district: u32, end: u32) -> bool
     requires neighbors { (units.0 < length plan.now) × (units.1 < length plan.now) }

@@ -105,7 +105,7 @@ impl Rings {
         for other in graph.neighbours(b) {
             let c = *other;
             if c > a
-                && graph.neighbours(c).len() <= DEGREE
+                && has_few_neighbors(graph, c)
                 && graph.adjacent(c, d)
                 && !graph.adjacent(c, a)
             {
@@ -122,7 +122,7 @@ impl Rings {
     {
         for other in graph.neighbours(a) {
             let d = *other;
-            if d > b && graph.neighbours(d).len() <= DEGREE {
+            if d > b && has_few_neighbors(graph, d) {
                 if !graph.adjacent(b, d) {
                     self.add_squares(graph, a, b, d)?;
                 } else {
@@ -137,9 +137,9 @@ impl Rings {
     fn add_at(&mut self, graph: &Graph, a: u32) -> Result<(), Memory>
         requires unit { a < graph.now.units }
     {
-        if graph.neighbours(a).len() <= DEGREE {
+        if has_few_neighbors(graph, a) {
             for b in graph.neighbours(a) {
-                if *b > a && graph.neighbours(*b).len() <= DEGREE {
+                if *b > a && has_few_neighbors(graph, *b) {
                     self.add_beside(graph, a, *b)?;
                 }
             }
@@ -153,7 +153,7 @@ impl Rings {
     fn goes_on(&self, graph: &Graph, sides: &Sides, from: u32, to: u32) -> bool
         requires { to < graph.now.units }
     {
-        graph.neighbours(to).len() <= DEGREE && sides.has_room(graph, from, to)
+        has_few_neighbors(graph, to) && sides.has_room(graph, from, to)
     }
 
     /// Adds the pentagons a, b, c, d, e for each fitting unit `d`. `ring` is a, b, c, e.
@@ -233,7 +233,7 @@ impl Rings {
     fn add_pentagons_at(&mut self, graph: &Graph, sides: &Sides, a: u32) -> Result<(), Memory>
         requires unit { a < graph.now.units }
     {
-        if graph.neighbours(a).len() <= DEGREE {
+        if has_few_neighbors(graph, a) {
             for b in graph.neighbours(a) {
                 if *b > a && self.goes_on(graph, sides, a, *b) {
                     self.add_pentagons_beside(graph, sides, a, *b)?;
@@ -251,6 +251,13 @@ impl Rings {
         }
         Ok(())
     }
+}
+
+/// Returns true if a unit has at most `DEGREE` neighbors.
+fn has_few_neighbors(graph: &Graph, unit: u32) -> bool
+    requires { unit < graph.now.units }
+{
+    graph.neighbours(unit).len() <= DEGREE
 }
 
 /// Finds the triangles and squares of a graph. Stops early if there are more than `MOST`.

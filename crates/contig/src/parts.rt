@@ -148,8 +148,7 @@ fn spread(leaving: Member, marks: &mut Marks, roots: &mut [u8; 17], unit: u32, l
     met
 }
 
-/// Visits a marked unit as `spread` does, after which all labels may be joined. Returns true if they
-/// are.
+/// Visits a marked unit with `spread`. Returns true if all labels are joined then.
 #[inline]
 fn joins_all(
     leaving: Member,
@@ -175,8 +174,8 @@ fn joins_all(
     false
 }
 
-/// Records in `ends` that a visit marked units with this label, if there are more marks than
-/// `before`. Returns true if the label's part can still grow, as in `goes_on`.
+/// Sets the label's entry in `ends` if there are more marks than `before`. Returns true if the
+/// label's part can still grow, as in `goes_on`.
 #[inline]
 fn can_grow(
     roots: &[u8],

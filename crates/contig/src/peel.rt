@@ -312,7 +312,7 @@ fn drop_order(
     all: &[u32],
     rings: &[Face],
 ) -> Result<Vec<usize>, Memory> {
-    let mut places: Vec<usize> = vec![in alloc; 0; CLASSES]?;
+    let mut places = [0usize; CLASSES];
     let classes = classes_of(alloc, graph, sides, all, rings, &mut places)?;
     begin_classes(&mut places);
     let mut order: Vec<usize> = vec![in alloc; 0; rings.len()]?;
