@@ -19,7 +19,7 @@ use Rattle.audit_model.specs.First.{first_below, first_some_below}
 use Rattle.audit_model.specs.Graph.{Graph, IsGraph, count_edges}
 use Rattle.audit_model.specs.Label.{same_label, label_before}
 use Rattle.audit_model.specs.Length.{AreLengths}
-use Rattle.audit_model.specs.Limits.{AreFrozen, IsColumn, AreWithin, IsGroup}
+use Rattle.audit_model.specs.Limits.{AreFrozen, IsColumn, AreWithin, IsGroup, most_districts}
 use Rattle.audit_model.specs.Parsed.{Parsed}
 use Rattle.audit_statement.specs.Reading.{Document, graph, joined, id_of, same_id, refused_if, length_fault, label_count, label_at, is_new_label, district_at, refusal, parsed, reading, of_root, of_json, bad_part}
 use Rattle.audit_model.proofs.Below.{count_below_same, filter_below_same, length-map_below, get_or-map_below, map_below_same}
@@ -28,7 +28,7 @@ use Rattle.dual_json.specs.Columns.{count_from, count_in, flag_in, flags_in, fro
 use Rattle.dual_json.specs.Districts.{AreDistricts, district_count_fault, is_new, different_count}
 use Rattle.dual_json.specs.Edges.{entries_at, first_in, first_entry_in, is_unknown, is_unnamed, joined_in, graph_in, edges_fault, names_node}
 use Rattle.dual_json.specs.Places.{object_at, nth, first_unnamed, AreLabels, place_of_label, repeated_label}
-use Rattle.dual_json.specs.Stages.{repeated_in, entry_fault, is_unknown_neighbor, edge_count, graph_fault, labels_fault, AreRows}
+use Rattle.dual_json.specs.Stages.{repeated_in, entry_fault, is_unknown_neighbor, edge_count, graph_fault, labels_fault, AreNumbers, AreRows}
 use Rattle.dual_json.proofs.Counted.{label_count_is, district_is, labels_are, start_is}
 
 -- mapping functions that agree on the item there gives equal options
@@ -255,20 +255,21 @@ within_is nodes columns g counts group frozen start found simple units few edges
   lengths = lengths;
 }
 
--- the data of the columns are the same with other lengths
-pub rows_with : (nodes : List Data) (columns : Columns) (counts : Counts) (group : Group) (frozen start : List ℕ) (found : List Label) (lengths : List ℕ)
-    → AreRows columns nodes counts group frozen start found → AreRows columns nodes (record counts { lengths = lengths }) group frozen start found
-rows_with nodes columns counts group frozen start found lengths rows = record {
-  population = rows.population;
-  first = rows.first;
-  second = rows.second;
-  grouped = rows.grouped;
-  freezing = rows.freezing;
-  labels = rows.labels;
-  labelled = rows.labelled;
-  districts = rows.districts;
-  two = rows.two;
-  few = rows.few;
+-- the data of the columns, from the numbers and the districts
+pub rows_are : (nodes : List Data) (columns : Columns) (counts : Counts) (group : Group) (frozen start : List ℕ) (found : List Label) (lengths : List ℕ) (labels : List Label)
+    → AreNumbers columns nodes counts group frozen → AreLabels columns.district nodes labels → AreDistricts labels found start → 2 ≤ length found → length found ≤ most_districts
+    → AreRows columns nodes (record counts { lengths = lengths }) group frozen start found
+rows_are nodes columns counts group frozen start found lengths labels numbers named plan two few = record {
+  population = numbers.population;
+  first = numbers.first;
+  second = numbers.second;
+  grouped = numbers.grouped;
+  freezing = numbers.freezing;
+  labels = labels;
+  labelled = named;
+  districts = plan;
+  two = two;
+  few = few;
 }
 
 -- the group that is read has two columns or none

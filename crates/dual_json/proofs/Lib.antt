@@ -9,6 +9,7 @@ pub mod Measured
 pub mod Named
 pub mod Parsing
 pub mod Regioned
+pub mod Scalars
 pub mod Shapes
 pub mod Started
 pub mod Turns

@@ -1,7 +1,7 @@
 -- Mapped lists.
-use Rattle.std.proofs.Common.{◌≡◌, ℕ, zero, suc, ◌+◌, ◌<◌, ◌≤◌, List, [], ◌∷◌, length, map, get_or, Bool, true, false, not, Option, Some, None, refl, sym, ap, ◌∙◌, subst, arith}
+use Rattle.std.proofs.Common.{◌≡◌, ℕ, zero, suc, ◌+◌, ◌<◌, ◌≤◌, List, [], ◌∷◌, length, map, get_or, Bool, true, false, Option, Some, None, refl, sym, ap, ◌∙◌, subst, arith}
 use Rattle.std.specs.List.{list_all}
-use Rattle.std.specs.Option.{option_map, is_some, is_none, unwrap_or}
+use Rattle.std.specs.Option.{option_map, is_some, unwrap_or}
 use Rattle.std.proofs.lemmas.Bool.{and_from, and_left, and_right}
 use Rattle.std.proofs.lemmas.List.{length-map}
 use Rattle.audit_model.specs.First.{first_some_below}
@@ -11,8 +11,6 @@ use Rattle.serde_json.specs.View.{items_of}
 use Rattle.dual_json.specs.Values.{value_data, items_data}
 use Rattle.dual_json.specs.declared.value.Value.{Value}
 use Rattle.audit_statement.specs.Reading.{elements, list_of}
-use Rattle.dual_json.specs.Names.{label_from}
-use Rattle.dual_json.specs.declared.names.NodeName.{NodeName}
 use Rattle.dual_json.specs.Places.{object_at}
 use Rattle.dual_json.specs.Shape.{views, lists_in}
 
@@ -38,13 +36,6 @@ length-views vs = length-map vs value_data
 -- mapping keeps the length of a list of arrays
 pub length-lists_in : (vs : List Value) → length (lists_in vs) ≡ length vs
 length-lists_in vs = length-map (views vs) (λ d. unwrap_or (list_of d) []) ∙ length-views vs
-
--- a name is missing exactly if its label is
-pub unnamed_is : (o : Option NodeName) (b : Bool) → is_some o ≡ not b → is_none (option_map label_from o) ≡ b
-unnamed_is None true e = refl
-unnamed_is None false e = cc e
-unnamed_is (Some x) true e = cc e
-unnamed_is (Some x) false e = refl
 
 -- the data at a position is that of the value there
 pub object_is : (vs : List Value) (i : ℕ) (x : Value) → i < length vs → x ≡ get_or vs i x → object_at (views vs) i ≡ value_data x

@@ -24,18 +24,23 @@ pub record AreStarted (names found : List NodeName) (i : ℕ) (start : List ℕ)
   pub inside : (k : ℕ) → k < i → get_or start k 0 < length found
   pub place : (k : ℕ) → k < i → nth (labels_from found) (get_or start k 0) ≡ nth (labels_from names) k
 
+-- the name at an equal one's index has the same label
+pub place_is : (names found : List NodeName) (i place : ℕ) (x : NodeName) → i < length names → place < length found
+    → name_cmp (get_or found place x) (get_or names i x) ≡ Equal → nth (labels_from found) place ≡ nth (labels_from names) i
+place_is names found i place x under l tied =
+    nth_get found place x l ∙ same_equal (label_from (get_or found place x)) (label_from (get_or names i x)) (ap is_eq tied) ∙ sym (nth_get names i x under)
+
 -- one more name's index is appended
-pub started_more : (names found : List NodeName) (i : ℕ) (start new : List ℕ) (place : ℕ) (x : NodeName) → AreStarted names found i start → place < length found
-    → nth (labels_from names) i ≡ label_from x → name_cmp (get_or found place x) x ≡ Equal → new ≡ start ++ place ∷ [] → AreStarted names found (i + 1) new
-started_more names found i start new place x before l at tied is = record {
+pub started_more : (names found : List NodeName) (i : ℕ) (start new : List ℕ) (place : ℕ) → AreStarted names found i start → place < length found
+    → nth (labels_from found) place ≡ nth (labels_from names) i → new ≡ start ++ place ∷ [] → AreStarted names found (i + 1) new
+started_more names found i start new place before l at is = record {
   count = omega (arith, ap length is, length-append start (place ∷ []), before.count);
   inside = λ k under. elim (cases_eq k i) [
     | inl e ↦ let v = here k e in omega (arith, v, l)
     | inr off ↦ let v = there k (omega (arith, under, off)) in omega (arith, v, before.inside k (omega (arith, under, off)))
   ];
   place = λ k under. elim (cases_eq k i) [
-    | inl e ↦ ap (nth (labels_from found)) (here k e) ∙ nth_get found place x l
-        ∙ same_equal (label_from (get_or found place x)) (label_from x) (ap is_eq tied) ∙ sym at ∙ ap (nth (labels_from names)) (sym e)
+    | inl e ↦ ap (nth (labels_from found)) (here k e) ∙ at ∙ ap (nth (labels_from names)) (sym e)
     | inr off ↦ ap (nth (labels_from found)) (there k (omega (arith, under, off))) ∙ before.place k (omega (arith, under, off))
   ];
 }

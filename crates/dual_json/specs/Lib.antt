@@ -5,6 +5,8 @@ pub mod Lengths
 pub mod Names
 pub mod Numbered
 pub mod Places
+pub mod Required
+pub mod Scalars
 pub mod Shape
 pub mod Stages
 pub mod Values

@@ -3,9 +3,8 @@
 //! A column has the values of all nodes for one attribute. The checks below run before a column is read, so that faults
 //! come in the order that the definitions fix.
 
-ghost use Rattle.std.specs.Prelude.{◌≡◌, ◌≤◌, None, Some, cond, is_none, nat_le, nat_lt, option_and_then, option_map, length, IfOk, IfErr, MatchResult};
+ghost use Rattle.std.specs.Prelude.{◌≡◌, ◌≤◌, None, Some, cond, is_none, nat_le, nat_lt, option_and_then, option_map, length, IfOk, MatchResult};
 ghost use Rattle.serde_json.specs.Find.{get};
-ghost use Rattle.audit_model.specs.declared.fault.GraphFault.TheVariants.{Memory};
 ghost use Rattle.dual_json.specs.Values.{value_data};
 ghost use Rattle.dual_json.specs.Columns.{count_in, flag_from, flag_in, flags_in, frozen_in, missing_in_frozen, bad_in_frozen, missing_in_group, bad_in_group, missing_in, bad_in, missing, bad, numbers_in, AreOfGroup};
 ghost use Rattle.dual_json.specs.Shape.{views};
@@ -14,6 +13,7 @@ ghost use Rattle.audit_model.specs.Limits.{most_people, most_units};
 use crate::value::Value;
 use audit_model::fault::{Column, GraphFault};
 use audit_model::lists::{NumList, UnitList};
+use audit_model::memory::Memory;
 use audit_model::outcome::Counts;
 use audit_model::rules::Group;
 use audit_model::setting::Columns;
@@ -55,13 +55,7 @@ pub fn check_numbers(nodes: &[Value<'_>], columns: &Columns) -> Result<(), Graph
 }
 
 /// Reads the columns of population and votes. The lengths of edges stay empty; they are read later.
-/// The only error is `Memory`.
-pub fn counts_of(
-    alloc: Global,
-    nodes: &[Value<'_>],
-    columns: &Columns,
-) -> Result<Counts, GraphFault>
-    ensures memory { IfErr result (λ f. f ≡ Memory) }
+pub fn counts_of(alloc: Global, nodes: &[Value<'_>], columns: &Columns) -> Result<Counts, Memory>
     ensures population { IfOk result (λ counts. counts.population ≡ numbers_in columns.now.population (views nodes.now)) }
     ensures first { IfOk result (λ counts. counts.first ≡ numbers_in columns.now.first (views nodes.now)) }
     ensures second { IfOk result (λ counts. counts.second ≡ numbers_in columns.now.second (views nodes.now)) }
@@ -74,10 +68,9 @@ pub fn counts_of(
     })
 }
 
-/// Reads the two columns of the group, or returns empty lists if no group is named. The only error
-/// is `Memory`.
-pub fn group_of(alloc: Global, nodes: &[Value<'_>], columns: &Columns) -> Result<Group, GraphFault>
-    ensures { MatchResult result (AreOfGroup columns.now (views nodes.now)) (λ f. f ≡ Memory) }
+/// Reads the two columns of the group, or returns empty lists if no group is named.
+pub fn group_of(alloc: Global, nodes: &[Value<'_>], columns: &Columns) -> Result<Group, Memory>
+    ensures { IfOk result (AreOfGroup columns.now (views nodes.now)) }
 {
     if columns.group.as_str().is_empty() {
         return Ok(Group {
@@ -92,13 +85,9 @@ pub fn group_of(alloc: Global, nodes: &[Value<'_>], columns: &Columns) -> Result
 }
 
 /// Reads the flag of each unit, 1 if it is frozen, or returns an empty list if no column of frozen
-/// units is named. The only error is `Memory`.
-pub fn frozen_of(
-    alloc: Global,
-    nodes: &[Value<'_>],
-    columns: &Columns,
-) -> Result<UnitList, GraphFault>
-    ensures { MatchResult result (λ frozen. frozen ≡ frozen_in columns.now (views nodes.now)) (λ f. f ≡ Memory) }
+/// units is named.
+pub fn frozen_of(alloc: Global, nodes: &[Value<'_>], columns: &Columns) -> Result<UnitList, Memory>
+    ensures { IfOk result (λ frozen. frozen ≡ frozen_in columns.now (views nodes.now)) }
 {
     if columns.frozen.as_str().is_empty() {
         return Ok(UnitList::new(alloc));
@@ -267,8 +256,8 @@ fn bad_number(node: &Value<'_>, columns: &Columns) -> Option<Column>
 }
 
 /// Reads one column of numbers. The default 0 is never used: `check_numbers` ran before.
-fn numbers_of(alloc: Global, nodes: &[Value<'_>], key: &Text) -> Result<NumList, GraphFault>
-    ensures { MatchResult result (λ numbers. numbers ≡ numbers_in key.now (views nodes.now)) (λ f. f ≡ Memory) }
+fn numbers_of(alloc: Global, nodes: &[Value<'_>], key: &Text) -> Result<NumList, Memory>
+    ensures { IfOk result (λ numbers. numbers ≡ numbers_in key.now (views nodes.now)) }
 {
     let mut numbers = NumList::new(alloc);
     for node in 0..nodes.len() {
@@ -279,8 +268,8 @@ fn numbers_of(alloc: Global, nodes: &[Value<'_>], key: &Text) -> Result<NumList,
 }
 
 /// Reads one column of flags. The default 0 is never used: `check_numbers` ran before.
-fn flags_of(alloc: Global, nodes: &[Value<'_>], key: &Text) -> Result<UnitList, GraphFault>
-    ensures { MatchResult result (λ flags. flags ≡ flags_in key.now (views nodes.now)) (λ f. f ≡ Memory) }
+fn flags_of(alloc: Global, nodes: &[Value<'_>], key: &Text) -> Result<UnitList, Memory>
+    ensures { IfOk result (λ flags. flags ≡ flags_in key.now (views nodes.now)) }
 {
     let mut flags = UnitList::new(alloc);
     for node in 0..nodes.len() {

@@ -1,9 +1,9 @@
 //! The districts of the start plan, from the labels of the nodes.
 
-ghost use Rattle.std.specs.Prelude.{◌≡◌, ◌≤◌, None, Some, length, MatchResult};
+ghost use Rattle.std.specs.Prelude.{◌≡◌, ◌<◌, ◌≤◌, None, Some, length, MatchResult};
 ghost use Rattle.audit_model.specs.declared.fault.GraphFault.TheVariants.{Memory};
 ghost use Rattle.dual_json.specs.Districts.{district_count_fault, AreDifferent, AreDistricts};
-ghost use Rattle.dual_json.specs.Places.{labels_from};
+ghost use Rattle.dual_json.specs.Places.{labels_from, nth};
 ghost use Rattle.audit_model.specs.Limits.{most_units};
 
 use crate::names::NodeName;
@@ -44,12 +44,23 @@ pub fn start_of<'v>(
 {
     let mut start = UnitList::new(alloc);
     for i in 0..names.len() {
-        let Ok(place) = found.binary_search(&names[i]) else {
-            unreachable!()
-        };
-        start.push(place as u32)?;
+        start.push(place_of(names, found, i))?;
     }
     Ok(start)
+}
+
+/// Returns the index of one node's label in `found`, the sorted distinct labels.
+fn place_of<'v>(names: &[NodeName<'v>], found: &[NodeName<'v>], node: usize) -> u32
+    requires few { length found.now ≤ most_units }
+    requires different { AreDifferent names.now found.now }
+    requires node { node < length names.now }
+    ensures inside { result < length found.now }
+    ensures place { nth (labels_from found.now) result ≡ nth (labels_from names.now) node }
+{
+    match found.binary_search(&names[node]) {
+        Ok(place) => place as u32,
+        Err(_) => unreachable!(),
+    }
 }
 
 /// Copies borrowed labels to labels that own their texts. The only error is `Memory`.

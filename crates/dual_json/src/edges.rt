@@ -1,41 +1,23 @@
 //! The edges of the graph, from the adjacency lists of the nodes.
 
-ghost use Rattle.std.specs.Prelude.{◌≡◌, ◌<◌, ◌≤◌, ◌⊎◌, ◌↔◌, ℕ, IsTrue, None, Some, length, option_map, MatchResult};
+ghost use Rattle.std.specs.Prelude.{◌≡◌, ◌<◌, ◌≤◌, ◌⊎◌, ◌↔◌, ℕ, IsTrue, None, Some, length, option_map, IfOk, MatchResult};
 ghost use Rattle.dual_json.specs.Values.{value_data};
-ghost use Rattle.audit_model.specs.declared.fault.GraphFault.TheVariants.{Memory, BadNeighbour, UnknownNeighbour};
+ghost use Rattle.audit_model.specs.declared.fault.GraphFault.TheVariants as fault;
 ghost use Rattle.audit_model.specs.Graph.{IsGraph, adjacent};
-ghost use Rattle.dual_json.specs.Edges.{edge, first_in, first_entry_in, is_unnamed, is_unknown, edges_fault, edges_in, graph_in, AddsEdges, AreListed, PushesEdge};
+ghost use Rattle.dual_json.specs.Edges.{edge, first_in, first_entry_in, is_unknown, edges_fault, edges_in, graph_in, AddsEdges, AreListed, PushesEdge};
 ghost use Rattle.dual_graph.specs.Pairs.{ArePairs, Joins};
 ghost use Rattle.dual_json.specs.Places.{repeated_label};
 ghost use Rattle.dual_json.specs.Shape.{views, lists_in};
 ghost use Rattle.audit_model.specs.Limits.{most_units, most_edges};
 
 use crate::index::Index;
-use crate::names::name_at;
 use crate::shape::entries_of;
 use crate::value::Value;
 use audit_model::fault::GraphFault;
+use audit_model::memory::Memory;
 use dual_graph::graph::Graph;
 use dual_graph::pairs::put_in_order;
 use std::alloc::Global;
-
-/// Checks that each adjacency entry has an id. Otherwise returns `BadNeighbour` with the first
-/// entry that has none.
-pub fn check_entries(adjacency: &[Value<'_>]) -> Result<(), GraphFault>
-    requires { length adjacency.now ≤ most_units }
-    ensures { MatchResult result (λ _. first_entry_in is_unnamed BadNeighbour (lists_in adjacency.now) ≡ None)
-        (λ f. first_entry_in is_unnamed BadNeighbour (lists_in adjacency.now) ≡ Some f) }
-{
-    for node in 0..adjacency.len() {
-        if let Some(place) = unnamed_entry(entries_of(adjacency, node)) {
-            return Err(GraphFault::BadNeighbour {
-                node: node as u32,
-                place: place as u64,
-            });
-        }
-    }
-    Ok(())
-}
 
 /// Builds the graph. Two distinct nodes are adjacent if at least one of them lists the other; an
 /// entry in which a node lists itself is ignored.
@@ -57,7 +39,7 @@ pub fn graph_of<'v>(
     requires different { repeated_label index.now ≡ None }
     ensures { MatchResult result
         (λ g. (edges_fault index.now (lists_in adjacency.now) ≡ None) × (g ≡ graph_in index.now (lists_in adjacency.now)) × IsGraph g × (edges_in index.now (lists_in adjacency.now) ≤ most_edges))
-        (λ f. (f ≡ Memory) ⊎ (edges_fault index.now (lists_in adjacency.now) ≡ Some f)) }
+        (λ f. (f ≡ fault.Memory) ⊎ (edges_fault index.now (lists_in adjacency.now) ≡ Some f)) }
 {
     let mut pairs = pairs_of(alloc, adjacency, index)?;
     put_in_order(&mut pairs);
@@ -66,18 +48,6 @@ pub fn graph_of<'v>(
         return Err(GraphFault::TooManyEdges(edges));
     }
     graph_from(alloc, units, &pairs)
-}
-
-/// Returns the index of the first entry without an id.
-fn unnamed_entry(entries: &[Value<'_>]) -> Option<usize>
-    ensures { result ≡ first_in is_unnamed (views entries.now) }
-{
-    for place in 0..entries.len() {
-        if name_at(&entries[place], "id").is_none() {
-            return Some(place);
-        }
-    }
-    None
 }
 
 /// Returns an edge as a pair, with its smaller unit first.
@@ -92,8 +62,8 @@ fn edge_of(unit: u32, other: u32) -> (u32, u32)
 }
 
 /// Appends the edge of two nodes, unless they are the same node.
-fn push_edge(pairs: &mut Vec<(u32, u32)>, node: u32, other: u32) -> Result<(), GraphFault>
-    ensures { MatchResult result (λ _. PushesEdge node other pairs.old.items pairs.new.items) (λ f. f ≡ Memory) }
+fn push_edge(pairs: &mut Vec<(u32, u32)>, node: u32, other: u32) -> Result<(), Memory>
+    ensures { IfOk result (λ _. PushesEdge node other pairs.old.items pairs.new.items) }
 {
     if other == node {
         return Ok(());
@@ -112,7 +82,7 @@ fn add_edges<'v>(
 ) -> Result<(), GraphFault>
     ensures { MatchResult result
         (λ _. (first_in (is_unknown index.now) (views entries.now) ≡ None) × AddsEdges index.now (views entries.now) (length entries.now) node pairs.old.items pairs.new.items)
-        (λ f. (f ≡ Memory) ⊎ (option_map (UnknownNeighbour node) (first_in (is_unknown index.now) (views entries.now)) ≡ Some f)) }
+        (λ f. (f ≡ fault.Memory) ⊎ (option_map (fault.UnknownNeighbour node) (first_in (is_unknown index.now) (views entries.now)) ≡ Some f)) }
 {
     for place in 0..entries.len() {
         let Some(other) = index.node_of(&entries[place]) else {
@@ -134,9 +104,9 @@ fn pairs_of<'v>(
 ) -> Result<Vec<(u32, u32)>, GraphFault>
     requires { length adjacency.now ≤ most_units }
     ensures { MatchResult result
-        (λ pairs. (first_entry_in (is_unknown index.now) UnknownNeighbour (lists_in adjacency.now) ≡ None)
+        (λ pairs. (first_entry_in (is_unknown index.now) fault.UnknownNeighbour (lists_in adjacency.now) ≡ None)
         × AreListed index.now (lists_in adjacency.now) (length (lists_in adjacency.now)) pairs.items)
-        (λ f. (f ≡ Memory) ⊎ (first_entry_in (is_unknown index.now) UnknownNeighbour (lists_in adjacency.now) ≡ Some f)) }
+        (λ f. (f ≡ fault.Memory) ⊎ (first_entry_in (is_unknown index.now) fault.UnknownNeighbour (lists_in adjacency.now) ≡ Some f)) }
 {
     let mut pairs = Vec::new(alloc);
     for node in 0..adjacency.len() {
@@ -149,7 +119,7 @@ fn pairs_of<'v>(
 fn graph_from(alloc: Global, units: u32, pairs: &[(u32, u32)]) -> Result<Graph, GraphFault>
     requires few { (units ≤ most_units) × (length pairs.now ≤ most_edges) }
     requires pairs { ArePairs units pairs.now }
-    ensures { MatchResult result (λ g. IsGraph g × (g.units ≡ units) × ((u v : ℕ) → IsTrue (adjacent g u v) ↔ Joins pairs.now u v)) (λ f. f ≡ Memory) }
+    ensures { MatchResult result (λ g. IsGraph g × (g.units ≡ units) × ((u v : ℕ) → IsTrue (adjacent g u v) ↔ Joins pairs.now u v)) (λ f. f ≡ fault.Memory) }
 {
     match Graph::from_pairs(alloc, units, pairs) {
         Ok(graph) => Ok(graph),

@@ -45,7 +45,11 @@ fn ids_beside<'t>(
 {
     match value_of(alloc, bytes, scratch) {
         Ok(root) => match parts_of(&root) {
-            Ok(parts) => ids_in(alloc, parts.nodes),
+            Ok(parts) => {
+                let ids = ids_in(alloc, parts.nodes);
+                drop(root);
+                ids
+            }
             Err(_) => unreachable!(),
         },
         Err(_) => Err(Memory),

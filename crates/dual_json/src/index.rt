@@ -51,8 +51,10 @@ impl<'v> Index<'v> {
         ensures { MatchResult result (λ index. (repeated_label (labels_from names.entry.items) ≡ None) × (index ≡ labels_from names.entry.items))
             (λ f. (f ≡ Memory) ⊎ (repeated_label (labels_from names.entry.items) ≡ Some f)) }
     {
-        let places = places_of(alloc, &names)?;
-        Ok(Index { names, places })
+        match places_of(alloc, &names) {
+            Ok(places) => Ok(Index { names, places }),
+            Err(fault) => Err(fault),
+        }
     }
 
     /// Returns the id of a node.

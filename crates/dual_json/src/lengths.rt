@@ -3,21 +3,23 @@
 //! Each of the two nodes of an edge may list the edge, even more than once. All these entries must
 //! give the same length.
 
-ghost use Rattle.std.specs.Prelude.{◌≡◌, ◌<◌, ◌≤◌, ◌⊎◌, ◌++◌, None, Some, length, option_map, IfErr, OnOk, MatchResult};
-ghost use Rattle.audit_model.specs.declared.fault.GraphFault.TheVariants.{Memory, MissingLength, BadLength};
+ghost use Rattle.std.specs.Prelude.{◌≡◌, ◌<◌, ◌≤◌, ◌⊎◌, ◌++◌, None, Some, length, option_map, IfOk, OnOk, MatchResult};
+ghost use Rattle.audit_model.specs.declared.fault.GraphFault.TheVariants as fault;
 ghost use Rattle.audit_model.specs.Limits.{most_units};
-ghost use Rattle.dual_json.specs.Edges.{entries_at, first_in, first_entry_in};
-ghost use Rattle.dual_json.specs.Lengths.{all_lengths, fault_if_named, is_labelled, is_unequal, has_no_length, has_no_value, length_between, length_in, length_of_pair, length_or_zero, lengths_fault, lengths_if_named, listed_length, row_lengths, unequal_fault};
+ghost use Rattle.dual_json.specs.Edges.{entries_at, first_in};
+ghost use Rattle.dual_json.specs.Lengths.{all_lengths, fault_if_named, is_labelled, is_unequal, length_between, length_in, length_of_pair, length_or_zero, lengths_fault, lengths_if_named, listed_length, row_lengths, unequal_fault};
 ghost use Rattle.dual_json.specs.Names.{label_from};
 ghost use Rattle.dual_json.specs.Shape.{lists_in, views};
 ghost use Rattle.dual_json.specs.Values.{value_data};
 
 use crate::index::Index;
 use crate::names::{NodeName, name_at};
+use crate::required::{Required, check_entries};
 use crate::shape::entries_of;
 use crate::value::Value;
 use audit_model::fault::GraphFault;
 use audit_model::lists::UnitList;
+use audit_model::memory::Memory;
 use dual_graph::graph::Graph;
 use std::alloc::Global;
 
@@ -33,7 +35,7 @@ pub struct Listed<'a, 'v> {
 }
 
 /// Returns the length in an entry: the value at the key, if it is an integer from 0 to 2^32 - 1.
-fn length_at(entry: &Value<'_>, key: &str) -> Option<u32>
+pub fn length_at(entry: &Value<'_>, key: &str) -> Option<u32>
     ensures { result ≡ length_in key.now (value_data entry.now) }
 {
     let Some(value) = entry.get(key) else {
@@ -51,85 +53,11 @@ fn length_at(entry: &Value<'_>, key: &str) -> Option<u32>
     }
 }
 
-/// Returns true if the entry has no value at the key.
-fn has_no_value(entry: &Value<'_>, key: &str) -> bool
-    ensures { result ≡ has_no_value key.now (value_data entry.now) }
-{
-    entry.get(key).is_none()
-}
-
-/// Returns true if the entry has no integer from 0 to 2^32 - 1 at the key.
-fn has_no_length(entry: &Value<'_>, key: &str) -> bool
-    ensures { result ≡ has_no_length key.now (value_data entry.now) }
-{
-    length_at(entry, key).is_none()
-}
-
 /// Returns the length in an entry, or 0 if there is none.
 fn length_or_zero(entry: &Value<'_>, key: &str) -> u32
     ensures { result ≡ length_or_zero key.now (value_data entry.now) }
 {
     length_at(entry, key).unwrap_or(0)
-}
-
-/// Returns the index of the first entry without a value at the key.
-fn first_without(entries: &[Value<'_>], key: &str) -> Option<usize>
-    ensures { result ≡ first_in (has_no_value key.now) (views entries.now) }
-{
-    for place in 0..entries.len() {
-        if has_no_value(&entries[place], key) {
-            return Some(place);
-        }
-    }
-    None
-}
-
-/// Returns the index of the first entry whose value is no length.
-fn first_unread(entries: &[Value<'_>], key: &str) -> Option<usize>
-    ensures { result ≡ first_in (has_no_length key.now) (views entries.now) }
-{
-    for place in 0..entries.len() {
-        if has_no_length(&entries[place], key) {
-            return Some(place);
-        }
-    }
-    None
-}
-
-/// Checks that each entry has a value at the key. Otherwise returns `MissingLength` with the first
-/// entry that has none.
-fn check_values(adjacency: &[Value<'_>], key: &str) -> Result<(), GraphFault>
-    requires { length adjacency.now ≤ most_units }
-    ensures { MatchResult result (λ _. first_entry_in (has_no_value key.now) MissingLength (lists_in adjacency.now) ≡ None)
-        (λ f. first_entry_in (has_no_value key.now) MissingLength (lists_in adjacency.now) ≡ Some f) }
-{
-    for node in 0..adjacency.len() {
-        if let Some(place) = first_without(entries_of(adjacency, node), key) {
-            return Err(GraphFault::MissingLength {
-                node: node as u32,
-                place: place as u64,
-            });
-        }
-    }
-    Ok(())
-}
-
-/// Checks that each entry has a length at the key. Otherwise returns `BadLength` with the first
-/// entry that has none.
-fn check_lengths(adjacency: &[Value<'_>], key: &str) -> Result<(), GraphFault>
-    requires { length adjacency.now ≤ most_units }
-    ensures { MatchResult result (λ _. first_entry_in (has_no_length key.now) BadLength (lists_in adjacency.now) ≡ None)
-        (λ f. first_entry_in (has_no_length key.now) BadLength (lists_in adjacency.now) ≡ Some f) }
-{
-    for node in 0..adjacency.len() {
-        if let Some(place) = first_unread(entries_of(adjacency, node), key) {
-            return Err(GraphFault::BadLength {
-                node: node as u32,
-                place: place as u64,
-            });
-        }
-    }
-    Ok(())
 }
 
 /// Returns true if this is the entry's id.
@@ -227,17 +155,15 @@ fn check_equal(listed: Listed<'_, '_>) -> Result<(), GraphFault>
 }
 
 /// Appends the lengths of the edges from a node to its neighbors, in rising order of the neighbors.
-/// The only error is `Memory`.
 fn push_row(
     lengths: &mut UnitList,
     graph: &Graph,
     listed: Listed<'_, '_>,
     node: u32,
-) -> Result<(), GraphFault>
+) -> Result<(), Memory>
     requires node { node < graph.now.units }
     requires units { graph.now.units ≡ length listed.index.now }
-    ensures row { OnOk result (lengths.new ≡ lengths.old ++ row_lengths listed.entry.key.now listed.entry.index.now (lists_in listed.entry.adjacency.now) graph.now node) }
-    ensures memory { IfErr result (λ f. f ≡ Memory) }
+    ensures { OnOk result (lengths.new ≡ lengths.old ++ row_lengths listed.entry.key.now listed.entry.index.now (lists_in listed.entry.adjacency.now) graph.now node) }
 {
     for other in graph.neighbours(node) {
         lengths.push(length_between(listed, node, *other))?;
@@ -246,14 +172,9 @@ fn push_row(
 }
 
 /// Reads the lengths of the edges, once from each unit: by rising unit, then by rising neighbor.
-/// The only error is `Memory`.
-fn lengths_from(
-    alloc: Global,
-    graph: &Graph,
-    listed: Listed<'_, '_>,
-) -> Result<UnitList, GraphFault>
+fn lengths_from(alloc: Global, graph: &Graph, listed: Listed<'_, '_>) -> Result<UnitList, Memory>
     requires { graph.now.units ≡ length listed.index.now }
-    ensures { MatchResult result (λ lengths. lengths ≡ all_lengths listed.entry.key.now listed.entry.index.now (lists_in listed.entry.adjacency.now) graph.now) (λ f. f ≡ Memory) }
+    ensures { IfOk result (λ lengths. lengths ≡ all_lengths listed.entry.key.now listed.entry.index.now (lists_in listed.entry.adjacency.now) graph.now) }
 {
     let mut lengths = UnitList::new(alloc);
     for node in 0..graph.units() {
@@ -283,13 +204,16 @@ pub fn lengths_of(
     ensures { MatchResult result
         (λ lengths. (fault_if_named listed.entry.key.now listed.entry.index.now (lists_in listed.entry.adjacency.now) ≡ None)
         × (lengths ≡ lengths_if_named listed.entry.key.now listed.entry.index.now (lists_in listed.entry.adjacency.now) graph.now))
-        (λ f. (f ≡ Memory) ⊎ (fault_if_named listed.entry.key.now listed.entry.index.now (lists_in listed.entry.adjacency.now) ≡ Some f)) }
+        (λ f. (f ≡ fault.Memory) ⊎ (fault_if_named listed.entry.key.now listed.entry.index.now (lists_in listed.entry.adjacency.now) ≡ Some f)) }
 {
     if listed.key.is_empty() {
         return Ok(UnitList::new(alloc));
     }
-    check_values(listed.adjacency, listed.key)?;
-    check_lengths(listed.adjacency, listed.key)?;
+    check_entries(listed.adjacency, Required::Value(listed.key))?;
+    check_entries(listed.adjacency, Required::Length(listed.key))?;
     check_equal(listed)?;
-    lengths_from(alloc, graph, listed)
+    match lengths_from(alloc, graph, listed) {
+        Ok(lengths) => Ok(lengths),
+        Err(_) => Err(GraphFault::Memory),
+    }
 }

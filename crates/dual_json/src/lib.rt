@@ -13,6 +13,8 @@ mod number;
 mod parse;
 mod read;
 mod regions;
+mod required;
+mod scalar;
 mod shape;
 mod value;
 

@@ -6,7 +6,7 @@ ghost use Rattle.serde_json.specs.Data.{no_members};
 ghost use Rattle.serde_json.specs.Read.{of_json, of_items, of_members, converted, read as read_text};
 ghost use Rattle.dual_json.specs.Values.{value_data, items_data, members_data};
 
-use crate::number::number_of;
+use crate::scalar::scalar_of;
 use crate::value::Value;
 use json::{Error, Reader, Scratch, Token};
 use std::alloc::Global;
@@ -32,6 +32,7 @@ pub fn parse<'t>(alloc: Global, text: &'t str, scratch: &'t mut Scratch) -> Resu
         Err(error) => return Err(error),
     };
     if reader.next().is_some() {
+        drop(value);
         return Err(Error::Invalid);
     }
     Ok(value)
@@ -46,28 +47,23 @@ fn read<'t>(alloc: Global, reader: &mut Reader<'t>, depth: usize) -> Result<Valu
     ensures shorter { OnOk result (length reader.new < length reader.old) }
     ensures err { result ≡ Err Error.Invalid → converted of_json (value depth reader.old) ≡ None }
 {
-    let token = reader.next().ok_or(Error::Invalid)?;
-    match token {
-        Token::String(text) => Ok(Value::String(text)),
-        Token::Number(text) => match number_of(text) {
-            Some(number) => Ok(Value::Number(number)),
-            None => Err(Error::Invalid),
+    match reader.next() {
+        Some(token) => match token {
+            Token::BeginArray => {
+                if depth == 0 {
+                    return Err(Error::Invalid);
+                }
+                Ok(Value::Array(read_items(alloc, reader, depth - 1)?))
+            }
+            Token::BeginObject => {
+                if depth == 0 {
+                    return Err(Error::Invalid);
+                }
+                Ok(Value::Object(read_members(alloc, reader, depth - 1)?))
+            }
+            _ => scalar_of(token).ok_or(Error::Invalid),
         },
-        Token::Bool(b) => Ok(Value::Bool(b)),
-        Token::Null => Ok(Value::Null),
-        Token::EndObject | Token::EndArray | Token::Key(_) | Token::Bad => Err(Error::Invalid),
-        Token::BeginArray => {
-            if depth == 0 {
-                return Err(Error::Invalid);
-            }
-            Ok(Value::Array(read_items(alloc, reader, depth - 1)?))
-        }
-        Token::BeginObject => {
-            if depth == 0 {
-                return Err(Error::Invalid);
-            }
-            Ok(Value::Object(read_members(alloc, reader, depth - 1)?))
-        }
+        None => Err(Error::Invalid),
     }
 }
 

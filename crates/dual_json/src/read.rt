@@ -6,26 +6,28 @@ ghost use Rattle.serde_json.specs.Read.{read};
 ghost use Rattle.dual_json.specs.Values.{value_data};
 ghost use Rattle.audit_model.specs.declared.fault.GraphFault.TheVariants as fault;
 ghost use Rattle.audit_model.specs.Graph.{IsGraph, count_edges};
-ghost use Rattle.audit_model.specs.Limits.{AreFrozen, AreWithin, IsGroup, most_units, most_edges};
+ghost use Rattle.audit_model.specs.Limits.{AreFrozen, AreWithin, IsGroup, most_districts, most_units, most_edges};
 ghost use Rattle.dual_graph.specs.Read.{parsed_of};
 ghost use Rattle.audit_statement.specs.Reading.{graph, parsed, reading, refusal};
-ghost use Rattle.dual_json.specs.Districts.{district_count_fault, different_count};
+ghost use Rattle.dual_json.specs.Districts.{district_count_fault, different_count, AreDistricts};
 ghost use Rattle.dual_json.specs.Places.{labels_from, repeated_label, AreLabels};
 ghost use Rattle.dual_json.specs.Lengths.{fault_if_named, lengths_if_named};
 ghost use Rattle.dual_json.specs.Shape.{lists_in, views, document_of_parts};
-ghost use Rattle.dual_json.specs.Stages.{ids_fault, graph_fault, labels_fault, AreNumbers, AreRows};
+ghost use Rattle.dual_json.specs.Stages.{ids_fault, graph_fault, labels_fault, AreNumbers};
 
 use crate::columns::{check_columns, check_numbers, counts_of, frozen_of, group_of};
 use crate::districts::{check_count, different, labels_of, start_of};
-use crate::edges::{check_entries, graph_of};
+use crate::edges::graph_of;
 use crate::index::Index;
 use crate::lengths::{Listed, lengths_of};
 use crate::names::{NodeName, Unnamed, names_at};
 use crate::parse::parse;
+use crate::required::{Required, check_entries};
 use crate::shape::{RootParts, check_frame, parts_of};
 use crate::value::Value;
 use audit_model::fault::GraphFault;
 use audit_model::lists::{LabelList, UnitList};
+use audit_model::memory::Memory;
 use audit_model::outcome::Counts;
 use audit_model::rules::Group;
 use audit_model::setting::Columns;
@@ -62,28 +64,34 @@ struct Numbers {
     frozen: UnitList,
 }
 
+/// The districts of the start plan: the index of each node's district, and the districts' labels.
+struct Districts {
+    start: UnitList,
+    labels: LabelList,
+}
+
 /// Drops the fields one by one. Written by hand so that a caller's proof has one call here, not one
 /// per field.
-impl Drop for Numbers {
+impl Drop for Districts {
     fn drop(self) {
-        let Numbers {
-            counts: _counts,
-            group: _group,
-            frozen: _frozen,
+        let Districts {
+            start: _start,
+            labels: _labels,
         } = self;
     }
 }
 
-impl Numbers {
-    /// Adds the graph, the lengths of its edges, and the districts.
-    fn with(self, graph: Graph, lengths: UnitList, start: UnitList, labels: LabelList) -> Parsed
-        ensures { result ≡ record { graph = graph; counts = record self.counts { lengths = lengths }; group = self.group; frozen = self.frozen; start = start; labels = labels } }
+impl Districts {
+    /// Adds the graph, the lengths of its edges, and the numbers and flags.
+    fn with(self, graph: Graph, lengths: UnitList, numbers: Numbers) -> Parsed
+        ensures { result ≡ record { graph = graph; counts = record numbers.counts { lengths = lengths }; group = numbers.group; frozen = numbers.frozen; start = self.start; labels = self.labels } }
     {
+        let Districts { start, labels } = self;
         let Numbers {
             counts,
             group,
             frozen,
-        } = self;
+        } = numbers;
         Parsed {
             graph,
             counts: with_lengths(counts, lengths),
@@ -92,39 +100,6 @@ impl Numbers {
             start,
             labels,
         }
-    }
-}
-
-/// The data that the columns of the nodes give.
-struct Rows {
-    numbers: Numbers,
-    start: UnitList,
-    labels: LabelList,
-}
-
-/// Drops the fields one by one. Written by hand so that a caller's proof has one call here, not one
-/// per field.
-impl Drop for Rows {
-    fn drop(self) {
-        let Rows {
-            numbers: _numbers,
-            start: _start,
-            labels: _labels,
-        } = self;
-    }
-}
-
-impl Rows {
-    /// Adds the graph and the lengths of its edges.
-    fn with(self, graph: Graph, lengths: UnitList) -> Parsed
-        ensures { result ≡ record { graph = graph; counts = record self.numbers.counts { lengths = lengths }; group = self.numbers.group; frozen = self.numbers.frozen; start = self.start; labels = self.labels } }
-    {
-        let Rows {
-            numbers,
-            start,
-            labels,
-        } = self;
-        numbers.with(graph, lengths, start, labels)
     }
 }
 
@@ -162,8 +137,15 @@ fn read_beside<'t>(
 {
     let root = value_of(alloc, bytes, scratch)?;
     match parts_of(&root) {
-        Ok(parts) => read_parts(alloc, &parts, cols),
-        Err(part) => Err(GraphFault::BadShape(part)),
+        Ok(parts) => {
+            let parsed = read_parts(alloc, &parts, cols);
+            drop(root);
+            parsed
+        }
+        Err(part) => {
+            drop(root);
+            Err(GraphFault::BadShape(part))
+        }
     }
 }
 
@@ -219,7 +201,7 @@ fn graph_in<'v>(alloc: Global, parts: &RootParts<'_, 'v>) -> Result<IndexedGraph
 {
     check_frame(parts)?;
     let index = ids_of(alloc, parts.nodes)?;
-    check_entries(parts.adjacency)?;
+    check_entries(parts.adjacency, Required::Id)?;
     match graph_of(alloc, parts.nodes.len() as u32, parts.adjacency, &index) {
         Ok(graph) => Ok(IndexedGraph { graph, index }),
         Err(fault) => Err(fault),
@@ -279,13 +261,9 @@ fn names_in<'v>(
     }
 }
 
-/// Reads the columns of numbers and flags. The only error is `Memory`.
-fn read_numbers(
-    alloc: Global,
-    nodes: &[Value<'_>],
-    columns: &Columns,
-) -> Result<Numbers, GraphFault>
-    ensures { MatchResult result (λ read. AreNumbers columns.now (views nodes.now) read.counts read.group read.frozen) (λ f. f ≡ fault.Memory) }
+/// Reads the columns of numbers and flags.
+fn read_numbers(alloc: Global, nodes: &[Value<'_>], columns: &Columns) -> Result<Numbers, Memory>
+    ensures { IfOk result (λ read. AreNumbers columns.now (views nodes.now) read.counts read.group read.frozen) }
 {
     let frozen = frozen_of(alloc, nodes, columns)?;
     let group = group_of(alloc, nodes, columns)?;
@@ -295,33 +273,24 @@ fn read_numbers(
             group,
             frozen,
         }),
-        Err(fault) => Err(fault),
+        Err(_) => Err(Memory),
     }
 }
 
-/// Reads the columns of the nodes. `names` are their district labels.
-fn rows_of<'v>(
-    alloc: Global,
-    nodes: &[Value<'_>],
-    columns: &Columns,
-    names: &[NodeName<'v>],
-) -> Result<Rows, GraphFault>
-    requires few { length names.now ≤ most_units }
-    requires labels { AreLabels columns.now.district (views nodes.now) (labels_from names.now) }
+/// Returns the districts that the nodes' labels give. Returns `DistrictCount` if there are too few or
+/// too many.
+fn districts_of(alloc: Global, names: &[NodeName<'_>]) -> Result<Districts, GraphFault>
+    requires { length names.now ≤ most_units }
     ensures { MatchResult result
-        (λ rows. (district_count_fault (different_count (labels_from names.now)) ≡ None) × AreRows columns.now (views nodes.now) rows.numbers.counts rows.numbers.group rows.numbers.frozen rows.start rows.labels)
+        (λ d. (district_count_fault (different_count (labels_from names.now)) ≡ None) × AreDistricts (labels_from names.now) d.labels d.start
+        × (2 ≤ length d.labels) × (length d.labels ≤ most_districts))
         (λ f. (f ≡ fault.Memory) ⊎ (district_count_fault (different_count (labels_from names.now)) ≡ Some f)) }
 {
     let found = different(alloc, names)?;
     let start = start_of(alloc, names, &found)?;
     check_count(found.len())?;
-    let labels = labels_of(alloc, &found)?;
-    match read_numbers(alloc, nodes, columns) {
-        Ok(numbers) => Ok(Rows {
-            numbers,
-            start,
-            labels,
-        }),
+    match labels_of(alloc, &found) {
+        Ok(labels) => Ok(Districts { start, labels }),
         Err(fault) => Err(fault),
     }
 }
@@ -341,9 +310,10 @@ fn read_parts(
 {
     let made = graph_in(alloc, parts)?;
     let names = names_in(alloc, parts.nodes, columns)?;
-    let rows = rows_of(alloc, parts.nodes, columns, &names)?;
-    match lengths_in(alloc, &made, parts.adjacency, &columns.length) {
-        Ok(lengths) => Ok(rows.with(made.into_graph(), lengths)),
-        Err(fault) => Err(fault),
+    let districts = districts_of(alloc, &names)?;
+    let lengths = lengths_in(alloc, &made, parts.adjacency, &columns.length)?;
+    match read_numbers(alloc, parts.nodes, columns) {
+        Ok(numbers) => Ok(districts.with(made.into_graph(), lengths, numbers)),
+        Err(_) => Err(GraphFault::Memory),
     }
 }

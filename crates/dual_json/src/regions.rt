@@ -60,7 +60,11 @@ fn regions_beside<'t>(
 {
     match value_of(alloc, bytes, scratch) {
         Ok(root) => match parts_of(&root) {
-            Ok(parts) => regions_in(alloc, &parts, column),
+            Ok(parts) => {
+                let numbers = regions_in(alloc, &parts, column);
+                drop(root);
+                numbers
+            }
             Err(_) => unreachable!(),
         },
         Err(_) => Err(RegionFault::Memory),

@@ -1,18 +1,14 @@
 use Rattle.std.proofs.Common.{length, ap, arith}
-use Rattle.dual_json.proofs.Named.{nth_get}
-use Rattle.dual_json.proofs.Started.{started_more, started_all, never_missing}
+use Rattle.dual_json.proofs.Started.{started_more, started_all}
 use Rattle.dual_json.proofs.districts.start_of.Goals as goal
 
 pub loop-i-init : goal.loop-i-init
 loop-i-init c = record { count = ap length c.new-start.ensures; inside = λ k l. absurd (omega (arith, l)); place = λ k l. absurd (omega (arith, l)) }
 
-pub unreachable-requires : goal.unreachable-requires
-unreachable-requires c = never_missing c.args.names.now c.args.found.now c.loop-i.i c.in_default.field-0 _ c.requires.different c.loop-i-test.true c.in_default.ensures.position
-
 pub loop-i-preserved : goal.loop-i-preserved
 loop-i-preserved c =
-    started_more c.args.names.now c.args.found.now c.loop-i.i c.loop-i.start c.push.new.self c.in-Ok.place _ c.loop-i.invariant c.in-Ok.ensures.bound
-    (nth_get c.args.names.now c.loop-i.i _ c.loop-i-test.true) (c.in-Ok.ensures.ok _) c.in_ok-push.ensures.ok
+    started_more c.args.names.now c.args.found.now c.loop-i.i c.loop-i.start c.push.new.self c.place_of.result c.loop-i.invariant c.place_of.ensures.inside
+    c.place_of.ensures.place c.in_ok-push.ensures.ok
 
 pub returns : goal.returns
 returns c =

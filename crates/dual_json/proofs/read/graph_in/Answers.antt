@@ -1,12 +1,13 @@
-use Rattle.std.proofs.Common.{◌≡◌, ℕ, ◌≤◌, true, List, length, None, Some, Err, refl, sym, ap, subst, ◌∙◌, inl, inr, rules}
+use Rattle.std.proofs.Common.{◌≡◌, ℕ, ◌≤◌, true, List, length, None, Some, Err, refl, sym, ap, subst, ◌∙◌, inl, inr}
 use Rattle.audit_model.specs.declared.fault.GraphFault.{GraphFault}
-use Rattle.audit_model.specs.declared.fault.GraphFault.TheVariants.{BadNeighbour}
+use Rattle.audit_model.specs.declared.fault.GraphFault.TheVariants.{BadNeighbour, Memory}
 use Rattle.audit_model.specs.declared.setting.Label.{Label}
 use Rattle.audit_model.specs.Graph.{Graph, count_edges}
 use Rattle.audit_model.proofs.Options.{none_or, or_of_none}
 use Rattle.audit_model.proofs.First.{or_some}
 use Rattle.audit_model.proofs.Results.{err_at}
-use Rattle.std.specs.Prelude.{codes}
+use Rattle.std.specs.Prelude.{codes, ◌⊎◌}
+use Rattle.std.proofs.lemmas.Result.{err_from_is_err_and}
 use Rattle.audit_statement.specs.Reading.{Document}
 use Rattle.dual_json.specs.Edges.{edges_fault, first_entry_in, is_unnamed}
 use Rattle.dual_json.specs.Places.{AreLabels}
@@ -16,10 +17,15 @@ use Rattle.dual_json.proofs.Bridge.{entry_same, edges_same, graph_same}
 use Rattle.dual_json.proofs.Listed.{length-views, length-lists_in}
 use Rattle.dual_json.proofs.read.graph_in.Goals as goal
 
+frame_here : (d : Document) (nodes adjacency : ℕ) → length d.nodes ≡ nodes → length d.adjacency ≡ adjacency → frame_fault d.directed nodes adjacency ≡ None
+    → frame_fault d.directed (length d.nodes) (length d.adjacency) ≡ None
+frame_here d nodes adjacency long lists none = ap (λ m. frame_fault d.directed m (length d.adjacency)) long ∙ ap (frame_fault d.directed nodes) lists ∙ none
+
 pub returns-in_err-check_frame : goal.returns-in_err-check_frame
 returns-in_err-check_frame c =
     let f = c.in_err-check_frame.field-0.0 in
-    let e : c.from_residual.result ≡ Err f = search rules in
+    let p = err_from_is_err_and c.from_residual.result c.from_residual.ensures.1 in
+    let e : c.from_residual.result ≡ Err f = p.1 ∙ ap Err p.2 in
     let nodes = c.args.parts.now.nodes.now in
     let lists = c.args.parts.now.adjacency.now in
     let directed = c.args.parts.now.directed in
@@ -27,10 +33,26 @@ returns-in_err-check_frame c =
     ap (λ m. frame_fault directed m (length (lists_in lists))) (length-views nodes) ∙ ap (frame_fault directed (length nodes)) (length-lists_in lists) ∙ c.in_err-check_frame.ensures in
     err_at c.from_residual.result f _ _ e (inr (or_some (frame_fault directed (length (views nodes)) (length (lists_in lists))) _ f frame))
 
+pub returns-in_err-index : goal.returns-in_err-index
+returns-in_err-index c =
+    let f = c.in_err-index.field-0.0 in
+    let p = err_from_is_err_and c.from_residual-in_err-index.result c.from_residual-in_err-index.ensures.1 in
+    let e : c.from_residual-in_err-index.result ≡ Err f = p.1 ∙ ap Err p.2 in
+    let d : Document = document_of_parts c.args.parts.now in
+    let nodes = c.args.parts.now.nodes.now in
+    let lists = c.args.parts.now.adjacency.now in
+    let frame = frame_here d (length nodes) (length lists) (length-views nodes) (length-lists_in lists) c.in_ok-check_frame.ensures.0 in
+    let why : (f ≡ Memory) ⊎ (graph_fault d ≡ Some f) = elim c.in_err-index.ensures [
+      | inl m ↦ inl m
+      | inr h ↦ inr (none_or (frame_fault d.directed (length d.nodes) (length d.adjacency)) _ frame ∙ or_some (ids_fault d.nodes) _ f h)
+    ] in
+    err_at c.from_residual-in_err-index.result f _ _ e why
+
 pub returns-in_err-check_entries : goal.returns-in_err-check_entries
 returns-in_err-check_entries c =
     let f = c.in_err-check_entries.field-0.0 in
-    let e : c.from_residual-in_err-check_entries.result ≡ Err f = search rules in
+    let p = err_from_is_err_and c.from_residual-in_err-check_entries.result c.from_residual-in_err-check_entries.ensures.1 in
+    let e : c.from_residual-in_err-check_entries.result ≡ Err f = p.1 ∙ ap Err p.2 in
     let d : Document = document_of_parts c.args.parts.now in
     let nodes = c.args.parts.now.nodes.now in
     let lists = c.args.parts.now.adjacency.now in
@@ -58,10 +80,6 @@ module _ (d : Document) (ids : List Label) (are : AreLabels (codes "id") d.nodes
   some_of : (f : GraphFault) → edges_fault ids d.adjacency ≡ Some f → graph_fault d ≡ Some f
   some_of f some = none_or (frame_fault d.directed (length d.nodes) (length d.adjacency)) _ frame
       ∙ none_or (ids_fault d.nodes) _ named ∙ none_or (entry_fault d is_unnamed BadNeighbour) _ no_entry ∙ edges_same d ids are long ∙ some
-
-frame_here : (d : Document) (nodes adjacency : ℕ) → length d.nodes ≡ nodes → length d.adjacency ≡ adjacency → frame_fault d.directed nodes adjacency ≡ None
-    → frame_fault d.directed (length d.nodes) (length d.adjacency) ≡ None
-frame_here d nodes adjacency long lists none = ap (λ m. frame_fault d.directed m (length d.adjacency)) long ∙ ap (frame_fault d.directed nodes) lists ∙ none
 
 pub returns-in-Ok : goal.returns-in-Ok
 returns-in-Ok c =

@@ -1,9 +1,0 @@
-use Rattle.std.proofs.Common.{◌≡◌, None}
-use Rattle.audit_model.specs.First.{first_below}
-use Rattle.dual_json.specs.Edges.{is_unnamed}
-use Rattle.dual_json.specs.Places.{object_at}
-use Rattle.dual_json.specs.Shape.{views}
-use Rattle.dual_json.proofs.edges.unnamed_entry.Given as goal
-
-abbrev pub invariant-loop-place : goal.invariant-loop-place
-invariant-loop-place l = first_below l.place (λ k. is_unnamed (object_at (views l.entries) k)) ≡ None
