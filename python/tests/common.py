@@ -16,7 +16,7 @@ import district_audit
 
 TOP = pathlib.Path(__file__).resolve().parent.parent.parent
 EXAMPLES = TOP / "examples"
-CASES = TOP / "crates" / "case_runner"
+OUTPUTS = (TOP / "tests" / "data" / "case_output", TOP / "crates" / "case_runner" / "stdout")
 KEY = "0" * 64
 # The tests of the package use `Any` in this line alone. A value of JSON, or of an argument of a
 # call: each argument has a type of its own, and tests pass wrong ones, too.

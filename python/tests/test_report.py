@@ -18,11 +18,15 @@ from district_audit.report import bound_of
 Kind = type[typing.Union[Report, PlanCheck]]
 
 
+def outputs() -> str:
+    """Returns what the auditor and `case_runner` must print in their cases."""
+    return "".join(path.read_text(encoding="utf-8") for path in common.OUTPUTS)
+
+
 def texts() -> list[tuple[int, typing.Optional[str], str]]:
-    """Returns each whole text that `case_runner` must print: a check, a report, or the reports of
-    several plans.
+    """Returns each whole text of these cases: a check, a report, or the reports of several plans.
     """
-    lines = (common.CASES / "stdout").read_text(encoding="utf-8").split("\n")
+    lines = outputs().split("\n")
     found, at = [], 0
     while at < len(lines):
         if re.fullmatch("plan-check 1|district-audit [12]", lines[at]):
@@ -48,12 +52,12 @@ def texts() -> list[tuple[int, typing.Optional[str], str]]:
 
 
 class RoundTrip(unittest.TestCase):
-    def test_all_texts_of_case_runner_are_read_and_written_again(self) -> None:
+    def test_all_texts_of_the_cases_are_read_and_written_again(self) -> None:
         """Each line `end` of the cases closes one of these texts or a trace, so none is passed
         over.
         """
         found = texts()
-        whole = (common.CASES / "stdout").read_text(encoding="utf-8")
+        whole = outputs()
         ends, traces = whole.split("\n").count("end"), 0
         for after in whole.split("\ndistrict-trace 1\n")[1:]:
             traces += re.split("\n(end|plan-check 1|district-audit [12])\n", after)[1:2] == ["end"]

@@ -1,21 +1,30 @@
-"""The program `case_runner` prints its stdout, and the plain model prints the same of its cases.
+"""The auditor ends as it must for each line of `cases` and `graphs`, and `case_runner` prints its
+stdout.
 
-A failing check of a case has the name of that case. The program is the one that the variable
+The plain model gives the expected ends, but for grids that would take it an hour. A failing check
+of a case has the name of that case. The program `case_runner` is the one that the variable
 DISTRICT_AUDIT_CASES names, or the one that `rt ci` leaves in the crate's folder.
 """
-# RUN:
+# RUN: {auditor}
+import argparse
 import os
 import pathlib
 import shutil
+import subprocess
 import sys
 import tempfile
 
-from tests.checks import Checks, run
-from tests.golden.named_cases import compare, compare_with_model, parts_of, stdout_parts
-from tests.places import CASES
-
-# The plain model would take an hour for each of these.
-GREAT = ("make_large_grid", "make_large_grid_four_workers", "make_largest_grid")
+from tests.checks import Checks, End, run
+from tests.golden.named_cases import (
+    Case,
+    audited_parts,
+    compare,
+    compare_with_model,
+    parts_of,
+    stdout_parts,
+)
+from tests.golden.plain_cases import Call, calls_of, is_great, text_of
+from tests.places import CASES, TEST_DATA
 
 
 def check_program(checks: Checks, program: pathlib.Path) -> None:
@@ -28,14 +37,32 @@ def check_program(checks: Checks, program: pathlib.Path) -> None:
     compare(checks, "program", parts_of(end.out), stdout_parts())
 
 
+def end_of(auditor: pathlib.Path, call: Call, folder: pathlib.Path) -> Case:
+    """Returns how the auditor ends in a folder."""
+    done = subprocess.run(
+        [auditor, *call.words], input=call.data, capture_output=True, check=False, cwd=folder
+    )
+    end = End(done.returncode, done.stdout.decode(), done.stderr.decode())
+    return Case(call.name, text_of(end))
+
+
 def main() -> int:
+    parser = argparse.ArgumentParser(description=__doc__)
+    parser.add_argument("auditor", type=pathlib.Path)
+    auditor = parser.parse_args().auditor.resolve()
     checks = Checks("case_output")
+    calls = calls_of(TEST_DATA)
+    with tempfile.TemporaryDirectory() as room:
+        ends = [end_of(auditor, call, pathlib.Path(room)) for call in calls]
+        checks.is_equal("files", os.listdir(room), [])
+    compare(checks, "auditor", ends, audited_parts())
     program = pathlib.Path(os.environ.get("DISTRICT_AUDIT_CASES") or CASES / "out" / "case_runner")
     if os.access(program, os.X_OK):
         check_program(checks, program.resolve())
     else:
         checks.count_missing("program", f"the program {program}")
-    compare_with_model(checks, "plain_cases", ["cases", "graphs"], GREAT)
+    modeled = [call.name for call in calls if not is_great(call.words)]
+    compare_with_model(checks, "plain_cases", TEST_DATA, audited_parts(), modeled)
     return checks.finish()
 
 

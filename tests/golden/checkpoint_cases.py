@@ -1,14 +1,11 @@
-"""Runs with a keeper of two slots, by a plain program: what `case_runner` must print for each line
-of its file `slots`.
+"""Runs with a keeper of two slots, by a plain program, and files of slots.
 
 Usage: python3 -m tests.golden.checkpoint_cases FOLDER
-       python3 -m tests.golden.checkpoint_cases --files FOLDER
-FOLDER has the file `slots` and the files that it names, as crates/case_runner/data. The first
-prints the text. The second writes the files of the slots that are no good checkpoint, each with one
-fault alone, and of some that are, in both versions of the format. Words that are refused are known
-only by the values of the names that this is about, and a graph is refused only where it is no JSON.
-Checkpoints and trajectories are those of checkpoints.py. A line that asks for a text about the
-program is left out, and leaves the slots as they are.
+Writes into FOLDER, as crates/case_runner/data, the files of the slots that are no good checkpoint,
+each with one fault alone, and of some that are, in both versions of the format. fault_cases.py asks
+this module how runs end. Words that are refused are known only by the values of the names that this
+is about, and a graph is refused only where it is no JSON. Checkpoints and trajectories are those of
+checkpoints.py.
 """
 from __future__ import annotations
 
@@ -18,7 +15,7 @@ import hashlib
 import json
 import pathlib
 import struct
-from collections.abc import Mapping, Sequence
+from collections.abc import Callable, Mapping, Sequence
 
 from tests.oracle.checkpoints import (
     MOST_BYTES,
@@ -36,7 +33,6 @@ from tests.oracle.checkpoints import (
     seal,
 )
 from tests.differential.compare_graphs import predict
-from tests.golden.named_cases import is_question, lines_of
 from tests.differential.compare_walks import (
     NO_BINS,
     Job,
@@ -68,17 +64,22 @@ class End:
     note: str
 
 
+# Maps the digest of a job, and what else its trajectories depend on, to their outcomes.
+WALKED: dict[tuple[bytes, bool, str], dict[int, Outcome]] = {}
+
+
 class Keeper:
     """Two slots, each bytes or None, and the numbers of the load and of the save that fail.
 
-    A save is N, or N/KEPT for a stop within it, which leaves so many bytes; then no later save
-    changes anything.
+    Where `kept` is not 0, the run is stopped within that save, which leaves so many bytes; then no
+    later save changes anything.
     """
 
-    def __init__(self, slots: Sequence[bytes | None], failing_load: int, save: str) -> None:
+    def __init__(
+        self, slots: Sequence[bytes | None], failing_load: int, failing_save: int, kept: int
+    ) -> None:
         self.slots, self.failing_load = list(slots), failing_load
-        failing_save, _, kept = save.partition("/")
-        self.failing_save, self.kept = int(failing_save), int(kept) if kept else None
+        self.failing_save, self.kept = failing_save, kept
         self.saves = 0
 
     def load_all(self) -> list[bytes | None] | None:
@@ -90,7 +91,7 @@ class Keeper:
         half.
         """
         self.saves += 1
-        if self.kept is not None and self.saves >= self.failing_save:
+        if self.kept and self.saves >= self.failing_save:
             if self.saves == self.failing_save:
                 self.slots[slot] = data[: self.kept]
             return False
@@ -177,20 +178,21 @@ def save_in_turn(
     slots: Sequence[Slot],
     keeper: Keeper,
     wanted: bytes,
-    founds: Sequence[Mapping[int, Outcome]],
+    posts: int,
+    find_after: Callable[[int], Mapping[int, Outcome]],
 ) -> bool:
     """Returns whether no save failed: one after each batch of posts, and a last one for the rest.
 
-    founds has what is known after each number of posts, from none on.
+    find_after returns what is known after a number of posts.
     """
     if not every:
         return True
     answers: dict[int, bool] = {}
-    posts, at = len(founds) - 1, place(slots)
+    at = place(slots)
     due = range(every, posts + 1, every)
     for count in [*due, posts]:
         if not answers.get(count):
-            is_good = keeper.save(at[0], checkpoint(wanted, at[1], founds[count]))
+            is_good = keeper.save(at[0], checkpoint(wanted, at[1], find_after(count)))
             answers[count] = answers.get(count, True) and is_good
             at = (1 - at[0], (at[1] + 1) % 3) if is_good else at
     return all(answers.values())
@@ -212,16 +214,17 @@ def find_begun(setting: Setting, job: Job, every: Mapping[int, Outcome]) -> list
         count = min(setting.ends, 2 * count + 64)
 
 
-def predict_run(
-    setting: Setting, job: Job, slots: Sequence[Slot], keeper: Keeper, room: int
-) -> End:
+def predict_run(setting: Setting, job: Job, slots: Sequence[Slot], keeper: Keeper) -> End:
     """Returns how a run ends over the slots that it looked at, if it did."""
     wanted, is_resumed = digest(job, setting), setting.given.get("--resume") == "yes"
     before, refusal = resume(slots, wanted) if is_resumed else ({}, "")
     if refusal:
         return End(8, [], "", refusal)
     found = select_usable(setting, job, before)
-    every = dict(enumerate(outcomes(job, setting.trajectories())))
+    key = (wanted, job.shift, repr(setting.trajectories()))
+    if key not in WALKED:
+        WALKED[key] = dict(enumerate(outcomes(job, setting.trajectories())))
+    every = WALKED[key]
     if job.stop:
         text = report_of(job, setting.trajectories(), [every[number] for number in sorted(every)])
         return End(0, find_begun(setting, job, every), text, "")
@@ -229,23 +232,24 @@ def predict_run(
     todo = [number for number in every if number not in found and number % parts == part][
         : int(setting.given.get("--budget", "100000"))
     ]
-    posts = [{number: every[number] for number in todo[:count]} for count in range(len(todo) + 1)]
-    founds = [{**found, **post} for post in posts]
-    is_saved = save_in_turn(int(setting.given.get("--save", "0")), slots, keeper, wanted, founds)
-    found = {**found, **posts[-1]}
+
+    def find_after(count: int) -> dict[int, Outcome]:
+        return {**found, **{number: every[number] for number in todo[:count]}}
+
+    saved = int(setting.given.get("--save", "0"))
+    is_saved = save_in_turn(saved, slots, keeper, wanted, len(todo), find_after)
+    last = find_after(len(todo))
     text = ""
-    if len(found) == setting.total:
-        text = report_of(job, setting.trajectories(), [found[number] for number in sorted(found)])
-    if len(text) > room:
-        return End(5, todo, text[:room], "write fault")
+    if len(last) == setting.total:
+        text = report_of(job, setting.trajectories(), [last[number] for number in sorted(last)])
     if not is_saved:
         return End(9, todo, text, "checkpoint save fault")
     if not text:
-        return End(7, todo, "", f"stopped: {len(found)} of {setting.total} done")
+        return End(7, todo, "", f"stopped: {len(last)} of {setting.total} done")
     return End(0, todo, text, "")
 
 
-def audit(words: Sequence[str], text: str, keeper: Keeper, room: int) -> End:
+def audit(words: Sequence[str], text: str, keeper: Keeper) -> End:
     """Returns how a whole call ends."""
     setting = Setting(words)
     if setting.command != "check" and bad_name(setting):
@@ -269,25 +273,13 @@ def audit(words: Sequence[str], text: str, keeper: Keeper, room: int) -> End:
         if loaded is None:
             return End(6, [], "", "checkpoint load fault")
         slots = [check_slot(setting, digest(job, setting), data) for data in loaded]
-    return predict_run(setting, job, slots, keeper, room)
+    return predict_run(setting, job, slots, keeper)
 
 
 def show_slot(number: int, data: bytes | None) -> str:
     if data is None:
         return f"slot {number} absent"
-    found = records(data)
-    version = int.from_bytes(data[8:12], "big")
-    ids = (
-        ""
-        if found is None
-        else " ".join(
-            [
-                f" version {version} generation {generation_and_count(data)[0]} ids",
-                *(str(one[0]) for one in found),
-            ]
-        )
-    )
-    return f"slot {number} {len(data)} bytes{ids} sha256 {hashlib.sha256(data).hexdigest()}"
+    return f"slot {number} {len(data)} bytes sha256 {hashlib.sha256(data).hexdigest()}"
 
 
 def line_of_ids(ids: Sequence[int]) -> str:
@@ -303,20 +295,7 @@ def slot_of(folder: pathlib.Path, said: str, before: bytes | None) -> bytes | No
         if before is None:
             raise ValueError("a slot that is absent cannot be spoilt")
         return before[:-1] + bytes([255 - before[-1]])
-    return bytes(MOST_BYTES + 1) if said == "long" else bytes.fromhex((folder / said).read_text())
-
-
-def text_of(
-    folder: pathlib.Path, line: str, before: Sequence[bytes | None]
-) -> tuple[str, list[bytes | None]]:
-    """Returns the output of the rest of a line, and the slots that its run leaves."""
-    zero, one, load, save, room, file, *words = line.split()
-    slots = [slot_of(folder, said, slot) for said, slot in zip((zero, one), before)]
-    keeper = Keeper(slots, int(load), save)
-    end = audit(words, (folder / file).read_text(), keeper, int(room))
-    lines = [line, f"status {end.status}", line_of_ids(end.ids), end.out + end.note]
-    lines += [show_slot(number, data) for number, data in enumerate(keeper.slots)]
-    return "\n".join(part.removesuffix("\n") for part in lines) + "\n", keeper.slots
+    return bytes(MOST_BYTES + 1) if said == "long" else (folder / said).read_bytes()
 
 
 def parts_of(words: str, text: str) -> tuple[bytes, dict[int, Outcome], dict[int, Outcome]]:
@@ -390,20 +369,7 @@ def write_files(folder: pathlib.Path) -> None:
     ends = words.replace("--walks 12", "--walks 3 --ends 5 --hub-steps 8")
     text = (folder / "cycle.json").read_text()
     for name, data in {**make_damaged(words, text), **damaged_ends(ends, text)}.items():
-        (folder / f"{name}.hex").write_text(data.hex() + "\n")
-
-
-def main(folder: str, files: bool) -> None:
-    data = pathlib.Path(folder)
-    if files:
-        write_files(data)
-        return
-    slots: list[bytes | None] = [None, None]
-    for name, line in lines_of(data / "slots"):
-        if is_question(line.split()[6:]):
-            continue
-        text, slots = text_of(data, line, slots)
-        print(f"case {name}\n{text}", end="")
+        (folder / f"{name}.ckpt").write_bytes(data)
 
 
 def arguments() -> argparse.Namespace:
@@ -411,10 +377,9 @@ def arguments() -> argparse.Namespace:
         prog="python3 -m tests.golden.checkpoint_cases", description=__doc__,
         formatter_class=argparse.RawDescriptionHelpFormatter,
     )
-    parser.add_argument("folder", help="the folder crates/case_runner/data")
-    parser.add_argument("--files", action="store_true", help="write the files of slots")
+    parser.add_argument("folder", type=pathlib.Path, help="the folder crates/case_runner/data")
     return parser.parse_args()
 
 
 if __name__ == "__main__":
-    main(**vars(arguments()))
+    write_files(**vars(arguments()))

@@ -1,14 +1,14 @@
-"""Runs of which one call after the other fails, and runs where none can, by a plain program: what
-`case_runner` must print for each line of its files `faults` and `sure`.
+"""Runs of which one call after the other fails, runs where none can, and runs whose gate watches:
+what `case_runner` must print for each line of its file `cases`, by a plain program.
 
 Usage: python3 -m tests.golden.fault_cases FOLDER
-FOLDER has both files and those that they name, as crates/case_runner/data. Runs, checkpoints and
-trajectories are those of checkpoint_cases.py, over a source that gives at most so many bytes a
-call, its end being a call of its own, and an output that takes as many; of an outside that cannot
-fail only the status, the ids and the note are shown. Reports of several plans are those of
-model.py: a plan is walked, and then its title is written in three pieces and its report in one. Of
-a trace all lines before the first trajectory are written in one piece, and each further line in
-one.
+FOLDER has this file and those that it names, as crates/case_runner/data; the crate `case_format`
+says what a line has. Runs, checkpoints and trajectories are those of checkpoint_cases.py, over a
+source that gives at most so many bytes a call, its end being a call of its own, and an output that
+takes as many; of an outside that cannot fail only the status, the ids and the note are shown.
+Reports of several plans are those of model.py: a plan is walked, and then its title is written in
+three pieces and its report in one. Of a trace all lines before the first trajectory are written in
+one piece, and each further line in one. A line that asks for a text about the program is left out.
 """
 from __future__ import annotations
 
@@ -19,22 +19,27 @@ from collections.abc import Iterable, Sequence
 
 from tests.oracle import model
 from tests.golden.checkpoint_cases import End, Keeper, audit, line_of_ids, show_slot, slot_of
-from tests.golden.named_cases import lines_of
+from tests.golden.named_cases import is_question, lines_of, words_of
 
-ROOM = 4000
+Slots = Sequence["bytes | None"]
 
 
 @dataclasses.dataclass(frozen=True)
 class FaultCase:
-    """A line of `faults`: which calls fail, the most bytes of a call, both slots, the text and the
-    words.
+    """A run of a line: its kind, the text, the words, the calls that fail, what a stop leaves, the
+    most bytes of a call, and whether the gate holds callers.
     """
 
-    calls: str
-    most: int
-    slots: tuple[str, str]
+    kind: str
     text: str
     words: list[str]
+    read: int
+    write: int
+    load: int
+    save: int
+    kept: int
+    most: int
+    held: int
 
 
 def calls_for(count: int, most: int) -> int:
@@ -85,61 +90,65 @@ def audit_trace(words: Sequence[str], text: str, failing_write: int, most: int) 
 IN_PIECES = {"plans": audit_plans, "trace": audit_trace}
 
 
-def run_once(folder: pathlib.Path, case: FaultCase, number: int) -> tuple[str, int]:
-    """Returns the output of one run, and its status."""
-    calls, most, words = case.calls, case.most, case.words
-    slots = [slot_of(folder, one, None) for one in case.slots]
-    if (
-        calls == "reads"
-        and words[0] != "make"
-        and number <= calls_for(len(case.text.encode()), most) + 1
-    ):
-        end = End(4, [], "", "read fault")
-        keeper = Keeper(slots, 0, "0")
-    else:
-        keeper = Keeper(
-            slots, number if calls == "loads" else 0, str(number if calls == "saves" else 0)
-        )
-        in_pieces = IN_PIECES.get(words[0])
-        end = (
-            in_pieces(words, case.text, number if calls == "writes" else 0, most)
-            if in_pieces
-            else audit(words, case.text, keeper, ROOM)
-        )
-        if calls == "writes" and not in_pieces and number <= calls_for(len(end.out), most):
-            end = End(5, end.ids, end.out[: most * (number - 1)], "write fault")
-    lines = [f"run {number}", f"status {end.status}", line_of_ids(end.ids), end.out + end.note]
-    return (
-        join_lines([*lines, *(show_slot(place, data) for place, data in enumerate(keeper.slots))]),
-        end.status,
-    )
+def end_of(case: FaultCase, keeper: Keeper) -> End:
+    """Returns how a run ends."""
+    words, most = case.words, case.most
+    reads = calls_for(len(case.text.encode()), most) + 1
+    if 0 < case.read <= reads and words[0] != "make":
+        return End(4, [], "", "read fault")
+    if case.write == 1 and words[0] == "run" and case.kind == "text":
+        # Nothing is written, so the trajectories need not be walked here.
+        return End(5, range(model.Setting(words).total), "", "write fault")
+    if words[0] in IN_PIECES:
+        return IN_PIECES[words[0]](words, case.text, case.write, most)
+    end = audit(words, case.text, keeper)
+    if case.write and case.write <= calls_for(len(end.out), most):
+        return End(5, end.ids, end.out[: most * (case.write - 1)], "write fault")
+    return end
 
 
-def run_surely(folder: pathlib.Path, zero: str, one: str, file: str, *words: str) -> str:
-    """Returns the output of a run in which nothing fails."""
-    keeper, text = (
-        Keeper([slot_of(folder, said, None) for said in (zero, one)], 0, "0"),
-        (folder / file).read_text(),
-    )
-    in_pieces = IN_PIECES.get(words[0])
-    end = in_pieces(words, text, 0, ROOM) if in_pieces else audit(words, text, keeper, ROOM)
-    return join_lines([f"status {end.status}", line_of_ids(end.ids), end.note])
+def parts_after(case: FaultCase, keeper: Keeper) -> list[str]:
+    """Returns what is printed after the note, for the kind of a line."""
+    if case.kind in ("slots", "each"):
+        return [show_slot(place, data) for place, data in enumerate(keeper.slots)]
+    return [f"saves {keeper.saves} early 0"] if case.kind == "saves" else []
+
+
+def run_once(case: FaultCase, slots: Slots) -> tuple[str, Slots, int]:
+    """Returns the output of a run, the slots that it leaves, and its status."""
+    keeper = Keeper(slots, case.load, case.save, case.kept)
+    end = end_of(case, keeper)
+    ids = ("waited, " if case.held else "") + line_of_ids(end.ids)
+    out = "" if case.kind == "sure" else end.out
+    parts = [f"status {end.status}", ids, out + end.note, *parts_after(case, keeper)]
+    return join_lines(parts), slots if case.kind == "sure" else keeper.slots, end.status
+
+
+def text_of(folder: pathlib.Path, line: str, before: Slots) -> tuple[str, Slots]:
+    """Returns the output of the rest of a line, and the slots that its last run leaves."""
+    kind, *fields = line.split()
+    file, *words = words_of(line)
+    texts, run, status = [line + "\n"], 0, -1
+    while run == 0 or kind == "each" and status not in (0, 7):
+        run += 1
+        numbers = [run if one == "n" else int(one) for one in (*fields[:6], fields[8])]
+        said = zip(fields[6:8], before)
+        case = FaultCase(kind, (folder / file).read_text(), words, *numbers)
+        text, before, status = run_once(case, [slot_of(folder, one, slot) for one, slot in said])
+        texts.append(f"run {run}\n" + text if kind == "each" else text)
+    return "".join(texts), before
 
 
 def main(folder: str) -> None:
     data = pathlib.Path(folder)
-    for name, line in lines_of(data / "faults"):
-        print(f"case {name}\n{line}")
-        calls, most, zero, one, file, *words = line.split()
-        case = FaultCase(calls, int(most), (zero, one), (data / file).read_text(), words)
-        number, status = 0, -1
-        while status not in (0, 7):
-            number += 1
-            text, status = run_once(data, case, number)
-            print(text, end="")
-    for name, line in lines_of(data / "sure"):
-        print(f"case {name}\n{line}")
-        print(run_surely(data, *line.split()), end="")
+    slots: Slots = [None, None]
+    for name, line in lines_of(data / "cases"):
+        # A walk whose time is taken would take too long here. Its gate sees the first id at once.
+        if line.startswith("time "):
+            print(f"case {name}\n{line}\nstatus 0\nannounced 1: 0\nin the first half true")
+        elif not is_question(words_of(line)[1:]):
+            text, slots = text_of(data, line, slots)
+            print(f"case {name}\n{text}", end="")
 
 
 def arguments() -> argparse.Namespace:

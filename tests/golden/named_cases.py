@@ -1,4 +1,4 @@
-"""The named cases of the crate `case_runner`: the lines of its files, and the parts of its output.
+"""The named cases of the crate `case_runner` and of the auditor: lines, and parts of outputs.
 
 A line of a file is `NAME REST`. The output of a case begins with a line `case NAME`.
 """
@@ -8,14 +8,15 @@ import sys
 import typing
 
 from tests.checks import Checks, run
-from tests.places import CASES
+from tests.places import CASES, TEST_DATA
 
 NAME = re.compile("[a-z]+(_[a-z0-9]+)*")
 COMMANDS = ("check", "run", "make", "plans", "trace")
-# The number of words before those of the call, in the files whose cases may ask for a text.
-WORDS_BEFORE = {"cases": 4, "slots": 6}
-# The files of cases, in the order in which the program runs them.
-FILES = ("cases", "slots", "graphs", "faults", "sure", "crowds", "counted", "timed")
+# The number of words of a line of `case_runner` before the file of its graph, without the name.
+WORDS_BEFORE = 11
+# The file of the lines that `case_runner` runs, and those that the auditor runs.
+LINES = CASES / "data" / "cases"
+AUDITED = (TEST_DATA / "cases", TEST_DATA / "graphs")
 
 
 class Case(typing.NamedTuple):
@@ -38,12 +39,9 @@ def is_question(words: typing.Sequence[str]) -> bool:
     return list(words) in (["--help"], ["--version"])
 
 
-def read_modeled(file: str) -> list[Case]:
-    """Returns the lines of a file of cases that a plain program can answer."""
-    lines = lines_of(CASES / "data" / file)
-    if file not in WORDS_BEFORE:
-        return lines
-    return [line for line in lines if not is_question(line.text.split()[WORDS_BEFORE[file]:])]
+def words_of(line: str) -> list[str]:
+    """Returns the file of the graph and the arguments of the rest of a line of `case_runner`."""
+    return line.split()[WORDS_BEFORE:]
 
 
 def parts_of(output: str) -> list[Case]:
@@ -57,8 +55,13 @@ def parts_of(output: str) -> list[Case]:
 
 
 def stdout_parts() -> list[Case]:
-    """Returns the parts that the program must print."""
+    """Returns the parts that `case_runner` must print."""
     return parts_of((CASES / "stdout").read_text())
+
+
+def audited_parts() -> list[Case]:
+    """Returns the statuses and texts with which the auditor must end."""
+    return parts_of((TEST_DATA / "case_output").read_text())
 
 
 def find_repeated(names: typing.Sequence[str]) -> list[str]:
@@ -101,17 +104,17 @@ def compare(
 
 
 def compare_with_model(
-    checks: Checks, model: str, files: typing.Sequence[str], left_out: typing.Sequence[str] = ()
+    checks: Checks,
+    model: str,
+    folder: pathlib.Path,
+    expected: typing.Sequence[Case],
+    names: typing.Sequence[str],
 ) -> None:
-    """Checks the parts of `stdout` of these files against what a plain program prints of them.
+    """Checks the parts of these names against what a plain program prints of a folder's lines.
 
-    It must print each case of the files except those that are left out, and those that ask for a
-    text about the program.
+    It must print each of these cases, and no other.
     """
-    end = run([sys.executable, "-m", f"tests.golden.{model}", CASES / "data"])
-    if not checks.has_status(f"{model}/ends", end):
-        return
-    names = {line.name for file in files for line in read_modeled(file)}
-    names.difference_update(left_out)
-    came = [part for part in stdout_parts() if part.name in names]
-    compare(checks, model, came, parts_of(end.out))
+    end = run([sys.executable, "-m", f"tests.golden.{model}", folder])
+    if checks.has_status(f"{model}/ends", end):
+        came = [part for part in expected if part.name in set(names)]
+        compare(checks, model, came, parts_of(end.out))

@@ -34,31 +34,32 @@ const CLAIMED_AGAIN: [Event; 10] = [
     Event::Claim(0),
 ];
 
-fn show_answer(rt: &HostRuntime, did: Did) -> io::Result<()> {
+// Returns the printed word of an answer, and its number.
+fn answer_of(did: Did) -> (&'static str, u32) {
     match did {
-        Did::Claimed(id) => print!(rt; " claimed {id}"),
-        Did::Empty => rt.print(" empty"),
-        Did::Posted(id) => print!(rt; " posted {id}"),
-        Did::Idle => rt.print(" idle"),
-        Did::Saved(count) => print!(rt; " saved {count}"),
-        Did::Halted => rt.print(" halted"),
+        Did::Claimed(id) => ("claimed", id),
+        Did::Empty => ("empty", 0),
+        Did::Posted(id) => ("posted", id),
+        Did::Idle => ("idle", 0),
+        Did::Saved(count) => ("saved", count),
+        Did::Halted => ("halted", 0),
     }
 }
 
-// Prints the answer to each event, and the numbers of done and saved ids at the end.
+// Prints the answer to each event with its number, or 0 if it has none. Then prints the numbers of done and saved ids.
 fn show_events(rt: &HostRuntime, core: &mut Core, events: &[Event]) -> io::Result<()> {
-    rt.print("machine")?;
     for event in events {
-        show_answer(rt, core.step(*event))?;
+        let (word, number) = answer_of(core.step(*event));
+        println!(rt; "{word} {number}")?;
     }
-    rt.println("")?;
     println!(rt; "done {} saved {}", core.done().len(), core.saved().len())
 }
 
 // Prints the answers of a new machine for `total` ids to these events.
-fn show_run(rt: &HostRuntime, total: u32, events: &[Event]) -> io::Result<()>
+fn show_run(rt: &HostRuntime, name: &str, total: u32, events: &[Event]) -> io::Result<()>
     requires { total ≤ most_trajectories }
 {
+    begin_case(rt, name)?;
     match Core::new(rt.alloc(), total) {
         Ok(mut core) => show_events(rt, &mut core, events),
         Err(_) => rt.println("memory"),
@@ -67,8 +68,6 @@ fn show_run(rt: &HostRuntime, total: u32, events: &[Event]) -> io::Result<()>
 
 /// Prints both runs.
 pub fn show_machine(rt: &HostRuntime) -> io::Result<()> {
-    begin_case(rt, "machine_of_two_workers")?;
-    show_run(rt, 2, &TWO_WORKERS)?;
-    begin_case(rt, "machine_claims_again_after_halt")?;
-    show_run(rt, 1, &CLAIMED_AGAIN)
+    show_run(rt, "machine_of_two_workers", 2, &TWO_WORKERS)?;
+    show_run(rt, "machine_claims_again_after_halt", 1, &CLAIMED_AGAIN)
 }

@@ -1,82 +1,69 @@
 //! The printed result of a run.
 
-use crate::gate::{CaseGate, Watched};
+use crate::digests::show_bytes;
+use crate::gate::CaseGate;
 use crate::keeper::SaveCounts;
-use crate::runs::Case;
-use crate::slots_shown::show_slots;
+use crate::streams::Streams;
 use audit_io::mem_keeper::MemKeeper;
 use std::io;
+use std::sync::atomic::Ordering;
 
-/// Prints the result of a run, in the form that belongs to the task of its gate.
-pub fn show_run(
-    rt: &HostRuntime,
-    status: u8,
-    is_observed: bool,
-    case: &Case,
-    saves: SaveCounts,
-    left: &MemKeeper,
-) -> io::Result<()> {
-    match case.gate.watched {
-        Watched::Noted(wanted) => show_noted(rt, status, is_observed, wanted > 0, case, left),
-        _ => show_counts(rt, status, &case.gate, saves),
-    }
-}
-
-// Prints the status and what the gate has counted.
-fn show_counts(rt: &HostRuntime, status: u8, gate: &CaseGate, saves: SaveCounts) -> io::Result<()> {
-    let announced = gate.announced_count();
-    print!(rt; "status {status} announced {announced}")?;
-    match gate.watched {
-        Watched::Crowd => println!(rt; " given up {}", gate.given_up_count()),
-        Watched::Timed => println!(rt; " in the first half {}", gate.was_observed_early()),
-        _ => println!(rt; " saves {} early {}", saves.all, saves.early),
-    }
-}
-
-// Prints the status and both outputs of a run. If `is_observed` is true, also prints the announced ids and both slots.
-// If `is_noted` is true, prints the ids in any case.
-fn show_noted(
-    rt: &HostRuntime,
-    status: u8,
-    is_observed: bool,
-    is_noted: bool,
-    case: &Case,
-    left: &MemKeeper,
-) -> io::Result<()> {
-    show_end(rt, status, is_observed || is_noted, &case.gate)?;
-    rt.write_all(case.out.bytes())?;
-    rt.write_all(case.note.bytes())?;
-    if is_observed {
-        return show_slots(rt, left);
-    }
-    Ok(())
-}
-
-/// Prints the status, and with `is_observed` the announced ids.
-pub fn show_end(
-    rt: &HostRuntime,
-    status: u8,
-    is_observed: bool,
-    gate: &CaseGate,
-) -> io::Result<()> {
-    println!(rt; "status {status}")?;
-    if is_observed {
-        return show_observed(rt, gate);
-    }
-    Ok(())
-}
-
-// Prints the word `waited` if the gate held its first caller until enough trajectories had begun. Then prints the
+// Prints the word `waited` if the gate held its first callers until enough trajectories had begun. Then prints the
 // number of announced ids, and the ids in rising order.
-fn show_observed(rt: &HostRuntime, gate: &CaseGate) -> io::Result<()> {
-    if gate.has_seen() {
-        rt.print("waited, ")?;
-    }
-    print!(rt; "announced {}:", gate.announced_count())?;
+fn show_announced(rt: &HostRuntime, gate: &CaseGate) -> io::Result<()> {
+    let waited = if gate.has_waited() { "waited, " } else { "" };
+    print!(rt; "{waited}announced {}:", gate.begun.load(Ordering::SeqCst))?;
     for id in 0..64 {
         if gate.was_observed(id) {
             print!(rt; " {id}")?;
         }
     }
     rt.println("")
+}
+
+fn show_slot(rt: &HostRuntime, front: &str, contents: Option<&[u8]>) -> io::Result<()> {
+    match contents {
+        None => println!(rt; "{front} absent"),
+        Some(bytes) => show_bytes(rt, front, bytes),
+    }
+}
+
+fn show_slots(rt: &HostRuntime, left: &MemKeeper) -> io::Result<()> {
+    show_slot(rt, "slot 0", left.slot(0))?;
+    show_slot(rt, "slot 1", left.slot(1))
+}
+
+// Prints the output and the diagnostic of a run, and what its kind asks for.
+fn show_texts(
+    rt: &HostRuntime,
+    kind: &str,
+    streams: &Streams,
+    saves: SaveCounts,
+    left: &MemKeeper,
+) -> io::Result<()> {
+    rt.write_all(streams.out.bytes())?;
+    rt.write_all(streams.note.bytes())?;
+    match kind {
+        "slots" | "each" => show_slots(rt, left),
+        "saves" => println!(rt; "saves {} early {}", saves.all, saves.early),
+        _ => Ok(()),
+    }
+}
+
+/// Prints the result of a run of a line of this kind. `left` has the slots that it leaves.
+pub fn show_run(
+    rt: &HostRuntime,
+    kind: &str,
+    status: u8,
+    streams: &Streams,
+    gate: &CaseGate,
+    saves: SaveCounts,
+    left: &MemKeeper,
+) -> io::Result<()> {
+    println!(rt; "status {status}")?;
+    show_announced(rt, gate)?;
+    match kind {
+        "time" => println!(rt; "in the first half {}", gate.was_observed_early()),
+        _ => show_texts(rt, kind, streams, saves, left),
+    }
 }

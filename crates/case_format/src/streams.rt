@@ -1,44 +1,49 @@
-//! The words of a line as numbers, bytes and arguments.
+//! The source and the sinks of a run.
 
-use audit_model::buffers::Bytes;
-use audit_model::lists::NumList;
+use crate::setups::Setup;
+use crate::slots::{bytes_of, failing};
+use audit_io::mem_sink::MemSink;
+use audit_io::mem_source::MemSource;
 use audit_model::memory::Memory;
-use std::alloc::{AllocError, Global};
-use std::num::ParseIntError;
-use std::str::SplitWhitespace;
+use std::alloc::Global;
 
-/// Returns the next word of a line, or an empty one. An empty word is an error where a number or the name of a file is
-/// expected.
-pub fn word<'a>(parts: &mut SplitWhitespace<'a>) -> &'a str {
-    parts.next().unwrap_or("")
+/// The capacity of each sink.
+const ROOM: usize = 9000;
+
+/// The source of a run, and the sinks of its output and its diagnostic.
+pub struct Streams {
+    pub source: MemSource,
+    pub out: MemSink,
+    pub note: MemSink,
 }
 
-/// Parses the next word of a line as a number.
-pub fn number(parts: &mut SplitWhitespace<'_>) -> Result<u64, ParseIntError> {
-    word(parts).parse::<u64>()
-}
-
-/// Makes the list of failing calls from the number of one call, or 0 for none.
-pub fn failing(alloc: Global, number: u64) -> Result<NumList, Memory> {
-    let mut numbers = NumList::new(alloc);
-    if number > 0 {
-        numbers.push(number)?;
+// Written by hand, so that the proof of a function that drops streams has one step for all.
+impl Drop for Streams {
+    fn drop(self) {
+        let Streams {
+            source: _source,
+            out: _out,
+            note: _note,
+        } = self;
     }
-    Ok(numbers)
 }
 
-/// Copies bytes.
-pub fn bytes_of(alloc: Global, given: &[u8]) -> Result<Bytes, Memory> {
-    let mut bytes = Bytes::new(alloc);
-    bytes.append(given)?;
-    Ok(bytes)
+fn source_of(alloc: Global, setup: &Setup<'_>, graph: &[u8]) -> Result<MemSource, Memory> {
+    let bytes = bytes_of(alloc, graph)?;
+    let fails = failing(alloc, setup.failing_read)?;
+    Ok(MemSource::new(bytes, setup.most.max(1) as usize, fails))
 }
 
-/// Returns the rest of a line as arguments.
-pub fn words_of(alloc: Global, parts: SplitWhitespace<'_>) -> Result<Vec<String>, AllocError> {
-    let mut words = Vec::new(alloc);
-    for word in parts {
-        words.push(word.to_string(alloc)?)?;
-    }
-    Ok(words)
+// Makes a sink whose write with this number fails, or none for 0.
+fn sink_of(alloc: Global, most: u64, number: u64) -> Result<MemSink, Memory> {
+    let fails = failing(alloc, number)?;
+    MemSink::new(alloc, ROOM, most.max(1) as usize, fails)
+}
+
+/// Makes the streams of a run over this graph.
+pub fn streams_of(alloc: Global, setup: &Setup<'_>, graph: &[u8]) -> Result<Streams, Memory> {
+    let source = source_of(alloc, setup, graph)?;
+    let out = sink_of(alloc, setup.most, setup.failing_write)?;
+    let note = sink_of(alloc, setup.most, 0)?;
+    Ok(Streams { source, out, note })
 }

@@ -1,72 +1,198 @@
-//! Public calls that are made directly.
+//! Public calls on jobs.
 
-use crate::flips::show_proposals;
-use crate::jobs::{grid_job, job_of, other_job, strict_job};
-use crate::saves::show_saves;
-use crate::settings::{PLAIN, setting_of};
-use crate::shown::{Shown, show_job};
-use case_format::{
-    begin_case, show_book, show_checkpoint, show_leaving, show_machine, show_outside, show_rings,
-    show_texts,
-};
+use crate::flips::{show_flips, show_legal};
+use crate::graphs::{show_faces, show_kept, show_leaving};
+use audit_io::sure::SureSource;
+use audit_start::prepare::prepare;
+use case_format::{begin_case, bytes_of, words_of};
+use contig::face::Face;
+use plan_core::job::Job;
+use std::test::Fail;
 use std::{fs, io};
 
-// Prints whether the start plans of three jobs are legal: two with regions, and one made anew from a given plan.
-fn show_jobs(rt: &HostRuntime, text: &[u8]) -> io::Result<()> {
-    begin_case(rt, "job_with_split_region")?;
-    show_job(rt, strict_job(rt.alloc(), text, "a"), Shown::Legal)?;
-    begin_case(rt, "job_with_whole_regions")?;
-    show_job(rt, strict_job(rt.alloc(), text, "district"), Shown::Legal)?;
-    begin_case(rt, "job_with_another_plan")?;
-    show_job(rt, other_job(rt.alloc(), text), Shown::Legal)
+/// The fact to print about a job.
+#[derive(Clone, Copy)]
+enum Call {
+    /// The numbers of its units, edges, districts and faces.
+    Faces,
+    /// The number of listed faces that are kept in its graph: `FACES` or `PENTAGONS`.
+    KeptFaces,
+    KeptPentagons,
+    /// The answers of the tests that a unit may leave its district in a plan.
+    Leaving(&'static [u32], u32),
+    /// The legality of its start plan.
+    Legal,
+    /// A mirrored draw, and the counts of a walk.
+    Flips,
 }
 
-// Reads texts with the columns of a setting.
-fn show_read(rt: &HostRuntime, text: &[u8]) -> io::Result<()> {
-    match setting_of(rt.alloc(), PLAIN) {
-        Some(setting) => show_texts(rt, text, setting.columns()),
-        None => rt.println("memory"),
+/// A square and a triangle that share a side: the square twice, the triangle twice, and a ring that is no face. Each
+/// face is kept once.
+const FACES: [Face; 5] = [
+    Face::Square(0, 1, 3, 2),
+    Face::Square(0, 1, 3, 2),
+    Face::Triangle(2, 3, 4),
+    Face::Triangle(4, 2, 3),
+    Face::Triangle(0, 1, 3),
+];
+
+/// In a ring of five units with a chord: a pentagon, which is kept once, whichever unit comes first; rings with a unit
+/// twice or with a side that is no edge, which are not kept; and a triangle.
+const PENTAGONS: [Face; 5] = [
+    Face::Pentagon(0, 1, 2, 3, 4),
+    Face::Pentagon(2, 3, 4, 0, 1),
+    Face::Pentagon(0, 2, 1, 4, 3),
+    Face::Pentagon(2, 0, 1, 2, 3),
+    Face::Triangle(0, 2, 1),
+];
+
+/// The arguments of a job of a file.
+const PLAIN: &str =
+    "run --pop pop --first a --second b --district district --slack 5000 --key 0000000000000000000000000000000000000000000000000000000000000000 --ask gap:low";
+
+/// The arguments of jobs of grids of 900 and 90,000 units in ten districts.
+const GRID: &str =
+    "make --size 3 --slack 5000 --key 0000000000000000000000000000000000000000000000000000000000000000 --ask gap:low";
+
+const LARGEST_GRID: &str =
+    "make --size 30 --key 0000000000000000000000000000000000000000000000000000000000000000 --ask gap:low";
+
+/// The name of each call, the file of its graph, its arguments, and the call.
+const CALLS: [(&str, &str, &str, Call); 17] = [
+    // A triangle that shares each side with a triangle of a smaller unit. The inner triangle is found too.
+    (
+        "faces_of_small_graphs",
+        "amid_three.json",
+        PLAIN,
+        Call::Faces,
+    ),
+    // A unit with five others around it, of which the last and the first are not adjacent. The four triangles are found
+    // although the unit has more than four neighbors.
+    ("faces_of_a_fan", "fan.json", PLAIN, Call::Faces),
+    (
+        "faces_kept_of_a_list",
+        "square_and_triangle.json",
+        PLAIN,
+        Call::KeptFaces,
+    ),
+    (
+        "faces_of_largest_grid",
+        "path.json",
+        LARGEST_GRID,
+        Call::Faces,
+    ),
+    // An empty ring of five units: one pentagon.
+    (
+        "pentagons_of_small_graphs",
+        "ring_of_five.json",
+        PLAIN,
+        Call::Faces,
+    ),
+    // Five units around a sixth, to which one of the five is not adjacent: three triangles and a square, but not the
+    // outer ring.
+    (
+        "pentagons_round_a_hub",
+        "round_hub.json",
+        PLAIN,
+        Call::Faces,
+    ),
+    // A ring of five units with a triangle on one side.
+    ("pentagons_of_a_house", "house.json", PLAIN, Call::Faces),
+    (
+        "pentagons_kept_of_a_list",
+        "ring_with_chord.json",
+        PLAIN,
+        Call::KeptPentagons,
+    ),
+    // A ring of six units, and a neighbor of unit 0 in another district. Then unit 0 is alone in its district.
+    (
+        "leaving_a_ring",
+        "ring_and_one.json",
+        PLAIN,
+        Call::Leaving(&[0, 0, 0, 0, 0, 0, 1], 0),
+    ),
+    (
+        "leaving_a_district_of_one",
+        "ring_and_one.json",
+        PLAIN,
+        Call::Leaving(&[0, 1, 1, 1, 1, 1, 1], 0),
+    ),
+    (
+        "leaving_a_row",
+        "row.json",
+        PLAIN,
+        Call::Leaving(&[0, 0, 0], 1),
+    ),
+    // Two rows of three. The neighbors of the last unit are not adjacent, so only the search decides.
+    (
+        "leaving_a_grid",
+        "two_rows.json",
+        PLAIN,
+        Call::Leaving(&[1, 0, 0, 0, 0, 0], 5),
+    ),
+    // A triangle with a neighbor of unit 0 in another district. The two other neighbors are adjacent, so no search is
+    // needed.
+    (
+        "leaving_a_triangle",
+        "triangle_and_one.json",
+        PLAIN,
+        Call::Leaving(&[0, 0, 0, 1], 0),
+    ),
+    (
+        "start_plan_is_legal",
+        "four_in_a_row.json",
+        PLAIN,
+        Call::Legal,
+    ),
+    ("flips_on_a_path", "four_in_a_row.json", PLAIN, Call::Flips),
+    // The district of the ring has a hole, so the kernel needs searches.
+    ("flips_on_a_ring", "ring_and_one.json", PLAIN, Call::Flips),
+    ("flips_on_a_grid", "path.json", GRID, Call::Flips),
+];
+
+fn show_call(rt: &HostRuntime, job: &Job, call: Call) -> io::Result<()> {
+    match call {
+        Call::Faces => show_faces(rt, job),
+        Call::KeptFaces => show_kept(rt, job.graph(), &FACES),
+        Call::KeptPentagons => show_kept(rt, job.graph(), &PENTAGONS),
+        Call::Leaving(plan, unit) => show_leaving(rt, job.graph(), plan, unit),
+        Call::Legal => show_legal(rt, job),
+        Call::Flips => show_flips(rt, job),
     }
 }
 
-fn show_path_text(rt: &HostRuntime, text: &[u8]) -> io::Result<()> {
-    show_read(rt, text)?;
-    show_jobs(rt, text)?;
-    show_proposals(rt)?;
-    begin_case(rt, "flips_on_a_path")?;
-    show_job(rt, job_of(rt.alloc(), text, PLAIN), Shown::Flips)
+fn show_job(
+    rt: &HostRuntime,
+    words: &[String],
+    source: &mut SureSource,
+    call: Call,
+) -> io::Result<()> {
+    match prepare(rt.alloc(), words, source) {
+        Ok(job) => {
+            let shown = show_call(rt, &job, call);
+            drop(job);
+            shown
+        }
+        Err(ended) => {
+            drop(ended);
+            rt.println("no job")
+        }
+    }
 }
 
-// Makes the calls on four units in a row, and prints their answers.
-fn show_path(rt: &HostRuntime) -> io::Result<()> {
-    let text = fs::read(rt, "four_in_a_row.json")?;
-    show_path_text(rt, text.as_slice())
-}
-
-// Prints flips on a ring of six units with a seventh unit outside. The district of the ring has a hole, so the kernel
-// needs searches.
-fn show_ring(rt: &HostRuntime) -> io::Result<()> {
-    begin_case(rt, "flips_on_a_ring")?;
-    let text = fs::read(rt, "ring_and_one.json")?;
-    show_job(rt, job_of(rt.alloc(), text.as_slice(), PLAIN), Shown::Flips)
-}
-
-// Prints flips on the grid of 900 units.
-fn show_grid(rt: &HostRuntime) -> io::Result<()> {
-    begin_case(rt, "flips_on_a_grid")?;
-    show_job(rt, grid_job(rt.alloc()), Shown::Flips)
+fn show_case(rt: &HostRuntime, file: &str, words: &str, call: Call) -> Result<(), Fail> {
+    let words = words_of(rt.alloc(), words.split_whitespace())?;
+    let graph = fs::read(rt, file)?;
+    let mut source = SureSource::new(bytes_of(rt.alloc(), graph.as_slice())?);
+    show_job(rt, words.as_slice(), &mut source, call)?;
+    Ok(())
 }
 
 /// Makes each call and prints its answer.
-pub fn show_calls(rt: &HostRuntime) -> io::Result<()> {
-    show_outside(rt)?;
-    show_saves(rt)?;
-    show_checkpoint(rt)?;
-    show_book(rt)?;
-    show_machine(rt)?;
-    show_rings(rt)?;
-    show_leaving(rt)?;
-    show_path(rt)?;
-    show_ring(rt)?;
-    show_grid(rt)
+pub fn show_calls(rt: &HostRuntime) -> Result<(), Fail> {
+    for (name, file, words, call) in CALLS.iter() {
+        begin_case(rt, name)?;
+        show_case(rt, file, words, *call)?;
+    }
+    Ok(())
 }

@@ -1,22 +1,27 @@
-//! Proposals of the largest draws, a draw and its mirror, and walks whose searches are counted.
+//! Proposals of the largest draws, legal plans, a draw and its mirror, and walks whose searches are counted.
 
-ghost use Rattle.std.specs.Prelude.{◌≡◌, []};
+ghost use Rattle.std.specs.Prelude.{◌≡◌, ◌<◌, []};
 ghost use Rattle.audit_model.specs.Job.{rules};
 ghost use Rattle.flip_kernel.specs.Judged.{IsJudgeFor};
 
-use crate::searches::show_walk;
 use audit_model::outcome::SumsView;
 use audit_model::rules::Rules;
+use audit_model::steps::Steps;
 use case_format::begin_case;
+use chacha_draws::Draws;
+use dual_graph::marks::Marks;
 use flip_guard::guard::Guard;
 use flip_guard::judge::Judge;
-use flip_kernel::flip::mirror;
+use flip_kernel::flip::{mirror, try_flip};
 use flip_kernel::proposal::propose;
 use flip_kernel::state::State;
 use plan_core::job::Job;
 use std::io;
 use std::marker::Brand;
-use std::sync::ledger::Blank;
+use std::sync::ledger::{Blank, Ledger};
+
+/// The number of steps of a walk.
+const STEPS: u32 = 100_000;
 
 // Prints the proposal of a draw, for three units and three districts.
 fn show_proposal(rt: &HostRuntime, draw: u64) -> io::Result<()> {
@@ -32,6 +37,44 @@ pub fn show_proposals(rt: &HostRuntime) -> io::Result<()> {
     show_proposal(rt, u64::MAX)?;
     show_proposal(rt, u64::MAX - 6)?;
     show_proposal(rt, u64::MAX - 7)
+}
+
+// Makes the first steps of the job's first walk. Returns the number of steps that changed the plan, and the number that
+// searched. Before each step, `asks_search` tells whether the step will search.
+fn walk<J: Judge, L: Ledger>(job: &Job, state: &mut State<J>, steps: &mut Steps<L>) -> (u32, u32)
+    requires made { state.old.job ≡ job.now }
+{
+    let mut draws = Draws::new(job.setting().key, 0);
+    let mut moved = 0;
+    let mut searched = 0;
+    for _ in 0..STEPS {
+        let draw = draws.next();
+        searched += u32::from(state.asks_search(job, draw));
+        moved += u32::from(try_flip(job, state, draw, steps));
+    }
+    (moved, searched)
+}
+
+// Prints the number of steps that changed the plan and the number that searched, and whether at most one in a thousand
+// searched.
+fn show_walk<J: Judge, L: Ledger>(
+    rt: &HostRuntime,
+    job: &Job,
+    state: &mut State<J>,
+    blank: Blank,
+) -> io::Result<()>
+    requires name { blank.name ≡ L.name }
+    requires parts { blank.parts ≡ L.parts }
+    requires some { 0 < L.parts }
+    requires made { state.old.job ≡ job.now }
+{
+    let mut steps: Steps<L> = Steps::new(blank);
+    let (moved, searched) = walk(job, state, &mut steps);
+    let few = searched <= STEPS / 1000;
+    println!(rt;
+        "units {} steps {STEPS} moved {moved} searched {searched} few {few}",
+        job.units()
+    )
 }
 
 // Prints the draw that mirrors a fixed draw, which moves a unit on the path. Then prints the counts
@@ -80,6 +123,17 @@ pub fn show_flips(rt: &HostRuntime, job: &Job) -> io::Result<()> {
     }
     match rules.copy() {
         Ok(rules) => show_guarded(rt, job, rules),
+        Err(_) => rt.println("memory"),
+    }
+}
+
+/// Prints whether the start plan of a job is legal.
+pub fn show_legal(rt: &HostRuntime, job: &Job) -> io::Result<()> {
+    match Marks::new(rt.alloc(), job.units()) {
+        Ok(mut marks) => {
+            let legal = job.legal(job.start().as_slice(), &mut marks);
+            println!(rt; "legal {legal}")
+        }
         Err(_) => rt.println("memory"),
     }
 }

@@ -1,0 +1,73 @@
+//! Faces of the graph of a job, and units that may leave their districts.
+
+ghost use Rattle.std.specs.Prelude.{◌≡◌, ◌<◌, length};
+
+use audit_model::steps::Steps;
+use contig::face::Face;
+use contig::leave::{local_holds, may_leave, search_holds};
+use contig::list::{FaceList, list_faces};
+use contig::near::faces_of;
+use dual_graph::graph::Graph;
+use dual_graph::marks::Marks;
+use plan_core::job::Job;
+use std::io;
+use std::marker::Brand;
+use std::sync::ledger::{Blank, Ledger};
+
+fn show_count(rt: &HostRuntime, faces: &FaceList) -> io::Result<()> {
+    println!(rt; "faces {}", faces.faces().len())
+}
+
+/// Prints the numbers of units, edges, districts and faces of a job.
+pub fn show_faces(rt: &HostRuntime, job: &Job) -> io::Result<()> {
+    let graph = job.graph();
+    print!(rt; "units {} edges {} ", graph.units(), graph.edges())?;
+    print!(rt; "districts {} ", job.districts())?;
+    match faces_of(rt.alloc(), graph) {
+        Ok(faces) => show_count(rt, &faces),
+        Err(_) => rt.println("memory"),
+    }
+}
+
+/// Prints how many of the listed faces are kept in a graph.
+pub fn show_kept(rt: &HostRuntime, graph: &Graph, listed: &[Face]) -> io::Result<()> {
+    match list_faces(rt.alloc(), graph, listed) {
+        Ok(faces) => show_count(rt, &faces),
+        Err(_) => rt.println("memory"),
+    }
+}
+
+// Prints the answers of the three tests: by the neighbors (`local`), by a search, and by both.
+fn show_tests<L: Ledger>(
+    rt: &HostRuntime,
+    graph: &Graph,
+    plan: &[u32],
+    unit: u32,
+    marks: &mut Marks,
+    blank: Blank,
+) -> io::Result<()>
+    requires plan { length plan.now ≡ graph.now.units }
+    requires unit { unit < graph.now.units }
+    requires marks { marks.old.units ≡ graph.now.units }
+    requires name { blank.name ≡ L.name }
+    requires parts { blank.parts ≡ L.parts }
+    requires some { 0 < L.parts }
+{
+    let mut steps: Steps<L> = Steps::new(blank);
+    let local = local_holds(graph, plan, unit, marks);
+    let search = search_holds(graph, plan, unit, marks, &mut steps);
+    let leaves = may_leave(graph, plan, unit, marks, &mut steps);
+    println!(rt; "unit {unit} local {local} search {search} leaves {leaves}")
+}
+
+/// Prints whether a unit may leave its district in this plan. Refuses a plan that does not fit the graph.
+pub fn show_leaving(rt: &HostRuntime, graph: &Graph, plan: &[u32], unit: u32) -> io::Result<()> {
+    let units = graph.units();
+    if plan.len() != units as usize || unit >= units {
+        return rt.println("no such unit");
+    }
+    match Marks::new(rt.alloc(), units) {
+        Ok(mut marks) => { show_tests::<Brand>(rt, graph, plan, unit, &mut marks, Blank::new(1)) }
+        Err(_) => rt.println("memory"),
+    }
+}
