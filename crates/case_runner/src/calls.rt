@@ -57,99 +57,6 @@ const GRID: &str =
 const LARGEST_GRID: &str =
     "make --size 30 --key 0000000000000000000000000000000000000000000000000000000000000000 --ask gap:low";
 
-/// The name of each call, the file of its graph, its arguments, and the call.
-const CALLS: [(&str, &str, &str, Call); 17] = [
-    // A triangle that shares each side with a triangle of a smaller unit. The inner triangle is found too.
-    (
-        "faces_of_small_graphs",
-        "amid_three.json",
-        PLAIN,
-        Call::Faces,
-    ),
-    // A unit with five others around it, of which the last and the first are not adjacent. The four triangles are found
-    // although the unit has more than four neighbors.
-    ("faces_of_a_fan", "fan.json", PLAIN, Call::Faces),
-    (
-        "faces_kept_of_a_list",
-        "square_and_triangle.json",
-        PLAIN,
-        Call::KeptFaces,
-    ),
-    (
-        "faces_of_largest_grid",
-        "path.json",
-        LARGEST_GRID,
-        Call::Faces,
-    ),
-    // An empty ring of five units: one pentagon.
-    (
-        "pentagons_of_small_graphs",
-        "ring_of_five.json",
-        PLAIN,
-        Call::Faces,
-    ),
-    // Five units around a sixth, to which one of the five is not adjacent: three triangles and a square, but not the
-    // outer ring.
-    (
-        "pentagons_round_a_hub",
-        "round_hub.json",
-        PLAIN,
-        Call::Faces,
-    ),
-    // A ring of five units with a triangle on one side.
-    ("pentagons_of_a_house", "house.json", PLAIN, Call::Faces),
-    (
-        "pentagons_kept_of_a_list",
-        "ring_with_chord.json",
-        PLAIN,
-        Call::KeptPentagons,
-    ),
-    // A ring of six units, and a neighbor of unit 0 in another district. Then unit 0 is alone in its district.
-    (
-        "leaving_a_ring",
-        "ring_and_one.json",
-        PLAIN,
-        Call::Leaving(&[0, 0, 0, 0, 0, 0, 1], 0),
-    ),
-    (
-        "leaving_a_district_of_one",
-        "ring_and_one.json",
-        PLAIN,
-        Call::Leaving(&[0, 1, 1, 1, 1, 1, 1], 0),
-    ),
-    (
-        "leaving_a_row",
-        "row.json",
-        PLAIN,
-        Call::Leaving(&[0, 0, 0], 1),
-    ),
-    // Two rows of three. The neighbors of the last unit are not adjacent, so only the search decides.
-    (
-        "leaving_a_grid",
-        "two_rows.json",
-        PLAIN,
-        Call::Leaving(&[1, 0, 0, 0, 0, 0], 5),
-    ),
-    // A triangle with a neighbor of unit 0 in another district. The two other neighbors are adjacent, so no search is
-    // needed.
-    (
-        "leaving_a_triangle",
-        "triangle_and_one.json",
-        PLAIN,
-        Call::Leaving(&[0, 0, 0, 1], 0),
-    ),
-    (
-        "start_plan_is_legal",
-        "four_in_a_row.json",
-        PLAIN,
-        Call::Legal,
-    ),
-    ("flips_on_a_path", "four_in_a_row.json", PLAIN, Call::Flips),
-    // The district of the ring has a hole, so the kernel needs searches.
-    ("flips_on_a_ring", "ring_and_one.json", PLAIN, Call::Flips),
-    ("flips_on_a_grid", "path.json", GRID, Call::Flips),
-];
-
 fn show_call(rt: &HostRuntime, job: &Job, call: Call) -> io::Result<()> {
     match call {
         Call::Faces => show_faces(rt, job),
@@ -180,7 +87,7 @@ fn show_job(
     }
 }
 
-fn show_case(rt: &HostRuntime, file: &str, words: &str, call: Call) -> Result<(), Fail> {
+fn show_by(rt: &HostRuntime, file: &str, words: &str, call: Call) -> Result<(), Fail> {
     let words = words_of(rt.alloc(), words.split_whitespace())?;
     let graph = fs::read(rt, file)?;
     let mut source = SureSource::new(bytes_of(rt.alloc(), graph.as_slice())?);
@@ -188,11 +95,96 @@ fn show_case(rt: &HostRuntime, file: &str, words: &str, call: Call) -> Result<()
     Ok(())
 }
 
+// Makes a call on the job of a file.
+fn show_case(rt: &HostRuntime, name: &str, file: &str, call: Call) -> Result<(), Fail> {
+    begin_case(rt, name)?;
+    show_by(rt, file, PLAIN, call)
+}
+
+// Makes a call on the job of a grid.
+fn show_grid(rt: &HostRuntime, name: &str, words: &str, call: Call) -> Result<(), Fail> {
+    begin_case(rt, name)?;
+    show_by(rt, "path.json", words, call)
+}
+
+fn show_each_faces(rt: &HostRuntime) -> Result<(), Fail> {
+    // A triangle that shares each side with a triangle of a smaller unit. The inner triangle is found too.
+    show_case(rt, "faces_of_small_graphs", "amid_three.json", Call::Faces)?;
+    // A unit with five others around it, of which the last and the first are not adjacent. The four triangles are found
+    // although the unit has more than four neighbors.
+    show_case(rt, "faces_of_a_fan", "fan.json", Call::Faces)?;
+    show_case(
+        rt,
+        "faces_kept_of_a_list",
+        "square_and_triangle.json",
+        Call::KeptFaces,
+    )?;
+    show_grid(rt, "faces_of_largest_grid", LARGEST_GRID, Call::Faces)?;
+    // An empty ring of five units: one pentagon.
+    show_case(
+        rt,
+        "pentagons_of_small_graphs",
+        "ring_of_five.json",
+        Call::Faces,
+    )?;
+    // Five units around a sixth, to which one of the five is not adjacent: three triangles and a square, but not the
+    // outer ring.
+    show_case(rt, "pentagons_round_a_hub", "round_hub.json", Call::Faces)?;
+    // A ring of five units with a triangle on one side.
+    show_case(rt, "pentagons_of_a_house", "house.json", Call::Faces)?;
+    show_case(
+        rt,
+        "pentagons_kept_of_a_list",
+        "ring_with_chord.json",
+        Call::KeptPentagons,
+    )
+}
+
+fn show_each_leaving(rt: &HostRuntime) -> Result<(), Fail> {
+    // A ring of six units, and a neighbor of unit 0 in another district. Then unit 0 is alone in its district.
+    let ring = "ring_and_one.json";
+    show_case(
+        rt,
+        "leaving_a_ring",
+        ring,
+        Call::Leaving(&[0, 0, 0, 0, 0, 0, 1], 0),
+    )?;
+    show_case(
+        rt,
+        "leaving_a_district_of_one",
+        ring,
+        Call::Leaving(&[0, 1, 1, 1, 1, 1, 1], 0),
+    )?;
+    show_case(
+        rt,
+        "leaving_a_row",
+        "row.json",
+        Call::Leaving(&[0, 0, 0], 1),
+    )?;
+    // Two rows of three. The neighbors of the last unit are not adjacent, so only the search decides.
+    show_case(
+        rt,
+        "leaving_a_grid",
+        "two_rows.json",
+        Call::Leaving(&[1, 0, 0, 0, 0, 0], 5),
+    )?;
+    // A triangle with a neighbor of unit 0 in another district. The two other neighbors are adjacent, so no search is
+    // needed.
+    show_case(
+        rt,
+        "leaving_a_triangle",
+        "triangle_and_one.json",
+        Call::Leaving(&[0, 0, 0, 1], 0),
+    )
+}
+
 /// Makes each call and prints its answer.
 pub fn show_calls(rt: &HostRuntime) -> Result<(), Fail> {
-    for (name, file, words, call) in CALLS.iter() {
-        begin_case(rt, name)?;
-        show_case(rt, file, words, *call)?;
-    }
-    Ok(())
+    show_each_faces(rt)?;
+    show_each_leaving(rt)?;
+    show_case(rt, "start_plan_is_legal", "four_in_a_row.json", Call::Legal)?;
+    show_case(rt, "flips_on_a_path", "four_in_a_row.json", Call::Flips)?;
+    // The district of the ring has a hole, so the kernel needs searches.
+    show_case(rt, "flips_on_a_ring", "ring_and_one.json", Call::Flips)?;
+    show_grid(rt, "flips_on_a_grid", GRID, Call::Flips)
 }
