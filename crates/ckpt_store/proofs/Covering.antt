@@ -1,6 +1,6 @@
 -- The union agrees with an outcome if each folder does, and otherwise some folder is the first that does not.
 use Rattle.std.proofs.Common.{◌≡◌, ℕ, zero, suc, ◌+◌, ◌<◌, Bool, true, false, cond, List, [], ◌∷◌, ◌++◌, length, map, get_or, Option, Some, None, inl, inr, refl, sym, ap, ◌∙◌, subst, arith, length-append}
-use Rattle.std.specs.Prelude.{bytes_eq, OnOk, Result, Ok, Err}
+use Rattle.std.specs.Prelude.{bytes_eq, IfOk, OnOk, Result, Ok, Err}
 use Rattle.std.proofs.lemmas.List.{get_or-map, map-append}
 use Rattle.std.proofs.Math.ListN.{get_or-append}
 use Rattle.std.proofs.Math.Seq.{get_or-append_seam}
@@ -9,6 +9,7 @@ use Rattle.audit_model.specs.declared.outcome.Outcome.{Outcome}
 use Rattle.audit_model.specs.Run.{with_id}
 use Rattle.audit_model.specs.Trajectory.{empty_histogram}
 use Rattle.outcome_book.specs.Union.{Agree, AgreeIf, AgreesWith, AreById, IsFirstDifference, IsUnion, fuller_if}
+use Rattle.ckpt_store.specs.declared.finding.Finding.{Finding}
 use Rattle.ckpt_store.specs.Collected.{Collected, IsCovered, IsFirstOther, passed_over}
 use Rattle.ckpt_store.specs.Findings.{IsLeftOut}
 
@@ -96,3 +97,8 @@ left_out before now after then found seen again id other e same is once differs 
     let names : (f : IsFirstDifference before.outcomes found id) → IsFirstOther before.lists f.other other =
     subst (λ (p : Collected × List Outcome). (f : IsFirstDifference p.0.outcomes p.1 id) → IsFirstOther p.0.lists f.other other) (λ i. (same i, once i)) named in
     record { first = first; named = names first; same = passed ∙ ap passed_over same }
+
+-- a folder that adds nothing has the finding that it is left out with
+pub left_as : {E : Type 0} (P : Finding → Type 0) (X : Type 0) (what : Finding) (r : Result Finding E) → IfOk r (λ f. (f ≡ what) × X) → (X → P what) → IfOk r P
+left_as P X what (Ok f) is p = subst P (sym is.0) (p is.1)
+left_as P X what (Err e) is p = is

@@ -1,17 +1,22 @@
 -- The slots that were seen, known or not.
-use Rattle.std.proofs.Common.{◌≡◌, ℕ, ◌+◌, ◌<◌, List, length, Option, Some, None, sym, ap, ◌∙◌, subst, arith}
-use Rattle.std.specs.Prelude.{Err, IfOk, replicate}
+use Rattle.std.proofs.Common.{◌≡◌, ℕ, ◌+◌, ◌<◌, Bool, true, false, List, length, Option, Some, None, sym, ap, ◌∙◌, subst, arith}
+use Rattle.std.specs.Prelude.{Result, Ok, Err, IfErr, IfOk, replicate}
 use Rattle.std.proofs.lemmas.Bool.{lt-ltb}
 use Rattle.std.proofs.lemmas.List.{length-replicate}
 use Rattle.audit_model.specs.Observed.{IfObserved}
-use Rattle.audit_io.specs.Loads.{Loads, LoadsWithin}
-use Rattle.audit_model.specs.Pair.{Pair, stored}
+use Rattle.audit_model.specs.State.{LoadFaults}
+use Rattle.audit_io.specs.Loads.{LoadCause, Loads, LoadsWithin}
+use Rattle.audit_model.specs.Pair.{Pair, Stored, stored, stored_if}
 use Rattle.audit_io.specs.declared.keeper.LoadError.{LoadError}
 use Rattle.audit_io.specs.declared.keeper.LoadError.TheVariants as load
 use Rattle.audit_model.specs.declared.fault.CkptFault.TheVariants.{TooLong}
 use Rattle.audit_model.specs.Job.{Job}
 use Rattle.audit_statement.specs.Slots.{broken, checkpoint_limit, slot_of, slot_of_bytes}
-use Rattle.ckpt_store.specs.Looked.{SawSlot, SawSlots, unloaded}
+use Rattle.ckpt_store.specs.Fitting.{HasFitOutcomes}
+use Rattle.ckpt_store.specs.Looked.{FaultCause, IsByBytes, LookCause, SawSlot, SawSlots, unloaded}
+use Rattle.ckpt_store.specs.View.{slot_view}
+use Rattle.ckpt_store.specs.declared.look.LookFault.{LookFault}
+use Rattle.ckpt_store.specs.declared.look.LookFault.TheVariants as look
 use Rattle.ckpt_store.specs.declared.slots.Slot.{Slot}
 
 -- for each limit there is a longer list of bytes
@@ -47,3 +52,49 @@ both_seen job digest observed later zero one is first second = by observed first
       same = ap (λ t. record { zero_slot = t; one_slot = b.bytes }) a.same ∙ ap (λ t. record { zero_slot = p.zero_slot; one_slot = t }) b.same;
       are = record { zero = a.is; one = b.is };
     }
+
+-- the bytes that a load found are those of the slot
+found_stored : (found : Bool) (slot : Stored) (limit : ℕ) (room : List ℕ) → Loads slot limit room (Ok found) → stored_if found room ≡ slot
+found_stored true slot limit room h = sym h
+found_stored false slot limit room h = sym h
+
+if_found_stored : (observed : Option Pair) (number limit : ℕ) (room : List ℕ) (found : Bool) → IfObserved observed (λ p. Loads (stored p number) limit room (Ok found))
+    → IfObserved observed (λ p. stored_if found room ≡ stored p number)
+if_found_stored None number limit room found h = tt
+if_found_stored (Some p) number limit room found h = found_stored found (stored p number) limit room h
+
+-- a slot that was loaded is seen with its bytes
+pub loaded_seen : (job : Job) (digest : List ℕ) (observed : Option Pair) (number limit : ℕ) (room bytes : List ℕ) (found : Bool) (r : Result Slot LookFault) → bytes ≡ room
+    → IfObserved observed (λ p. Loads (stored p number) limit room (Ok found)) → IfOk r (λ s. slot_view s ≡ slot_of job digest (stored_if found bytes)) → IfOk r (SawSlot job digest observed number)
+loaded_seen job digest observed number limit room bytes found (Ok s) same h is = record {
+  bytes = stored_if found room;
+  same = if_found_stored observed number limit room found h;
+  is = is ∙ ap (λ (b : List ℕ). slot_of job digest (stored_if found b)) same;
+}
+loaded_seen job digest observed number limit room bytes found (Err e) same h is = is
+
+-- the counts stay the same after a load that succeeded, since only memory can run out
+pub loaded_cause : (before now : LoadFaults) (r : Result Slot LookFault) → now ≡ before → IfErr r (λ e. e ≡ look.Memory) → LookCause before now r
+loaded_cause before now (Ok s) same memory = same
+loaded_cause before now (Err e) same memory = subst (FaultCause before now) (sym memory) same
+
+-- the counts after a load that failed
+pub unloaded_cause : (before now : LoadFaults) (e : LoadError) → LoadCause before now (Err e) → LookCause before now (unloaded e)
+unloaded_cause before now load.Failed cause = cause
+unloaded_cause before now load.Taken cause = cause
+unloaded_cause before now (load.Long n) cause = cause
+unloaded_cause before now load.Memory cause = cause
+
+-- a slot that was not loaded has no outcomes
+pub unloaded_fit : (job : Job) (e : LoadError) → IfOk (unloaded e) (HasFitOutcomes job)
+unloaded_fit job load.Failed = tt
+unloaded_fit job load.Taken = tt
+unloaded_fit job (load.Long n) = tt
+unloaded_fit job load.Memory = tt
+
+-- a slot that was not loaded is broken by its bytes
+pub unloaded_by_bytes : (e : LoadError) → IfOk (unloaded e) IsByBytes
+unloaded_by_bytes load.Failed = tt
+unloaded_by_bytes load.Taken = tt
+unloaded_by_bytes (load.Long n) = λ memory. cc memory
+unloaded_by_bytes load.Memory = tt

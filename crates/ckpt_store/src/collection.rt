@@ -27,10 +27,19 @@ use std::marker::Model;
 
 /// The union of several folders' outcomes for a job. `lists` has a list for each folder: the folder's outcomes
 /// if they were added, else an empty list.
-#[derive(Drop)]
 pub struct Collection {
     gathering: Gathering,
     lists: PlainList<OutcomeList>,
+}
+
+/// Drops the fields one by one. Written by hand so that a caller's proof has one call here, not one per field.
+impl Drop for Collection {
+    fn drop(self) {
+        let Collection {
+            gathering: _gathering,
+            lists: _lists,
+        } = self;
+    }
 }
 
 impl Model for Collection {
@@ -78,18 +87,9 @@ impl Collection {
     {
         match given {
             FolderContent::Outcomes(list) => self.add_list(alloc, job, list, beside),
-            FolderContent::Nothing => {
-                self.pass_over(alloc)?;
-                Ok(Finding::Nothing)
-            }
-            FolderContent::OtherJob => {
-                self.pass_over(alloc)?;
-                Ok(Finding::OtherJob)
-            }
-            FolderContent::Damaged => {
-                self.pass_over(alloc)?;
-                Ok(Finding::Damaged)
-            }
+            FolderContent::Nothing => self.leave_out(alloc, Finding::Nothing),
+            FolderContent::OtherJob => self.leave_out(alloc, Finding::OtherJob),
+            FolderContent::Damaged => self.leave_out(alloc, Finding::Damaged),
         }
     }
 
@@ -100,6 +100,17 @@ impl Collection {
         ensures same { OnOk result (self.new ≡ passed_over self.old) }
     {
         self.lists.push(OutcomeList::new(alloc))
+    }
+
+    /// Records that the next folder adds nothing, and returns the finding in it. Fails if there is no memory.
+    pub(crate) fn leave_out(&mut self, alloc: Global, finding: Finding) -> Result<Finding, Memory>
+        requires covered { IsCovered self.old }
+        ensures total { OnOk result (self.new.total ≡ self.old.total) }
+        ensures covered { OnOk result (IsCovered self.new) }
+        ensures left { IfOk result (λ f. (f ≡ finding) × (self.new ≡ passed_over self.old)) }
+    {
+        self.pass_over(alloc)?;
+        Ok(finding)
     }
 
     /// Adds the outcomes of the next folder, unless one of them contradicts the union.
@@ -125,8 +136,8 @@ impl Collection {
             }
             Err(id) => {
                 let other = self.other_of(job, found.as_slice(), id);
-                self.pass_over(alloc)?;
-                Ok(Finding::Differs { id, other })
+                drop(found);
+                self.leave_out(alloc, Finding::Differs { id, other })
             }
         }
     }

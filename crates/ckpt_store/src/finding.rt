@@ -93,14 +93,8 @@ pub fn find_in<F: Keeper>(
             let given = newest_content(job, digest, slots);
             collection.add(alloc, job, given, beside)
         }
-        Err(LookFault::Failed) => {
-            collection.pass_over(alloc)?;
-            Ok(Finding::Unread)
-        }
-        Err(LookFault::Taken) => {
-            collection.pass_over(alloc)?;
-            Ok(Finding::Taken)
-        }
+        Err(LookFault::Failed) => collection.leave_out(alloc, Finding::Unread),
+        Err(LookFault::Taken) => collection.leave_out(alloc, Finding::Taken),
         Err(LookFault::Memory) => Err(Memory),
     }
 }

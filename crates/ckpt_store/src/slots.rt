@@ -9,7 +9,6 @@ use audit_model::place::Place;
 use ckpt_format::decode::Checkpoint;
 
 /// The state of a slot for a job. The slot is *valid* if its state is `Other` or `Ours`.
-#[derive(Drop)]
 pub enum Slot {
     /// The slot is empty.
     Absent,
@@ -20,6 +19,21 @@ pub enum Slot {
     Other { found: [u8; 32], generation: u8 },
     /// The bytes are a checkpoint of this job, and all outcomes are plausible.
     Ours(Checkpoint),
+}
+
+/// Drops the value of a variant. Written by hand so that a caller's proof has one call here, not one step per variant.
+impl Drop for Slot {
+    fn drop(self) {
+        match self {
+            Slot::Absent => {}
+            Slot::Broken(_fault) => {}
+            Slot::Other {
+                found: _,
+                generation: _,
+            } => {}
+            Slot::Ours(_checkpoint) => {}
+        }
+    }
 }
 
 /// The states of both slots for a job.
