@@ -3,7 +3,7 @@
 //! The hashed bytes have one of five forms, each with its own name at the front. A later form was added with each group
 //! of features, so that jobs without these features keep their digests.
 
-ghost use Rattle.std.specs.Prelude.{◌≡◌, ◌<◌, ◌≤◌, flat_map, length, true};
+ghost use Rattle.std.specs.Prelude.{◌≡◌, ◌<◌, ◌≤◌, flat_map, length, slice_index, true};
 ghost use Rattle.std.specs.Int.{w32, w64, to_be_bytes};
 ghost use Rattle.audit_model.specs.Below.{map_below};
 ghost use Rattle.audit_model.specs.Graph.{IsGraph, count_edges};
@@ -13,6 +13,7 @@ ghost use Rattle.audit_statement.specs.Checkpoint as definition;
 ghost use Rattle.audit_statement.specs.Checkpoint.{digest_name, edge_bytes, first_bytes, frozen_bytes, group_bytes, has_frozen, has_further_rules, has_group, has_lengths, has_newer_rules, has_rules, has_share, length_bytes, limits_splits, member_bytes, region_bytes, rule_bytes, share_bytes, split_bytes, unit_bytes, score_code, tail_code};
 ghost use Rattle.ckpt_format.specs.Hashed.{Hashes, ask_bytes, counts_bytes, edges_from, setting_bytes};
 
+use audit_model::lists::NumList;
 use audit_model::rules::{Group, Rules};
 use audit_model::setting::{Ask, Score, Setting, Tail};
 use dual_graph::graph::Graph;
@@ -171,9 +172,9 @@ fn hash_unit(hasher: &mut Sha256, job: &Job, unit: usize)
     ensures { Hashes hasher.old hasher.new (unit_bytes job.now unit) }
 {
     let counts = job.counts();
-    hash_u64(hasher, counts.population.as_slice()[unit]);
-    hash_u64(hasher, counts.first.as_slice()[unit]);
-    hash_u64(hasher, counts.second.as_slice()[unit]);
+    hash_number_at(hasher, &counts.population, unit);
+    hash_number_at(hasher, &counts.first, unit);
+    hash_number_at(hasher, &counts.second, unit);
     hash_u32(hasher, job.start().as_slice()[unit]);
 }
 
@@ -245,8 +246,8 @@ fn hash_members(hasher: &mut Sha256, units: u32, group: &Group)
     ensures { Hashes hasher.old hasher.new (flat_map (member_bytes group.now) (map_below units (λ u. u))) }
 {
     for unit in 0..units {
-        hash_u64(hasher, group.members.as_slice()[unit as usize]);
-        hash_u64(hasher, group.whole.as_slice()[unit as usize]);
+        hash_number_at(hasher, &group.members, unit as usize);
+        hash_number_at(hasher, &group.whole, unit as usize);
     }
 }
 
@@ -296,6 +297,14 @@ fn hash_numbers(hasher: &mut Sha256, numbers: &[u32])
     for number in numbers {
         hash_u32(hasher, *number);
     }
+}
+
+/// Hashes the number at an index as eight bytes, big-endian.
+fn hash_number_at(hasher: &mut Sha256, numbers: &NumList, index: usize)
+    requires { index < length numbers.now }
+    ensures { Hashes hasher.old hasher.new (to_be_bytes w64 (slice_index numbers.now index)) }
+{
+    hash_u64(hasher, numbers.as_slice()[index]);
 }
 
 fn hash_asks(hasher: &mut Sha256, asks: &[Ask])
