@@ -35,7 +35,7 @@ is_place units districts draw unit district is = elim (cases_Bool (nat_lt draw (
 ]
 
 -- the pair's place is the draw's place in its block
-proposed_place : (units districts draw unit district : ℕ) → proposal units districts draw ≡ Some (unit, district)
+pub proposed_place : (units districts draw unit district : ℕ) → proposal units districts draw ≡ Some (unit, district)
     → unit * districts + district ≡ draw % (units * districts)
 proposed_place units districts draw unit district is =
     let place = is_place units districts draw unit district is in

@@ -13,14 +13,14 @@ ghost use Rattle.district_sums.specs.Following.{StandsFor, count_near, districts
 ghost use Rattle.flip_kernel.specs.ChainState.{IsMove, IsSummed, KeepsBoundsIn, ProposesOpen, allows, sums_in};
 ghost use Rattle.flip_kernel.specs.Judged.{HasConstraintAt};
 ghost use Rattle.flip_kernel.specs.Nearby.{CountsNeighbors};
-ghost use Rattle.flip_kernel.specs.OpenPairs.{is_open, MarksOpenPairs};
-ghost use Rattle.contig.specs.Counts.{AreCounts};
+ghost use Rattle.flip_kernel.specs.OpenPairs.{is_open};
 
 use crate::bounds::are_kept;
 use crate::moving::Flip;
 use crate::nearby::NeighborCounts;
 use crate::open_pairs::OpenPairs;
 use crate::proposal::Pairs;
+use crate::start::{start_of, tables_of};
 use audit_model::lists::UnitList;
 use audit_model::memory::Memory;
 use audit_model::outcome::SumsView;
@@ -58,22 +58,30 @@ pub struct Board {
     high: u64,
 }
 
-/// Drops the fields one by one. Written by hand so that a caller's proof sees one call.
+/// Drops the fields one by one. Written by hand so that a caller's proof sees one call. The calls of `drop` keep this
+/// proof short.
 impl Drop for Board {
     fn drop(self) {
         let Board {
             job: _job,
-            plan: _plan,
-            sums: _sums,
-            marks: _marks,
-            faces: _faces,
-            counts: _counts,
-            near: _near,
-            open_pairs: _open_pairs,
+            plan,
+            sums,
+            marks,
+            faces,
+            counts,
+            near,
+            open_pairs,
             pairs: _pairs,
             low: _,
             high: _,
         } = self;
+        drop(plan);
+        drop(sums);
+        drop(marks);
+        drop(faces);
+        drop(counts);
+        drop(near);
+        drop(open_pairs);
     }
 }
 
@@ -94,23 +102,29 @@ impl Board {
         ensures plan { IfOk result (λ s. s.plan ≡ job.now.start) }
     {
         let (plan, sums) = start_of(alloc, job)?;
-        let marks = Marks::new(alloc, job.units())?;
-        let (near, open_pairs) = pairs_of(alloc, job)?;
-        let (faces, counts) = faces_of(alloc, job)?;
-        let (low, high) = job.limits();
-        Ok(Board {
-            job: Snapshot::of(job),
-            plan,
-            sums,
-            marks,
-            faces,
-            counts,
-            near,
-            open_pairs,
-            pairs: Pairs::of(job.units(), job.districts()),
-            low,
-            high,
-        })
+        match tables_of(alloc, job) {
+            Ok((marks, near, open_pairs, faces, counts)) => {
+                let (low, high) = job.limits();
+                Ok(Board {
+                    job: Snapshot::of(job),
+                    plan,
+                    sums,
+                    marks,
+                    faces,
+                    counts,
+                    near,
+                    open_pairs,
+                    pairs: Pairs::of(job.units(), job.districts()),
+                    low,
+                    high,
+                })
+            }
+            Err(_) => {
+                drop(plan);
+                drop(sums);
+                Err(Memory)
+            }
+        }
     }
 
     /// Replaces the current plan by another legal plan. It allocates nothing.
@@ -119,12 +133,13 @@ impl Board {
         requires legal { IsLegal job.now plan.now }
         ensures { self.new ≡ record self.old { plan = plan.now } }
     {
-        self.plan.as_mut_slice().copy_from_slice(plan);
-        self.sums.refill(job.graph(), job.counts(), plan);
-        self.near.refill(job.graph(), plan, self.pairs.districts);
-        self.open_pairs
-            .refill(job.graph(), plan, self.pairs.districts);
-        self.counts.reset(job.graph(), &self.faces, plan);
+        let graph = job.graph();
+        let districts = self.pairs.districts;
+        put_plan(&mut self.plan, plan);
+        self.sums.refill(graph, job.counts(), plan);
+        self.near.refill(graph, plan, districts);
+        self.open_pairs.refill(graph, plan, districts);
+        self.counts.reset(graph, &self.faces, plan);
     }
 
     /// Returns the current plan.
@@ -367,47 +382,6 @@ impl Board {
     }
 }
 
-/// Copies the start plan of a job, and adds up its sums.
-fn start_of(alloc: Global, job: &Job) -> Result<(UnitList, Sums), Memory>
-    ensures plan { IfOk result (λ s. s.0 ≡ job.now.start) }
-    ensures summed { IfOk result (λ s. IsSummed job.now job.now.start s.1) }
-{
-    let start = job.start();
-    let sums = Sums::of(
-        alloc,
-        job.graph(),
-        job.counts(),
-        job.districts(),
-        start.as_slice(),
-    )?;
-    Ok((start.copy()?, sums))
-}
-
-/// Counts the neighbors of each unit by district at the start plan of a job, and finds the open pairs.
-fn pairs_of(alloc: Global, job: &Job) -> Result<(NeighborCounts, OpenPairs), Memory>
-    ensures near { IfOk result (λ p. CountsNeighbors job.now.graph job.now.start job.now.districts p.0) }
-    ensures opened { IfOk result (λ p. MarksOpenPairs job.now.graph job.now.start job.now.districts p.1) }
-{
-    let plan = job.start().as_slice();
-    let districts = job.districts();
-    let mut near = NeighborCounts::zeros(alloc, job.units(), districts)?;
-    near.refill(job.graph(), plan, districts);
-    let mut open_pairs = OpenPairs::none(alloc, job.units(), districts)?;
-    open_pairs.refill(job.graph(), plan, districts);
-    Ok((near, open_pairs))
-}
-
-/// Finds the faces of a job's graph, and counts those of its start plan.
-fn faces_of(alloc: Global, job: &Job) -> Result<(FaceTable, FaceCounts), Memory>
-    ensures made { IfOk result (λ f. f.0.graph ≡ job.now.graph) }
-    ensures counts { IfOk result (λ f. AreCounts job.now.graph f.0.faces job.now.districts job.now.start f.1) }
-{
-    let plan = job.start().as_slice();
-    let faces = FaceTable::of(alloc, job.graph())?;
-    let counts = FaceCounts::new(alloc, job.graph(), &faces, job.districts(), plan)?;
-    Ok((faces, counts))
-}
-
 /// Moves a unit to a district, in the plan and in its sums. `mates` has the number of the unit's neighbors in its old
 /// district, and then in the new one.
 fn shift(flip: Flip, mates: (u64, u64), sums: &mut Sums, plan: &mut UnitList)
@@ -425,6 +399,14 @@ fn shift(flip: Flip, mates: (u64, u64), sums: &mut Sums, plan: &mut UnitList)
     };
     sums.follow(member, flip.job.counts(), flip.district, mates);
     put_unit(plan, flip.unit, flip.district);
+}
+
+/// Overwrites the plan with another one, without updating the sums.
+fn put_plan(plan: &mut UnitList, other: &[u32])
+    requires { length plan.old ≡ length other.now }
+    ensures { plan.new ≡ other.now }
+{
+    plan.as_mut_slice().copy_from_slice(other);
 }
 
 /// Writes a unit's district in the plan, without updating the sums.

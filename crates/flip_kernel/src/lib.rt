@@ -34,6 +34,7 @@ mod moving;
 mod nearby;
 mod open_pairs;
 pub mod proposal;
+mod start;
 pub mod state;
 
 pub use flip::{mirror, try_flip};

@@ -1,10 +1,30 @@
-use Rattle.std.proofs.Common.{ℕ, ◌*◌, ◌<◌, ◌≤◌, List, length, get_or, refl, arith}
+use Rattle.std.proofs.Common.{◌≡◌, ℕ, ◌*◌, ◌^◌, ◌<◌, ◌≤◌, List, length, get_or, take, refl, ◌∙◌, subst, arith, take_all}
 use Rattle.std.proofs.lemmas.List.Elements.{All-get_or}
+use Rattle.std.proofs.lemmas.Nat.{mul-le}
 use Rattle.audit_model.specs.District.{in_district}
 use Rattle.district_sums.proofs.Walking.{row_few}
+use Rattle.flip_kernel.specs.Nearby.{HasCounted}
 use Rattle.flip_kernel.proofs.NearPairs.{counting_more}
 use Rattle.flip_kernel.proofs.Tables.{place_within}
 use Rattle.flip_kernel.proofs.nearby.count_beside.Goals as goal
+
+-- the place of a unit's first number is small
+small_begin : (unit districts : ℕ) → unit ≤ 100000 → districts ≤ 2 ^ 32 → unit * districts ≤ 100000 * 2 ^ 32
+small_begin unit districts few numbers = mul-le unit districts 100000 (2 ^ 32) few numbers
+
+pub overflow_mul-begin : goal.overflow_mul-begin
+overflow_mul-begin c =
+    omega (arith, small_begin c.args.member.unit c.args.districts (omega (arith, c.args.member.within, c.args.member.few)) (omega arith))
+
+pub overflow_add-place : goal.overflow_add-place
+overflow_add-place c =
+    let row : List ℕ = c.neighbours-other-items.result.now in
+    let below = All-get_or (λ v. v < c.args.member.graph.now.units) row c.loop-other.other-index 0 c.loop-other-test.true c.neighbours-other-items.ensures.below in
+    omega (
+      arith,
+      small_begin c.args.member.unit c.args.districts (omega (arith, c.args.member.within, c.args.member.few)) (omega arith),
+      c.requires.in_range (get_or row c.loop-other.other-index 0) below,
+    )
 
 pub overflow_add-table : goal.overflow_add-table
 overflow_add-table c =
@@ -43,3 +63,23 @@ bounds-table-place c =
     c.requires.in_range (get_or row i 0) (All-get_or (λ v. v < units) row i 0 c.loop-other-test.true c.neighbours-other-items.ensures.below) in
     place_within units c.args.districts c.args.member.unit (get_or plan (get_or row i 0) 0) (length c.loop-other.table) c.args.member.within there
     (omega (arith, c.requires.width, c.loop-other.invariant.width))
+
+pub loop-other-init : goal.loop-other-init
+loop-other-init c = record {
+  width = refl;
+  own = c.requires.zeros;
+  others = λ u d other l. refl;
+}
+
+pub bounds-member-other : goal.bounds-member-other
+bounds-member-other c =
+    let row : List ℕ = c.neighbours-other-items.result.now in
+    let below = All-get_or (λ v. v < c.args.member.graph.now.units) row c.loop-other.other-index 0 c.loop-other-test.true c.neighbours-other-items.ensures.below in
+    omega (arith, below, c.args.member.complete)
+
+pub returns : goal.returns
+returns c =
+    let row : List ℕ = c.neighbours-other-items.result.now in
+    let all : take c.loop-other.other-index row ≡ row = take_all c.loop-other.other-index row c.loop-other-test.false in
+    subst (λ (xs : List ℕ). HasCounted c.args.member.plan.now c.args.districts c.args.member.unit xs c.args.table.now c.loop-other.table)
+    (all ∙ c.neighbours-other-items.ensures.list) c.loop-other.invariant
