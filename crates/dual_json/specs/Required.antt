@@ -1,4 +1,4 @@
--- What every adjacency entry must have.
+-- The fields that every adjacency entry must have.
 use Rattle.std.specs.Prelude.{ℕ, Bool}
 use Rattle.serde_json.specs.Data.{Data}
 use Rattle.audit_model.specs.declared.fault.GraphFault.{GraphFault}

@@ -1,4 +1,4 @@
-//! What every adjacency entry must have.
+//! The required fields of adjacency entries.
 
 ghost use Rattle.std.specs.Prelude.{◌≡◌, ◌≤◌, None, Some, length, MatchResult};
 ghost use Rattle.audit_model.specs.Limits.{most_units};
@@ -13,7 +13,7 @@ use crate::shape::entries_of;
 use crate::value::Value;
 use audit_model::fault::GraphFault;
 
-/// What every adjacency entry must have.
+/// A field that every adjacency entry must have.
 #[derive(Clone, Copy)]
 pub enum Required<'k> {
     /// An id.

@@ -11,8 +11,8 @@ use plan_core::job::Job;
 use std::marker::Model;
 use walker::walker::Walker;
 
-/// A start token: proof that the gate has received an id. Only `announce` makes a token, and a walk consumes it, so each
-/// token permits one walk. A token can be neither copied nor dropped.
+/// A start token: proof that the gate has received an id. Only `announce` makes a token, and a walk
+/// consumes it, so each token permits one walk. A token can be neither copied nor dropped.
 pub struct StartToken {
     id: u32,
 }
