@@ -1,5 +1,5 @@
-"""The auditor ends as it must for each line of `cases` and `graphs`, and `case_runner` prints its
-stdout.
+"""The auditor ends as it must for each line of `cases` and `graphs`, and leaves the slots that it
+must leave; and `case_runner` prints its stdout.
 
 The plain model gives the expected ends, but for grids that would take it an hour. A failing check
 of a case has the name of that case. The program `case_runner` is the one that the variable
@@ -13,6 +13,7 @@ import shutil
 import subprocess
 import sys
 import tempfile
+import typing
 
 from tests.checks import Checks, End, run
 from tests.golden.named_cases import (
@@ -24,7 +25,17 @@ from tests.golden.named_cases import (
     stdout_parts,
 )
 from tests.golden.plain_cases import Call, calls_of, is_great, text_of
+from tests.oracle import model
 from tests.places import CASES, TEST_DATA
+
+NAMES = ("audit-0.ckpt", "audit-1.ckpt")
+
+
+class Left(typing.NamedTuple):
+    """The end of a call in an empty folder, and the files that it leaves there."""
+
+    end: Case
+    files: dict[str, bytes]
 
 
 def check_program(checks: Checks, program: pathlib.Path) -> None:
@@ -37,13 +48,23 @@ def check_program(checks: Checks, program: pathlib.Path) -> None:
     compare(checks, "program", parts_of(end.out), stdout_parts())
 
 
-def end_of(auditor: pathlib.Path, call: Call, folder: pathlib.Path) -> Case:
-    """Returns how the auditor ends in a folder."""
-    done = subprocess.run(
-        [auditor, *call.words], input=call.data, capture_output=True, check=False, cwd=folder
-    )
+def left_by(auditor: pathlib.Path, call: Call) -> Left:
+    """Makes a call in an empty folder."""
+    with tempfile.TemporaryDirectory() as room:
+        done = subprocess.run(
+            [auditor, *call.words], input=call.data, capture_output=True, check=False, cwd=room
+        )
+        files = {path.name: path.read_bytes() for path in pathlib.Path(room).iterdir()}
     end = End(done.returncode, done.stdout.decode(), done.stderr.decode())
-    return Case(call.name, text_of(end))
+    return Left(Case(call.name, text_of(end)), files)
+
+
+def slots_of(call: Call) -> dict[str, bytes]:
+    """Returns the slots that the plain model leaves."""
+    if "--save" not in call.words:
+        return {}
+    slots = model.audit(call.words, call.data, [None, None]).slots
+    return {name: slot for name, slot in zip(NAMES, slots) if slot is not None}
 
 
 def main() -> int:
@@ -52,10 +73,10 @@ def main() -> int:
     auditor = parser.parse_args().auditor.resolve()
     checks = Checks("case_output")
     calls = calls_of(TEST_DATA)
-    with tempfile.TemporaryDirectory() as room:
-        ends = [end_of(auditor, call, pathlib.Path(room)) for call in calls]
-        checks.is_equal("files", os.listdir(room), [])
-    compare(checks, "auditor", ends, audited_parts())
+    left = [left_by(auditor, call) for call in calls]
+    compare(checks, "auditor", [one.end for one in left], audited_parts())
+    for call, one in zip(calls, left):
+        checks.is_equal(f"files/{call.name}", one.files, slots_of(call))
     program = pathlib.Path(os.environ.get("DISTRICT_AUDIT_CASES") or CASES / "out" / "case_runner")
     if os.access(program, os.X_OK):
         check_program(checks, program.resolve())
