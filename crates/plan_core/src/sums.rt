@@ -1,4 +1,4 @@
-//! Sums of a column.
+//! Sums of columns.
 
 ghost use Rattle.std.specs.Prelude.{◌≡◌, ◌+◌, ◌^◌, ◌*◌, ◌<◌, ◌≤◌, ℕ, length, slice_index, All, sum};
 ghost use Rattle.audit_model.specs.District.{district_sum};
