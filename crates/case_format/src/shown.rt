@@ -3,7 +3,7 @@
 use crate::digests::show_bytes;
 use crate::gate::CaseGate;
 use crate::keeper::SaveCounts;
-use crate::streams::Streams;
+use crate::outside::Outside;
 use audit_io::mem_keeper::MemKeeper;
 use std::io;
 use std::sync::atomic::Ordering;
@@ -37,12 +37,12 @@ fn show_slots(rt: &HostRuntime, left: &MemKeeper) -> io::Result<()> {
 fn show_texts(
     rt: &HostRuntime,
     kind: &str,
-    streams: &Streams,
+    outside: &Outside,
     saves: SaveCounts,
     left: &MemKeeper,
 ) -> io::Result<()> {
-    rt.write_all(streams.out.bytes())?;
-    rt.write_all(streams.note.bytes())?;
+    rt.write_all(outside.out.bytes())?;
+    rt.write_all(outside.note.bytes())?;
     match kind {
         "slots" | "each" => show_slots(rt, left),
         "saves" => println!(rt; "saves {} early {}", saves.all, saves.early),
@@ -55,15 +55,14 @@ pub fn show_run(
     rt: &HostRuntime,
     kind: &str,
     status: u8,
-    streams: &Streams,
-    gate: &CaseGate,
+    outside: &Outside,
     saves: SaveCounts,
     left: &MemKeeper,
 ) -> io::Result<()> {
     println!(rt; "status {status}")?;
-    show_announced(rt, gate)?;
+    show_announced(rt, &outside.gate)?;
     match kind {
-        "time" => println!(rt; "in the first half {}", gate.was_observed_early()),
-        _ => show_texts(rt, kind, streams, saves, left),
+        "time" => println!(rt; "in the first half {}", outside.gate.was_observed_early()),
+        _ => show_texts(rt, kind, outside, saves, left),
     }
 }

@@ -8,8 +8,8 @@ use audit_run::audit::audit;
 use audit_run::sure::audit_surely;
 use audit_words::Build;
 use case_format::{
-    CaseGate, RunKeeper, SaveCounts, Setup, Streams, begin_line, bytes_of, empty_slots, keeper_of,
-    setup_of, show_run, streams_of, sure_keeper_of, word, words_of,
+    Outside, RunKeeper, SaveCounts, Setup, begin_line, bytes_of, empty_slots, keeper_of,
+    outside_of, setup_of, show_run, sure_keeper_of, word, words_of,
 };
 use std::str::SplitWhitespace;
 use std::sync::{Arc, Wait};
@@ -38,22 +38,21 @@ fn audit_kept<R: Threads + Wait + Sync>(
     rt: &HostRuntime,
     threads: &R,
     words: &[String],
-    streams: &mut Streams,
-    gate: &CaseGate,
+    outside: &mut Outside,
     keeper: RunKeeper,
 ) -> (u8, RunKeeper) {
     let lent = Runtime {
         threads,
         alloc: rt.alloc(),
-        gate,
+        gate: &outside.gate,
     };
     audit(
         &lent,
         &BUILD,
         words,
-        &mut streams.source,
-        &mut streams.out,
-        &mut streams.note,
+        &mut outside.source,
+        &mut outside.out,
+        &mut outside.note,
         keeper,
     )
 }
@@ -64,17 +63,16 @@ fn audit_sure<R: Threads + Wait + Sync>(
     threads: &R,
     words: &[String],
     source: &mut SureSource,
-    streams: &mut Streams,
-    gate: &CaseGate,
+    outside: &mut Outside,
     keeper: SureKeeper,
 ) -> u8 {
     let lent = Runtime {
         threads,
         alloc: rt.alloc(),
-        gate,
+        gate: &outside.gate,
     };
     let mut out = SureSink::new();
-    let note = &mut streams.note;
+    let note = &mut outside.note;
     let (status, keeper) = audit_surely(&lent, &BUILD, words, source, &mut out, note, keeper);
     drop(keeper);
     status
@@ -86,16 +84,15 @@ fn run_surely<R: Threads + Wait + Sync>(
     threads: &R,
     setup: &Setup<'_>,
     given: Given<'_>,
-    streams: &mut Streams,
-    gate: &CaseGate,
+    outside: &mut Outside,
     left: &MemKeeper,
 ) -> Result<u8, Fail> {
     let mut source = SureSource::new(bytes_of(rt.alloc(), given.graph)?);
     let keeper = sure_keeper_of(rt, setup, left)?;
-    let status = audit_sure(rt, threads, given.words, &mut source, streams, gate, keeper);
+    let status = audit_sure(rt, threads, given.words, &mut source, outside, keeper);
     drop(source);
     let saves = SaveCounts { all: 0, early: 0 };
-    show_run(rt, setup.kind, status, streams, gate, saves, left)?;
+    show_run(rt, setup.kind, status, outside, saves, left)?;
     Ok(status)
 }
 
@@ -105,34 +102,16 @@ fn run_kept<R: Threads + Wait + Sync>(
     threads: &R,
     setup: &Setup<'_>,
     words: &[String],
-    streams: &mut Streams,
-    gate: &CaseGate,
+    outside: &mut Outside,
     left: &mut MemKeeper,
 ) -> Result<u8, Fail> {
-    let begun = Arc::try_clone(&gate.begun)?;
+    let begun = Arc::try_clone(&outside.gate.begun)?;
     let keeper = keeper_of(rt, setup, left, begun)?;
-    let (status, keeper) = audit_kept(rt, threads, words, streams, gate, keeper);
+    let (status, keeper) = audit_kept(rt, threads, words, outside, keeper);
     let saves = keeper.saves;
     *left = keeper.into_inner().into_inner();
-    show_run(rt, setup.kind, status, streams, gate, saves, left)?;
+    show_run(rt, setup.kind, status, outside, saves, left)?;
     Ok(status)
-}
-
-fn run_gated<R: Threads + Wait + Sync>(
-    rt: &HostRuntime,
-    threads: &R,
-    setup: &Setup<'_>,
-    given: Given<'_>,
-    streams: &mut Streams,
-    left: &mut MemKeeper,
-) -> Result<u8, Fail> {
-    let gate = CaseGate::new(rt, setup.held, setup.wanted)?;
-    let status = match setup.kind {
-        "sure" => run_surely(rt, threads, setup, given, streams, &gate, left),
-        _ => run_kept(rt, threads, setup, given.words, streams, &gate, left),
-    };
-    drop(gate);
-    status
 }
 
 fn run_given<R: Threads + Wait + Sync>(
@@ -142,9 +121,12 @@ fn run_given<R: Threads + Wait + Sync>(
     given: Given<'_>,
     left: &mut MemKeeper,
 ) -> Result<u8, Fail> {
-    let mut streams = streams_of(rt.alloc(), setup, given.graph)?;
-    let status = run_gated(rt, threads, setup, given, &mut streams, left);
-    drop(streams);
+    let mut outside = outside_of(rt, setup, given.graph)?;
+    let status = match setup.kind {
+        "sure" => run_surely(rt, threads, setup, given, &mut outside, left),
+        _ => run_kept(rt, threads, setup, given.words, &mut outside, left),
+    };
+    drop(outside);
     status
 }
 

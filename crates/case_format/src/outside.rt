@@ -1,29 +1,33 @@
-//! The source and the sinks of a run.
+//! The source, the sinks and the gate of a run.
 
+use crate::gate::CaseGate;
 use crate::setups::Setup;
 use crate::slots::{bytes_of, failing};
 use audit_io::mem_sink::MemSink;
 use audit_io::mem_source::MemSource;
 use audit_model::memory::Memory;
 use std::alloc::Global;
+use std::test::Fail;
 
 /// The capacity of each sink.
 const ROOM: usize = 9000;
 
-/// The source of a run, and the sinks of its output and its diagnostic.
-pub struct Streams {
+/// The source of a run, the sinks of its output and its diagnostic, and its gate.
+pub struct Outside {
     pub source: MemSource,
     pub out: MemSink,
     pub note: MemSink,
+    pub gate: CaseGate,
 }
 
-// Written by hand, so that the proof of a function that drops streams has one step for all.
-impl Drop for Streams {
+// Written by hand, so that the proof of a function that drops it has one step for all fields.
+impl Drop for Outside {
     fn drop(self) {
-        let Streams {
+        let Outside {
             source: _source,
             out: _out,
             note: _note,
+            gate: _gate,
         } = self;
     }
 }
@@ -40,10 +44,16 @@ fn sink_of(alloc: Global, most: u64, number: u64) -> Result<MemSink, Memory> {
     MemSink::new(alloc, ROOM, most.max(1) as usize, fails)
 }
 
-/// Makes the streams of a run over this graph.
-pub fn streams_of(alloc: Global, setup: &Setup<'_>, graph: &[u8]) -> Result<Streams, Memory> {
-    let source = source_of(alloc, setup, graph)?;
-    let out = sink_of(alloc, setup.most, setup.failing_write)?;
-    let note = sink_of(alloc, setup.most, 0)?;
-    Ok(Streams { source, out, note })
+/// Makes the outside of a run over this graph.
+pub fn outside_of(rt: &HostRuntime, setup: &Setup<'_>, graph: &[u8]) -> Result<Outside, Fail> {
+    let source = source_of(rt.alloc(), setup, graph)?;
+    let out = sink_of(rt.alloc(), setup.most, setup.failing_write)?;
+    let note = sink_of(rt.alloc(), setup.most, 0)?;
+    let gate = CaseGate::new(rt, setup.held, setup.wanted)?;
+    Ok(Outside {
+        source,
+        out,
+        note,
+        gate,
+    })
 }
