@@ -48,7 +48,7 @@ def check_program(checks: Checks, program: pathlib.Path) -> None:
     compare(checks, "program", parts_of(end.out), stdout_parts())
 
 
-def left_by(auditor: pathlib.Path, call: Call) -> Left:
+def make_call(auditor: pathlib.Path, call: Call) -> Left:
     """Makes a call in an empty folder."""
     with tempfile.TemporaryDirectory() as room:
         done = subprocess.run(
@@ -73,7 +73,7 @@ def main() -> int:
     auditor = parser.parse_args().auditor.resolve()
     checks = Checks("case_output")
     calls = calls_of(TEST_DATA)
-    left = [left_by(auditor, call) for call in calls]
+    left = [make_call(auditor, call) for call in calls]
     compare(checks, "auditor", [one.end for one in left], audited_parts())
     for call, one in zip(calls, left):
         checks.is_equal(f"files/{call.name}", one.files, slots_of(call))
