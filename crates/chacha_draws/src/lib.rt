@@ -3,6 +3,7 @@
 
 ghost use Rattle.std.specs.Prelude.{◌≡◌, ◌+◌, ◌<◌, ◌^◌};
 ghost use Rattle.audit_statement.specs.Draw.{draw};
+ghost use Rattle.rand_chacha.specs.ChaCha.{key_of};
 
 use rand_chacha::ChaCha20Rng;
 use rand_core::SeedableRng;
@@ -35,7 +36,7 @@ impl Draws {
         ensures stream { result.stream ≡ stream }
         ensures place { result.place ≡ 0 }
     {
-        let mut words = ChaCha20Rng::from_seed(key);
+        let mut words = generator_of(key);
         words.set_stream(stream);
         Draws { key, words }
     }
@@ -50,4 +51,16 @@ impl Draws {
     {
         next_u64_via_u32(&mut self.words)
     }
+}
+
+/// Returns the generator of a key, at the first word of stream 0.
+///
+/// A call out of line hides the generator's position from the compiler. `set_stream` then keeps its
+/// own call of the code that computes blocks. This code stays out of the reading of a word, and the
+/// reading is inlined into the loop over steps.
+#[inline(never)]
+fn generator_of(key: [u8; 32]) -> ChaCha20Rng
+    ensures { result ≡ record { key = key_of key; stream = 0; word_pos = 0 } }
+{
+    ChaCha20Rng::from_seed(key)
 }
