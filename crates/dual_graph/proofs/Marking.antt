@@ -1,6 +1,8 @@
 -- Marking a unit and clearing all marks keep `IsMarked`.
-use Rattle.std.proofs.Common.{◌≡◌, ℕ, zero, suc, ◌+◌, ◌<◌, ◌≤◌, true, false, List, [], ◌∷◌, ◌++◌, length, get_or, set, refl, sym, ◌∙◌, subst, inl, inr, arith, length-append, length-set, get_or-set_same, get_or-set_other}
+use Rattle.std.proofs.Common.{◌≡◌, ℕ, zero, suc, ◌+◌, ◌<◌, ◌≤◌, true, false, List, [], ◌∷◌, ◌++◌, length, take, get_or, set, refl, sym, ap, ◌∙◌, subst, inl, inr, arith, length-append, length-set, get_or-set_same, get_or-set_other}
+use Rattle.std.specs.Prelude.{◌⊎◌}
 use Rattle.std.proofs.lemmas.Bool.{cases_eq, false≢true, false_from_ne_true}
+use Rattle.std.proofs.lemmas.List.{length-take-le, take_more_set, take-set, set-get_or}
 use Rattle.audit_model.specs.Apart.{AllApart}
 use Rattle.audit_model.specs.Graph.{has}
 use Rattle.audit_model.proofs.Connected.{has-append_left, has-append_right, has-append_parts}
@@ -51,6 +53,31 @@ marked_more m u l n items marked lt none pos same grown = record {
   where
     inside : u < length m.labels
     inside = subst (λ k. u < k) (sym marked.width) lt
+
+-- a write past the end of the list, with or without a mark, keeps the invariant
+pub marked_if : (labels order : List ℕ) (count u l t r : ℕ) → IsMarked (record { units = length labels; items = take count order; labels = labels })
+    → length order ≡ length labels + 1 → count ≤ length labels → u < length labels → 0 < l
+    → ((t ≡ l) × (r ≡ 1) × (get_or labels u 0 ≡ 0)) ⊎ ((t ≡ get_or labels u 0) × (r ≡ 0))
+    → (count + r ≤ length (set labels u t)) × IsMarked (record { units = length (set labels u t); items = take (count + r) (set order count u); labels = set labels u t })
+marked_if labels order count u l t r marked long le lt pos puts = elim puts [
+  | inl e ↦
+      let m : Marked = record { units = length labels; items = take count order; labels = labels } in
+      let more = has_room m u marked lt e.2 in
+      let room : count < length order = omega (arith, le, long) in (
+        omega (arith, more, e.1, length-take-le count order (omega (arith, le, long)), length-set labels u t),
+        subst (λ k. IsMarked (record { units = length (set labels u k); items = take (count + r) (set order count u); labels = set labels u k })) (sym e.0)
+            (marked_more m u l (length (set labels u l)) (take (count + r) (set order count u)) marked lt e.2 pos (length-set labels u l)
+            (ap (λ k. take (count + k) (set order count u)) e.1 ∙ take_more_set order count u room)),
+      )
+  | inr e ↦
+      let labels_same : set labels u t ≡ labels = ap (λ k. set labels u k) e.0 ∙ set-get_or labels u 0 in
+      let items_same : take (count + r) (set order count u) ≡ take count order =
+      ap (λ k. take k (set order count u)) (omega (arith, e.1)) ∙ take-set order count u in (
+        omega (arith, le, e.1, length-set labels u t),
+        subst (λ (xs : List ℕ). IsMarked (record { units = length xs; items = take (count + r) (set order count u); labels = xs })) (sym labels_same)
+            (subst (λ (xs : List ℕ). IsMarked (record { units = length labels; items = xs; labels = labels })) (sym items_same) marked),
+      )
+]
 
 -- labels that are all 0 meet the invariant with an empty list
 pub marked_none : (labels : List ℕ) → ((v : ℕ) → get_or labels v 0 ≡ 0) → IsMarked (record { units = length labels; items = []; labels = labels })
