@@ -31,9 +31,9 @@ pub record IsSeeding (g : Graph) (plan : List ℕ) (u : ℕ) (row : List ℕ) (l
   pub amount : length m.items ≡ last
   pub order : (k : ℕ) → k < length m.items → slice_index m.labels (slice_index m.items k) ≡ k + 1
 
--- the first mates in the list are joined with the adjacent mates
+-- the first mates in the list, but for the very first, are joined with the adjacent mates
 pub record IsLinking (g : Graph) (plan : List ℕ) (u : ℕ) (m : Marked) (roots : List ℕ) (place : ℕ) : Type 0 where
   pub joined : IsJoined g (is_mate g plan u) m.labels roots
-  pub closed : (k : ℕ) → k < place → (v : ℕ) → IsIn g (is_mate g plan u) v → IsTrue (adjacent g (slice_index m.items k) v)
+  pub closed : (k : ℕ) → 0 < k → k < place → (v : ℕ) → IsIn g (is_mate g plan u) v → IsTrue (adjacent g (slice_index m.items k) v)
       → part m.labels roots v ≡ part m.labels roots (slice_index m.items k)
   pub width : length roots ≡ 17

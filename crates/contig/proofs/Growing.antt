@@ -1,6 +1,6 @@
 -- A search that grows from several units in turn.
-use Rattle.std.proofs.Common.{◌≡◌, ◌≢◌, ℕ, ◌+◌, ◌<◌, ◌≤◌, Bool, true, not, List, [], length, get_or, set, refl, sym, ap, ◌∙◌, subst, inl, inr, arith, length-set, get_or-set_same, get_or-set_other}
-use Rattle.std.specs.Prelude.{◌==◌, ◌⊎◌, slice_index}
+use Rattle.std.proofs.Common.{◌≡◌, ◌≢◌, ℕ, ◌+◌, ◌<◌, ◌≤◌, Bool, true, not, List, [], length, get_or, set, refl, sym, ap, ◌∙◌, subst, inl, inr, arith, length-set, get_or-set_other}
+use Rattle.std.specs.Prelude.{◌==◌, slice_index}
 use Rattle.std.proofs.lemmas.Bool.{cases_eq, cases_lt, ne_eqb, and_parts, and_from, both_ways, not_from_false}
 use Rattle.audit_model.specs.Graph.{Graph, adjacent, IsIn, IsGraph}
 use Rattle.audit_model.specs.Path.{HasPath, IsConnected}
@@ -44,9 +44,10 @@ module _ (g : Graph) (inside : ℕ → Bool) (last : ℕ) (m : Marked) (roots en
   pub grow_more : (label unit : ℕ) (after : Marked) (now later : List ℕ) → label ≤ last → at < length m.items
       → get_or m.labels unit 0 ≡ label → unit ≡ get_or m.items at 0
       → IsSpread g inside (get_or g.neighbours unit []) label m after roots now → NotOne now last
-      → (later ≡ set ends label (length after.items)) ⊎ ((later ≡ ends) × (length after.items ≤ length m.items))
+      → later ≡ set ends label (get_or later label 0) → get_or ends label 0 ≤ get_or later label 0
+      → (length m.items < length after.items → length after.items ≤ get_or later label 0)
       → IsGrowing g inside last after now later (at + 1)
-  grow_more label unit after now later le lt is_label is spread parted new_ends = record {
+  grow_more label unit after now later le lt is_label is spread parted others rising raised = record {
     units = spread.units ∙ s.units;
     marked = spread.marked;
     joined = spread.joined;
@@ -55,10 +56,7 @@ module _ (g : Graph) (inside : ℕ → Bool) (last : ℕ) (m : Marked) (roots en
     closed = closes;
     ended = ends_before;
     parted = parted;
-    widths = (
-      spread.width ∙ s.widths.0,
-      elim new_ends [ inl e ↦ ap length e ∙ length-set ends label (length after.items) ∙ s.widths.1 | inr e ↦ ap length e.0 ∙ s.widths.1 ],
-    );
+    widths = (spread.width ∙ s.widths.0, ap length others ∙ length-set ends label (get_or later label 0) ∙ s.widths.1);
     bound = omega (arith, lt, spread.longer);
   }
     where
@@ -92,9 +90,6 @@ module _ (g : Graph) (inside : ℕ → Bool) (last : ℕ) (m : Marked) (roots en
                 (s.closed k (omega (arith, below, other)) v i (subst (λ t. adjacent g t v ≡ true) ex a)))
           ]
 
-      wide : label < length ends
-      wide = omega (arith, s.widths.1, le, few)
-
       ends_old : (k : ℕ) → k < length m.items → k < get_or ends (get_or after.labels (get_or after.items k 0) 0) 0
       ends_old k old =
           let ex : get_or after.items k 0 ≡ get_or m.items k 0 = spread.front k old in
@@ -103,18 +98,17 @@ module _ (g : Graph) (inside : ℕ → Bool) (last : ℕ) (m : Marked) (roots en
           (subst (λ t. k < get_or ends (get_or m.labels t 0) 0) (sym ex) (s.ended k old))
 
       ends_before : (k : ℕ) → k < length after.items → k < get_or later (get_or after.labels (get_or after.items k 0) 0) 0
-      ends_before k l = elim new_ends [
-        | inl e ↦ subst (λ (t : List ℕ). k < get_or t (get_or after.labels (get_or after.items k 0) 0) 0) (sym e)
-            (elim (cases_eq (get_or after.labels (get_or after.items k 0) 0) label) [
-              | inl same ↦ subst (λ t. k < get_or (set ends label (length after.items)) t 0) (sym same)
-                  (subst (λ t. k < t) (sym (get_or-set_same ends label (length after.items) 0 wide)) l)
-              | inr off ↦ subst (λ t. k < t) (sym (get_or-set_other ends label (get_or after.labels (get_or after.items k 0) 0) (length after.items) 0 off))
-                  (elim (cases_lt k (length m.items)) [
-                    | inl old ↦ ends_old k old
-                    | inr new ↦ absurd (off (spread.added k new l))
-                  ])
-            ])
-        | inr e ↦ subst (λ (t : List ℕ). k < get_or t (get_or after.labels (get_or after.items k 0) 0) 0) (sym e.0) (ends_old k (omega (arith, l, e.1)))
+      ends_before k l = elim (cases_lt k (length m.items)) [
+        | inl old ↦
+            let was = ends_old k old in
+            elim (cases_eq (get_or after.labels (get_or after.items k 0) 0) label) [
+              | inl same ↦
+                  let here : k < get_or ends label 0 = subst (λ t. k < get_or ends t 0) same was in
+                  subst (λ t. k < get_or later t 0) (sym same) (omega (arith, here, rising))
+              | inr off ↦ subst (λ t. k < t) (sym (ap (λ (t : List ℕ). get_or t (get_or after.labels (get_or after.items k 0) 0) 0) others
+                  ∙ get_or-set_other ends label (get_or after.labels (get_or after.items k 0) 0) (get_or later label 0) 0 off)) was
+            ]
+        | inr new ↦ subst (λ t. k < get_or later t 0) (sym (spread.added k new l)) (let more = raised (omega (arith, new, l)) in omega (arith, more, l))
       ]
 
   -- ---- the end

@@ -1,5 +1,6 @@
 -- Joining adjacent mates.
-use Rattle.std.proofs.Common.{◌≡◌, ℕ, ◌<◌, ◌≤◌, true, List, length, get_or, sym, ap, ◌∙◌, subst, arith}
+use Rattle.std.proofs.Common.{◌≡◌, ℕ, ◌<◌, ◌≤◌, true, List, length, get_or, sym, ap, ◌∙◌, subst, inl, inr, arith}
+use Rattle.std.proofs.lemmas.Bool.{cases_lt}
 use Rattle.audit_model.specs.Graph.{Graph, adjacent, IsIn, IsGraph}
 use Rattle.audit_model.specs.Local.{is_mate, stays_behind, IsLocal}
 use Rattle.audit_model.proofs.ListFacts.{has_at}
@@ -10,8 +11,8 @@ use Rattle.contig.proofs.Between.{IsLinking}
 use Rattle.contig.proofs.Growing.{joined_all, mate_stays}
 
 module _ (g : Graph) (plan : List ℕ) (u last : ℕ) (m : Marked) (s : IsSeeded g plan u last m) where
-  pub linking_begins : (roots : List ℕ) → IsJoined g (is_mate g plan u) m.labels roots → length roots ≡ 17 → IsLinking g plan u m roots 0
-  linking_begins roots joined long = record { joined = joined; closed = λ k l. absurd (omega arith); width = long }
+  pub linking_begins : (roots : List ℕ) → IsJoined g (is_mate g plan u) m.labels roots → length roots ≡ 17 → IsLinking g plan u m roots 1
+  linking_begins roots joined long = record { joined = joined; closed = λ k p l. absurd (omega (arith, p, l)); width = long }
 
   module _ (roots : List ℕ) (place : ℕ) (l : IsLinking g plan u m roots place) where
     pub linked_stays : IsGraph g → IsJoined g (stays_behind plan u) m.labels roots
@@ -25,8 +26,8 @@ module _ (g : Graph) (plan : List ℕ) (u last : ℕ) (m : Marked) (s : IsSeeded
           joined = λ x y ix iy. joined_all g (is_mate g plan u) m.labels roots last l.joined one s.small x y (s.complete x ix) (s.complete y iy);
         }
 
-    pub linked_parted : length m.items ≤ place → 0 < last → NotOne roots last → IsLocal g plan u → ⊥
-    linked_parted all some parted local =
+    pub linked_parted : IsGraph g → length m.items ≤ place → 0 < last → NotOne roots last → IsLocal g plan u → ⊥
+    linked_parted graph all some parted local =
         let one = s.seeds 1 (omega arith) (omega (arith, some)) in
         let other = s.seeds parted.0 parted.1 parted.2 in
         let p1 : 0 < get_or m.labels one.0 0 = omega (arith, one.1) in
@@ -38,9 +39,22 @@ module _ (g : Graph) (plan : List ℕ) (u last : ℕ) (m : Marked) (s : IsSeeded
         IsHere : ℕ → Type 0
         IsHere v = (0 < get_or m.labels v 0) × (part m.labels roots v ≡ get_or roots 1 0)
 
+        -- the edges of each mate but the first
+        joins : (k v w : ℕ) → k < length m.items → get_or m.items k 0 ≡ v → 0 < k → IsIn g (is_mate g plan u) w → adjacent g v w ≡ true → part m.labels roots w ≡ part m.labels roots v
+        joins k v w lt is pos i a =
+            l.closed k pos (omega (arith, lt, all)) w i (subst (λ t. adjacent g t w ≡ true) (sym is) a) ∙ ap (λ t. part m.labels roots t) is
+
         step : (v w : ℕ) → IsHere v → IsIn g (is_mate g plan u) w → adjacent g v w ≡ true → IsHere w
         step v w here i a =
-            let at = has_at m.items v (s.marked.listed v here.0) in (
-              s.complete w i,
-              l.closed at.0 (omega (arith, at.1, all)) w i (subst (λ t. adjacent g t w ≡ true) (sym at.2) a) ∙ ap (λ t. part m.labels roots t) at.2 ∙ here.1,
+            let there : 0 < get_or m.labels w 0 = s.complete w i in
+            let at = has_at m.items v (s.marked.listed v here.0) in
+            let at_w = has_at m.items w (s.marked.listed w there) in (
+              there,
+              elim (cases_lt 0 at.0) [
+                | inl pos ↦ joins at.0 v w at.1 at.2 pos i a
+                | inr first ↦ elim (cases_lt 0 at_w.0) [
+                  | inl pos ↦ sym (joins at_w.0 w v at_w.1 at_w.2 pos (s.mates v here.0) (graph.symmetric w v ∙ a))
+                  | inr also ↦ ap (λ t. part m.labels roots t) (sym at_w.2 ∙ ap (λ t. get_or m.items t 0) (omega (arith, first, also)) ∙ at.2)
+                ]
+              ] ∙ here.1,
             )

@@ -1,15 +1,15 @@
 -- Finding the neighbors of one unit.
-use Rattle.std.proofs.Common.{◌≡◌, ℕ, zero, suc, ◌<◌, Bool, true, cond, List, [], ◌∷◌, ◌++◌, length, get_or, set, refl, sym, ap, ◌∙◌, subst, inl, inr, arith, length-append, get_or-set_same, get_or-set_other}
-use Rattle.std.specs.Prelude.{◌==◌}
-use Rattle.std.proofs.lemmas.Bool.{cases_eq, eq-eqb, ne_eqb, cond-true, cond-false}
+use Rattle.std.proofs.Common.{◌≡◌, ℕ, zero, suc, ◌<◌, Bool, true, false, cond, List, [], ◌∷◌, ◌++◌, length, get_or, set, refl, sym, ap, ◌∙◌, subst, inl, inr, arith, length-append, get_or-set_same, get_or-set_other}
+use Rattle.std.specs.Prelude.{◌==◌, ◌||◌, ◌&&◌, not}
+use Rattle.std.proofs.lemmas.Bool.{cases_eq, eq-eqb, eqb-true, ne_eqb, cond-true, cond-false, false≢true, not-false, or_parts, and_cases}
 use Rattle.std.proofs.lemmas.List.{get_or_append_left, get_or_push}
-use Rattle.audit_model.specs.Graph.{Graph, adjacent, IsIn}
+use Rattle.audit_model.specs.Graph.{Graph, has, adjacent, IsIn}
 use Rattle.audit_model.specs.Path.{HasPath}
 use Rattle.audit_model.proofs.Connected.{has-append_parts}
 use Rattle.audit_model.proofs.ListFacts.{has_one}
 use Rattle.audit_model.proofs.Paths.{path_one, path_before, path_after, path_joined, path_end}
 use Rattle.dual_graph.specs.Marked.{Marked, IsMarked}
-use Rattle.contig.specs.Parts.{part, IsSpread}
+use Rattle.contig.specs.Parts.{part, IsSpread, IsRowMarked, IsOnePart}
 use Rattle.audit_model.specs.Replaced.{Replaced}
 
 -- the roots, with that of one label replaced by that of another
@@ -195,3 +195,105 @@ labels_stay_small g inside row label old new before after s small unit is w = el
 pub above_zero : (n m : ℕ) → n ≡ m → (n ≡ 0 → ⊥) → 0 < m
 above_zero zero m e h = absurd (h refl)
 above_zero (suc n) m e h = omega (arith, e)
+
+-- ---- marking a row, and joining the parts after that
+
+-- the same marks, of another row
+spread_of : (g : Graph) (inside : ℕ → Bool) (row other : List ℕ) (label : ℕ) (old new : Marked) (before after : List ℕ) → IsSpread g inside row label old new before after
+    → ((v : ℕ) → IsIn g inside v → has other v ≡ true → (0 < get_or new.labels v 0) × (part new.labels after v ≡ get_or after label 0))
+    → IsSpread g inside other label old new before after
+spread_of g inside row other label old new before after s each = record {
+  units = s.units;
+  marked = s.marked;
+  longer = s.longer;
+  front = s.front;
+  kept = s.kept;
+  fresh = s.fresh;
+  added = s.added;
+  each = each;
+  coarser = s.coarser;
+  joined = s.joined;
+  width = s.width;
+}
+
+module _ (g : Graph) (inside : ℕ → Bool) (row : List ℕ) (label : ℕ) (old new : Marked) (roots : List ℕ) (s : IsRowMarked g inside row label old new roots) where
+  module _ (v : ℕ) where
+    -- the next neighbor is not in the set, or already found
+    pub row_passed : (IsIn g inside v → 0 < get_or new.labels v 0) → IsRowMarked g inside (row ++ v ∷ []) label old new roots
+    row_passed there = record {
+      spread = s.spread;
+      found = λ w i h. elim (has-append_parts row (v ∷ []) w h) [
+        | inl e ↦ s.found w i e
+        | inr e ↦ subst (λ t. 0 < get_or new.labels t 0) (has_one v w e) (there (subst (λ t. IsIn g inside t) (sym (has_one v w e)) i))
+      ];
+    }
+
+    -- and it is in the part
+    pub one_passed : IsOnePart g inside row label new.labels roots → (IsIn g inside v → part new.labels roots v ≡ get_or roots label 0)
+        → IsOnePart g inside (row ++ v ∷ []) label new.labels roots
+    one_passed one there w i h = elim (has-append_parts row (v ∷ []) w h) [
+      | inl e ↦ one w i e
+      | inr e ↦ subst (λ t. part new.labels roots t ≡ get_or roots label 0) (has_one v w e) (there (subst (λ t. IsIn g inside t) (sym (has_one v w e)) i))
+    ]
+
+    module _ (grown : Marked) (lt : v < new.units) (el : grown.labels ≡ set new.labels v label) where
+      at_v : (w : ℕ) → w ≡ v → get_or grown.labels w 0 ≡ label
+      at_v w e = subst (λ t. get_or grown.labels t 0 ≡ label) (sym e)
+          (ap (λ (t : List ℕ). get_or t v 0) el ∙ get_or-set_same new.labels v label 0 (subst (λ t. v < t) (sym s.spread.marked.width) lt))
+
+      off_v : (w : ℕ) → (w ≡ v → ⊥) → get_or grown.labels w 0 ≡ get_or new.labels w 0
+      off_v w e = ap (λ (t : List ℕ). get_or t w 0) el ∙ get_or-set_other new.labels v w label 0 e
+
+      in_row : (w : ℕ) → (w ≡ v → ⊥) → has (row ++ v ∷ []) w ≡ true → has row w ≡ true
+      in_row w off h = elim (has-append_parts row (v ∷ []) w h) [ inl e ↦ e | inr e ↦ absurd (off (sym (has_one v w e))) ]
+
+      -- the next neighbor gets the label
+      pub row_marked : (unit : ℕ) → get_or new.labels unit 0 ≡ label → 0 < label → IsIn g inside v → adjacent g unit v ≡ true → adjacent g v unit ≡ true
+          → get_or new.labels v 0 ≡ 0 → grown.units ≡ new.units → grown.items ≡ new.items ++ v ∷ [] → IsMarked grown
+          → IsRowMarked g inside (row ++ v ∷ []) label old grown roots
+      row_marked unit found pos i uv vu none eu ei marked =
+          let more = spread_marked g inside [] label old new roots roots v s.spread unit found pos i uv vu grown none lt eu ei el marked in
+          record {
+            spread = spread_of g inside (v ∷ []) [] label old grown roots roots more (λ w j h. absurd (false≢true h));
+            found = λ w j h. elim (cases_eq w v) [
+              | inl e ↦ subst (λ t. 0 < t) (sym (at_v w e)) pos
+              | inr off ↦ subst (λ t. 0 < t) (sym (off_v w off)) (s.found w j (in_row w off h))
+            ];
+          }
+
+      pub one_marked : IsOnePart g inside row label new.labels roots → IsOnePart g inside (row ++ v ∷ []) label grown.labels roots
+      one_marked one w j h = elim (cases_eq w v) [
+        | inl e ↦ ap (λ t. get_or roots t 0) (at_v w e)
+        | inr off ↦ ap (λ t. get_or roots t 0) (off_v w off) ∙ one w j (in_row w off h)
+      ]
+
+  -- no part was met
+  pub row_alone : IsOnePart g inside row label new.labels roots → IsSpread g inside row label old new roots roots
+  row_alone one = spread_of g inside [] row label old new roots roots s.spread (λ w i h. (s.found w i h, one w i h))
+
+  -- the parts that were met are joined
+  pub row_joined : (after : List ℕ) → IsSpread g inside row label new new roots after → IsSpread g inside row label old new roots after
+  row_joined after more = record {
+    units = s.spread.units;
+    marked = more.marked;
+    longer = s.spread.longer;
+    front = s.spread.front;
+    kept = s.spread.kept;
+    fresh = s.spread.fresh;
+    added = s.spread.added;
+    each = more.each;
+    coarser = more.coarser;
+    joined = more.joined;
+    width = more.width;
+  }
+
+-- the test of a neighbor fails only if the neighbor has no label or is in the part
+pub not_met : (met : Bool) (there root mine : ℕ) → (met || (not (there == 0) && not (root == mine))) ≡ false → (met ≡ false) × (0 < there → root ≡ mine)
+not_met met there root mine h =
+    let parts = or_parts met (not (there == 0) && not (root == mine)) h in (
+      parts.0,
+      λ pos. elim (and_cases (not (there == 0)) (not (root == mine)) parts.1) [
+        | inl e ↦ absurd (let none : there ≡ 0 = eqb-true there 0 (not-false (there == 0) e) in omega (arith, pos, none))
+        | inr e ↦ eqb-true root mine (not-false (root == mine) e)
+      ],
+    )

@@ -5,19 +5,19 @@
 //! parts are adjacent, the parts *meet*, and their labels are joined. `roots` has a class number
 //! for each label, and joined labels have the same number.
 //!
-//! In this module, `link` and `are_linked` concern edges between mates, not faces.
+//! In this module, `link`, `link_visited` and `are_linked` concern edges, not faces.
 
-ghost use Rattle.std.specs.Prelude.{◌≡◌, ◌≢◌, ◌+◌, ◌<◌, ◌≤◌, ◌↔◌, ◌⊎◌, ℕ, [], length, slice_index, slice_set, IsTrue, IsFalse};
+ghost use Rattle.std.specs.Prelude.{◌≡◌, ◌+◌, ◌<◌, ◌≤◌, ◌↔◌, ℕ, [], length, slice_index, slice_set, IsTrue, IsFalse};
 ghost use Rattle.std.specs.List.{slice_index_or};
-ghost use Rattle.audit_model.specs.Graph.{Graph as GraphValue, IsIn, IsGraph};
+ghost use Rattle.audit_model.specs.Graph.{adjacent};
 ghost use Rattle.audit_model.specs.Local.{is_mate, stays_behind, IsLocal, MayLeave};
 ghost use Rattle.audit_model.specs.Path.{IsConnected};
 ghost use Rattle.audit_model.specs.District.{in_district};
-ghost use Rattle.contig.specs.Parts.{IsJoined, HoldsFoundParts, AllOne, NotOne, IsSpread, IsSeeded};
-ghost use Rattle.audit_model.specs.Replaced.{Replaced};
+ghost use Rattle.contig.specs.Parts.{IsJoined, HoldsFoundParts, AllOne, NotOne, IsSpread, IsRowMarked, IsOnePart, HasLabels, LinksNeighbors, IsSeeded};
 
 use crate::classes::join;
 use audit_model::steps::Steps;
+use dual_graph::graph::Graph;
 use dual_graph::marks::Marks;
 use dual_graph::member::Member;
 use std::sync::ledger::Ledger;
@@ -58,7 +58,8 @@ pub fn meet<L: Ledger>(
         if joins_all(leaving, marks, roots, last, unit, label) {
             return true;
         }
-        if !can_grow(roots, &mut ends, marks, before, last, label, at) {
+        raise_end(&mut ends, label, before, marks.count());
+        if !goes_on(roots, &ends, last, label, at) {
             return false;
         }
     }
@@ -67,6 +68,8 @@ pub fn meet<L: Ledger>(
 
 /// Joins the labels of adjacent mates. Returns true if the mates are connected among themselves.
 /// The mates have the labels 1 to `last`.
+///
+/// An edge between mates is in the rows of both, so the row of the first mate is skipped.
 pub fn are_linked(leaving: Member, marks: &Marks, roots: &mut [u8; 17], last: usize) -> bool
     requires some { 0 < last }
     requires seeded { IsSeeded leaving.graph.now leaving.plan.now leaving.unit last marks.now }
@@ -75,8 +78,8 @@ pub fn are_linked(leaving: Member, marks: &Marks, roots: &mut [u8; 17], last: us
     ensures joined { IsJoined leaving.entry.graph.now (stays_behind leaving.entry.plan.now leaving.entry.unit) marks.now.labels roots.new }
     ensures parted { IsFalse result → NotOne roots.new last }
 {
-    for place in 0..marks.count() {
-        link(leaving, marks, roots, last, marks.at(place));
+    for place in 1..marks.count() {
+        link(leaving.graph, marks, roots, marks.at(place));
     }
     all_one(roots, last)
 }
@@ -119,36 +122,53 @@ fn all_one(roots: &[u8], last: usize) -> bool
     true
 }
 
-/// Visits a marked unit. Gives its label to its unmarked neighbors in the rest, and joins its label
-/// with the labels of its marked neighbors. Returns true if two labels were joined.
+/// Visits a marked unit: gives its label to its unmarked neighbors in the rest. Returns true if it
+/// has a marked neighbor whose label is not joined with its own.
+///
+/// The loop has no branch on districts or labels: such a branch would often be mispredicted.
 #[inline]
-fn spread(leaving: Member, marks: &mut Marks, roots: &mut [u8; 17], unit: u32, label: u8) -> bool
+fn spread(leaving: Member, marks: &mut Marks, roots: &[u8; 17], unit: u32, label: u8) -> bool
     requires unit { unit < leaving.graph.now.units }
-    requires found { HoldsFoundParts leaving.graph.now (stays_behind leaving.plan.now leaving.unit) marks.old roots.old }
+    requires found { HoldsFoundParts leaving.graph.now (stays_behind leaving.plan.now leaving.unit) marks.old roots.now }
     requires label { (0 < label) × (slice_index marks.old.labels unit ≡ label) }
-    ensures spread { IsSpread leaving.entry.graph.now (stays_behind leaving.entry.plan.now leaving.entry.unit) (slice_index_or leaving.entry.graph.now.neighbours unit [])
-        label marks.old marks.new roots.old roots.new }
-    ensures same { IsFalse result → roots.new ≡ roots.old }
+    ensures marked { IsRowMarked leaving.entry.graph.now (stays_behind leaving.entry.plan.now leaving.entry.unit) (slice_index_or leaving.entry.graph.now.neighbours unit [])
+        label marks.old marks.new roots.now }
+    ensures alone { IsFalse result → IsOnePart leaving.entry.graph.now (stays_behind leaving.entry.plan.now leaving.entry.unit) (slice_index_or leaving.entry.graph.now.neighbours unit [])
+        label marks.new.labels roots.now }
 {
     let plan = leaving.plan;
     let district = plan[leaving.unit as usize];
+    let mine = roots[label as usize];
     let mut met = false;
     for other in leaving.graph.neighbours(unit) {
         let v = *other;
-        if plan[v as usize] == district && v != leaving.unit {
-            let there = marks.label(v);
-            if there == 0 {
-                marks.mark_as(v, label);
-            } else if roots[there as usize] != roots[label as usize] {
-                join(roots, there as usize, label as usize);
-                met = true;
-            }
-        }
+        let inside = (plan[v as usize] == district) & (v != leaving.unit);
+        let there = marks.label(v);
+        marks.mark_if(v, label, inside & (there == 0));
+        met = met | ((there != 0) & (roots[there as usize] != mine));
     }
     met
 }
 
-/// Visits a marked unit with `spread`. Returns true if all labels are joined then.
+/// Joins the label of a visited unit with the labels of its marked neighbors. Returns true if all
+/// labels are joined then. A search has fewer calls than mates, since each call joins two labels.
+#[cold]
+#[inline(never)]
+fn link_visited(graph: &Graph, marks: &Marks, roots: &mut [u8; 17], last: usize, unit: u32) -> bool
+    requires last { last ≤ 16 }
+    requires unit { unit < graph.now.units }
+    requires marked { HasLabels graph.now marks.now }
+    requires label { 0 < slice_index marks.now.labels unit }
+    ensures linked { LinksNeighbors graph.now unit marks.now roots.old roots.new }
+    ensures yes { IsTrue result → AllOne roots.new last }
+    ensures no { IsFalse result → NotOne roots.new last }
+{
+    link(graph, marks, roots, unit);
+    all_one(roots, last)
+}
+
+/// Visits a marked unit with `spread`, and joins its label with those of its marked neighbors.
+/// Returns true if all labels are joined then.
 #[inline]
 fn joins_all(
     leaving: Member,
@@ -169,46 +189,36 @@ fn joins_all(
     ensures no { IsFalse result → NotOne roots.new last }
 {
     if spread(leaving, marks, roots, unit, label) {
-        return all_one(roots, last);
+        return link_visited(leaving.graph, marks, roots, last, unit);
     }
     false
 }
 
-/// Sets the label's entry in `ends` if there are more marks than `before`. Returns true if the
-/// label's part can still grow, as in `goes_on`.
+/// Raises the label's entry in `ends` to `count` if the number of marks rose from `before` to
+/// `count`. It takes the maximum to do so without a branch.
 #[inline]
-fn can_grow(
-    roots: &[u8],
-    ends: &mut [usize; 17],
-    marks: &Marks,
-    before: usize,
-    last: usize,
-    label: u8,
-    at: usize,
-) -> bool
-    requires last { (last ≤ 16) × (last < length roots.now) }
-    requires label { label ≤ last }
-    ensures ends { (ends.new ≡ slice_set ends.old label (length marks.now.items)) ⊎ ((ends.new ≡ ends.old) × (length marks.now.items ≤ before)) }
-    ensures no { IsFalse result → (l : ℕ) → 0 < l → l ≤ last → slice_index roots.now l ≡ slice_index roots.now label → slice_index ends.new l ≤ at }
+fn raise_end(ends: &mut [usize; 17], label: u8, before: usize, count: usize)
+    requires { label ≤ 16 }
+    ensures others { ends.new ≡ slice_set ends.old label (slice_index ends.new label) }
+    ensures rising { slice_index ends.old label ≤ slice_index ends.new label }
+    ensures raised { before < count → count ≤ slice_index ends.new label }
 {
-    let count = marks.count();
-    if count > before {
-        ends[label as usize] = count;
-        return true;
-    }
-    if ends[label as usize] > at {
-        return true;
-    }
-    goes_on(roots, ends, last, label, at)
+    let old = ends[label as usize];
+    let new = if count > before { count } else { 0 };
+    ends[label as usize] = old.max(new);
 }
 
 /// Returns true if the part of a label, with the parts joined to it, can still grow: one of its
 /// units is at position `at` or later.
+#[inline]
 fn goes_on(roots: &[u8], ends: &[usize], last: usize, label: u8, at: usize) -> bool
     requires widths { (last < length roots.now) × (last < length ends.now) }
     requires label { label ≤ last }
     ensures { IsFalse result → (l : ℕ) → 0 < l → l ≤ last → slice_index roots.now l ≡ slice_index roots.now label → slice_index ends.now l ≤ at }
 {
+    if ends[label as usize] > at {
+        return true;
+    }
     for other in 1..last + 1 {
         if roots[other] == roots[label as usize] && ends[other] > at {
             return true;
@@ -217,18 +227,16 @@ fn goes_on(roots: &[u8], ends: &[usize], last: usize, label: u8, at: usize) -> b
     false
 }
 
-/// Joins the label of a mate with the labels of adjacent mates.
+/// Joins the label of a marked unit with the labels of its marked neighbors.
 #[inline]
-fn link(leaving: Member, marks: &Marks, roots: &mut [u8; 17], last: usize, unit: u32)
-    requires unit { unit < leaving.graph.now.units }
-    requires seeded { IsSeeded leaving.graph.now leaving.plan.now leaving.unit last marks.now }
+fn link(graph: &Graph, marks: &Marks, roots: &mut [u8; 17], unit: u32)
+    requires unit { unit < graph.now.units }
+    requires marked { HasLabels graph.now marks.now }
     requires label { 0 < slice_index marks.now.labels unit }
-    requires joined { IsJoined leaving.graph.now (is_mate leaving.graph.now leaving.plan.now leaving.unit) marks.now.labels roots.old }
-    ensures { let g = leaving.entry.graph.now in
-        IsSpread g (is_mate g leaving.entry.plan.now leaving.entry.unit) (slice_index_or g.neighbours unit []) (slice_index marks.now.labels unit) marks.now marks.now roots.old roots.new }
+    ensures { LinksNeighbors graph.now unit marks.now roots.old roots.new }
 {
     let label = marks.label(unit);
-    for other in leaving.graph.neighbours(unit) {
+    for other in graph.neighbours(unit) {
         let there = marks.label(*other);
         if there != 0 && roots[there as usize] != roots[label as usize] {
             join(roots, there as usize, label as usize);

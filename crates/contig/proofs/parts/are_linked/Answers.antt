@@ -21,7 +21,7 @@ returns-clause-local c =
       λ local. elim (cases_Bool c.all_one.result) [
         | inl e ↦ e
         | inr e ↦ absurd (linked_parted c.args.leaving.graph.now c.args.leaving.plan.now c.args.leaving.unit c.args.last c.args.marks.now c.requires.seeded c.loop-place.roots c.loop-place.place c.loop-place.invariant
-            all c.requires.some (c.all_one.ensures.no e) local)
+            c.args.leaving.sound all c.requires.some (c.all_one.ensures.no e) local)
       ],
     )
 

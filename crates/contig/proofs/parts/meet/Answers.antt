@@ -1,4 +1,4 @@
-use Rattle.std.proofs.Common.{◌≡◌, ℕ, ◌+◌, ◌<◌, ◌≤◌, ◌⊎◌, length, get_or, set, List, refl, arith, sym, ap, subst, ◌∙◌}
+use Rattle.std.proofs.Common.{◌≡◌, ℕ, ◌+◌, ◌<◌, ◌≤◌, length, get_or, List, refl, arith, sym, ap, subst, ◌∙◌}
 use Rattle.std.proofs.lemmas.Bool.{false≢true}
 use Rattle.audit_model.specs.Local.{stays_behind}
 use Rattle.audit_model.proofs.ListFacts.{at_has}
@@ -72,6 +72,10 @@ loop-at-smaller g c =
     let s = c.loop-at.invariant.growing in
     omega (arith, c.loop-at-test.true, c.count.ensures, items_le c.loop-at.marks s.marked, s.units)
 
+-- the numbers of marks, as the calls gave them
+raised : (before count m n end : ℕ) → before ≡ m → count ≡ n → (before < count → count ≤ end) → m < n → n ≤ end
+raised before count m n end eb ec h lt = let more = h (omega (arith, eb, ec, lt)) in omega (arith, more, ec)
+
 pub loop-at-preserved : goal.loop-at-preserved
 loop-at-preserved g c =
     let s = c.loop-at.invariant.growing in
@@ -79,15 +83,14 @@ loop-at-preserved g c =
     let le : c.label-label.result ≤ c.args.last = omega (arith, c.label-label.ensures, s.small c.at-unit.result) in
     record {
       growing = grow_more c.args.leaving.graph.now (stays_behind c.args.leaving.plan.now c.args.leaving.unit) c.args.last c.loop-at.marks c.loop-at.roots c.loop-at.ends c.loop-at.at s c.requires.seeded.few
-          c.label-label.result c.at-unit.result c.joins_all.new.marks c.joins_all.new.roots c.can_grow.new.ends le lt (sym c.label-label.ensures) c.at-unit.ensures c.joins_all.ensures.spread
+          c.label-label.result c.at-unit.result c.joins_all.new.marks c.joins_all.new.roots c.raise_end.new.ends le lt (sym c.label-label.ensures) c.at-unit.ensures c.joins_all.ensures.spread
           (c.joins_all.ensures.no c.if-joins_all.false)
-          (subst (λ t. (c.can_grow.new.ends ≡ set c.loop-at.ends c.label-label.result (length c.joins_all.new.marks.items)) ⊎ ((c.can_grow.new.ends ≡ c.loop-at.ends) × (length c.joins_all.new.marks.items ≤ t)))
-          c.count-before.ensures c.can_grow.ensures.ends);
+          c.raise_end.ensures.others c.raise_end.ensures.rising (raised _ _ _ _ _ c.count-before.ensures c.count-in-loop-at.ensures c.raise_end.ensures.raised);
       complete = λ v i. let p = c.loop-at.invariant.complete v i in omega (arith, p, c.joins_all.ensures.spread.kept v p);
     }
 
-pub returns-then-not-can_grow-clause-leaves : goal.returns-then-not-can_grow-clause-leaves
-returns-then-not-can_grow-clause-leaves g c connected =
+pub returns-then-not-goes_on-clause-leaves : goal.returns-then-not-goes_on-clause-leaves
+returns-then-not-goes_on-clause-leaves g c connected =
     let s = c.loop-at.invariant.growing in
     let m : Marked = c.loop-at.marks in
     let lt : c.loop-at.at < length m.items = omega (arith, c.loop-at-test.true, c.count.ensures) in
@@ -95,14 +98,13 @@ returns-then-not-can_grow-clause-leaves g c connected =
     let is : c.label-label.result ≡ get_or m.labels (get_or m.items c.loop-at.at 0) 0 = c.label-label.ensures ∙ ap (λ (t : ℕ). get_or m.labels t 0) c.at-unit.ensures in
     let pos : 0 < c.label-label.result = omega (arith, is, s.marked.labelled (get_or m.items c.loop-at.at 0) (at_has m.items c.loop-at.at lt)) in
     let after = grow_more c.args.leaving.graph.now (stays_behind c.args.leaving.plan.now c.args.leaving.unit) c.args.last c.loop-at.marks c.loop-at.roots c.loop-at.ends c.loop-at.at s c.requires.seeded.few
-    c.label-label.result c.at-unit.result c.joins_all.new.marks c.joins_all.new.roots c.can_grow.new.ends le lt (sym c.label-label.ensures) c.at-unit.ensures c.joins_all.ensures.spread
+    c.label-label.result c.at-unit.result c.joins_all.new.marks c.joins_all.new.roots c.raise_end.new.ends le lt (sym c.label-label.ensures) c.at-unit.ensures c.joins_all.ensures.spread
     (c.joins_all.ensures.no c.if-joins_all.false)
-    (subst (λ t. (c.can_grow.new.ends ≡ set c.loop-at.ends c.label-label.result (length c.joins_all.new.marks.items)) ⊎ ((c.can_grow.new.ends ≡ c.loop-at.ends) × (length c.joins_all.new.marks.items ≤ t)))
-    c.count-before.ensures c.can_grow.ensures.ends) in
-    let done = part_done c.args.leaving.graph.now (stays_behind c.args.leaving.plan.now c.args.leaving.unit) c.args.last c.joins_all.new.marks c.joins_all.new.roots c.can_grow.new.ends (c.loop-at.at + 1) after c.requires.seeded.few
-    c.label-label.result (c.can_grow.ensures.no c.if-not-can_grow.true) in (
+    c.raise_end.ensures.others c.raise_end.ensures.rising (raised _ _ _ _ _ c.count-before.ensures c.count-in-loop-at.ensures c.raise_end.ensures.raised) in
+    let done = part_done c.args.leaving.graph.now (stays_behind c.args.leaving.plan.now c.args.leaving.unit) c.args.last c.joins_all.new.marks c.joins_all.new.roots c.raise_end.new.ends (c.loop-at.at + 1) after c.requires.seeded.few
+    c.label-label.result (c.goes_on.ensures c.if-not-goes_on.true) in (
       λ h. absurd (false≢true h),
-      λ may. absurd (grow_parted c.args.leaving.graph.now (stays_behind c.args.leaving.plan.now c.args.leaving.unit) c.args.last c.joins_all.new.marks c.joins_all.new.roots c.can_grow.new.ends (c.loop-at.at + 1) after c.requires.seeded.few
+      λ may. absurd (grow_parted c.args.leaving.graph.now (stays_behind c.args.leaving.plan.now c.args.leaving.unit) c.args.last c.joins_all.new.marks c.joins_all.new.roots c.raise_end.new.ends (c.loop-at.at + 1) after c.requires.seeded.few
           c.label-label.result pos le done may),
     )
 
