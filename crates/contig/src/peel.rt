@@ -14,18 +14,30 @@ const CROWDED: usize = 4;
 /// pentagon with 32 neighbors per unit and five crowded sides has the greatest weight.
 const CLASSES: usize = 181;
 
-/// For each side in a graph: the number of remaining rings that have it, and the exclusive or of
-/// the indices of these rings. If one ring remains, the exclusive or is its index.
+/// The greatest number of sides of a ring.
+const SIDES: usize = 5;
+
+/// Stands for the fourth and fifth side of a ring that has fewer sides. No side has this index.
+const NO_SIDE: u32 = 4294967295;
+
+/// The remaining rings that have a side: their number, and the exclusive or of their indices. If
+/// one ring remains, the exclusive or is its index.
+#[derive(Clone, Copy)]
+struct Tally {
+    count: u32,
+    sum: u32,
+}
+
+/// The sides of rings, and the tally of each side in a graph.
 ///
 /// Each entry of the units' lists of neighbors has an index. The index of a side is that of the
 /// greater unit in the list of the lesser unit.
 pub struct Sides {
-    /// For each unit, the index of the first entry of its list of neighbors.
-    begins: Vec<usize>,
-    counts: Vec<u32>,
-    sums: Vec<usize>,
+    /// The sides of each ring, beginning with its own side. They are searched once and kept.
+    rings: Vec<[u32; SIDES]>,
+    tallies: Vec<Tally>,
     /// Sides that had a single ring when they were added here.
-    singles: Vec<usize>,
+    singles: Vec<u32>,
 }
 
 /// Drops the fields one by one. Written by hand so that a caller's proof has one call here, not one
@@ -33,118 +45,143 @@ pub struct Sides {
 impl Drop for Sides {
     fn drop(self) {
         let Sides {
-            begins: _begins,
-            counts: _counts,
-            sums: _sums,
+            rings: _rings,
+            tallies: _tallies,
             singles: _singles,
         } = self;
     }
 }
 
+/// Returns the index of the side of two units.
+fn side_of(graph: &Graph, a: u32, b: u32) -> u32 {
+    let (low, high) = if a < b { (a, b) } else { (b, a) };
+    if low >= graph.units() {
+        return NO_SIDE;
+    }
+    let place = place_of(graph.neighbours(low), high);
+    index_of(graph.arcs_before(low).wrapping_add(place))
+}
+
+/// Returns the position of a unit in a list, or the length of the list. The lists are short: units
+/// on rings have few neighbors.
+fn place_of(row: &[u32], unit: u32) -> usize {
+    for place in 0..row.len() {
+        if row[place] == unit {
+            return place;
+        }
+    }
+    row.len()
+}
+
+/// Narrows an index, which is less than `NO_SIDE`.
+fn index_of(side: usize) -> u32 {
+    if side < 4294967295 {
+        side as u32
+    } else {
+        NO_SIDE
+    }
+}
+
+/// Returns the indices of a ring's sides, beginning with its own side.
+fn sides_of(graph: &Graph, ring: Face) -> [u32; SIDES] {
+    match ring {
+        Face::Triangle(a, b, c) => [
+            side_of(graph, a, b),
+            side_of(graph, b, c),
+            side_of(graph, c, a),
+            NO_SIDE,
+            NO_SIDE,
+        ],
+        Face::Square(a, b, c, d) => [
+            side_of(graph, a, b),
+            side_of(graph, b, c),
+            side_of(graph, c, d),
+            side_of(graph, d, a),
+            NO_SIDE,
+        ],
+        Face::Pentagon(a, b, c, d, e) => [
+            side_of(graph, a, b),
+            side_of(graph, b, c),
+            side_of(graph, c, d),
+            side_of(graph, d, e),
+            side_of(graph, e, a),
+        ],
+    }
+}
+
 impl Sides {
-    /// Returns the index of a ring's own side.
-    fn own(&self, graph: &Graph, ring: Face) -> usize {
-        let (a, b) = first_two(ring);
-        self.number_of(graph, a, b)
+    /// Counts the rings at each side of the graph. Fails if there is no memory.
+    pub fn of(alloc: Global, graph: &Graph, rings: &[Face]) -> Result<Sides, Memory> {
+        let none = Tally { count: 0, sum: 0 };
+        let mut sides = Sides {
+            rings: Vec::with_capacity(alloc, rings.len())?,
+            tallies: vec![in alloc; none; graph.arcs_before(graph.units())]?,
+            singles: Vec::new(alloc),
+        };
+        sides.add_rings(graph, rings)?;
+        sides.see_all()?;
+        Ok(sides)
     }
 
     /// Returns true if fewer than two of the remaining rings have this side.
     pub fn has_room(&self, graph: &Graph, a: u32, b: u32) -> bool {
-        let side = self.number_of(graph, a, b);
-        side < self.counts.len() && self.counts[side] < 2
-    }
-
-    /// Returns the index of the side of two units.
-    fn number_of(&self, graph: &Graph, a: u32, b: u32) -> usize {
-        let (low, high) = if a < b { (a, b) } else { (b, a) };
-        if low >= graph.units() || low as usize >= self.begins.len() {
-            return 0;
-        }
-        let place = match graph.neighbours(low).binary_search(&high) {
-            Ok(place) => place,
-            Err(place) => place,
-        };
-        self.begins[low as usize].wrapping_add(place)
-    }
-
-    /// Adds the ring `number` to a side, or removes it. A side with a single ring after a removal
-    /// is added to `singles`.
-    fn count(&mut self, side: usize, number: usize, more: bool) -> Result<(), Memory> {
-        if side >= self.counts.len() || side >= self.sums.len() {
-            return Ok(());
-        }
-        self.sums[side] ^= number;
-        if more {
-            self.counts[side] = self.counts[side].wrapping_add(1);
-            return Ok(());
-        }
-        self.counts[side] = self.counts[side].wrapping_sub(1);
-        self.see(side)
-    }
-
-    /// Adds one ring to all of its sides, or removes it from them.
-    fn count_all(
-        &mut self,
-        graph: &Graph,
-        ring: Face,
-        number: usize,
-        more: bool,
-    ) -> Result<(), Memory> {
-        let mut turn = ring;
-        for _ in 0..length_of(ring) {
-            let side = self.own(graph, turn);
-            self.count(side, number, more)?;
-            turn = turn.rotate();
-        }
-        Ok(())
-    }
-
-    /// Counts the rings at each side of the graph. Fails if there is no memory.
-    pub fn of(alloc: Global, graph: &Graph, rings: &[Face]) -> Result<Sides, Memory> {
-        let mut sides = Sides::new(alloc);
-        sides.add_sides(graph)?;
-        sides.add_rings(graph, rings)?;
-        Ok(sides)
-    }
-
-    fn new(alloc: Global) -> Sides {
-        Sides {
-            begins: Vec::new(alloc),
-            counts: Vec::new(alloc),
-            sums: Vec::new(alloc),
-            singles: Vec::new(alloc),
-        }
-    }
-
-    /// Adds the sides of the graph, without rings.
-    fn add_sides(&mut self, graph: &Graph) -> Result<(), Memory> {
-        let mut all = 0usize;
-        for u in 0..graph.units() {
-            self.begins.push(all)?;
-            all = all.wrapping_add(graph.neighbours(u).len());
-        }
-        self.counts.resize(all, 0)?;
-        self.sums.resize(all, 0)?;
-        Ok(())
+        let side = side_of(graph, a, b) as usize;
+        side < self.tallies.len() && self.tallies[side].count < 2
     }
 
     fn add_rings(&mut self, graph: &Graph, rings: &[Face]) -> Result<(), Memory> {
-        for number in 0..rings.len() {
-            self.count_all(graph, rings[number], number, true)?;
+        let mut number = 0u32;
+        for ring in rings {
+            let sides = sides_of(graph, *ring);
+            self.rings.push(sides)?;
+            self.add_ring(sides, number);
+            number = number.wrapping_add(1);
         }
-        self.see_all()
+        Ok(())
+    }
+
+    /// Adds the ring `number` to its sides.
+    fn add_ring(&mut self, sides: [u32; SIDES], number: u32) {
+        for place in 0..SIDES {
+            let side = sides[place] as usize;
+            if side < self.tallies.len() {
+                let tally = self.tallies[side];
+                self.tallies[side] = Tally {
+                    count: tally.count.wrapping_add(1),
+                    sum: tally.sum ^ number,
+                };
+            }
+        }
+    }
+
+    /// Removes the ring `number` from its sides. Adds sides to `singles` that then have a single
+    /// ring.
+    fn remove_ring(&mut self, sides: [u32; SIDES], number: u32) -> Result<(), Memory> {
+        for place in 0..SIDES {
+            let side = sides[place] as usize;
+            if side < self.tallies.len() {
+                let tally = self.tallies[side];
+                self.tallies[side] = Tally {
+                    count: tally.count.wrapping_sub(1),
+                    sum: tally.sum ^ number,
+                };
+                self.see(sides[place])?;
+            }
+        }
+        Ok(())
     }
 
     fn see_all(&mut self) -> Result<(), Memory> {
-        for side in 0..self.counts.len() {
-            self.see(side)?;
+        for side in 0..self.tallies.len() {
+            self.see(index_of(side))?;
         }
         Ok(())
     }
 
     /// Adds a side to `singles` if it has a single ring.
-    fn see(&mut self, side: usize) -> Result<(), Memory> {
-        if side < self.counts.len() && self.counts[side] == 1 {
+    fn see(&mut self, side: u32) -> Result<(), Memory> {
+        let place = side as usize;
+        if place < self.tallies.len() && self.tallies[place].count == 1 {
             self.singles.push(side)?;
         }
         Ok(())
@@ -152,16 +189,14 @@ impl Sides {
 
     /// Takes a side from `singles` that still has a single ring. Returns the side and the index of
     /// the ring.
-    fn next(&mut self) -> Option<(usize, usize)> {
+    fn next(&mut self) -> Option<(u32, u32)> {
         for _ in 0..u64::MAX {
             match self.singles.pop() {
                 None => return None,
                 Some(side) => {
-                    if side < self.counts.len()
-                        && side < self.sums.len()
-                        && self.counts[side] == 1
-                    {
-                        return Some((side, self.sums[side]));
+                    let place = side as usize;
+                    if place < self.tallies.len() && self.tallies[place].count == 1 {
+                        return Some((side, self.tallies[place].sum));
                     }
                 }
             }
@@ -169,37 +204,54 @@ impl Sides {
         None
     }
 
-    /// Counts the crowded sides of a ring. `counts` has the number of rings at each side.
-    fn count_crowded_sides(&self, graph: &Graph, counts: &[u32], ring: Face) -> u8 {
-        let mut crowded = 0u8;
-        let mut turn = ring;
-        for _ in 0..length_of(ring) {
-            let side = self.own(graph, turn);
-            if side < counts.len() && counts[side] > 2 {
-                crowded = crowded.wrapping_add(1);
-            }
-            turn = turn.rotate();
+    /// Counts the rings at each side, with those taken off. Fails if there is no memory.
+    fn count_all(&self, alloc: Global) -> Result<Vec<u32>, Memory> {
+        let mut counts: Vec<u32> = vec![in alloc; 0; self.tallies.len()]?;
+        for sides in &self.rings {
+            count_sides(&mut counts, *sides);
         }
-        crowded
+        Ok(counts)
     }
+}
 
-    /// Rotates a ring to make a side its own side.
-    fn rotate_to(&self, graph: &Graph, ring: Face, side: usize) -> Face {
-        let mut turn = ring;
-        for _ in 0..length_of(ring) {
-            if self.own(graph, turn) == side {
-                return turn;
-            }
-            turn = turn.rotate();
+/// Adds one to the count of each of these sides.
+fn count_sides(counts: &mut [u32], sides: [u32; SIDES]) {
+    for place in 0..SIDES {
+        let side = sides[place] as usize;
+        if side < counts.len() {
+            counts[side] = counts[side].wrapping_add(1);
         }
-        ring
     }
+}
+
+/// Counts the crowded sides among these. `counts` has the number of rings at each side.
+fn count_crowded(counts: &[u32], sides: [u32; SIDES]) -> u8 {
+    let mut crowded = 0u8;
+    for place in 0..SIDES {
+        let side = sides[place] as usize;
+        if side < counts.len() && counts[side] > 2 {
+            crowded = crowded.wrapping_add(1);
+        }
+    }
+    crowded
+}
+
+/// Rotates a ring to make a side its own side. `sides` are the ring's sides.
+fn rotate_to(ring: Face, sides: [u32; SIDES], side: u32) -> Face {
+    let mut turn = ring;
+    for place in 0..SIDES {
+        if sides[place] == side {
+            return turn;
+        }
+        turn = turn.rotate();
+    }
+    ring
 }
 
 /// Rings that are taken off one by one.
 #[derive(Drop)]
 struct Peeling {
-    /// The sides of the rings that remain.
+    /// The sides of the rings, with the tallies of the rings that remain.
     sides: Sides,
     /// For each ring, whether it remains.
     left: Vec<bool>,
@@ -214,42 +266,40 @@ impl Peeling {
         })
     }
 
-    /// Takes a ring off. Returns true if the ring had remained until now.
-    fn take_off(&mut self, graph: &Graph, rings: &[Face], number: usize) -> Result<bool, Memory> {
-        if number >= rings.len() || number >= self.left.len() || !self.left[number] {
-            return Ok(false);
+    /// Takes a ring off, and returns its sides. Returns none if the ring was taken off before.
+    fn take_off(&mut self, number: u32) -> Result<Option<[u32; SIDES]>, Memory> {
+        let ring = number as usize;
+        if ring >= self.sides.rings.len() || ring >= self.left.len() || !self.left[ring] {
+            return Ok(None);
         }
-        self.left[number] = false;
-        self.sides.count_all(graph, rings[number], number, false)?;
-        Ok(true)
+        self.left[ring] = false;
+        let sides = self.sides.rings[ring];
+        self.sides.remove_ring(sides, number)?;
+        Ok(Some(sides))
     }
 
     /// Takes a ring off and adds it to `kept`, turned to begin with this side.
     fn keep(
         &mut self,
-        graph: &Graph,
         rings: &[Face],
-        side: usize,
-        number: usize,
+        side: u32,
+        number: u32,
         kept: &mut Vec<Face>,
     ) -> Result<(), Memory> {
-        if self.take_off(graph, rings, number)? && number < rings.len() {
-            kept.push(self.sides.rotate_to(graph, rings[number], side))?;
+        if let Some(sides) = self.take_off(number)? {
+            if (number as usize) < rings.len() {
+                kept.push(rotate_to(rings[number as usize], sides, side))?;
+            }
         }
         Ok(())
     }
 
     /// Takes off and keeps rings that alone have some side, until no such ring remains.
-    fn keep_singles(
-        &mut self,
-        graph: &Graph,
-        rings: &[Face],
-        kept: &mut Vec<Face>,
-    ) -> Result<(), Memory> {
+    fn keep_singles(&mut self, rings: &[Face], kept: &mut Vec<Face>) -> Result<(), Memory> {
         for _ in 0..u64::MAX {
             match self.sides.next() {
                 None => return Ok(()),
-                Some((side, number)) => self.keep(graph, rings, side, number, kept)?,
+                Some((side, number)) => self.keep(rings, side, number, kept)?,
             }
         }
         Ok(())
@@ -259,14 +309,13 @@ impl Peeling {
     /// side are kept.
     fn drop_rings(
         &mut self,
-        graph: &Graph,
         rings: &[Face],
-        order: &[usize],
+        order: &[u32],
         kept: &mut Vec<Face>,
     ) -> Result<(), Memory> {
         for number in order {
-            self.take_off(graph, rings, *number)?;
-            self.keep_singles(graph, rings, kept)?;
+            self.take_off(*number)?;
+            self.keep_singles(rings, kept)?;
         }
         Ok(())
     }
@@ -279,11 +328,10 @@ impl Peeling {
         rings: &[Face],
         kept: &mut Vec<Face>,
     ) -> Result<(), Memory> {
-        let all = self.sides.counts.clone()?;
-        self.keep_singles(graph, rings, kept)?;
+        self.keep_singles(rings, kept)?;
         if kept.len() < rings.len() {
-            let order = drop_order(alloc, graph, &self.sides, &all, rings)?;
-            self.drop_rings(graph, rings, &order, kept)?;
+            let order = drop_order(alloc, graph, &self.sides, rings)?;
+            self.drop_rings(rings, &order, kept)?;
         }
         Ok(())
     }
@@ -296,7 +344,7 @@ impl Peeling {
 /// remaining ring has, this ring is taken off and kept. If no remaining ring has one, a ring is
 /// dropped.
 pub fn order_by_peeling(alloc: Global, graph: &Graph, rings: &[Face]) -> Result<Vec<Face>, Memory> {
-    let mut order = Vec::new(alloc);
+    let mut order = Vec::with_capacity(alloc, rings.len())?;
     let mut peeling = Peeling::of(alloc, graph, rings)?;
     peeling.peel(alloc, graph, rings, &mut order)?;
     order.reverse();
@@ -304,36 +352,46 @@ pub fn order_by_peeling(alloc: Global, graph: &Graph, rings: &[Face]) -> Result<
 }
 
 /// Returns the indices of the rings in the order in which to drop them, by rising class. It is a
-/// counting sort. Sides are crowded by the rings in `all`, which include those already taken off.
+/// counting sort.
 fn drop_order(
     alloc: Global,
     graph: &Graph,
     sides: &Sides,
-    all: &[u32],
     rings: &[Face],
-) -> Result<Vec<usize>, Memory> {
+) -> Result<Vec<u32>, Memory> {
     let mut places = [0usize; CLASSES];
-    let classes = classes_of(alloc, graph, sides, all, rings, &mut places)?;
+    let classes = classes_of(alloc, graph, sides, rings, &mut places)?;
     begin_classes(&mut places);
-    let mut order: Vec<usize> = vec![in alloc; 0; rings.len()]?;
-    for number in 0..classes.len() {
-        put(&mut order, &mut places, classes[number], number);
+    let mut order: Vec<u32> = vec![in alloc; 0; rings.len()]?;
+    let mut number = 0u32;
+    for class in &classes {
+        put(&mut order, &mut places, *class, number);
+        number = number.wrapping_add(1);
     }
     Ok(order)
 }
 
-/// Lists the class of each ring, and adds the number of rings in each class to `sizes`.
+/// Lists the class of each ring, and adds the number of rings in each class to `sizes`. Sides are
+/// crowded by all rings, including those already taken off.
 fn classes_of(
     alloc: Global,
     graph: &Graph,
     sides: &Sides,
-    all: &[u32],
     rings: &[Face],
     sizes: &mut [usize],
 ) -> Result<Vec<usize>, Memory> {
+    let all = sides.count_all(alloc)?;
     let mut classes = Vec::with_capacity(alloc, rings.len())?;
-    for ring in rings {
-        let class = class_of(graph, sides, all, *ring);
+    for number in 0..rings.len() {
+        let class = if number < sides.rings.len() {
+            class_of(
+                graph,
+                rings[number],
+                count_crowded(&all, sides.rings[number]),
+            )
+        } else {
+            0
+        };
         count_one(sizes, class);
         classes.push(class)?;
     }
@@ -355,8 +413,8 @@ fn count_one(sizes: &mut [usize], class: usize) {
 /// Of the four triangles of four mutually adjacent units, at most three become faces. The three
 /// units with the most neighbors form the triangle to drop. This triangle matters only for a
 /// district that has its three units but not the fourth. Such a district is rare.
-fn class_of(graph: &Graph, sides: &Sides, all: &[u32], ring: Face) -> usize {
-    let crowded = CROWDED.wrapping_mul(sides.count_crowded_sides(graph, all, ring) as usize);
+fn class_of(graph: &Graph, ring: Face, crowded_sides: u8) -> usize {
+    let crowded = CROWDED.wrapping_mul(crowded_sides as usize);
     let weight = neighbours_of(graph, ring).saturating_add(crowded);
     (CLASSES - 1).saturating_sub(weight)
 }
@@ -386,7 +444,7 @@ fn begin_classes(places: &mut [usize]) {
 }
 
 /// Puts the index of a ring at the next position of its class.
-fn put(order: &mut [usize], places: &mut [usize], class: usize, number: usize) {
+fn put(order: &mut [u32], places: &mut [usize], class: usize, number: u32) {
     if class < places.len() && places[class] < order.len() {
         let place = places[class];
         order[place] = number;
