@@ -1,13 +1,11 @@
--- A graph built from pairs has one edge per pair.
-use Rattle.std.proofs.Common.{◌≡◌, ℕ, zero, suc, ◌+◌, ◌<◌, ◌≤◌, Bool, true, false, cond, ◌&&◌, ◌||◌, List, [], ◌∷◌, length, map, get_or, refl, sym, ap, ◌∙◌, subst, inl, inr, arith}
+-- A graph whose edges are pairs has one edge per pair.
+use Rattle.std.proofs.Common.{◌≡◌, ℕ, zero, suc, ◌+◌, ◌<◌, Bool, true, false, cond, ◌&&◌, ◌||◌, List, [], ◌∷◌, length, refl, sym, ap, ◌∙◌, subst, inl, inr, arith}
 use Rattle.std.specs.Prelude.{◌==◌, ◌↔◌}
 use Rattle.std.proofs.lemmas.Bool.{and_parts, and_from, and_left, and_right, cases_eq, cond-true, cond-false, eq-eqb, eqb-true, ne_eqb, false≢true}
 use Rattle.audit_model.specs.Below.{count_below, sum_below}
-use Rattle.audit_model.specs.Graph.{Graph, IsGraph, adjacent, count_edges}
+use Rattle.audit_model.specs.Graph.{Graph, adjacent, count_edges}
 use Rattle.audit_model.proofs.Below.{count_below_same, count_below_none}
-use Rattle.dual_graph.specs.Flat.{graph_of, HasRows, HasEdges}
-use Rattle.dual_graph.specs.Pairs.{pair_at, has_pair, IsBefore, ArePairs, ArePairsRising, GoesBothWays, BeginsAt, Joins}
-use Rattle.dual_graph.proofs.Building.{built_rows, built_graph, arcs_sound, arc_joins, joins_arc, adjacent_from, adjacent_to}
+use Rattle.dual_graph.specs.Pairs.{pair_at, has_pair, IsBefore, ArePairs, Joins}
 use Rattle.dual_graph.proofs.Ordered.{is_one, pair_is, pair_found, found_pair, before_trans, not_before_itself}
 
 -- ---- sums and counts
@@ -18,12 +16,12 @@ sum_below_same zero f g same = refl
 sum_below_same (suc n) f g same = omega (arith, sum_below_same n f g (λ k l. same k (omega arith)), same n (omega arith))
 
 -- a sum of zeros is zero
-sum_below_none : (n : ℕ) (f : ℕ → ℕ) → ((k : ℕ) → k < n → f k ≡ 0) → sum_below n f ≡ 0
+pub sum_below_none : (n : ℕ) (f : ℕ → ℕ) → ((k : ℕ) → k < n → f k ≡ 0) → sum_below n f ≡ 0
 sum_below_none zero f none = refl
 sum_below_none (suc n) f none = omega (arith, sum_below_none n f (λ k l. none k (omega arith)), none n (omega arith))
 
 -- a sum of a single 1 and zeros is 1
-sum_below_one : (n b : ℕ) (f : ℕ → ℕ) → b < n → f b ≡ 1 → ((k : ℕ) → k < n → (k ≡ b → ⊥) → f k ≡ 0) → sum_below n f ≡ 1
+pub sum_below_one : (n b : ℕ) (f : ℕ → ℕ) → b < n → f b ≡ 1 → ((k : ℕ) → k < n → (k ≡ b → ⊥) → f k ≡ 0) → sum_below n f ≡ 1
 sum_below_one zero b f l one none = absurd (omega arith)
 sum_below_one (suc n) b f l one none = elim (cases_eq n b) [
   | inl e ↦
@@ -33,7 +31,7 @@ sum_below_one (suc n) b f l one none = elim (cases_eq n b) [
 ]
 
 -- a sum of sums splits into two sums
-sum_below_plus : (n : ℕ) (f g : ℕ → ℕ) → sum_below n (λ k. f k + g k) ≡ sum_below n f + sum_below n g
+pub sum_below_plus : (n : ℕ) (f g : ℕ → ℕ) → sum_below n (λ k. f k + g k) ≡ sum_below n f + sum_below n g
 sum_below_plus zero f g = refl
 sum_below_plus (suc n) f g = omega (arith, sum_below_plus n f g)
 
@@ -134,35 +132,3 @@ edges_counted g pairs are same =
     let found = pair_found pairs u v h in
     (same u v).1 (found.0, found.1, inl (pair_is (pair_at pairs found.0) u v found.2 found.3)))))
     ∙ pairs_counted g.units pairs are
-
--- ---- the result of `from_pairs`
-
-pub record IsBuilt (n : ℕ) (pairs : List (ℕ × ℕ)) (begins near : List ℕ) : Type 0 where
-  pub rows : HasRows n begins near
-  pub sound : IsGraph (graph_of n begins near)
-  pub joins : (u v : ℕ) → (adjacent (graph_of n begins near) u v ≡ true) ↔ Joins pairs u v
-  pub edges : HasEdges (graph_of n begins near) (length pairs)
-
--- the rows built from the pairs represent the graph of these pairs
-pub built_from_pairs : (n : ℕ) (pairs before arcs : List (ℕ × ℕ)) (begins near : List ℕ) (one other : List (ℕ × ℕ)) → n ≤ 100000 → length pairs ≤ 400000 → ArePairs n pairs
-    → GoesBothWays pairs (length pairs) before → ((u v : ℕ) → (has_pair arcs u v ≡ true) ↔ (has_pair before u v ≡ true))
-    → ArePairsRising arcs → length begins ≡ n + 1
-    → one ≡ arcs → ((u : ℕ) → u ≤ n → BeginsAt one u (get_or begins u 0)) → other ≡ arcs → near ≡ map (λ p. p.1) other → IsBuilt n pairs begins near
-built_from_pairs n pairs before arcs begins near one other few short are both same rising long first begin second near_is =
-    let lower : (u : ℕ) → u ≤ n → BeginsAt arcs u (get_or begins u 0) = λ u l. subst (λ (xs : List (ℕ × ℕ)). BeginsAt xs u (get_or begins u 0)) first (begin u l) in
-    let seconds : near ≡ map (λ p. p.1) arcs = near_is ∙ ap (λ (xs : List (ℕ × ℕ)). map (λ p. p.1) xs) second in
-    let sound = arcs_sound n pairs before arcs are both same in
-    let joins : (u v : ℕ) → (adjacent (graph_of n begins near) u v ≡ true) ↔ Joins pairs u v = λ u v. (
-      λ h.
-          let from = adjacent_from n begins near arcs few rising long lower seconds sound u v h in
-          arc_joins pairs before arcs both same u v from.2,
-      λ h.
-          let to = joins_arc n pairs before arcs are both same u v h in
-          adjacent_to n begins near arcs few rising long lower seconds sound u v to.0 to.2,
-    ) in
-    record {
-      rows = built_rows n begins near arcs few rising long lower seconds sound;
-      sound = built_graph n begins near arcs few rising long lower seconds sound;
-      joins = joins;
-      edges = record { counted = sym (edges_counted (graph_of n begins near) pairs are joins); few = short };
-    }

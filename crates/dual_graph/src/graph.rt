@@ -8,8 +8,8 @@ ghost use Rattle.audit_model.specs.Graph.{adjacent, count_edges};
 ghost use Rattle.audit_model.specs.Length.{degree};
 ghost use Rattle.audit_model.specs.Limits.{most_units, most_edges};
 
+use crate::filling::{begins_of, degrees_of, near_of};
 use crate::member::Member;
-use crate::pairs::{begins_of, both_ways, put_in_order, seconds_of};
 use audit_model::memory::Memory;
 use std::alloc::Global;
 use std::marker::Model;
@@ -51,10 +51,9 @@ impl Graph {
         ensures amount { IfOk result (λ g. count_edges g (λ u v. true) ≡ length pairs.now) }
         ensures sound { IfOk result (λ g. IsGraph g) }
     {
-        let mut arcs = both_ways(alloc, pairs)?;
-        put_in_order(&mut arcs);
-        let begins = begins_of(alloc, units, &arcs)?;
-        let near = seconds_of(alloc, &arcs)?;
+        let degrees = degrees_of(alloc, units, pairs)?;
+        let begins = begins_of(alloc, &degrees)?;
+        let near = near_of(alloc, units, pairs, &begins)?;
         Ok(Graph {
             units,
             edges: pairs.len() as u32,
