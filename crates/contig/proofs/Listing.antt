@@ -3,12 +3,12 @@ use Rattle.std.proofs.Common.{◌≡◌, ℕ, ◌<◌, Bool, true, false, not, �
 use Rattle.std.specs.Prelude.{◌==◌, nat_lt}
 use Rattle.std.specs.List.{list_any}
 use Rattle.std.proofs.lemmas.Bool.{and_parts, or_cases, cases_order, cond-true, cond-false, lt-ltb, le-ltb, false_from_ne_true, or_from, ltb-true, eqb-true, eq-eqb, not-true, both_ways, false≢true}
-use Rattle.audit_model.specs.Graph.{Graph, IsGraph, has, adjacent}
+use Rattle.audit_model.specs.Graph.{Graph, has, adjacent}
 use Rattle.audit_model.specs.Local.{IsSimple}
 use Rattle.contig.proofs.Rings.{pair_is, by_five, unit_of_five}
 use Rattle.contig.specs.declared.face.Face.{Face}
 use Rattle.contig.specs.declared.face.Face.TheVariants.{Triangle, Square, Pentagon}
-use Rattle.contig.specs.Faces.{is_pair, has_side, IsRing, OwnsSide, AreFaces}
+use Rattle.contig.specs.Faces.{is_pair, has_side, IsRing, OwnsSide}
 use Rattle.contig.specs.Listed.{rings, side, own_side}
 use Rattle.contig.specs.Rings.{ring_of, goes_round, differ, follow}
 
@@ -229,24 +229,3 @@ pub owns : (faces : List (List ℕ)) (there : ℕ × ℕ → Bool) (face : Face)
 owns faces there (Triangle a b c) holds new = false_from_ne_true (list_any (λ f. has_side f a b) faces) (λ h. both_ways (there (side a b)) new (holds a b h))
 owns faces there (Square a b c d) holds new = false_from_ne_true (list_any (λ f. has_side f a b) faces) (λ h. both_ways (there (side a b)) new (holds a b h))
 owns faces there (Pentagon a b c d e) holds new = false_from_ne_true (list_any (λ f. has_side f a b) faces) (λ h. both_ways (there (side a b)) new (holds a b h))
-
--- the sides of one more face are in the set
-pub holds_more : (faces new : List Face) (face : Face) (before after : ℕ × ℕ → Bool) → new ≡ faces ++ face ∷ []
-    → ((x y : ℕ) → list_any (λ f. has_side f x y) (rings faces) ≡ true → before (side x y) ≡ true) → ((q : ℕ × ℕ) → before q ≡ true → after q ≡ true)
-    → ((x y : ℕ) → has_side (ring_of face) x y ≡ true → after (side x y) ≡ true)
-    → (x y : ℕ) → list_any (λ f. has_side f x y) (rings new) ≡ true → after (side x y) ≡ true
-holds_more faces new face before after e holds kept there x y h =
-    let at : list_any (λ f. has_side f x y) (ring_of face ∷ rings faces) ≡ true =
-    subst (λ (l : List (List ℕ)). list_any (λ f. has_side f x y) l ≡ true) (ap rings e ∙ rings_more faces face) h in
-    elim (or_cases (has_side (ring_of face) x y) (list_any (λ f. has_side f x y) (rings faces)) at) [
-      | inl f ↦ there x y f
-      | inr f ↦ kept (side x y) (holds x y f)
-    ]
-
--- a ring whose own side belongs to no face can be added
-pub faces_more : (g : Graph) (faces new : List Face) (face : Face) (there : ℕ × ℕ → Bool) → new ≡ faces ++ face ∷ [] → IsGraph g → goes_round g face ≡ true
-    → ((x y : ℕ) → list_any (λ f. has_side f x y) (rings faces) ≡ true → there (side x y) ≡ true) → there (own_side face) ≡ false
-    → AreFaces g (rings faces) → AreFaces g (rings new)
-faces_more g faces new face there e sound round holds fresh are =
-    subst (AreFaces g) (sym (ap rings e ∙ rings_more faces face))
-    (goes_round_ring g face (record { symmetric = sound.symmetric; loopless = sound.loopless }) round, owns (rings faces) there face holds fresh, are)

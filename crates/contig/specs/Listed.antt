@@ -1,10 +1,12 @@
 -- Lists of faces, and their sides.
-use Rattle.std.specs.Prelude.{ℕ, ◌&&◌, Bool, cond, nat_lt, nat_eq, IsTrue, List, [], ◌∷◌, ◌++◌}
-use Rattle.std.specs.List.{list_any}
-use Rattle.std.specs.HashSet.{HashSet, contains}
+use Rattle.std.specs.Prelude.{◌≡◌, ℕ, ◌+◌, ◌==◌, Bool, false, cond, nat_lt, IsTrue, List, [], ◌∷◌, ◌++◌, length}
+use Rattle.std.specs.List.{list_any, position_or_len, slice_index_or}
+use Rattle.audit_model.specs.Below.{sum_below}
+use Rattle.audit_model.specs.Graph.{Graph}
+use Rattle.audit_model.specs.Length.{degree}
 use Rattle.contig.specs.declared.face.Face.{Face}
 use Rattle.contig.specs.declared.face.Face.TheVariants.{Triangle, Square, Pentagon}
-use Rattle.contig.specs.Faces.{has_side}
+use Rattle.contig.specs.Faces.{has_side, AreFaces}
 use Rattle.contig.specs.Rings.{ring_of}
 
 -- the rings of the faces, the last one first
@@ -16,16 +18,26 @@ rings (face ∷ later) = rings later ++ ring_of face ∷ []
 abbrev pub side : ℕ → ℕ → ℕ × ℕ
 side x y = cond {A = ℕ × ℕ} (nat_lt x y) (x, y) (y, x)
 
--- two sides are equal
-abbrev pub same_side : ℕ × ℕ → ℕ × ℕ → Bool
-same_side p q = nat_eq p.0 q.0 && nat_eq p.1 q.1
+-- the first two units of a face
+abbrev pub first_pair : Face → ℕ × ℕ
+first_pair (Triangle a b c) = (a, b)
+first_pair (Square a b c d) = (a, b)
+first_pair (Pentagon a b c d e) = (a, b)
 
 -- the own side of a face
 abbrev pub own_side : Face → ℕ × ℕ
-own_side (Triangle a b c) = side a b
-own_side (Square a b c d) = side a b
-own_side (Pentagon a b c d e) = side a b
+own_side face = side (first_pair face).0 (first_pair face).1
 
--- all sides of the rings are in the set
-abbrev pub HoldsSides : {S : Type 0} → List (List ℕ) → HashSet (ℕ × ℕ) S → Type 0
-HoldsSides faces sides = (x y : ℕ) → IsTrue (list_any (λ face. has_side face x y) faces) → IsTrue (contains same_side sides (side x y))
+-- the index of the directed edge from u to v, in a list of all by their first units
+abbrev pub arc_index : Graph → ℕ → ℕ → ℕ
+arc_index g u v = sum_below u (degree g) + position_or_len (λ m. m == v) (slice_index_or g.neighbours u [])
+
+-- a side is marked, at the index of the directed edge from its smaller unit
+abbrev pub is_marked : Graph → List Bool → ℕ × ℕ → Bool
+is_marked g marks side = slice_index_or marks (arc_index g side.0 side.1) false
+
+-- the rings are faces, and all of their sides are marked
+pub record AreListed (g : Graph) (faces : List (List ℕ)) (marks : List Bool) : Type 0 where
+  pub are : AreFaces g faces
+  pub width : length marks ≡ sum_below g.units (degree g)
+  pub marked : (x y : ℕ) → IsTrue (list_any (λ face. has_side face x y) faces) → IsTrue (is_marked g marks (side x y))

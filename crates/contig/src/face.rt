@@ -2,7 +2,7 @@
 
 ghost use Rattle.std.specs.Prelude.{◌≡◌, ◌<◌, ◌==◌, ◌&&◌, length, not};
 ghost use Rattle.audit_model.specs.Graph.{IsGraph, adjacent};
-ghost use Rattle.contig.specs.Listed.{own_side, side};
+ghost use Rattle.contig.specs.Listed.{first_pair};
 ghost use Rattle.contig.specs.Rings.{goes_round, turned, differ, follow, ring_of};
 
 use dual_graph::graph::Graph;
@@ -63,7 +63,7 @@ pub(crate) fn length_of(ring: Face) -> usize
 
 /// Returns the two units of the own side.
 pub(crate) fn first_two(ring: Face) -> (u32, u32)
-    ensures { side result.0 result.1 ≡ own_side ring }
+    ensures { result ≡ first_pair ring }
 {
     match ring {
         Face::Triangle(a, b, _) => (a, b),

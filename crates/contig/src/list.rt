@@ -1,46 +1,35 @@
 //! Lists of faces.
 
-ghost use Rattle.std.specs.Prelude.{◌≡◌, ℕ, [], ◌∷◌, not, IsTrue, IfOk, OnOk, OnErr};
+ghost use Rattle.std.specs.Prelude.{◌≡◌, ◌<◌, ◌≤◌, ℕ, [], ◌∷◌, length, IsTrue, IfOk, OnOk, OnErr};
 ghost use Rattle.std.specs.Bool.{OnTrue, OnFalse};
-ghost use Rattle.std.specs.HashSet.{contains};
-ghost use Rattle.contig.specs.Faces.{AreFaces, has_side};
-ghost use Rattle.contig.specs.Listed.{rings, same_side, side, own_side};
+ghost use Rattle.audit_model.specs.Below.{sum_below};
+ghost use Rattle.audit_model.specs.Graph.{adjacent};
+ghost use Rattle.audit_model.specs.Length.{degree};
+ghost use Rattle.contig.specs.Faces.{AreFaces, IsRing, has_side};
+ghost use Rattle.contig.specs.Listed.{rings, side, own_side, arc_index, is_marked, AreListed};
 ghost use Rattle.contig.specs.Rings.{ring_of};
 
 use crate::face::{Face, first_two, length_of};
+use crate::rows::place_of;
 use audit_model::memory::Memory;
 use dual_graph::graph::Graph;
 use std::alloc::Global;
-use std::collections::HashSet;
 use std::marker::Model;
 
 /// A list of faces. The own side of each face belongs to no face that was added before it. Proofs
 /// see the list in reverse: the last face comes first.
+#[derive(Drop)]
 pub struct FaceList {
     faces: Vec<Face>,
-    sides: HashSet<(u32, u32)>,
-}
-
-/// Drops the fields one by one. Written by hand so that a caller's proof has one call here, not one
-/// per field.
-impl Drop for FaceList {
-    fn drop(self) {
-        let FaceList {
-            faces: _faces,
-            sides: _sides,
-        } = self;
-    }
 }
 
 impl Model for FaceList {
     ghost use Rattle.std.specs.Prelude.{ℕ, List};
-    ghost use Rattle.contig.specs.Listed.{rings, HoldsSides};
+    ghost use Rattle.contig.specs.Listed.{rings};
 
     ghost Value = { List (List ℕ) };
 
     ghost view = { λ l. rings l.faces.items };
-
-    ghost invariant = { λ l. HoldsSides (rings l.faces.items) l.sides };
 }
 
 impl FaceList {
@@ -50,7 +39,6 @@ impl FaceList {
     {
         FaceList {
             faces: Vec::new(alloc),
-            sides: HashSet::new(alloc),
         }
     }
 
@@ -58,38 +46,52 @@ impl FaceList {
     pub fn faces(&self) -> &[Face]
         ensures { rings result.now ≡ self.now }
     {
-        // Reading a field makes the type's invariant known to the prover.
-        let _ = &self.sides;
         &self.faces
     }
 
-    /// Adds a face if it is a ring and its own side belongs to no face of the list. Returns true if
-    /// the face was added. Fails if there is no memory.
-    pub fn push(&mut self, graph: &Graph, face: Face) -> Result<bool, Memory>
-        requires faces { AreFaces graph.now self.old }
-        ensures faces { AreFaces graph.now self.new }
-        ensures added { IfOk result (λ added. OnTrue added (self.new ≡ ring_of face ∷ self.old)) }
-        ensures unchanged { IfOk result (λ added. OnFalse added (self.new ≡ self.old)) }
+    /// Appends a face. Fails if there is no memory.
+    fn push(&mut self, face: Face) -> Result<(), Memory>
+        ensures ok { OnOk result (self.new ≡ ring_of face ∷ self.old) }
         ensures err { OnErr result (self.new ≡ self.old) }
     {
-        if !face.is_ring(graph) || has_own(&self.sides, face) {
-            return Ok(false);
-        }
-        note_sides(&mut self.sides, face)?;
         self.faces.push(face)?;
-        Ok(true)
+        Ok(())
     }
 }
 
-/// Makes a list of the candidates that `push` accepts, in their order. Fails if there is no memory.
+/// Lists the candidates that are rings and whose own side belongs to no face listed before, in
+/// their order. Fails if there is no memory.
 pub fn list_faces(alloc: Global, graph: &Graph, candidates: &[Face]) -> Result<FaceList, Memory>
     ensures { IfOk result (λ l. AreFaces graph.now l) }
 {
     let mut list = FaceList::new(alloc);
+    let mut marks: Vec<bool> = vec![in alloc; false; graph.arcs_before(graph.units())]?;
     for face in candidates {
-        list.push(graph, *face)?;
+        add_face(graph, &mut list, &mut marks, *face)?;
     }
     Ok(list)
+}
+
+/// Adds a face if it is a ring and its own side is not marked, and marks its sides. Returns true if
+/// the face was added. Fails if there is no memory.
+fn add_face(
+    graph: &Graph,
+    list: &mut FaceList,
+    marks: &mut Vec<bool>,
+    face: Face,
+) -> Result<bool, Memory>
+    requires listed { AreListed graph.now list.old marks.old.items }
+    ensures listed { AreListed graph.now list.new marks.new.items }
+    ensures added { IfOk result (λ added. OnTrue added (list.new ≡ ring_of face ∷ list.old)) }
+    ensures unchanged { IfOk result (λ added. OnFalse added (list.new ≡ list.old)) }
+    ensures err { OnErr result (list.new ≡ list.old) }
+{
+    if !face.is_ring(graph) || has_own(graph, marks, face) {
+        return Ok(false);
+    }
+    list.push(face)?;
+    mark_sides(graph, marks, face);
+    Ok(true)
 }
 
 /// Returns the pair of two units, smaller unit first.
@@ -99,33 +101,52 @@ fn side_of(x: u32, y: u32) -> (u32, u32)
     if x < y { (x, y) } else { (y, x) }
 }
 
-/// Inserts the side of two units.
-fn note(sides: &mut HashSet<(u32, u32)>, x: u32, y: u32) -> Result<(), Memory>
-    ensures kept { (q : ℕ × ℕ) → IsTrue (contains same_side sides.old q) → IsTrue (contains same_side sides.new q) }
-    ensures there { OnOk result (IsTrue (contains same_side sides.new (side x y))) }
+/// Returns the index of the side of two adjacent units.
+fn index_of(graph: &Graph, x: u32, y: u32) -> usize
+    requires units { (x < graph.now.units) × (y < graph.now.units) }
+    requires near { IsTrue (adjacent graph.now x y) }
+    requires few { sum_below graph.now.units (degree graph.now) ≤ 18446744073709551615 }
+    ensures value { result ≡ arc_index graph.now (side x y).0 (side x y).1 }
+    ensures within { result < sum_below graph.now.units (degree graph.now) }
 {
-    sides.insert(side_of(x, y))?;
-    Ok(())
+    let (low, high) = side_of(x, y);
+    graph.arcs_before(low) + place_of(graph.neighbours(low), high)
 }
 
-/// Inserts the sides of a face.
-fn note_sides(sides: &mut HashSet<(u32, u32)>, face: Face) -> Result<(), Memory>
-    ensures kept { (q : ℕ × ℕ) → IsTrue (contains same_side sides.old q) → IsTrue (contains same_side sides.new q) }
-    ensures there { OnOk result ((x y : ℕ) → IsTrue (has_side (ring_of face) x y) → IsTrue (contains same_side sides.new (side x y))) }
+/// Returns true if the own side of a ring is marked.
+fn has_own(graph: &Graph, marks: &[bool], face: Face) -> bool
+    requires ring { IsRing graph.now (ring_of face) }
+    requires width { length marks.now ≡ sum_below graph.now.units (degree graph.now) }
+    ensures { result ≡ is_marked graph.now marks.now (own_side face) }
+{
+    let (x, y) = first_two(face);
+    marks[index_of(graph, x, y)]
+}
+
+/// Marks the side of two adjacent units.
+fn mark(graph: &Graph, marks: &mut Vec<bool>, x: u32, y: u32)
+    requires units { (x < graph.now.units) × (y < graph.now.units) }
+    requires near { IsTrue (adjacent graph.now x y) }
+    requires width { length marks.old.items ≡ sum_below graph.now.units (degree graph.now) }
+    ensures width { length marks.new.items ≡ length marks.old.items }
+    ensures kept { (q : ℕ × ℕ) → IsTrue (is_marked graph.now marks.old.items q) → IsTrue (is_marked graph.now marks.new.items q) }
+    ensures there { IsTrue (is_marked graph.now marks.new.items (side x y)) }
+{
+    marks[index_of(graph, x, y)] = true;
+}
+
+/// Marks the sides of a ring.
+fn mark_sides(graph: &Graph, marks: &mut Vec<bool>, face: Face)
+    requires ring { IsRing graph.now (ring_of face) }
+    requires width { length marks.old.items ≡ sum_below graph.now.units (degree graph.now) }
+    ensures width { length marks.new.items ≡ length marks.old.items }
+    ensures kept { (q : ℕ × ℕ) → IsTrue (is_marked graph.now marks.old.items q) → IsTrue (is_marked graph.now marks.new.items q) }
+    ensures there { (x y : ℕ) → IsTrue (has_side (ring_of face) x y) → IsTrue (is_marked graph.now marks.new.items (side x y)) }
 {
     let mut turn = face;
     for _ in 0..length_of(face) {
         let (x, y) = first_two(turn);
-        note(sides, x, y)?;
+        mark(graph, marks, x, y);
         turn = turn.rotate();
     }
-    Ok(())
-}
-
-/// Returns true if the own side of a face is in the set.
-fn has_own(sides: &HashSet<(u32, u32)>, face: Face) -> bool
-    ensures { result ≡ contains same_side sides.now (own_side face) }
-{
-    let (x, y) = first_two(face);
-    sides.contains(&side_of(x, y))
 }

@@ -1,7 +1,7 @@
 //! The corners at each unit.
 
-ghost use Rattle.std.specs.Prelude.{◌≡◌, ◌<◌, ℕ, List, [], length, slice_index, IsTrue, IfOk, OnOk};
-ghost use Rattle.std.specs.List.{slice_index_or};
+ghost use Rattle.std.specs.Prelude.{◌≡◌, ◌==◌, ◌<◌, ℕ, List, [], length, slice_index, IsTrue, IfOk, OnOk};
+ghost use Rattle.std.specs.List.{position_or_len, slice_index_or};
 ghost use Rattle.audit_model.specs.Graph.{adjacent, has};
 ghost use Rattle.contig.specs.Corners.{HasCorners, first_corner, with_corner, with_face, corners_at};
 ghost use Rattle.contig.specs.Faces.{IsRing, AreFaces};
@@ -27,8 +27,9 @@ pub fn rows_of(alloc: Global, graph: &Graph, faces: &[Face]) -> Result<Vec<Corne
 }
 
 /// Returns the position of a neighbor in a list of neighbors.
-fn place_of(row: &[u32], other: u32) -> usize
+pub(crate) fn place_of(row: &[u32], other: u32) -> usize
     requires { IsTrue (has row.now other) }
+    ensures first { result ≡ position_or_len (λ m. m == other) row.now }
     ensures within { result < length row.now }
     ensures there { slice_index row.now result ≡ other }
 {

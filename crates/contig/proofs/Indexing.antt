@@ -1,0 +1,80 @@
+-- The indices of sides, and marks at them.
+use Rattle.std.proofs.Common.{◌≡◌, ◌∷◌, ℕ, zero, suc, ◌+◌, ◌<◌, Bool, true, false, List, [], length, get_or, set, sym, ap, ◌∙◌, subst, inl, inr, arith}
+use Rattle.std.specs.Prelude.{nat_lt}
+use Rattle.std.specs.List.{list_any}
+use Rattle.std.proofs.lemmas.Bool.{or_cases, cases_eq, cases_lt, cond-true, cond-false, lt-ltb, le-ltb}
+use Rattle.std.proofs.lemmas.List.{get_or-set_same, get_or-set_other, set_past}
+use Rattle.audit_model.specs.Below.{sum_below}
+use Rattle.audit_model.specs.Graph.{Graph, IsGraph, adjacent}
+use Rattle.audit_model.specs.Length.{degree}
+use Rattle.audit_model.proofs.Lengths.{sums_within}
+use Rattle.contig.specs.declared.face.Face.{Face}
+use Rattle.contig.specs.declared.face.Face.TheVariants.{Triangle, Square, Pentagon}
+use Rattle.contig.specs.Faces.{has_side, IsRing, AreFaces}
+use Rattle.contig.specs.Listed.{side, first_pair, own_side, is_marked, AreListed}
+use Rattle.contig.specs.Rings.{ring_of, goes_round}
+use Rattle.contig.proofs.Turning.{AllFit, turned_by, turned_fit}
+use Rattle.contig.proofs.Listing.{goes_round_ring, owns}
+
+-- a property of two units in either order is one of their side
+pub by_side : (P : ℕ → ℕ → Type 0) (x y : ℕ) → P x y → P y x → P (side x y).0 (side x y).1
+by_side P x y one other = elim (cases_lt x y) [
+  | inl l ↦ subst (λ (p : ℕ × ℕ). P p.0 p.1) (sym (cond-true {A = ℕ × ℕ} (nat_lt x y) (x, y) (y, x) (lt-ltb x y l))) one
+  | inr l ↦ subst (λ (p : ℕ × ℕ). P p.0 p.1) (sym (cond-false {A = ℕ × ℕ} (nat_lt x y) (x, y) (y, x) (le-ltb x y l))) other
+]
+
+-- a place in the list of a unit's neighbors has an index
+pub index_within : (g : Graph) (u k a : ℕ) (row : List ℕ) → u < g.units → row ≡ get_or g.neighbours u [] → k < length row → a ≡ sum_below u (degree g)
+    → a + k < sum_below g.units (degree g)
+index_within g u k a row lu is lk at =
+    let all = sums_within g.units u (degree g) lu in
+    let long : length row ≡ degree g u = ap length is in
+    omega (arith, all, long, lk, at)
+
+-- more marks keep the marks
+pub mark_kept : (marks new : List Bool) (i j : ℕ) → new ≡ set marks i true → get_or marks j false ≡ true → get_or new j false ≡ true
+mark_kept marks new i j is h = elim (cases_eq j i) [
+  | inl e ↦ elim (cases_lt i (length marks)) [
+    | inl l ↦ ap (λ (t : ℕ). get_or new t false) e ∙ ap (λ (t : List Bool). get_or t i false) is ∙ get_or-set_same marks i true false l
+    | inr l ↦ ap (λ (t : List Bool). get_or t j false) (is ∙ set_past marks i true l) ∙ h
+  ]
+  | inr off ↦ ap (λ (t : List Bool). get_or t j false) is ∙ get_or-set_other marks i j true false off ∙ h
+]
+
+-- the index of a side is within the marks, and the side is then marked
+pub mark_there : (marks new : List Bool) (i : ℕ) → new ≡ set marks i true → i < length marks → get_or new i false ≡ true
+mark_there marks new i is l = ap (λ (t : List Bool). get_or t i false) is ∙ get_or-set_same marks i true false l
+
+-- ---- rings
+
+-- the first two units of a face that fits are adjacent units of the graph
+pub first_near : (g : Graph) (face : Face) → AllFit g face
+    → ((first_pair face).0 < g.units) × ((first_pair face).1 < g.units) × (adjacent g (first_pair face).0 (first_pair face).1 ≡ true)
+first_near g (Triangle a b c) h = (h.0.units.0, h.1.units.0, h.0.near.0)
+first_near g (Square a b c d) h = (h.0.units.0, h.1.units.0, h.0.near.0)
+first_near g (Pentagon a b c d e) h = (h.0.units.0, h.1.units.0, h.0.near.0)
+
+-- each rotation of a face that fits does too
+pub turned_by_fit : (g : Graph) (face : Face) (k : ℕ) → AllFit g face → AllFit g (turned_by k face)
+turned_by_fit g face zero h = h
+turned_by_fit g face (suc k) h = turned_fit g (turned_by k face) (turned_by_fit g face k h)
+
+-- a face that passes the test is a ring
+pub ring_passed : (g : Graph) (face : Face) → IsGraph g → goes_round g face ≡ true → IsRing g (ring_of face)
+ring_passed g face sound round = goes_round_ring g face (record { symmetric = sound.symmetric; loopless = sound.loopless }) round
+
+-- a ring whose own side is not marked is one more face
+pub listed_more : (g : Graph) (faces new : List (List ℕ)) (face : Face) (marks after : List Bool) → AreListed g faces marks → IsRing g (ring_of face)
+    → is_marked g marks (own_side face) ≡ false → new ≡ ring_of face ∷ faces → length after ≡ length marks
+    → ((q : ℕ × ℕ) → is_marked g marks q ≡ true → is_marked g after q ≡ true)
+    → ((x y : ℕ) → has_side (ring_of face) x y ≡ true → is_marked g after (side x y) ≡ true) → AreListed g new after
+listed_more g faces new face marks after listed ring fresh is width kept there = record {
+  are = subst (AreFaces g) (sym is) (ring, owns faces (is_marked g marks) face listed.marked fresh, listed.are);
+  width = width ∙ listed.width;
+  marked = λ x y h.
+      let at : list_any (λ f. has_side f x y) (ring_of face ∷ faces) ≡ true = subst (λ (l : List (List ℕ)). list_any (λ f. has_side f x y) l ≡ true) is h in
+      elim (or_cases (has_side (ring_of face) x y) (list_any (λ f. has_side f x y) faces) at) [
+        | inl f ↦ there x y f
+        | inr f ↦ kept (side x y) (listed.marked x y f)
+      ];
+}
