@@ -1,12 +1,12 @@
 //! The order of a unit's neighbors round it.
 
-ghost use Rattle.std.specs.Prelude.{◌≡◌, ◌<◌, ◌≤◌, ◌⊎◌, ℕ, List, [], length, map, slice_set, All, IsTrue, IsFalse, IfOk};
+ghost use Rattle.std.specs.Prelude.{◌≡◌, ◌<◌, ◌≤◌, ◌⊎◌, ℕ, List, [], length, map, slice_set, All, IsTrue, IsFalse, IfOk, OnOk};
 ghost use Rattle.std.specs.List.{slice_index_or};
 ghost use Rattle.contig.specs.Corners.{IsOnRow, units_of};
 ghost use Rattle.contig.specs.Order.{AreUnfaced, HasNear, HasOrder, HasSeats, HasSectors, IsOnGraph, IsPut, before, blank_at, sector_at};
 
 use crate::corner::{Corner, CornerList};
-use crate::sector::{Sector, SectorList};
+use crate::sector::{Sector, SectorLists};
 use audit_model::memory::Memory;
 use dual_graph::graph::Graph;
 use std::alloc::Global;
@@ -138,11 +138,11 @@ fn sort_round(graph: &Graph, row: &[u32], corners: &[Corner], sectors: &mut Vec<
     }
 }
 
-/// Lists sectors without faces, one for each neighbor.
-fn blank_sectors(alloc: Global, row: &[u32]) -> Result<Vec<Sector>, Memory>
-    ensures { IfOk result (λ l. l.items ≡ map blank_at row.now) }
+/// Replaces sectors by sectors without faces, one for each neighbor.
+fn set_blank(sectors: &mut Vec<Sector>, row: &[u32]) -> Result<(), Memory>
+    ensures { OnOk result (sectors.new.items ≡ map blank_at row.now) }
 {
-    let mut sectors = Vec::with_capacity(alloc, row.len())?;
+    sectors.clear();
     for unit in row {
         sectors.push(Sector {
             near: *unit,
@@ -150,7 +150,7 @@ fn blank_sectors(alloc: Global, row: &[u32]) -> Result<Vec<Sector>, Memory>
             faced: false,
         })?;
     }
-    Ok(sectors)
+    Ok(())
 }
 
 /// Returns the position before this one, among `count` round a unit.
@@ -215,41 +215,39 @@ fn put_faces(graph: &Graph, row: &[u32], corners: &[Corner], sectors: &mut Vec<S
     true
 }
 
-/// Lists the sectors of a unit. The list is empty if its neighbors have no order round it, or if a
-/// face has five units. Fails if there is no memory.
-fn sectors_of(
-    alloc: Global,
+/// Replaces sectors by those of a unit. There are none if its neighbors have no order round it, or
+/// if a face has five units. Fails if there is no memory.
+fn set_sectors(
     graph: &Graph,
     unit: u32,
     corners: &[Corner],
-) -> Result<SectorList, Memory>
+    sectors: &mut Vec<Sector>,
+) -> Result<(), Memory>
     requires unit { unit < graph.now.units }
     requires placed { All (IsOnRow graph.now (slice_index_or graph.now.neighbours unit [])) corners.now }
-    ensures { IfOk result (λ l. HasOrder graph.now unit corners.now l) }
+    ensures { OnOk result (HasOrder graph.now unit corners.now sectors.new.items) }
 {
     let row = graph.neighbours(unit);
-    let mut sectors = blank_sectors(alloc, row)?;
-    sort_round(graph, row, corners, &mut sectors);
-    if !put_faces(graph, row, corners, &mut sectors) {
-        return Ok(SectorList::new(alloc));
+    set_blank(sectors, row)?;
+    sort_round(graph, row, corners, sectors);
+    if put_faces(graph, row, corners, sectors) {
+        return Ok(());
     }
-    Ok(SectorList::of(sectors))
+    sectors.clear();
+    Ok(())
 }
 
 /// Lists the sectors of each unit. Fails if there is no memory.
-pub fn all_sectors(
-    alloc: Global,
-    graph: &Graph,
-    rows: &[CornerList],
-) -> Result<Vec<SectorList>, Memory>
+pub fn all_sectors(alloc: Global, graph: &Graph, rows: &[CornerList]) -> Result<SectorLists, Memory>
     requires width { length rows.now ≡ graph.now.units }
     requires placed { (u : ℕ) → u < graph.now.units → All (IsOnRow graph.now (slice_index_or graph.now.neighbours u [])) (slice_index_or rows.now u []) }
-    ensures { IfOk result (λ all. HasSectors graph.now rows.now all.items) }
+    ensures { IfOk result (λ all. HasSectors graph.now rows.now all) }
 {
-    let mut all = Vec::with_capacity(alloc, rows.len())?;
+    let mut all = SectorLists::with_room(alloc, rows.len())?;
+    let mut sectors = Vec::new(alloc);
     for unit in 0..graph.units() {
-        let corners = rows[unit as usize].as_slice();
-        all.push(sectors_of(alloc, graph, unit, corners)?)?;
+        set_sectors(graph, unit, rows[unit as usize].as_slice(), &mut sectors)?;
+        all.push(&sectors)?;
     }
     Ok(all)
 }

@@ -16,7 +16,7 @@ use crate::list::FaceList;
 use crate::near::faces_of;
 use crate::order::all_sectors;
 use crate::rows::rows_of;
-use crate::sector::{Sector, SectorList};
+use crate::sector::{Sector, SectorLists};
 use audit_model::memory::Memory;
 use dual_graph::graph::Graph;
 use dual_graph::member::Member;
@@ -34,7 +34,7 @@ pub struct FaceTable {
     graph: Snapshot<Graph>,
     list: Snapshot<FaceList>,
     rows: Vec<CornerList>,
-    sectors: Vec<SectorList>,
+    sectors: SectorLists,
 }
 
 impl Model for FaceTable {
@@ -44,7 +44,7 @@ impl Model for FaceTable {
 
     ghost view = { λ t. record { graph = t.graph.value; faces = t.list.value } };
 
-    ghost invariant = { λ t. IsFaceTable (record { graph = t.graph.value; faces = t.list.value }) t.rows.items t.sectors.items };
+    ghost invariant = { λ t. IsFaceTable (record { graph = t.graph.value; faces = t.list.value }) t.rows.items t.sectors };
 }
 
 impl FaceTable {
@@ -97,7 +97,7 @@ impl FaceTable {
     {
         // Reading a field makes the type's invariant known to the prover.
         let _ = &self.rows;
-        self.sectors[unit as usize].as_slice()
+        self.sectors.at(unit)
     }
 
     /// Does the work of `links_mates`: by the order of the faces where there is one, and otherwise

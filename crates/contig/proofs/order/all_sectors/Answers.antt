@@ -9,12 +9,12 @@ use Rattle.contig.specs.Order.{HasOrder}
 use Rattle.contig.proofs.Merging.{row}
 use Rattle.contig.proofs.order.all_sectors.Goals as goal
 
-pub sectors_of-requires-clause-placed : goal.sectors_of-requires-clause-placed
-sectors_of-requires-clause-placed c =
+pub set_sectors-requires-clause-placed : goal.set_sectors-requires-clause-placed
+set_sectors-requires-clause-placed c =
     let u : ℕ = c.loop-unit.unit in
     let lu : u < c.args.graph.now.units = omega (arith, c.loop-unit-test.true, c.units-unit-end.ensures.units) in
     subst (λ (t : List Corner). All (IsOnRow c.args.graph.now (row c.args.graph.now u)) t)
-    (sym (c.as_slice-corners.ensures ∙ get_or_read c.args.rows.now u c.index-rows-unit.result (omega (arith, lu, c.requires.width)) c.index-rows-unit.is []))
+    (sym (c.as_slice.ensures ∙ get_or_read c.args.rows.now u c.index-rows-unit.result (omega (arith, lu, c.requires.width)) c.index-rows-unit.is []))
     (c.requires.placed u lu)
 
 pub loop-unit-preserved : goal.loop-unit-preserved
@@ -23,18 +23,19 @@ loop-unit-preserved c =
     let rows : List (List Corner) = c.args.rows.now in
     let u : ℕ = c.loop-unit.unit in
     let lu : u < g.units = omega (arith, c.loop-unit-test.true, c.units-unit-end.ensures.units) in
-    let old : List (List Sector) = c.loop-unit.all.items in
-    let new : List (List Sector) = c.push.new.self.items in
-    let own : List Sector = c.in_ok-sectors_of.field-0 in
-    let corners_are = c.as_slice-corners.ensures ∙ get_or_read rows u c.index-rows-unit.result (omega (arith, lu, c.requires.width)) c.index-rows-unit.is [] in
-    let items : new ≡ old ++ own ∷ [] = c.in_ok-push.ensures.items in
+    let old : List (List Sector) = c.loop-unit.all in
+    let new : List (List Sector) = c.push.new.self in
+    let own : List Sector = c.deref.result.now in
+    let corners_are = c.as_slice.ensures ∙ get_or_read rows u c.index-rows-unit.result (omega (arith, lu, c.requires.width)) c.index-rows-unit.is [] in
+    let items : new ≡ old ++ own ∷ [] = c.in_ok-push.ensures in
     let long : length old ≡ u = c.loop-unit.invariant.width in
     record {
       width = ap (length {A = List Sector}) items ∙ length_push old own ∙ ap (λ t. t + 1) long;
       each = λ v l. elim (cases_eq v u) [
         | inl e ↦ subst (λ t. HasOrder g t (get_or rows t []) (get_or new t [])) (sym e)
             (subst (λ (xs : List Sector). HasOrder g u (get_or rows u []) xs) (sym (ap (λ (t : List (List Sector)). get_or t u []) items ∙ get_or_push old own [] u long))
-            (subst (λ (xs : List Corner). HasOrder g u xs own) corners_are c.in_ok-sectors_of.ensures))
+            (subst (λ (xs : List Corner). HasOrder g u xs own) corners_are
+            (subst (λ (xs : List Sector). HasOrder g u c.as_slice.result.now xs) (sym c.deref.ensures.value) c.in_ok-set_sectors.ensures)))
         | inr off ↦
             let lv : v < u = omega (arith, l, off) in
             subst (λ (xs : List Sector). HasOrder g v (get_or rows v []) xs)

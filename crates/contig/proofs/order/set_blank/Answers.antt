@@ -2,7 +2,7 @@ use Rattle.std.proofs.Common.{◌∷◌, [], ◌++◌, List, get_or, map, take, 
 use Rattle.std.proofs.lemmas.List.{map_push, take_all, take_more}
 use Rattle.contig.specs.declared.sector.Sector.{Sector}
 use Rattle.contig.specs.Order.{blank_at}
-use Rattle.contig.proofs.order.blank_sectors.Goals as goal
+use Rattle.contig.proofs.order.set_blank.Goals as goal
 
 pub loop-unit-preserved : goal.loop-unit-preserved
 loop-unit-preserved c =
