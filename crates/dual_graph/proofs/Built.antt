@@ -4,11 +4,12 @@ use Rattle.std.specs.Prelude.{◌↔◌}
 use Rattle.audit_model.specs.Below.{sum_below}
 use Rattle.audit_model.specs.Graph.{IsGraph, adjacent}
 use Rattle.dual_graph.specs.Flat.{graph_of, HasRows, HasEdges}
+use Rattle.audit_model.proofs.Below.{sum_below_longer}
 use Rattle.dual_graph.specs.Pairs.{ArePairs, Joins}
 use Rattle.dual_graph.specs.Placed.{arcs_of, starts, AreBegins, AreDegrees, HoldArcs}
 use Rattle.dual_graph.proofs.Building.{built_graph, arcs_sound, arc_joins, joins_arc, adjacent_from, adjacent_to}
 use Rattle.dual_graph.proofs.Counting.{edges_counted, sum_below_same}
-use Rattle.dual_graph.proofs.Placing.{arc_below, arcs_long, starts_all, sum_up}
+use Rattle.dual_graph.proofs.Placing.{arc_below, arcs_long, starts_all}
 
 pub record IsBuilt (n : ℕ) (pairs : List (ℕ × ℕ)) (begins near : List ℕ) : Type 0 where
   pub rows : HasRows n begins near
@@ -50,7 +51,7 @@ pub sums_few : (n : ℕ) (pairs : List (ℕ × ℕ)) (degrees : List ℕ) → le
 sums_few n pairs degrees short are counted u l =
     let width = counted.width in
     let same = sum_below_same u (λ v. get_or degrees v 0) (starts (arcs_of pairs) (length (arcs_of pairs))) (λ k lk. counted.each k (omega (arith, lk, l, width))) in
-    let up = sum_up (starts (arcs_of pairs) (length (arcs_of pairs))) u n (omega (arith, l, width)) in
+    let up = sum_below_longer u n (starts (arcs_of pairs) (length (arcs_of pairs))) (omega (arith, l, width)) in
     let all = starts_all n (arcs_of pairs) (length (arcs_of pairs)) (λ j lj. (arc_below n pairs are j lj).0) in
     let long = arcs_long pairs in
     omega (arith, same, up, all, long, short)

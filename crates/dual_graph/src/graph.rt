@@ -134,7 +134,12 @@ impl Graph {
         requires { unit < self.now.units }
         ensures { result ≡ adjacent self.now unit other }
     {
-        self.neighbours(unit).contains(&other)
+        for neighbour in self.neighbours(unit) {
+            if *neighbour == other {
+                return true;
+            }
+        }
+        false
     }
 
     /// Copies the graph. Fails if there is no memory.
