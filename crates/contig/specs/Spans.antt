@@ -1,6 +1,7 @@
 -- Lists that are parts of one list.
-use Rattle.std.specs.Prelude.{◌≤◌, List, length, slice_range}
-use Rattle.contig.specs.declared.sector.Span.{Span}
+use Rattle.std.specs.Prelude.{◌≡◌, ◌≢◌, ◌⊎◌, ℕ, ◌<◌, ◌≤◌, List, length, slice_index, slice_range}
+use Rattle.std.specs.List.{slice_index_or}
+use Rattle.contig.specs.declared.span.Span.{Span}
 
 -- the span is one of the list
 pub record IsWithin {A : Type 0} (xs : List A) (span : Span) : Type 0 where
@@ -10,3 +11,16 @@ pub record IsWithin {A : Type 0} (xs : List A) (span : Span) : Type 0 where
 -- the part of the list in a span
 abbrev pub part : {A : Type 0} → List A → Span → List A
 part xs span = slice_range xs span.begin span.end
+
+-- the span of a unit
+abbrev pub span_at : List Span → ℕ → Span
+span_at spans u = slice_index_or spans u (record { begin = 0; end = 0 })
+
+-- the spans are those of lists that can grow up to a limit, in parts of one list that have no place in common
+pub record HaveRoom {A : Type 0} (spans : List Span) (limits : List ℕ) (xs : List A) : Type 0 where
+  pub width : length limits ≡ length spans
+  pub rises : (u : ℕ) → u < length spans → (span_at spans u).begin ≤ (span_at spans u).end
+  pub upto : (u : ℕ) → u < length spans → (span_at spans u).end ≤ slice_index limits u
+  pub within : (u : ℕ) → u < length spans → slice_index limits u ≤ length xs
+  pub apart : (u v : ℕ) → u < length spans → v < length spans → u ≢ v
+      → (slice_index limits u ≤ (span_at spans v).begin) ⊎ (slice_index limits v ≤ (span_at spans u).begin)

@@ -52,6 +52,7 @@ mod parts;
 mod peel;
 mod rows;
 mod sector;
+mod span;
 pub mod table;
 
 pub use counts::FaceCounts;

@@ -5,7 +5,7 @@ ghost use Rattle.std.specs.List.{slice_index_or};
 ghost use Rattle.contig.specs.Corners.{IsOnRow, units_of};
 ghost use Rattle.contig.specs.Order.{AreUnfaced, HasNear, HasOrder, HasSeats, HasSectors, IsOnGraph, IsPut, before, blank_at, sector_at};
 
-use crate::corner::{Corner, CornerList};
+use crate::corner::{Corner, CornerLists};
 use crate::sector::{Sector, SectorLists};
 use audit_model::memory::Memory;
 use dual_graph::graph::Graph;
@@ -238,15 +238,15 @@ fn set_sectors(
 }
 
 /// Lists the sectors of each unit. Fails if there is no memory.
-pub fn all_sectors(alloc: Global, graph: &Graph, rows: &[CornerList]) -> Result<SectorLists, Memory>
+pub fn all_sectors(alloc: Global, graph: &Graph, rows: &CornerLists) -> Result<SectorLists, Memory>
     requires width { length rows.now ≡ graph.now.units }
     requires placed { (u : ℕ) → u < graph.now.units → All (IsOnRow graph.now (slice_index_or graph.now.neighbours u [])) (slice_index_or rows.now u []) }
     ensures { IfOk result (λ all. HasSectors graph.now rows.now all) }
 {
-    let mut all = SectorLists::with_room(alloc, rows.len())?;
+    let mut all = SectorLists::with_room(alloc, rows.units())?;
     let mut sectors = Vec::new(alloc);
     for unit in 0..graph.units() {
-        set_sectors(graph, unit, rows[unit as usize].as_slice(), &mut sectors)?;
+        set_sectors(graph, unit, rows.at(unit), &mut sectors)?;
         all.push(&sectors)?;
     }
     Ok(all)

@@ -8,18 +8,18 @@ ghost use Rattle.contig.specs.Faces.{IsRing, AreFaces};
 ghost use Rattle.contig.specs.Listed.{rings};
 ghost use Rattle.contig.specs.Rings.{ring_of};
 
-use crate::corner::{Corner, CornerList};
+use crate::corner::{Corner, CornerLists};
 use crate::face::{Face, length_of};
 use audit_model::memory::Memory;
 use dual_graph::graph::Graph;
 use std::alloc::Global;
 
 /// Lists the corners at each unit. Fails if there is no memory.
-pub fn rows_of(alloc: Global, graph: &Graph, faces: &[Face]) -> Result<Vec<CornerList>, Memory>
+pub fn rows_of(alloc: Global, graph: &Graph, faces: &[Face]) -> Result<CornerLists, Memory>
     requires faces { AreFaces graph.now (rings faces.now) }
-    ensures { IfOk result (λ rows. HasCorners graph.now (λ w. corners_at w (rings faces.now)) rows.items) }
+    ensures { IfOk result (λ rows. HasCorners graph.now (λ w. corners_at w (rings faces.now)) rows) }
 {
-    let mut rows = no_rows(alloc, graph.units())?;
+    let mut rows = CornerLists::of(alloc, graph)?;
     for face in faces {
         add_face(graph, &mut rows, *face)?;
     }
@@ -45,7 +45,7 @@ pub(crate) fn place_of(row: &[u32], other: u32) -> usize
 /// are `far` and `further`.
 fn add_corner(
     graph: &Graph,
-    rows: &mut Vec<CornerList>,
+    rows: &mut CornerLists,
     unit: u32,
     one: u32,
     other: u32,
@@ -53,10 +53,10 @@ fn add_corner(
 ) -> Result<(), Memory>
     requires units { (unit < graph.now.units) × (opposite.0 < graph.now.units) × (opposite.1 < graph.now.units) }
     requires near { IsTrue (adjacent graph.now unit one) × IsTrue (adjacent graph.now unit other) }
-    requires rows { length rows.old.items ≡ graph.now.units }
-    ensures width { length rows.new.items ≡ graph.now.units }
-    ensures added { OnOk result ((corners : ℕ → List (ℕ × ℕ × ℕ × ℕ)) → HasCorners graph.now corners rows.old.items →
-        HasCorners graph.now (λ w. with_corner w (corners w) unit (one, other, opposite.0, opposite.1)) rows.new.items) }
+    requires rows { length rows.old ≡ graph.now.units }
+    ensures width { length rows.new ≡ graph.now.units }
+    ensures added { OnOk result ((corners : ℕ → List (ℕ × ℕ × ℕ × ℕ)) → HasCorners graph.now corners rows.old →
+        HasCorners graph.now (λ w. with_corner w (corners w) unit (one, other, opposite.0, opposite.1)) rows.new) }
 {
     let row = graph.neighbours(unit);
     let corner = Corner {
@@ -65,7 +65,7 @@ fn add_corner(
         far: opposite.0,
         further: opposite.1,
     };
-    rows[unit as usize].push(corner)?;
+    rows.push(unit, corner)?;
     Ok(())
 }
 
@@ -81,12 +81,12 @@ fn first_corner(face: Face) -> (u32, u32, u32, u32, u32)
 }
 
 /// Adds the corners of a face.
-fn add_face(graph: &Graph, rows: &mut Vec<CornerList>, face: Face) -> Result<(), Memory>
+fn add_face(graph: &Graph, rows: &mut CornerLists, face: Face) -> Result<(), Memory>
     requires ring { IsRing graph.now (ring_of face) }
-    requires rows { length rows.old.items ≡ graph.now.units }
-    ensures width { length rows.new.items ≡ graph.now.units }
-    ensures added { OnOk result ((corners : ℕ → List (ℕ × ℕ × ℕ × ℕ)) → HasCorners graph.now corners rows.old.items →
-        HasCorners graph.now (λ w. with_face w (corners w) (ring_of face)) rows.new.items) }
+    requires rows { length rows.old ≡ graph.now.units }
+    ensures width { length rows.new ≡ graph.now.units }
+    ensures added { OnOk result ((corners : ℕ → List (ℕ × ℕ × ℕ × ℕ)) → HasCorners graph.now corners rows.old →
+        HasCorners graph.now (λ w. with_face w (corners w) (ring_of face)) rows.new) }
 {
     let mut turn = face;
     for _ in 0..length_of(face) {
@@ -95,15 +95,4 @@ fn add_face(graph: &Graph, rows: &mut Vec<CornerList>, face: Face) -> Result<(),
         turn = turn.rotate();
     }
     Ok(())
-}
-
-fn no_rows(alloc: Global, units: u32) -> Result<Vec<CornerList>, Memory>
-    ensures width { IfOk result (λ rows. length rows.items ≡ units) }
-    ensures none { IfOk result (λ rows. (u : ℕ) → slice_index_or rows.items u [] ≡ []) }
-{
-    let mut rows = Vec::with_capacity(alloc, units as usize)?;
-    for _ in 0..units {
-        rows.push(CornerList::new(alloc))?;
-    }
-    Ok(rows)
 }

@@ -4,6 +4,7 @@ ghost use Rattle.std.specs.Prelude.{◌≡◌, ◌<◌, List, [], ◌∷◌, ◌
 ghost use Rattle.std.specs.List.{slice_index_or};
 ghost use Rattle.contig.specs.declared.sector.Sector.{Sector};
 
+use crate::span::Span;
 use audit_model::memory::Memory;
 use std::alloc::Global;
 use std::marker::Model;
@@ -17,13 +18,6 @@ pub struct Sector {
     pub near: u32,
     pub far: u32,
     pub faced: bool,
-}
-
-/// The indices at which a list begins and ends in a longer one.
-#[derive(Clone, Copy)]
-pub struct Span {
-    pub begin: usize,
-    pub end: usize,
 }
 
 /// A list of sectors for each unit. All are stored in one list, which spares an allocation for each

@@ -10,7 +10,7 @@ ghost use Rattle.contig.specs.Counts.{filled_of};
 ghost use Rattle.contig.specs.Faces.{AreFaces, AreLinked, count_inner_edges};
 ghost use Rattle.contig.specs.Order.{AreSectors, IsOnGraph};
 
-use crate::corner::{Corner, CornerList};
+use crate::corner::{Corner, CornerLists};
 use crate::links::{are_linked, are_linked_in_order};
 use crate::list::FaceList;
 use crate::near::faces_of;
@@ -33,7 +33,7 @@ const MOST: usize = 4000000;
 pub struct FaceTable {
     graph: Snapshot<Graph>,
     list: Snapshot<FaceList>,
-    rows: Vec<CornerList>,
+    rows: CornerLists,
     sectors: SectorLists,
 }
 
@@ -44,7 +44,7 @@ impl Model for FaceTable {
 
     ghost view = { λ t. record { graph = t.graph.value; faces = t.list.value } };
 
-    ghost invariant = { λ t. IsFaceTable (record { graph = t.graph.value; faces = t.list.value }) t.rows.items t.sectors };
+    ghost invariant = { λ t. IsFaceTable (record { graph = t.graph.value; faces = t.list.value }) t.rows t.sectors };
 }
 
 impl FaceTable {
@@ -70,7 +70,7 @@ impl FaceTable {
         ensures faces { AreFaces self.now.graph self.now.faces }
         ensures few { length self.now.faces ≤ 4000000 }
     {
-        self.rows.len()
+        self.rows.units()
     }
 
     /// Returns the corners at a unit.
@@ -82,7 +82,7 @@ impl FaceTable {
         ensures placed { All (IsOnRow self.now.graph (slice_index_or self.now.graph.neighbours unit [])) result.now }
         ensures seen { map (units_of (slice_index_or self.now.graph.neighbours unit [])) result.now ≡ corners_at unit self.now.faces }
     {
-        self.rows[unit as usize].as_slice()
+        self.rows.at(unit)
     }
 
     /// Returns the neighbors of a unit in the order of the faces round it. The list is empty if they

@@ -6,7 +6,7 @@ use Rattle.flip_guard.specs.declared.judge.Judge.{Ghosts}
 use Rattle.std.specs.Borrow.{u32, u64}
 use Rattle.audit_model.specs.contracts.lists.PlainList as PlainList
 use Rattle.dual_graph.specs.contracts.marks.Marks as Marks
-use Rattle.contig.specs.contracts.corner.CornerList as CornerList
+use Rattle.contig.specs.contracts.corner.CornerLists as CornerLists
 use Rattle.contig.specs.contracts.counts.FaceCounts as FaceCounts
 use Rattle.contig.specs.contracts.table.FaceTable as FaceTable
 use Rattle.flip_kernel.specs.contracts.board.Board as Board
@@ -27,7 +27,7 @@ marks_send : IsSend Marks.the_row
 marks_send = search (crosses, sendable) depth 20
 
 -- lists of corners may be sent
-corners_send : IsSend CornerList.the_row
+corners_send : IsSend CornerLists.the_row
 corners_send = search (crosses, sendable) depth 20
 
 -- face tables may be sent

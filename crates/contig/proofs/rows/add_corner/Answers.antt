@@ -1,5 +1,4 @@
-use Rattle.std.proofs.Common.{◌≡◌, ℕ, ◌<◌, ◌∷◌, [], ◌++◌, List, get_or, length, set, ap, ◌∙◌, subst, sym, arith}
-use Rattle.std.proofs.lemmas.List.{get_or_read}
+use Rattle.std.proofs.Common.{◌≡◌, ℕ, ◌<◌, [], List, get_or, length, ap, subst, arith}
 use Rattle.contig.specs.declared.corner.Corner.{Corner}
 use Rattle.contig.proofs.Adding.{one_more}
 use Rattle.contig.proofs.Counting.{row_short}
@@ -9,13 +8,11 @@ pub returns-clause-added : goal.returns-clause-added
 returns-clause-added c corners h =
     let row : c.neighbours-row.result.now ≡ get_or c.args.graph.now.neighbours c.args.unit [] = c.neighbours-row.ensures.list in
     let corner : Corner = record { one = c.place_of.result; other = c.place_of-2.result; far = c.args.opposite.0; further = c.args.opposite.1 } in
-    one_more c.args.graph.now corners c.args.rows.now.items _ c.args.unit corner c.args.one c.args.other
+    one_more c.args.graph.now corners c.args.rows.now _ c.args.unit corner c.args.one c.args.other
     c.requires.units.0 (record { one = subst (λ (xs : List ℕ). c.place_of.result < length xs) row c.place_of.ensures.within; other = subst (λ (xs : List ℕ). c.place_of-2.result < length xs) row c.place_of-2.ensures.within; far = c.requires.units.1; further = c.requires.units.2 })
     (subst (λ (xs : List ℕ). get_or xs c.place_of.result 0 ≡ c.args.one) row c.place_of.ensures.there)
     (subst (λ (xs : List ℕ). get_or xs c.place_of-2.result 0 ≡ c.args.other) row c.place_of-2.ensures.there)
-    (ap (λ (xs : List Corner). set c.args.rows.now.items c.args.unit xs)
-    (c.in_ok-push.ensures.ok ∙ ap (λ (xs : List Corner). xs ++ corner ∷ [])
-    (get_or_read c.args.rows.now.items c.args.unit c.index_mut.result.now (subst (λ t. c.args.unit < t) (sym c.requires.rows) c.requires.units.0) c.index_mut.ensures.value []))) h
+    c.in_ok-push.ensures.ok h
 
 pub overflow_cast-corner : goal.overflow_cast-corner
 overflow_cast-corner c =

@@ -24,7 +24,7 @@ loop-preserved c =
       turn = turned_next c.loop.counter c.args.face c.loop.turn c.rotate-turn.result s.turn c.rotate-turn.ensures;
       fit = subst (AllFit g) (sym c.rotate-turn.ensures) (turned_fit g c.loop.turn s.fit);
       width = c.add_corner.ensures.width;
-      added = λ corners h. corners_next g corners c.add_corner.new.rows.items c.args.face c.loop.turn c.loop.counter c.first_corner-unit.result s.turn c.first_corner-unit.ensures
+      added = λ corners h. corners_next g corners c.add_corner.new.rows c.args.face c.loop.turn c.loop.counter c.first_corner-unit.result s.turn c.first_corner-unit.ensures
           (c.in_ok-add_corner.ensures.added (λ w. with_corners w (corners w) c.args.face c.loop.counter) (s.added corners h));
     }
 
@@ -33,5 +33,5 @@ returns-clause-width c = c.loop.invariant.width
 
 pub returns-clause-added : goal.returns-clause-added
 returns-clause-added c corners h =
-    corners_whole c.args.graph.now corners c.loop.rows.items c.args.face c.loop.counter (omega (arith, c.length_of-end.ensures, c.loop-test.false, c.loop.auto.counter-end))
+    corners_whole c.args.graph.now corners c.loop.rows c.args.face c.loop.counter (omega (arith, c.length_of-end.ensures, c.loop-test.false, c.loop.auto.counter-end))
     (c.loop.invariant.added corners h)

@@ -4,4 +4,4 @@ use Rattle.contig.specs.Corners.{HasCorners, corners_at}
 use Rattle.contig.proofs.rows.rows_of.Given as goal
 
 abbrev pub invariant-loop-face : goal.invariant-loop-face
-invariant-loop-face l = HasCorners l.graph (λ w. corners_at w (rings (take l.face-index l.faces))) l.rows.items
+invariant-loop-face l = HasCorners l.graph (λ w. corners_at w (rings (take l.face-index l.faces))) l.rows
