@@ -32,9 +32,9 @@
 //!
 //! `face`, `near`, `peel` and `list` find faces. `corner`, `rows` and `table` store the faces by
 //! unit. `sector` and `order` store the neighbors of a unit in the order of the faces round it,
-//! where there is such an order. `classes` and `links` make test 1. `counts` keeps the counts of a
-//! plan and makes test 2.
-//! `parts` and `flood` make tests 3 and 4. `leave` has the calls that decide.
+//! where there is such an order. `span` has the parts of a list in which such lists are stored.
+//! `classes` and `links` make test 1. `counts` keeps the counts of a plan and makes test 2. `parts`
+//! and `flood` make tests 3 and 4. `leave` has the calls that decide.
 #![tactic(auto)]
 
 mod classes;

@@ -58,13 +58,13 @@ fn side_of(graph: &Graph, a: u32, b: u32) -> u32 {
     if low >= graph.units() {
         return NO_SIDE;
     }
-    let place = place_of(graph.neighbours(low), high);
+    let place = position_in(graph.neighbours(low), high);
     index_of(graph.arcs_before(low).wrapping_add(place))
 }
 
 /// Returns the position of a unit in a list, or the length of the list. The lists are short: units
 /// on rings have few neighbors.
-fn place_of(row: &[u32], unit: u32) -> usize {
+fn position_in(row: &[u32], unit: u32) -> usize {
     for place in 0..row.len() {
         if row[place] == unit {
             return place;
