@@ -1,5 +1,5 @@
 -- The proposal of a draw, and pairs that are not open.
-use Rattle.std.proofs.Common.{◌≡◌, ℕ, ◌*◌, ◌/◌, ◌%◌, ◌^◌, ◌<◌, Bool, true, false, List, get_or, Option, Some, None, sym, ap, ◌∙◌, subst, inl, inr, arith}
+use Rattle.std.proofs.Common.{◌≡◌, ℕ, ◌+◌, ◌*◌, ◌/◌, ◌%◌, ◌^◌, ◌<◌, Bool, true, false, List, Option, Some, None, sym, ap, ◌∙◌, subst, inl, inr, arith}
 use Rattle.std.specs.Prelude.{nat_lt}
 use Rattle.std.proofs.lemmas.Bool.{cases_Bool, cond-true, cond-false, both_ways}
 use Rattle.std.proofs.lemmas.Nat.{div-add-mod', mod_below, div_below}
@@ -51,11 +51,14 @@ module _ (job : Job) (plan : List ℕ) (sums : Following) (marks : ℕ) (table :
   pub still_rejected : None ≡ place_in pairs.count draw → next job plan draw ≡ plan
   still_rejected is = next_rejected job plan draw (proposed_none job.graph.units job.districts pairs.count draw current.numbers.count is)
 
-  module _ (found : ℕ) (is : Some found ≡ place_in pairs.count draw) where
+  -- a draw's place in its block is a place of the tables
+  pub rest_below : (rest : ℕ) → rest ≡ draw % pairs.count → rest < job.graph.units * job.districts
+  rest_below rest is = omega (arith, is, mod_below draw pairs.count current.numbers.blocks.some, current.numbers.count)
+
+  module _ (found : ℕ) (flag : Bool) (shown : (u d : ℕ) → u < job.graph.units → d < job.districts → found ≡ u * job.districts + d → flag ≡ is_open job.graph plan u d)
+      (is : Some found ≡ place_in pairs.count draw) where
     found_below : found < job.graph.units * job.districts
-    found_below =
-        let place = (is_place_of pairs.count draw found is).place in
-        omega (arith, place, mod_below draw pairs.count current.numbers.blocks.some, current.numbers.count)
+    found_below = rest_below found (is_place_of pairs.count draw found is).place
 
     some_district : 0 < job.districts
     some_district = omega (arith, current.numbers.sound.within.input.two)
@@ -66,29 +69,28 @@ module _ (job : Job) (plan : List ℕ) (sums : Following) (marks : ℕ) (table :
     district_below : found % job.districts < job.districts
     district_below = mod_below found job.districts some_district
 
-    flag_is : get_or table found false ≡ is_open job.graph plan (found / job.districts) (found % job.districts)
-    flag_is =
-        ap (λ (k : ℕ). get_or table k false) (sym (div-add-mod' found job.districts))
-        ∙ current.opened.each (found / job.districts) (found % job.districts) unit_below district_below
+    flag_is : flag ≡ is_open job.graph plan (found / job.districts) (found % job.districts)
+    flag_is = shown (found / job.districts) (found % job.districts) unit_below district_below (sym (div-add-mod' found job.districts))
 
     proposal_is : proposal job.graph.units job.districts draw ≡ Some (found / job.districts, found % job.districts)
     proposal_is = proposed_some job.graph.units job.districts pairs.count draw found current.numbers.count (is_place_of pairs.count draw found is)
 
     -- if the pair is not open, the plan stays
-    still_closed : get_or table found false ≡ false → next job plan draw ≡ plan
+    still_closed : flag ≡ false → next job plan draw ≡ plan
     still_closed closed = next_stays job plan draw (found / job.districts) (found % job.districts) proposal_is
         (λ move. both_ways (is_open job.graph plan (found / job.districts) (found % job.districts)) (sym flag_is ∙ closed)
         (move_is_open job plan (found / job.districts) (found % job.districts) current.numbers.sound current.summed.legal unit_below district_below move.elsewhere move))
 
     -- if the pair is open, it is the proposed one
-    pub is_proposed : (districts : ℕ) → districts ≡ job.districts → get_or table found false ≡ true → ProposesOpen job plan draw (found / districts) (found % districts)
-    is_proposed districts same set1 =
+    pub is_proposed : (districts : ℕ) → districts ≡ job.districts → flag ≡ true → ProposesOpen job plan draw (found / districts) (found % districts)
+    is_proposed districts same opened =
         subst (λ (n : ℕ). ProposesOpen job plan draw (found / n) (found % n)) (sym same)
-        (record { sound = current.numbers.sound; proposed = proposal_is; unit_below = unit_below; inside = omega (arith, unit_below, current.summed.legal.complete); district_below = district_below; beside = sym flag_is ∙ set1 })
+        (record { sound = current.numbers.sound; proposed = proposal_is; unit_below = unit_below; inside = omega (arith, unit_below, current.summed.legal.complete); district_below = district_below; beside = sym flag_is ∙ opened })
 
   -- if the pair at a draw's remainder is not open, the plan stays
-  pub closed_stays : (rest : ℕ) → rest ≡ draw % pairs.count → get_or table rest false ≡ false → next job plan draw ≡ plan
-  closed_stays rest is closed = elim (cases_Bool (nat_lt draw (2 ^ 64 / pairs.count * pairs.count))) [
-    | inl yes-counted ↦ still_closed rest (ap (λ (n : ℕ). Some n) is ∙ sym (cond-true _ _ _ yes-counted)) closed
+  pub closed_stays : (rest : ℕ) (flag : Bool) → ((u d : ℕ) → u < job.graph.units → d < job.districts → rest ≡ u * job.districts + d → flag ≡ is_open job.graph plan u d)
+      → rest ≡ draw % pairs.count → flag ≡ false → next job plan draw ≡ plan
+  closed_stays rest flag shown is closed = elim (cases_Bool (nat_lt draw (2 ^ 64 / pairs.count * pairs.count))) [
+    | inl yes-counted ↦ still_closed rest flag shown (ap (λ (n : ℕ). Some n) is ∙ sym (cond-true _ _ _ yes-counted)) closed
     | inr not-counted ↦ still_rejected (sym (cond-false _ _ _ not-counted))
   ]

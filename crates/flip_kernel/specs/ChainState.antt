@@ -15,7 +15,7 @@ use Rattle.contig.specs.Table.{Faced}
 use Rattle.flip_kernel.specs.declared.proposal.Pairs.{Pairs}
 use Rattle.flip_kernel.specs.Blocks.{AreNumbersOf}
 use Rattle.flip_kernel.specs.Nearby.{CountsNeighbors}
-use Rattle.flip_kernel.specs.OpenPairs.{is_open, MarksOpenPairs}
+use Rattle.flip_kernel.specs.OpenPairs.{is_open, MarksWithoutCounts}
 
 pub record ChainState : Type 0 where
   pub job : Job
@@ -37,7 +37,7 @@ pub record IsUpToDate (job : Job) (plan : List ℕ) (sums : Following) (marks : 
     (faced : Faced) (counted : Counted) (nearby : List ℕ) : Type 0 where
   pub summed : IsSummed job plan sums
   pub marked : marks ≡ job.graph.units
-  pub opened : MarksOpenPairs job.graph plan job.districts table
+  pub opened : MarksWithoutCounts job.graph plan job.districts nearby table
   pub numbers : AreNumbersOf job pairs low high
   pub made : faced.graph ≡ job.graph
   pub counts : AreCounts job.graph faced.faces job.districts plan counted

@@ -1,30 +1,50 @@
--- The number of each unit's neighbors in each district.
-use Rattle.std.specs.Prelude.{◌≡◌, ℕ, ◌+◌, ◌*◌, ◌<◌, ◌≤◌, ◌==◌, ◌&&◌, cond, List, length, slice_index, count_by}
+-- The number of each unit's neighbors in each district, with a mark at the unit's own district.
+use Rattle.std.specs.Prelude.{◌≡◌, ℕ, ◌+◌, ◌*◌, ◌<◌, ◌≤◌, ◌==◌, ◌&&◌, Bool, cond, not, nat_lt, List, length, slice_index, count_by}
 use Rattle.audit_model.specs.Graph.{Graph, has}
 use Rattle.audit_model.specs.District.{in_district}
+use Rattle.audit_model.specs.Length.{degree}
 use Rattle.district_sums.specs.Following.{count_near}
+
+-- a pair's entry: the number of the unit's neighbors in the district, plus 128 if the unit is in the district itself
+abbrev pub entry : Graph → List ℕ → ℕ → ℕ → ℕ
+entry g plan unit district = count_near g plan unit district + cond {A = ℕ} (in_district plan district unit) 128 0
+
+-- the entry of a unit with at most 127 neighbors shows that the unit is in another district and has a neighbor in this one
+abbrev pub shows_open : ℕ → Bool
+shows_open n = not (n == 0) && nat_lt n 128
+
+-- no unit has more than 127 neighbors
+abbrev pub HasShortRows : Graph → Type 0
+HasShortRows g = (u : ℕ) → u < g.units → degree g u ≤ 127
 
 -- the table's number for a pair, at the place unit * districts + district
 abbrev pub near_of : List ℕ → ℕ → ℕ → ℕ → ℕ
 near_of table districts unit district = slice_index table (unit * districts + district)
 
--- the table has each pair's number of neighbors
+-- the table has each pair's entry, and each entry is below 256
 pub record AreNear (g : Graph) (plan : List ℕ) (districts : ℕ) (table : List ℕ) : Type 0 where
+  pub short : HasShortRows g
   pub width : g.units * districts ≤ length table
-  pub each : (u d : ℕ) → u < g.units → d < districts → near_of table districts u d ≡ count_near g plan u d
+  pub each : (u d : ℕ) → u < g.units → d < districts → near_of table districts u d ≡ entry g plan u d
 
--- the table is empty, or has each pair's number of neighbors
+-- the table is empty, or has each pair's entry
 abbrev pub CountsNeighbors : Graph → List ℕ → ℕ → List ℕ → Type 0
 CountsNeighbors g plan districts table = 0 < length table → AreNear g plan districts table
 
--- the table is empty, or has a place for each pair
-abbrev pub HasPairs : ℕ → ℕ → List ℕ → Type 0
-HasPairs units districts table = 0 < length table → units * districts ≤ length table
+-- the table has a place for each pair, and entries are below 256
+pub record HasPlaces (g : Graph) (districts : ℕ) (table : List ℕ) : Type 0 where
+  pub short : HasShortRows g
+  pub width : g.units * districts ≤ length table
 
--- the unit's numbers are those of these neighbors, and the numbers of other units are unchanged
+-- the table is empty, or has a place for each pair
+abbrev pub HasPairs : Graph → ℕ → List ℕ → Type 0
+HasPairs g districts table = 0 < length table → HasPlaces g districts table
+
+-- the unit's entries are those of these neighbors, and the entries of other units are unchanged
 pub record HasCounted (plan : List ℕ) (districts unit : ℕ) (row : List ℕ) (old new : List ℕ) : Type 0 where
   pub width : length new ≡ length old
-  pub own : (d : ℕ) → d < districts → near_of new districts unit d ≡ count_by (in_district plan d) row
+  pub own : (d : ℕ) → d < districts
+      → near_of new districts unit d ≡ count_by (in_district plan d) row + cond {A = ℕ} (in_district plan d unit) 128 0
   pub others : (u d : ℕ) → (u ≡ unit → ⊥) → d < districts → near_of new districts u d ≡ near_of old districts u d
 
 -- each unit of the row has one neighbor less in the one district, and one more in the other
@@ -33,7 +53,7 @@ pub record HasMoved (districts from to : ℕ) (row : List ℕ) (old new : List �
   pub each : (u d : ℕ) → d < districts → near_of new districts u d + cond {A = ℕ} (has row u && (from == d)) 1 0
       ≡ near_of old districts u d + cond {A = ℕ} (has row u && (to == d)) 1 0
 
--- one is taken from the number at one place, and one added to the number at another
-pub record HasMovedNeighbor (from to : ℕ) (old new : List ℕ) : Type 0 where
+-- the amount is taken from the number at one place, and added to the number at another
+pub record HasPassed (amount from to : ℕ) (old new : List ℕ) : Type 0 where
   pub width : length new ≡ length old
-  pub each : (k : ℕ) → slice_index new k + cond {A = ℕ} (from == k) 1 0 ≡ slice_index old k + cond {A = ℕ} (to == k) 1 0
+  pub each : (k : ℕ) → slice_index new k + cond {A = ℕ} (from == k) amount 0 ≡ slice_index old k + cond {A = ℕ} (to == k) amount 0

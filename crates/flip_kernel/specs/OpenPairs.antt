@@ -17,6 +17,10 @@ pub record MarksOpenPairs (g : Graph) (plan : List ℕ) (districts : ℕ) (table
   pub width : g.units * districts ≤ length table
   pub each : (u d : ℕ) → u < g.units → d < districts → flag_of table districts u d ≡ is_open g plan u d
 
+-- the table says of each pair if it is open, unless a table of neighbor counts says it
+abbrev pub MarksWithoutCounts : Graph → List ℕ → ℕ → List ℕ → List Bool → Type 0
+MarksWithoutCounts g plan districts counts table = length counts ≡ 0 → MarksOpenPairs g plan districts table
+
 -- the districts of these neighbors are open to the unit, and the pairs of other units are unchanged
 pub record HasOpenedPairs (plan : List ℕ) (districts unit : ℕ) (row : List ℕ) (old new : List Bool) : Type 0 where
   pub width : length new ≡ length old

@@ -138,7 +138,7 @@ impl Board {
         put_plan(&mut self.plan, plan);
         self.sums.refill(graph, job.counts(), plan);
         self.near.refill(graph, plan, districts);
-        self.open_pairs.refill(graph, plan, districts);
+        self.open_pairs.refill(graph, plan, districts, &self.near);
         self.counts.reset(graph, &self.faces, plan);
     }
 
@@ -170,7 +170,7 @@ impl Board {
             (λ pair. ProposesOpen self.now.job self.now.plan draw pair.0 pair.1) }
     {
         let place = self.pairs.rest(draw);
-        if !self.open_pairs.has(place as usize) || self.pairs.is_past(draw, place) {
+        if !self.open_pairs.has(place as usize, &self.near) || self.pairs.is_past(draw, place) {
             return None;
         }
         Some(self.pairs.at(place))

@@ -1,13 +1,11 @@
 //! The number of each unit's neighbors in each district.
 
-ghost use Rattle.std.specs.Prelude.{◌≡◌, ℕ, ◌*◌, ◌<◌, ◌≤◌, [], length, slice_index, slice_set, IfOk, IsTrue};
+ghost use Rattle.std.specs.Prelude.{◌≡◌, ◌≢◌, ℕ, ◌+◌, ◌*◌, ◌%◌, ◌<◌, ◌≤◌, ◌↔◌, [], length, slice_index, slice_set, IfOk, IsTrue, IsFalse};
 ghost use Rattle.std.specs.List.{slice_index_or};
-ghost use Rattle.audit_model.specs.Limits.{most_units};
+ghost use Rattle.audit_model.specs.Length.{degree};
 ghost use Rattle.district_sums.specs.Following.{count_near};
-ghost use Rattle.flip_kernel.specs.Nearby.{AreNear, HasCounted, HasPairs, HasMovedNeighbor, CountsNeighbors, near_of};
-ghost use Rattle.flip_kernel.specs.OpenPairs.{is_open};
+ghost use Rattle.flip_kernel.specs.Nearby.{AreNear, HasCounted, HasMoved, HasPairs, HasPassed, HasShortRows, CountsNeighbors, entry, near_of, shows_open};
 
-use crate::open_pairs::scan_open;
 use audit_model::memory::Memory;
 use district_sums::mates::scan_mates;
 use dual_graph::graph::Graph;
@@ -18,14 +16,22 @@ use std::marker::Model;
 /// The maximum number of pairs for which there is a table.
 ///
 /// A larger table costs more by cache misses than it saves.
-const MOST_PAIRS: u64 = 131072;
+const MOST_PAIRS: u64 = 1 << 19;
 
-/// For each pair of a unit and a district, the number of the unit's neighbors in the district.
+/// The maximum number of a unit's neighbors: with `OWN`, more do not fit into a byte.
+const MOST_NEIGHBORS: usize = 127;
+
+/// What the entry of a unit's own district has in addition to the number of neighbors.
+const OWN: u8 = 128;
+
+/// For each pair of a unit and a district, one byte: the number of the unit's neighbors in the district, plus 128 if
+/// the unit is in the district itself.
 ///
-/// If there are too many pairs, the table is empty, and each call scans the neighbors instead.
+/// If there are too many pairs, or a unit has too many neighbors, the table is empty, and each call scans the
+/// neighbors instead.
 #[derive(Drop)]
 pub struct NeighborCounts {
-    table: Vec<u32>,
+    table: Vec<u8>,
 }
 
 impl Model for NeighborCounts {
@@ -37,13 +43,12 @@ impl Model for NeighborCounts {
 }
 
 impl NeighborCounts {
-    /// Allocates a table for all pairs, or an empty table if there are too many. Fails if there is
-    /// no memory.
-    pub fn zeros(alloc: Global, units: u32, districts: u32) -> Result<NeighborCounts, Memory>
-        ensures { IfOk result (λ c. HasPairs units districts c) }
+    /// Allocates a table for all pairs, or an empty table if there are too many. Fails if there is no memory.
+    pub fn zeros(alloc: Global, graph: &Graph, districts: u32) -> Result<NeighborCounts, Memory>
+        ensures { IfOk result (λ c. HasPairs graph.now districts c) }
     {
-        let pairs = u64::from(units) * u64::from(districts);
-        if pairs > MOST_PAIRS {
+        let pairs = u64::from(graph.units()) * u64::from(districts);
+        if pairs > MOST_PAIRS || !has_short_rows(graph) {
             return Ok(NeighborCounts {
                 table: Vec::new(alloc),
             });
@@ -57,8 +62,9 @@ impl NeighborCounts {
     pub fn refill(&mut self, graph: &Graph, plan: &[u32], districts: u32)
         requires plan { length plan.now ≡ graph.now.units }
         requires in_range { (u : ℕ) → u < graph.now.units → slice_index plan.now u < districts }
-        requires pairs { HasPairs graph.now.units districts self.old }
-        ensures { CountsNeighbors graph.now plan.now districts self.new }
+        requires pairs { HasPairs graph.now districts self.old }
+        ensures counts { CountsNeighbors graph.now plan.now districts self.new }
+        ensures width { length self.new ≡ length self.old }
     {
         if !self.table.is_empty() {
             count_all(graph, plan, districts, &mut self.table);
@@ -72,29 +78,33 @@ impl NeighborCounts {
     pub fn follow(&mut self, leaving: Member, districts: u32, district: u32)
         requires in_range { (u : ℕ) → u < leaving.graph.now.units → slice_index leaving.plan.now u < districts }
         requires district { district < districts }
+        requires elsewhere { slice_index leaving.plan.now leaving.unit ≢ district }
         requires table { CountsNeighbors leaving.graph.now leaving.plan.now districts self.old }
-        ensures { CountsNeighbors leaving.entry.graph.now (slice_set leaving.entry.plan.now leaving.entry.unit district) districts self.new }
+        ensures counts { CountsNeighbors leaving.entry.graph.now (slice_set leaving.entry.plan.now leaving.entry.unit district) districts self.new }
+        ensures width { length self.new ≡ length self.old }
     {
         if !self.table.is_empty() {
-            pass_neighbor(leaving, districts, district, &mut self.table);
+            pass_unit(leaving, districts, district, &mut self.table);
         }
     }
 
     /// Returns true if the table is not empty.
     #[inline]
-    fn is_stored(&self) -> bool
-        ensures { IsTrue result → 0 < length self.now }
+    pub fn is_stored(&self) -> bool
+        ensures stored { IsTrue result → 0 < length self.now }
+        ensures empty { IsFalse result → length self.now ≡ 0 }
     {
         !self.table.is_empty()
     }
 
-    /// Returns the number of a unit's neighbors in a district, from the table.
+    /// Returns the entry of a pair.
     #[inline]
-    fn read(&self, member: Member, districts: u32, district: u32) -> u32
+    fn read(&self, member: Member, districts: u32, district: u32) -> u8
         requires stored { 0 < length self.now }
         requires district { district < districts }
         requires table { CountsNeighbors member.graph.now member.plan.now districts self.now }
-        ensures { result ≡ count_near member.entry.graph.now member.entry.plan.now member.entry.unit district }
+        ensures value { result ≡ entry member.entry.graph.now member.entry.plan.now member.entry.unit district }
+        ensures few { count_near member.entry.graph.now member.entry.plan.now member.entry.unit district < 128 }
     {
         self.table[member.unit as usize * districts as usize + district as usize]
     }
@@ -109,11 +119,11 @@ impl NeighborCounts {
         ensures other { result.1 ≡ count_near member.entry.graph.now member.entry.plan.now member.entry.unit other }
     {
         if !self.is_stored() {
-            return scan_mates(member, one, other);
+            return mates_by_scan(member, one, other);
         }
         let in_one = self.read(member, districts, one);
         let in_other = self.read(member, districts, other);
-        (u64::from(in_one), u64::from(in_other))
+        (neighbors_in(in_one), neighbors_in(in_other))
     }
 
     /// Returns true if the table shows that a unit has exactly one neighbor in its own district.
@@ -127,28 +137,54 @@ impl NeighborCounts {
             return false;
         }
         let home = member.plan[member.unit as usize];
-        self.read(member, districts, home) == 1
+        self.read(member, districts, home) == OWN + 1
     }
 
-    /// Returns true if the pair of the unit and the district is open.
+    /// Returns true if the pair at a place is open, by its entry.
     #[inline]
-    pub fn opens(&self, member: Member, districts: u32, district: u32) -> bool
-        requires district { district < districts }
-        requires table { CountsNeighbors member.graph.now member.plan.now districts self.now }
-        ensures { result ≡ is_open member.entry.graph.now member.entry.plan.now member.entry.unit district }
+    pub fn shows_open(&self, place: usize) -> bool
+        requires { place < length self.now }
+        ensures { result ≡ shows_open (slice_index self.now place) }
     {
-        if !self.is_stored() {
-            return scan_open(member.graph, member.plan, member.unit, district);
-        }
-        let elsewhere = member.plan[member.unit as usize] != district;
-        elsewhere & (self.read(member, districts, district) != 0)
+        let number = self.table[place];
+        (number != 0) & (number < OWN)
     }
 }
 
-/// Writes the number of each unit's neighbors in each district.
-fn count_all(graph: &Graph, plan: &[u32], districts: u32, table: &mut [u32])
+/// Returns the number of neighbors in an entry.
+#[inline]
+fn neighbors_in(number: u8) -> u64
+    ensures { result ≡ number % 128 }
+{
+    u64::from(number & (OWN - 1))
+}
+
+/// Does the work of `mates` without a table. Few graphs need it, so the code is kept out of line.
+#[inline(never)]
+fn mates_by_scan(member: Member, one: u32, other: u32) -> (u64, u64)
+    ensures one { result.0 ≡ count_near member.entry.graph.now member.entry.plan.now member.entry.unit one }
+    ensures other { result.1 ≡ count_near member.entry.graph.now member.entry.plan.now member.entry.unit other }
+{
+    scan_mates(member, one, other)
+}
+
+/// Returns true if no unit has so many neighbors that its entries do not fit into a byte.
+fn has_short_rows(graph: &Graph) -> bool
+    ensures { IsTrue result ↔ HasShortRows graph.now }
+{
+    for unit in 0..graph.units() {
+        if graph.neighbours(unit).len() > MOST_NEIGHBORS {
+            return false;
+        }
+    }
+    true
+}
+
+/// Writes the entries of all pairs.
+fn count_all(graph: &Graph, plan: &[u32], districts: u32, table: &mut [u8])
     requires plan { length plan.now ≡ graph.now.units }
     requires in_range { (u : ℕ) → u < graph.now.units → slice_index plan.now u < districts }
+    requires short { HasShortRows graph.now }
     requires width { graph.now.units * districts ≤ length table.old }
     ensures { AreNear graph.now plan.now districts table.new }
 {
@@ -158,44 +194,65 @@ fn count_all(graph: &Graph, plan: &[u32], districts: u32, table: &mut [u32])
     }
 }
 
-/// Counts the neighbors of a unit by district. The unit's numbers must be 0 before.
-fn count_beside(member: Member, districts: u32, table: &mut [u32])
+/// Writes the entries of a unit. They must be 0 before.
+fn count_beside(member: Member, districts: u32, table: &mut [u8])
     requires in_range { (u : ℕ) → u < member.graph.now.units → slice_index member.plan.now u < districts }
+    requires short { HasShortRows member.graph.now }
     requires width { member.graph.now.units * districts ≤ length table.old }
     requires zeros { (d : ℕ) → d < districts → near_of table.old districts member.unit d ≡ 0 }
     ensures { HasCounted member.entry.plan.now districts member.entry.unit (slice_index_or member.entry.graph.now.neighbours member.entry.unit []) table.old table.new }
 {
     let begin = member.unit as usize * districts as usize;
+    let own = begin + member.plan[member.unit as usize] as usize;
+    table[own] = OWN;
     for other in member.graph.neighbours(member.unit) {
         let place = begin + member.plan[*other as usize] as usize;
         table[place] += 1;
     }
 }
 
-/// Updates the numbers of each neighbor of a unit that is about to move. The number for the old
-/// district falls by one, and the number for the new district rises by one.
-fn pass_neighbor(leaving: Member, districts: u32, district: u32, table: &mut [u32])
+/// Updates the entries of a unit that is about to move, and those of its neighbors.
+#[inline]
+fn pass_unit(leaving: Member, districts: u32, district: u32, table: &mut [u8])
     requires in_range { (u : ℕ) → u < leaving.graph.now.units → slice_index leaving.plan.now u < districts }
     requires district { district < districts }
+    requires elsewhere { slice_index leaving.plan.now leaving.unit ≢ district }
     requires near { AreNear leaving.graph.now leaving.plan.now districts table.old }
-    ensures { AreNear leaving.entry.graph.now (slice_set leaving.entry.plan.now leaving.entry.unit district) districts table.new }
+    ensures counts { AreNear leaving.entry.graph.now (slice_set leaving.entry.plan.now leaving.entry.unit district) districts table.new }
+    ensures width { length table.new ≡ length table.old }
+{
+    pass_neighbors(leaving, districts, district, table);
+    let home = leaving.plan[leaving.unit as usize] as usize;
+    let begin = leaving.unit as usize * districts as usize;
+    pass_amount(table, begin + home, begin + district as usize, OWN);
+}
+
+/// Updates the entries of each neighbor of a unit that is about to move. The number for the old district falls by one,
+/// and the number for the new district rises by one.
+#[inline]
+fn pass_neighbors(leaving: Member, districts: u32, district: u32, table: &mut [u8])
+    requires in_range { (u : ℕ) → u < leaving.graph.now.units → slice_index leaving.plan.now u < districts }
+    requires district { district < districts }
+    requires elsewhere { slice_index leaving.plan.now leaving.unit ≢ district }
+    requires near { AreNear leaving.graph.now leaving.plan.now districts table.old }
+    ensures { HasMoved districts (slice_index leaving.entry.plan.now leaving.entry.unit) district (slice_index_or leaving.entry.graph.now.neighbours leaving.entry.unit []) table.old table.new }
 {
     let home = leaving.plan[leaving.unit as usize] as usize;
     let into = district as usize;
     for other in leaving.graph.neighbours(leaving.unit) {
         let begin = *other as usize * districts as usize;
-        pass_one(table, begin + home, begin + into);
+        pass_amount(table, begin + home, begin + into, 1);
     }
 }
 
-/// Subtracts one from the number at `from`, and adds one to the number at `to`.
+/// Subtracts an amount from the number at `from`, and adds it to the number at `to`.
 #[inline]
-fn pass_one(table: &mut [u32], from: usize, to: usize)
+fn pass_amount(table: &mut [u8], from: usize, to: usize, amount: u8)
     requires places { (from < length table.old) × (to < length table.old) }
-    requires some { 0 < slice_index table.old from }
-    requires few { slice_index table.old to ≤ most_units }
-    ensures { HasMovedNeighbor from to table.old table.new }
+    requires some { amount ≤ slice_index table.old from }
+    requires few { slice_index table.old to + amount < 256 }
+    ensures { HasPassed amount from to table.old table.new }
 {
-    table[from] -= 1;
-    table[to] += 1;
+    table[from] -= amount;
+    table[to] += amount;
 }

@@ -1,11 +1,12 @@
-//! The table of the open pairs. Only the flip of an open pair can be a move.
+//! The open pairs. Only the flip of an open pair can be a move.
 
 ghost use Rattle.std.specs.Int.{bit_at};
-ghost use Rattle.std.specs.Prelude.{◌≡◌, ◌≢◌, ℕ, ◌+◌, ◌*◌, ◌/◌, ◌<◌, ◌≤◌, cond, false, [], length, slice_index, slice_set, replicate, IfOk, IsTrue};
+ghost use Rattle.std.specs.Prelude.{◌≡◌, ◌≢◌, ℕ, ◌+◌, ◌*◌, ◌/◌, ◌<◌, ◌≤◌, cond, false, [], List, length, slice_index, slice_set, replicate, IfOk, IsTrue};
 ghost use Rattle.std.specs.List.{slice_index_or};
 ghost use Rattle.flip_kernel.specs.Flags.{bit_of, flags_of};
 ghost use Rattle.flip_kernel.specs.Nearby.{CountsNeighbors};
-ghost use Rattle.flip_kernel.specs.OpenPairs.{is_open, flag_of, MarksOpenPairs, HasOpenedPairs};
+ghost use Rattle.audit_model.specs.Graph.{Graph as GraphValue, IsGraph};
+ghost use Rattle.flip_kernel.specs.OpenPairs.{is_open, flag_of, MarksOpenPairs, MarksWithoutCounts, HasOpenedPairs};
 
 use crate::nearby::NeighborCounts;
 use audit_model::memory::Memory;
@@ -15,6 +16,8 @@ use std::alloc::Global;
 use std::marker::Model;
 
 /// One bit for each pair, at its place: true if the pair is open.
+///
+/// If `NeighborCounts` has a table, an entry there shows if its pair is open. There are then no bits here.
 #[derive(Drop)]
 pub struct OpenPairs {
     words: Vec<u64>,
@@ -30,18 +33,42 @@ impl Model for OpenPairs {
 }
 
 impl OpenPairs {
-    /// Allocates a bit for each pair, with no pair open. Fails if there is no memory.
-    pub fn none(alloc: Global, units: u32, districts: u32) -> Result<OpenPairs, Memory>
-        ensures { IfOk result (λ o. units * districts ≤ length o) }
+    /// Allocates a bit for each pair if the table of `near` is empty. Fails if there is no memory.
+    pub fn new(
+        alloc: Global,
+        units: u32,
+        districts: u32,
+        near: &NeighborCounts,
+    ) -> Result<OpenPairs, Memory>
+        ensures { IfOk result (λ o. length near.now ≡ 0 → units * districts ≤ length o) }
     {
+        if near.is_stored() {
+            return Ok(OpenPairs {
+                words: Vec::new(alloc),
+            });
+        }
         Ok(OpenPairs {
             words: vec![in alloc; 0; place_of(units, 0, districts) / 64 + 1]?,
         })
     }
 
-    /// Returns true if the pair at a place is open.
+    /// Returns true if the pair at a place is open, by its entry of `near` or by its bit.
     #[inline]
-    pub fn has(&self, place: usize) -> bool
+    pub fn has(&self, place: usize, near: &NeighborCounts) -> bool
+        requires entry { 0 < length near.now → place < length near.now }
+        requires bit { length near.now ≡ 0 → place < length self.now }
+        ensures { (g : GraphValue) (plan : List ℕ) (districts u d : ℕ) → IsGraph g → u < g.units → d < districts → place ≡ u * districts + d
+            → CountsNeighbors g plan districts near.now → MarksWithoutCounts g plan districts near.now self.now → result ≡ is_open g plan u d }
+    {
+        if near.is_stored() {
+            return near.shows_open(place);
+        }
+        self.has_bit(place)
+    }
+
+    /// Returns the bit at a place.
+    #[inline]
+    fn has_bit(&self, place: usize) -> bool
         requires { place < length self.now }
         ensures { result ≡ slice_index_or self.now place false }
     {
@@ -94,8 +121,20 @@ impl OpenPairs {
         }
     }
 
-    /// Recomputes the open pairs for a plan. Allocates nothing.
-    pub fn refill(&mut self, graph: &Graph, plan: &[u32], districts: u32)
+    /// Recomputes the open pairs for a plan if the table of `near` is empty. Allocates nothing.
+    pub fn refill(&mut self, graph: &Graph, plan: &[u32], districts: u32, near: &NeighborCounts)
+        requires plan { length plan.now ≡ graph.now.units }
+        requires in_range { (u : ℕ) → u < graph.now.units → slice_index plan.now u < districts }
+        requires width { length near.now ≡ 0 → graph.now.units * districts ≤ length self.old }
+        ensures { MarksWithoutCounts graph.now plan.now districts near.now self.new }
+    {
+        if !near.is_stored() {
+            self.refill_bits(graph, plan, districts);
+        }
+    }
+
+    /// Recomputes all bits for a plan.
+    fn refill_bits(&mut self, graph: &Graph, plan: &[u32], districts: u32)
         requires plan { length plan.now ≡ graph.now.units }
         requires in_range { (u : ℕ) → u < graph.now.units → slice_index plan.now u < districts }
         requires width { graph.now.units * districts ≤ length self.old }
@@ -109,13 +148,28 @@ impl OpenPairs {
 
     /// Updates the open pairs after a unit has moved away from `home`, where it has a neighbor.
     ///
-    /// It costs one pass over the unit's neighbors, and allocates nothing. If the table of `near`
-    /// is empty, the neighbors of each neighbor are scanned too.
+    /// It does nothing unless the table of `near` is empty, and allocates nothing.
+    #[inline]
     pub fn update(&mut self, moved: Member, districts: u32, home: u32, near: &NeighborCounts)
         requires in_range { (u : ℕ) → u < moved.graph.now.units → slice_index moved.plan.now u < districts }
         requires home { home < districts }
         requires beside { IsTrue (is_open moved.graph.now moved.plan.now moved.unit home) }
-        requires near { CountsNeighbors moved.graph.now moved.plan.now districts near.now }
+        requires table { MarksWithoutCounts moved.graph.now (slice_set moved.plan.now moved.unit home) districts near.now self.old }
+        ensures { MarksWithoutCounts moved.entry.graph.now moved.entry.plan.now districts near.now self.new }
+    {
+        if !near.is_stored() {
+            self.update_bits(moved, districts, home);
+        }
+    }
+
+    /// Updates the bits after a unit has moved away from `home`, where it has a neighbor.
+    ///
+    /// It scans the neighbors of each neighbor. Few graphs need it, so the code is kept out of line.
+    #[inline(never)]
+    fn update_bits(&mut self, moved: Member, districts: u32, home: u32)
+        requires in_range { (u : ℕ) → u < moved.graph.now.units → slice_index moved.plan.now u < districts }
+        requires home { home < districts }
+        requires beside { IsTrue (is_open moved.graph.now moved.plan.now moved.unit home) }
         requires table { MarksOpenPairs moved.graph.now (slice_set moved.plan.now moved.unit home) districts self.old }
         ensures { MarksOpenPairs moved.entry.graph.now moved.entry.plan.now districts self.new }
     {
@@ -126,15 +180,7 @@ impl OpenPairs {
         for other in graph.neighbours(unit) {
             let v = *other;
             let there = plan[v as usize];
-            let opens = near.opens(
-                Member {
-                    graph,
-                    plan,
-                    unit: v,
-                },
-                districts,
-                home,
-            );
+            let opens = scan_open(graph, plan, v, home);
             self.put(districts, v, district, there != district);
             self.put_elsewhere(districts, v, home, there, opens);
         }
@@ -183,7 +229,7 @@ const SHORT: usize = 16;
 ///
 /// A short list of neighbors is scanned to its end, without a branch that depends on the districts.
 /// A long list is scanned only to the first neighbor in the district.
-pub(crate) fn scan_open(graph: &Graph, plan: &[u32], unit: u32, district: u32) -> bool
+fn scan_open(graph: &Graph, plan: &[u32], unit: u32, district: u32) -> bool
     requires plan { length plan.now ≡ graph.now.units }
     requires unit { unit < graph.now.units }
     ensures { result ≡ is_open graph.now plan.now unit district }

@@ -4,7 +4,7 @@ ghost use Rattle.std.specs.Prelude.{◌≡◌, IfOk};
 ghost use Rattle.contig.specs.Counts.{AreCounts};
 ghost use Rattle.flip_kernel.specs.ChainState.{IsSummed};
 ghost use Rattle.flip_kernel.specs.Nearby.{CountsNeighbors};
-ghost use Rattle.flip_kernel.specs.OpenPairs.{MarksOpenPairs};
+ghost use Rattle.flip_kernel.specs.OpenPairs.{MarksWithoutCounts};
 
 use crate::nearby::NeighborCounts;
 use crate::open_pairs::OpenPairs;
@@ -50,27 +50,27 @@ fn neighbors_of(alloc: Global, job: &Job) -> Result<NeighborCounts, Memory>
     ensures { IfOk result (λ near. CountsNeighbors job.now.graph job.now.start job.now.districts near) }
 {
     let districts = job.districts();
-    let mut near = NeighborCounts::zeros(alloc, job.units(), districts)?;
+    let mut near = NeighborCounts::zeros(alloc, job.graph(), districts)?;
     near.refill(job.graph(), job.start().as_slice(), districts);
     Ok(near)
 }
 
-/// Finds the open pairs.
-fn open_pairs_of(alloc: Global, job: &Job) -> Result<OpenPairs, Memory>
-    ensures { IfOk result (λ pairs. MarksOpenPairs job.now.graph job.now.start job.now.districts pairs) }
+/// Finds the open pairs if the table of `near` is empty.
+fn open_pairs_of(alloc: Global, job: &Job, near: &NeighborCounts) -> Result<OpenPairs, Memory>
+    ensures { IfOk result (λ pairs. MarksWithoutCounts job.now.graph job.now.start job.now.districts near.now pairs) }
 {
     let districts = job.districts();
-    let mut open_pairs = OpenPairs::none(alloc, job.units(), districts)?;
-    open_pairs.refill(job.graph(), job.start().as_slice(), districts);
+    let mut open_pairs = OpenPairs::new(alloc, job.units(), districts, near)?;
+    open_pairs.refill(job.graph(), job.start().as_slice(), districts, near);
     Ok(open_pairs)
 }
 
 fn pairs_of(alloc: Global, job: &Job) -> Result<(NeighborCounts, OpenPairs), Memory>
     ensures near { IfOk result (λ p. CountsNeighbors job.now.graph job.now.start job.now.districts p.0) }
-    ensures opened { IfOk result (λ p. MarksOpenPairs job.now.graph job.now.start job.now.districts p.1) }
+    ensures opened { IfOk result (λ p. MarksWithoutCounts job.now.graph job.now.start job.now.districts p.0 p.1) }
 {
     let near = neighbors_of(alloc, job)?;
-    match open_pairs_of(alloc, job) {
+    match open_pairs_of(alloc, job, &near) {
         Ok(open_pairs) => Ok((near, open_pairs)),
         Err(_) => {
             drop(near);
@@ -100,7 +100,7 @@ fn faces_of(alloc: Global, job: &Job) -> Result<(FaceTable, FaceCounts), Memory>
 fn marks_of(alloc: Global, job: &Job) -> Result<(Marks, NeighborCounts, OpenPairs), Memory>
     ensures marked { IfOk result (λ m. m.0.units ≡ job.now.graph.units) }
     ensures near { IfOk result (λ m. CountsNeighbors job.now.graph job.now.start job.now.districts m.1) }
-    ensures opened { IfOk result (λ m. MarksOpenPairs job.now.graph job.now.start job.now.districts m.2) }
+    ensures opened { IfOk result (λ m. MarksWithoutCounts job.now.graph job.now.start job.now.districts m.1 m.2) }
 {
     let marks = Marks::new(alloc, job.units())?;
     match pairs_of(alloc, job) {
@@ -119,7 +119,7 @@ pub(crate) fn tables_of(
 ) -> Result<(Marks, NeighborCounts, OpenPairs, FaceTable, FaceCounts), Memory>
     ensures marked { IfOk result (λ t. t.0.units ≡ job.now.graph.units) }
     ensures near { IfOk result (λ t. CountsNeighbors job.now.graph job.now.start job.now.districts t.1) }
-    ensures opened { IfOk result (λ t. MarksOpenPairs job.now.graph job.now.start job.now.districts t.2) }
+    ensures opened { IfOk result (λ t. MarksWithoutCounts job.now.graph job.now.start job.now.districts t.1 t.2) }
     ensures made { IfOk result (λ t. t.3.graph ≡ job.now.graph) }
     ensures counts { IfOk result (λ t. AreCounts job.now.graph t.3.faces job.now.districts job.now.start t.4) }
 {

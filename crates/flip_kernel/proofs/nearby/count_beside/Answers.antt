@@ -1,10 +1,8 @@
-use Rattle.std.proofs.Common.{◌≡◌, ℕ, ◌*◌, ◌^◌, ◌<◌, ◌≤◌, List, length, get_or, take, refl, ◌∙◌, subst, arith, take_all}
+use Rattle.std.proofs.Common.{◌≡◌, ℕ, ◌*◌, ◌^◌, ◌<◌, ◌≤◌, List, length, get_or, take, refl, ap, ◌∙◌, subst, arith, take_all}
 use Rattle.std.proofs.lemmas.List.Elements.{All-get_or}
 use Rattle.std.proofs.lemmas.Nat.{mul-le}
-use Rattle.audit_model.specs.District.{in_district}
-use Rattle.district_sums.proofs.Walking.{row_few}
 use Rattle.flip_kernel.specs.Nearby.{HasCounted}
-use Rattle.flip_kernel.proofs.NearPairs.{counting_more}
+use Rattle.flip_kernel.proofs.NearPairs.{counting_none, counting_more, counting_fits}
 use Rattle.flip_kernel.proofs.Tables.{place_within}
 use Rattle.flip_kernel.proofs.nearby.count_beside.Goals as goal
 
@@ -26,6 +24,19 @@ overflow_add-place c =
       c.requires.in_range (get_or row c.loop-other.other-index 0) below,
     )
 
+pub overflow_add-own : goal.overflow_add-own
+overflow_add-own c =
+    omega (
+      arith,
+      small_begin c.args.member.unit c.args.districts (omega (arith, c.args.member.within, c.args.member.few)) (omega arith),
+      c.requires.in_range c.args.member.unit c.args.member.within,
+    )
+
+pub bounds-table-own : goal.bounds-table-own
+bounds-table-own c =
+    place_within c.args.member.graph.now.units c.args.districts c.args.member.unit (get_or c.args.member.plan.now c.args.member.unit 0) (length c.args.table.now)
+    c.args.member.within (c.requires.in_range c.args.member.unit c.args.member.within) c.requires.width
+
 pub overflow_add-table : goal.overflow_add-table
 overflow_add-table c =
     let plan : List ℕ = c.args.member.plan.now in
@@ -33,11 +44,11 @@ overflow_add-table c =
     let i : ℕ = c.loop-other.other-index in
     let there : get_or plan (get_or row i 0) 0 < c.args.districts =
     c.requires.in_range (get_or row i 0) (All-get_or (λ v. v < c.args.member.graph.now.units) row i 0 c.loop-other-test.true c.neighbours-other-items.ensures.below) in
+    let short : length row ≤ 127 = omega (arith, ap (length {A = ℕ}) c.neighbours-other-items.ensures.list, c.requires.short c.args.member.unit c.args.member.within) in
     omega (
       arith,
-      c.loop-other.invariant.own (get_or plan (get_or row i 0) 0) there,
-      row_few c.args.member.graph.now c.args.member.unit i (in_district plan (get_or plan (get_or row i 0) 0)) row c.args.member.sound c.neighbours-other-items.ensures.list,
-      c.args.member.few,
+      counting_fits plan c.args.districts c.args.member.unit (get_or plan (get_or row i 0) 0) row i c.args.table.now c.loop-other.table c.loop-other-test.true short there
+          c.loop-other.invariant,
     )
 
 pub loop-other-preserved : goal.loop-other-preserved
@@ -65,11 +76,12 @@ bounds-table-place c =
     (omega (arith, c.requires.width, c.loop-other.invariant.width))
 
 pub loop-other-init : goal.loop-other-init
-loop-other-init c = record {
-  width = refl;
-  own = c.requires.zeros;
-  others = λ u d other l. refl;
-}
+loop-other-init c =
+    let plan : List ℕ = c.args.member.plan.now in
+    let home = c.requires.in_range c.args.member.unit c.args.member.within in
+    counting_none plan c.args.districts c.args.member.unit _ c.args.table.now home refl
+    (place_within c.args.member.graph.now.units c.args.districts c.args.member.unit (get_or plan c.args.member.unit 0) (length c.args.table.now) c.args.member.within home c.requires.width)
+    c.requires.zeros
 
 pub bounds-member-other : goal.bounds-member-other
 bounds-member-other c =

@@ -4,10 +4,10 @@ use Rattle.flip_kernel.proofs.Reading.{opened_for}
 use Rattle.flip_kernel.proofs.start.open_pairs_of.Goals as goal
 
 pub returns : goal.returns
-returns c =
+returns c = λ empty.
     let job = c.args.job.now in
     opened_for c.graph.result.now job.graph c.as_slice.result.now job.start c.districts-districts.result job.districts (sym c.graph.ensures.value)
-    (sym (c.as_slice.ensures ∙ c.start.ensures.value)) (sym c.districts-districts.ensures.value) c.refill.new.self c.refill.ensures
+    (sym (c.as_slice.ensures ∙ c.start.ensures.value)) (sym c.districts-districts.ensures.value) c.refill.new.self (c.refill.ensures empty)
 
 pub refill-requires-clause-plan : goal.refill-requires-clause-plan
 refill-requires-clause-plan c =
@@ -19,6 +19,6 @@ refill-requires-clause-in_range c = λ v l.
     omega (arith, here, c.districts-districts.ensures.value, c.graph.ensures.sound.legal.in_range v (subst (λ (g : Graph). v < g.units) c.graph.ensures.value l))
 
 pub refill-requires-clause-width : goal.refill-requires-clause-width
-refill-requires-clause-width c =
+refill-requires-clause-width c = λ empty.
     subst (λ (k : ℕ). k * c.districts-districts.result ≤ length {A = Bool} c.in_ok-open_pairs.open_pairs)
-    (c.units.ensures.units ∙ ap (λ (g : Graph). g.units) (sym c.graph.ensures.value)) c.in_ok-open_pairs.ensures
+    (c.units.ensures.units ∙ ap (λ (g : Graph). g.units) (sym c.graph.ensures.value)) (c.in_ok-open_pairs.ensures empty)

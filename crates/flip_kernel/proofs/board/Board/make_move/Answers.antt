@@ -3,7 +3,6 @@ use Rattle.audit_model.specs.Graph.{Graph}
 use Rattle.audit_model.specs.Job.{Job}
 use Rattle.district_sums.specs.Following.{StandsFor, count_near}
 use Rattle.flip_kernel.specs.ChainState.{ChainState, IsSummed}
-use Rattle.flip_kernel.specs.Nearby.{CountsNeighbors}
 use Rattle.flip_kernel.specs.OpenPairs.{is_open, MarksOpenPairs}
 use Rattle.flip_kernel.proofs.Holding.{up_to_date_for, put_back}
 use Rattle.flip_kernel.proofs.Moves.{left_is_open}
@@ -16,12 +15,13 @@ table_of g h p q m n table eg ep em is =
     subst (λ (x : Graph). MarksOpenPairs x q n table) eg (subst (λ (x : List ℕ). MarksOpenPairs g x n table) ep (subst (λ (x : ℕ). MarksOpenPairs g p x table) em is))
 
 pub update-requires-clause-table : goal.update-requires-clause-table
-update-requires-clause-table c =
+update-requires-clause-table c = λ empty.
     let s = c.self.inside in
     let same : s.job.value ≡ c.args.flip.job.now = ap (λ (h : ChainState). h.job) c.self.view_is ∙ c.requires.made in
     let back = put_back s.plan c.as_slice-3.result.now c.args.flip.unit c.args.flip.district _ (c.as_slice-3.ensures ∙ c.shift.ensures.plan) (ap (λ (p : List ℕ). get_or p c.args.flip.unit 0) c.as_slice.ensures) in
     table_of s.job.value.graph c.graph-graph.result.now s.plan _ s.job.value.districts s.pairs.districts s.open_pairs
-    (ap (λ (j : Job). j.graph) same ∙ sym c.graph-graph.ensures.value) (sym back) (sym c.self.invariant.numbers.districts) c.self.invariant.opened
+    (ap (λ (j : Job). j.graph) same ∙ sym c.graph-graph.ensures.value) (sym back) (sym c.self.invariant.numbers.districts)
+    (c.self.invariant.opened (sym c.follow-2.ensures.width ∙ empty))
 
 pub update-requires-clause-beside : goal.update-requires-clause-beside
 update-requires-clause-beside c =
@@ -164,13 +164,6 @@ update-requires-clause-home c =
     let home = ap (λ (p : List ℕ). get_or p flip.unit 0) (c.as_slice.ensures ∙ at) in
     omega (arith, home, current.numbers.districts, current.summed.legal.in_range flip.unit flip.unit_below)
 
-pub update-requires-clause-near : goal.update-requires-clause-near
-update-requires-clause-near c =
-    let s = c.self.inside in
-    let flip = c.args.flip in
-    subst (λ (p : List ℕ). CountsNeighbors c.graph-graph.result.now p s.pairs.districts c.follow-2.new.self)
-    (sym (c.as_slice-3.ensures ∙ c.shift.ensures.plan ∙ ap (λ (p : List ℕ). set p flip.unit flip.district) (sym c.as_slice-2.ensures))) c.follow-2.ensures
-
 pub invariant_of-self : goal.invariant_of-self
 invariant_of-self c =
     let s = c.self.inside in
@@ -195,10 +188,11 @@ invariant_of-self c =
         stands = subst (λ (p : List ℕ). StandsFor job.graph job.counts p c.shift.new.sums) put c.shift.ensures.stands;
       };
       marked = current.marked;
-      opened = opened_for g job.graph c.as_slice-3.result.now after s.pairs.districts job.districts graphs (sym (c.as_slice-3.ensures ∙ put)) (sym current.numbers.districts)
-          c.update.new.self c.update.ensures;
+      opened = λ empty.
+          opened_for g job.graph c.as_slice-3.result.now after s.pairs.districts job.districts graphs (sym (c.as_slice-3.ensures ∙ put)) (sym current.numbers.districts)
+          c.update.new.self (c.update.ensures empty);
       numbers = current.numbers;
       made = current.made;
       counts = counts_for g job.graph left after (length s.counts.edges) job.districts graphs lefts (sym current.counts.edge_places) s.faces.faces c.follow.new.self c.follow.ensures;
-      near = near_for g job.graph left after s.pairs.districts job.districts graphs lefts (sym current.numbers.districts) c.follow-2.new.self c.follow-2.ensures;
+      near = near_for g job.graph left after s.pairs.districts job.districts graphs lefts (sym current.numbers.districts) c.follow-2.new.self c.follow-2.ensures.counts;
     })

@@ -3,6 +3,7 @@ use Rattle.audit_model.specs.Graph.{Graph}
 use Rattle.audit_model.specs.Job.{Job}
 use Rattle.audit_model.specs.JobOf.{IsJob}
 use Rattle.flip_kernel.specs.ChainState.{ChainState}
+use Rattle.flip_kernel.specs.Nearby.{HasPlaces}
 use Rattle.flip_kernel.proofs.Holding.{up_to_date_for}
 use Rattle.flip_kernel.proofs.Reading.{near_for, counts_for, opened_for, inputs_for, stands_for}
 use Rattle.flip_kernel.proofs.board.Board.set.Goals as goal
@@ -41,9 +42,12 @@ pub refill-requires-2-clause-pairs : goal.refill-requires-2-clause-pairs
 refill-requires-2-clause-pairs c = λ some.
     let s = c.self.inside in
     let same = ap (λ (h : ChainState). h.job) c.self.view_is ∙ c.requires.made in
-    let units = ap (λ (j : Job). j.graph.units) same ∙ ap (λ (g : Graph). g.units) (sym c.graph-graph.ensures.value) in
-    subst (λ (k : ℕ). k * s.pairs.districts ≤ length s.near) units
-    (subst (λ (n : ℕ). s.job.value.graph.units * n ≤ length s.near) (sym c.self.invariant.numbers.districts) (c.self.invariant.near some).width)
+    let near = c.self.invariant.near some in
+    subst (λ (g : Graph). HasPlaces g s.pairs.districts s.near) (ap (λ (j : Job). j.graph) same ∙ sym c.graph-graph.ensures.value)
+    (record {
+      short = near.short;
+      width = subst (λ (n : ℕ). s.job.value.graph.units * n ≤ length s.near) (sym c.self.invariant.numbers.districts) near.width;
+    })
 
 pub refill-requires-3-clause-plan : goal.refill-requires-3-clause-plan
 refill-requires-3-clause-plan c = c.requires.legal.complete ∙ ap (λ (g : Graph). g.units) (sym c.graph-graph.ensures.value)
@@ -55,12 +59,13 @@ refill-requires-3-clause-in_range c = λ v l.
     omega (arith, places, c.requires.legal.in_range v (subst (λ (g : Graph). v < g.units) c.graph-graph.ensures.value l))
 
 pub refill-requires-3-clause-width : goal.refill-requires-3-clause-width
-refill-requires-3-clause-width c =
+refill-requires-3-clause-width c = λ empty.
     let s = c.self.inside in
     let same = ap (λ (h : ChainState). h.job) c.self.view_is ∙ c.requires.made in
     let units = ap (λ (j : Job). j.graph.units) same ∙ ap (λ (g : Graph). g.units) (sym c.graph-graph.ensures.value) in
+    let opened = c.self.invariant.opened (sym c.refill-2.ensures.width ∙ empty) in
     subst (λ (k : ℕ). k * s.pairs.districts ≤ length s.open_pairs) units
-    (subst (λ (n : ℕ). s.job.value.graph.units * n ≤ length s.open_pairs) (sym c.self.invariant.numbers.districts) c.self.invariant.opened.width)
+    (subst (λ (n : ℕ). s.job.value.graph.units * n ≤ length s.open_pairs) (sym c.self.invariant.numbers.districts) opened.width)
 
 pub reset-requires-clause-made : goal.reset-requires-clause-made
 reset-requires-clause-made c =
@@ -93,9 +98,10 @@ invariant_of-self c =
         stands = stands_for g job.graph c.counts.result.now job.counts plan c.refill.new.self graphs (sym c.counts.ensures.value) c.refill.ensures.stands;
       };
       marked = current.marked;
-      opened = opened_for g job.graph plan plan s.pairs.districts job.districts graphs refl (sym current.numbers.districts) c.refill-3.new.self c.refill-3.ensures;
+      opened = λ empty.
+          opened_for g job.graph plan plan s.pairs.districts job.districts graphs refl (sym current.numbers.districts) c.refill-3.new.self (c.refill-3.ensures empty);
       numbers = current.numbers;
       made = current.made;
       counts = counts_for g job.graph plan plan (length s.counts.edges) job.districts graphs refl (sym current.counts.edge_places) s.faces.faces c.reset.new.self c.reset.ensures;
-      near = near_for g job.graph plan plan s.pairs.districts job.districts graphs refl (sym current.numbers.districts) c.refill-2.new.self c.refill-2.ensures;
+      near = near_for g job.graph plan plan s.pairs.districts job.districts graphs refl (sym current.numbers.districts) c.refill-2.new.self c.refill-2.ensures.counts;
     })

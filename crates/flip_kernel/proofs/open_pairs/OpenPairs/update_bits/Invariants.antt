@@ -1,5 +1,5 @@
 use Rattle.flip_kernel.proofs.Tables.{IsClosed, IsUpdating}
-use Rattle.flip_kernel.proofs.open_pairs.OpenPairs.update.Given as goal
+use Rattle.flip_kernel.proofs.open_pairs.OpenPairs.update_bits.Given as goal
 
 abbrev pub invariant-loop-other : goal.invariant-loop-other
 invariant-loop-other l = record {

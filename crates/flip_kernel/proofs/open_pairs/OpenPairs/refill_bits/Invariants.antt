@@ -1,6 +1,6 @@
 use Rattle.std.proofs.Common.{◌*◌, ◌≤◌, length}
 use Rattle.flip_kernel.proofs.Tables.{IsFilling}
-use Rattle.flip_kernel.proofs.open_pairs.OpenPairs.refill.Given as goal
+use Rattle.flip_kernel.proofs.open_pairs.OpenPairs.refill_bits.Given as goal
 
 abbrev pub invariant-loop-unit : goal.invariant-loop-unit
 invariant-loop-unit l = record {

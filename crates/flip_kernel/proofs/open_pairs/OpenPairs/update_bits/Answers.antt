@@ -5,7 +5,7 @@ use Rattle.audit_model.proofs.ListFacts.{at_has}
 use Rattle.flip_kernel.specs.OpenPairs.{MarksOpenPairs}
 use Rattle.flip_kernel.proofs.Beside.{not_open, open_to_neighbour}
 use Rattle.flip_kernel.proofs.Tables.{place_within, IsClosed, closed_none, closed_more, IsUpdating, renewing_none, renewing_more, renewing_all}
-use Rattle.flip_kernel.proofs.open_pairs.OpenPairs.update.Goals as goal
+use Rattle.flip_kernel.proofs.open_pairs.OpenPairs.update_bits.Goals as goal
 
 pub loop-other-init : goal.loop-other-init
 loop-other-init c = record {
@@ -52,15 +52,15 @@ loop-other-preserved c =
     let inside = place_within g.units n v district (length c.loop-other.self) below ld c.loop-other.invariant.updating.width in
     let inside_next : v * n + c.args.home < length (set c.loop-other.self (v * n + district) (not (get_or plan v 0 == district))) =
     omega (arith, place_within g.units n v c.args.home (length c.loop-other.self) below c.requires.home c.loop-other.invariant.updating.width, length-set {A = Bool}) in
-    let written = twice c.loop-other.self c.put.new.self c.put_elsewhere.new.self (v * n + district) (v * n + c.args.home) (not (get_or plan v 0 == district)) c.opens-opens.result
+    let written = twice c.loop-other.self c.put.new.self c.put_elsewhere.new.self (v * n + district) (v * n + c.args.home) (not (get_or plan v 0 == district)) c.scan_open-opens.result
     c.put.ensures c.put_elsewhere.ensures in
     record {
       updating = subst (λ (t : List Bool). IsUpdating g plan n row c.args.moved.unit c.args.home district (i + 1) t) written
-          (renewing_more g plan n v district c.args.home (not (get_or plan v 0 == district)) c.opens-opens.result c.loop-other.self below
-          ld c.requires.home c.loop-other.invariant.updating.width one c.opens-opens.ensures row c.args.moved.unit i refl c.loop-other.invariant.updating);
+          (renewing_more g plan n v district c.args.home (not (get_or plan v 0 == district)) c.scan_open-opens.result c.loop-other.self below
+          ld c.requires.home c.loop-other.invariant.updating.width one c.scan_open-opens.ensures row c.args.moved.unit i refl c.loop-other.invariant.updating);
       closed = subst (λ (t : List Bool). IsClosed g.units plan n c.args.moved.unit t) written
-          (closed_more g.units plan n c.args.moved.unit v c.args.home c.opens-opens.result (set c.loop-other.self (v * n + district) (not (get_or plan v 0 == district))) inside_next c.requires.home
-          (λ e. c.opens-opens.ensures ∙ not_open g plan v c.args.home e)
+          (closed_more g.units plan n c.args.moved.unit v c.args.home c.scan_open-opens.result (set c.loop-other.self (v * n + district) (not (get_or plan v 0 == district))) inside_next c.requires.home
+          (λ e. c.scan_open-opens.ensures ∙ not_open g plan v c.args.home e)
           (closed_more g.units plan n c.args.moved.unit v district (not (get_or plan v 0 == district)) c.loop-other.self inside ld
           (λ e. one ∙ not_open g plan v district e) c.loop-other.invariant.closed));
     }
