@@ -51,14 +51,12 @@ module _ (job : Job) (plan : List ℕ) (sums : Following) (marks : ℕ) (table :
   pub still_rejected : None ≡ place_in pairs.count draw → next job plan draw ≡ plan
   still_rejected is = next_rejected job plan draw (proposed_none job.graph.units job.districts pairs.count draw current.numbers.count is)
 
-  -- a draw's place in its block is a place of the tables
-  pub rest_below : (rest : ℕ) → rest ≡ draw % pairs.count → rest < job.graph.units * job.districts
-  rest_below rest is = omega (arith, is, mod_below draw pairs.count current.numbers.blocks.some, current.numbers.count)
-
   module _ (found : ℕ) (flag : Bool) (shown : (u d : ℕ) → u < job.graph.units → d < job.districts → found ≡ u * job.districts + d → flag ≡ is_open job.graph plan u d)
       (is : Some found ≡ place_in pairs.count draw) where
     found_below : found < job.graph.units * job.districts
-    found_below = rest_below found (is_place_of pairs.count draw found is).place
+    found_below =
+        let place = (is_place_of pairs.count draw found is).place in
+        omega (arith, place, mod_below draw pairs.count current.numbers.blocks.some, current.numbers.count)
 
     some_district : 0 < job.districts
     some_district = omega (arith, current.numbers.sound.within.input.two)

@@ -1,6 +1,6 @@
 //! The board: a legal plan of a job, with everything that a step reads or updates.
 
-ghost use Rattle.std.specs.Prelude.{◌≡◌, ◌≢◌, ◌+◌, ◌<◌, ◌≤◌, ◌^◌, ◌-◌, ◌↔◌, ℕ, ⊤, nat_le, length, slice_index, slice_set, IfOk, MatchOption, IsTrue};
+ghost use Rattle.std.specs.Prelude.{◌≡◌, ◌≢◌, ◌+◌, ◌*◌, ◌<◌, ◌≤◌, ◌^◌, ◌-◌, ◌↔◌, ℕ, ⊤, nat_le, length, slice_index, slice_set, IfOk, MatchOption, IsTrue};
 ghost use Rattle.audit_model.specs.JobOf.{IsJob};
 ghost use Rattle.audit_model.specs.Local.{IsLocal, MayLeave};
 ghost use Rattle.audit_model.specs.Job.{rules};
@@ -162,6 +162,16 @@ impl Board {
         self.sums.view()
     }
 
+    /// Returns true if the pair at a place is open.
+    #[inline]
+    fn has_open(&self, place: usize) -> bool
+        requires { place < self.now.job.graph.units * self.now.job.districts }
+        ensures { (u d : ℕ) → u < self.now.job.graph.units → d < self.now.job.districts → place ≡ u * self.now.job.districts + d
+            → result ≡ is_open self.now.job.graph self.now.plan u d }
+    {
+        self.open_pairs.has(place, &self.near)
+    }
+
     /// Returns the pair that a draw proposes, if the pair is open. Otherwise the step of the draw does not change the
     /// plan, and the result is `None`.
     #[inline]
@@ -170,7 +180,7 @@ impl Board {
             (λ pair. ProposesOpen self.now.job self.now.plan draw pair.0 pair.1) }
     {
         let place = self.pairs.rest(draw);
-        if !self.open_pairs.has(place as usize, &self.near) || self.pairs.is_past(draw, place) {
+        if !self.has_open(place as usize) || self.pairs.is_past(draw, place) {
             return None;
         }
         Some(self.pairs.at(place))
