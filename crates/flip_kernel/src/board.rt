@@ -226,14 +226,20 @@ impl Board {
         is_permitted(judge, flip, &self.near, &mut self.sums, &mut self.plan)
     }
 
-    /// Returns true if the total length of the cut edges after the flip is at most the limit.
+    /// Returns true if the total length of the cut edges after the flip is at most the limit. If edges have no lengths,
+    /// it is 0 and needs no test.
     #[inline]
     fn keeps_length(&self, flip: Flip) -> bool
         requires made { self.now.job ≡ flip.job.now }
         ensures { result ≡ nat_le (cut_length flip.entry.job.now.graph flip.entry.job.now.counts.lengths (slice_set self.now.plan flip.entry.unit flip.entry.district))
             flip.entry.job.now.setting.max_length }
     {
-        is_short(flip, &self.sums, &self.plan)
+        // Reading a field makes the type's invariant known to the prover.
+        let sums = &self.sums;
+        if flip.job.counts().lengths.len() == 0 {
+            return true;
+        }
+        is_short(flip, sums, &self.plan)
     }
 
     /// Returns true if the plan after the flip meets the rules, and its cut edges are not too long in total.
@@ -428,9 +434,9 @@ fn put_unit(plan: &mut UnitList, unit: u32, district: u32)
     plan.as_mut_slice()[unit as usize] = district;
 }
 
-/// Returns true if the total length of the cut edges after the flip is at most the limit. The new total is computed
-/// from the total before the flip.
-#[inline]
+/// Does the work of `keeps_length` if edges have lengths. The new total is computed from the total before the flip. Few
+/// jobs have lengths, so the code is kept out of line.
+#[inline(never)]
 fn is_short(flip: Flip, sums: &Sums, plan: &UnitList) -> bool
     requires summed { IsSummed flip.job.now plan.now sums.now }
     ensures { result ≡ nat_le (cut_length flip.entry.job.now.graph flip.entry.job.now.counts.lengths (slice_set plan.now flip.entry.unit flip.entry.district))
