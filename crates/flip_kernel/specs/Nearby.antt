@@ -21,7 +21,7 @@ HasShortRows g = (u : ℕ) → u < g.units → degree g u ≤ 127
 abbrev pub near_of : List ℕ → ℕ → ℕ → ℕ → ℕ
 near_of table districts unit district = slice_index table (unit * districts + district)
 
--- the table has each pair's entry, and each entry is below 256
+-- the table has each pair's entry, and no unit has more than 127 neighbors
 pub record AreNear (g : Graph) (plan : List ℕ) (districts : ℕ) (table : List ℕ) : Type 0 where
   pub short : HasShortRows g
   pub width : g.units * districts ≤ length table
@@ -31,7 +31,7 @@ pub record AreNear (g : Graph) (plan : List ℕ) (districts : ℕ) (table : List
 abbrev pub CountsNeighbors : Graph → List ℕ → ℕ → List ℕ → Type 0
 CountsNeighbors g plan districts table = 0 < length table → AreNear g plan districts table
 
--- the table has a place for each pair, and entries are below 256
+-- the table has a place for each pair, and no unit has more than 127 neighbors
 pub record HasPlaces (g : Graph) (districts : ℕ) (table : List ℕ) : Type 0 where
   pub short : HasShortRows g
   pub width : g.units * districts ≤ length table

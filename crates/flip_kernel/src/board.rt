@@ -43,7 +43,8 @@ use std::sync::ledger::Ledger;
 ///
 /// `sums` has the sums of the districts. `marks` is the buffer of a search. `faces` has the faces of the graph, and
 /// `counts` has the counts of `contig` for each district. `near` has the number of each unit's neighbors in each
-/// district. `low` and `high` are the population bounds.
+/// district, and `open_pairs` the open pairs if the table of `near` is empty. `low` and `high` are the population
+/// bounds.
 pub struct Board {
     job: Snapshot<Job>,
     plan: UnitList,

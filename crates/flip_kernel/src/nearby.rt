@@ -21,7 +21,7 @@ const MOST_PAIRS: u64 = 1 << 19;
 /// The maximum number of a unit's neighbors: with `OWN`, more do not fit into a byte.
 const MOST_NEIGHBORS: usize = 127;
 
-/// What the entry of a unit's own district has in addition to the number of neighbors.
+/// The mark of a unit's own district, added to the number of neighbors there.
 const OWN: u8 = 128;
 
 /// For each pair of a unit and a district, one byte: the number of the unit's neighbors in the district, plus 128 if
@@ -119,11 +119,11 @@ impl NeighborCounts {
         ensures other { result.1 ≡ count_near member.entry.graph.now member.entry.plan.now member.entry.unit other }
     {
         if !self.is_stored() {
-            return mates_by_scan(member, one, other);
+            return scan_for_mates(member, one, other);
         }
         let in_one = self.read(member, districts, one);
         let in_other = self.read(member, districts, other);
-        (neighbors_in(in_one), neighbors_in(in_other))
+        (unmark(in_one), unmark(in_other))
     }
 
     /// Returns true if the table shows that a unit has exactly one neighbor in its own district.
@@ -142,7 +142,7 @@ impl NeighborCounts {
 
     /// Returns true if the pair at a place is open, by its entry.
     #[inline]
-    pub fn shows_open(&self, place: usize) -> bool
+    pub fn has_open(&self, place: usize) -> bool
         requires { place < length self.now }
         ensures { result ≡ shows_open (slice_index self.now place) }
     {
@@ -151,9 +151,9 @@ impl NeighborCounts {
     }
 }
 
-/// Returns the number of neighbors in an entry.
+/// Returns the number of neighbors in an entry: the entry without its mark.
 #[inline]
-fn neighbors_in(number: u8) -> u64
+fn unmark(number: u8) -> u64
     ensures { result ≡ number % 128 }
 {
     u64::from(number & (OWN - 1))
@@ -161,7 +161,7 @@ fn neighbors_in(number: u8) -> u64
 
 /// Does the work of `mates` without a table. Few graphs need it, so the code is kept out of line.
 #[inline(never)]
-fn mates_by_scan(member: Member, one: u32, other: u32) -> (u64, u64)
+fn scan_for_mates(member: Member, one: u32, other: u32) -> (u64, u64)
     ensures one { result.0 ≡ count_near member.entry.graph.now member.entry.plan.now member.entry.unit one }
     ensures other { result.1 ≡ count_near member.entry.graph.now member.entry.plan.now member.entry.unit other }
 {

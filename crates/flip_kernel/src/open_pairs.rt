@@ -61,7 +61,7 @@ impl OpenPairs {
             → CountsNeighbors g plan districts near.now → MarksWithoutCounts g plan districts near.now self.now → result ≡ is_open g plan u d }
     {
         if near.is_stored() {
-            return near.shows_open(place);
+            return near.has_open(place);
         }
         self.has_bit(place)
     }
