@@ -4,6 +4,7 @@ pub mod Flipping
 pub mod Holding
 pub mod Judging
 pub mod Leaving
+pub mod LoneMate
 pub mod Moves
 pub mod NearPairs
 pub mod OneMate

@@ -14,7 +14,7 @@ use Rattle.contig.proofs.Leaving.{leaves}
 use Rattle.district_sums.specs.Following.{count_near}
 
 -- if a count is not 0, some number passes
-some_counted : (n : ℕ) (test : ℕ → Bool) → 0 < count_below n test → (k : ℕ) × (k < n) × (test k ≡ true)
+pub some_counted : (n : ℕ) (test : ℕ → Bool) → 0 < count_below n test → (k : ℕ) × (k < n) × (test k ≡ true)
 some_counted zero test l = absurd (omega (arith, l, count_below_zero test))
 some_counted (suc n) test l = elim (cases_Bool (test n)) [
   | inl passes ↦ (n, omega arith, passes)
@@ -25,7 +25,7 @@ some_counted (suc n) test l = elim (cases_Bool (test n)) [
 ]
 
 -- if a count is 1, all numbers that pass are equal
-one_counted : (n : ℕ) (test : ℕ → Bool) (x y : ℕ) → count_below n test ≡ 1 → x < n → y < n → test x ≡ true → test y ≡ true → x ≡ y
+pub one_counted : (n : ℕ) (test : ℕ → Bool) (x y : ℕ) → count_below n test ≡ 1 → x < n → y < n → test x ≡ true → test y ≡ true → x ≡ y
 one_counted n test x y one lx ly px py = elim (cases_eq x y) [
   | inl e ↦ e
   | inr off ↦

@@ -1,8 +1,9 @@
 -- The number of each unit's neighbors in each district, with a mark at the unit's own district.
-use Rattle.std.specs.Prelude.{◌≡◌, ℕ, ◌+◌, ◌*◌, ◌<◌, ◌≤◌, ◌==◌, ◌&&◌, Bool, cond, not, nat_lt, List, length, slice_index, count_by}
+use Rattle.std.specs.Prelude.{◌≡◌, ℕ, ◌+◌, ◌*◌, ◌<◌, ◌≤◌, ◌==◌, ◌&&◌, Bool, cond, not, nat_lt, IsTrue, List, length, slice_index, count_by}
 use Rattle.audit_model.specs.Graph.{Graph, has}
 use Rattle.audit_model.specs.District.{in_district}
 use Rattle.audit_model.specs.Length.{degree}
+use Rattle.audit_model.specs.Local.{is_mate}
 use Rattle.district_sums.specs.Following.{count_near}
 
 -- a pair's entry: the number of the unit's neighbors in the district, plus 128 if the unit is in the district itself
@@ -30,6 +31,16 @@ pub record AreNear (g : Graph) (plan : List ℕ) (districts : ℕ) (table : List
 -- the table is empty, or has each pair's entry
 abbrev pub CountsNeighbors : Graph → List ℕ → ℕ → List ℕ → Type 0
 CountsNeighbors g plan districts table = 0 < length table → AreNear g plan districts table
+
+-- v is a neighbor of u in u's district, and has no other neighbor there
+pub record IsLoneMate (g : Graph) (plan : List ℕ) (u v : ℕ) : Type 0 where
+  pub mate : IsTrue (is_mate g plan u v)
+  pub lone : count_near g plan v (slice_index plan u) ≡ 1
+
+-- u has two neighbors or more in its district, and one of them has no other neighbor there
+pub record HasLoneMate (g : Graph) (plan : List ℕ) (u : ℕ) : Type 0 where
+  pub several : 2 ≤ count_near g plan u (slice_index plan u)
+  pub some : (v : ℕ) × IsLoneMate g plan u v
 
 -- the table has a place for each pair, and no unit has more than 127 neighbors
 pub record HasPlaces (g : Graph) (districts : ℕ) (table : List ℕ) : Type 0 where

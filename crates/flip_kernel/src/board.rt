@@ -259,7 +259,7 @@ impl Board {
     }
 
     /// Decides if the unit may leave its district, by the number of its neighbors there, then by the links and counts
-    /// of `contig`. Returns `None` if these tests do not decide.
+    /// of `contig`, then by the neighbors that would be left alone. Returns `None` if these tests do not decide.
     fn decide_by_counting(&self, job: &Job, unit: u32) -> Option<bool>
         requires made { self.now.job ≡ job.now }
         requires unit { unit < job.now.graph.units }
@@ -276,7 +276,11 @@ impl Board {
         if self.near.has_one_mate(leaving, self.pairs.districts) {
             return Some(true);
         }
-        decide_by_counting(leaving, &self.faces, &self.counts)
+        let decided = decide_by_counting(leaving, &self.faces, &self.counts);
+        if decided.is_some() || !self.near.has_lone_mate(leaving, self.pairs.districts) {
+            return decided;
+        }
+        Some(false)
     }
 
     /// Returns true if the unit may leave its district. The district is searched only if the unit's neighbors in it are

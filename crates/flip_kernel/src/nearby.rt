@@ -4,7 +4,7 @@ ghost use Rattle.std.specs.Prelude.{◌≡◌, ◌≢◌, ℕ, ◌+◌, ◌*◌,
 ghost use Rattle.std.specs.List.{slice_index_or};
 ghost use Rattle.audit_model.specs.Length.{degree};
 ghost use Rattle.district_sums.specs.Following.{count_near};
-ghost use Rattle.flip_kernel.specs.Nearby.{AreNear, HasCounted, HasMoved, HasPairs, HasPassed, HasShortRows, CountsNeighbors, entry, near_of, shows_open};
+ghost use Rattle.flip_kernel.specs.Nearby.{AreNear, HasCounted, HasLoneMate, HasMoved, HasPairs, HasPassed, HasShortRows, CountsNeighbors, IsLoneMate, entry, near_of, shows_open};
 
 use audit_model::memory::Memory;
 use district_sums::mates::scan_mates;
@@ -140,6 +140,24 @@ impl NeighborCounts {
         self.read(member, districts, home) == OWN + 1
     }
 
+    /// Returns true if the table shows that a unit has two neighbors or more in its own district, and one of them has
+    /// no other neighbor there. The unit then may not leave: the rest of the district would be in two parts.
+    #[inline]
+    pub fn has_lone_mate(&self, member: Member, districts: u32) -> bool
+        requires home { slice_index member.plan.now member.unit < districts }
+        requires table { CountsNeighbors member.graph.now member.plan.now districts self.now }
+        ensures { IsTrue result → HasLoneMate member.entry.graph.now member.entry.plan.now member.entry.unit }
+    {
+        if !self.is_stored() {
+            return false;
+        }
+        let home = member.plan[member.unit as usize];
+        if self.read(member, districts, home) <= OWN + 1 {
+            return false;
+        }
+        scan_for_lone_mate(member, districts, &self.table)
+    }
+
     /// Returns true if the pair at a place is open, by its entry.
     #[inline]
     pub fn has_open(&self, place: usize) -> bool
@@ -157,6 +175,24 @@ fn unmark(number: u8) -> u64
     ensures { result ≡ number % 128 }
 {
     u64::from(number & (OWN - 1))
+}
+
+/// Returns true if some neighbor of a unit in the unit's district has no other neighbor there.
+///
+/// The loop has no branch on the entries, which a processor could not predict.
+#[inline]
+fn scan_for_lone_mate(member: Member, districts: u32, table: &[u8]) -> bool
+    requires home { slice_index member.plan.now member.unit < districts }
+    requires near { AreNear member.graph.now member.plan.now districts table.now }
+    ensures { IsTrue result → (v : ℕ) × IsLoneMate member.entry.graph.now member.entry.plan.now member.entry.unit v }
+{
+    let home = member.plan[member.unit as usize] as usize;
+    let mut found = false;
+    for other in member.graph.neighbours(member.unit) {
+        let number = table[*other as usize * districts as usize + home];
+        found |= number == OWN + 1;
+    }
+    found
 }
 
 /// Does the work of `mates` without a table. Few graphs need it, so the code is kept out of line.
