@@ -2,4 +2,6 @@ pub mod Below
 pub mod Few
 mod Nearest
 pub mod Ranked
+pub mod Replacing
+pub mod Same
 pub mod Shares

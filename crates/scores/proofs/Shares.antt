@@ -25,7 +25,7 @@ pub mean_median_from : (xs : List ℕ) (twice all : ℕ) → twice ≡ ranked xs
 mean_median_from xs twice all e f = rw (e, f) refl
 
 -- a share is at most 10 ^ 9
-share_small : (first second : ℕ) → share first second ≤ 10 ^ 9
+pub share_small : (first second : ℕ) → share first second ≤ 10 ^ 9
 share_small first second = elim (cases_eq (first + second) 0) [
   | inl none ↦ rw (eq-eqb (first + second) 0 none) (omega arith)
   | inr some ↦

@@ -2,17 +2,18 @@
 //! by a numerator and a denominator.
 #![tactic(auto)]
 
-ghost use Rattle.std.specs.Prelude.{◌≡◌, ◌*◌, ◌+◌, ◌^◌, ◌-◌, ◌/◌, ◌<◌, ◌≤◌, pos, length, sum, All};
+ghost use Rattle.std.specs.Prelude.{◌≡◌, ◌*◌, ◌+◌, ◌^◌, ◌-◌, ◌/◌, ◌<◌, ◌≤◌, ◌-ℤ◌, pos, length, sum, All};
 ghost use Rattle.audit_model.specs.Score as definition;
 ghost use Rattle.scores.specs.Votes.{AreShares, AreVotes};
 ghost use Rattle.audit_model.specs.Limits.{most_districts};
 
+mod last_plan;
 mod median;
 mod room;
 
 use audit_model::outcome::SumsView;
 use audit_model::setting::Score;
-use median::twice_median;
+use median::sort_for_median;
 pub use room::Room;
 
 const BILLION: u64 = 1_000_000_000;
@@ -104,7 +105,7 @@ fn median_less_mean(sums: &SumsView, room: &mut [u64]) -> i64
     }
     let shares = &mut room[..sums.first.len()];
     write_shares(sums, shares);
-    mean_median(shares, &mut (BILLION / 2))
+    mean_median(shares)
 }
 
 /// Writes the first party's share of the votes in each district, in billionths.
@@ -139,17 +140,26 @@ fn share(first: u64, second: u64) -> u64
 }
 
 /// Returns the median share minus the mean share, in billionths, times twice the number of
-/// districts.
-///
-/// The search for the median begins at `middle`, and may reorder the shares. Afterwards `middle` is
-/// the median, or the lower one of two.
-fn mean_median(shares: &mut [u64], middle: &mut u64) -> i64
+/// districts. Sorts the shares.
+fn mean_median(shares: &mut [u64]) -> i64
     requires { AreShares shares.old }
     ensures { result ≡ definition.mean_median shares.old }
 {
     let all = total(shares);
     let districts = shares.len() as u64;
-    (districts * twice_median(shares, middle)) as i64 - (2 * all) as i64
+    difference(districts, sort_for_median(shares), all)
+}
+
+/// Returns the median minus the mean, times twice the number of districts, from twice the median
+/// and the total of the shares.
+#[inline]
+fn difference(districts: u64, twice: u64, all: u64) -> i64
+    requires few { districts ≤ 200 }
+    requires median { twice ≤ 2 * 10 ^ 9 }
+    requires total { all ≤ 200 * 10 ^ 9 }
+    ensures { result ≡ pos (districts * twice) -ℤ pos (2 * all) }
+{
+    (districts * twice) as i64 - (2 * all) as i64
 }
 
 fn total(shares: &[u64]) -> u64

@@ -1,39 +1,47 @@
 //! Buffers to score one plan after another.
 
-ghost use Rattle.std.specs.Prelude.{◌≡◌, ◌+◌, ◌^◌, ◌<◌, ◌≤◌, length};
+ghost use Rattle.std.specs.Prelude.{◌≡◌, ◌^◌, ◌<◌, false, length, pos};
 ghost use Rattle.audit_model.specs.Score as definition;
+ghost use Rattle.scores.specs.Known.{IsReady};
 ghost use Rattle.scores.specs.Votes.{AreVotes};
 
-use crate::{efficiency_gap, mean_median, seats, share};
+use crate::last_plan::LastPlan;
+use crate::{efficiency_gap, seats};
 use audit_model::outcome::SumsView;
 use audit_model::setting::Score;
+use std::marker::Model;
 
-/// The votes of a district, and the first party's share of the votes in billionths.
-#[derive(Clone, Copy)]
-struct Share {
-    first: u64,
-    second: u64,
-    billionths: u64,
-    ghost right: { billionths ≡ definition.share first second },
-}
-
-/// Buffers for scoring. They cache the last share of each district and the last median, because
-/// divisions dominate the cost of a score, and one step of a trajectory changes at most two
-/// districts.
+/// Buffers for scoring. They keep the last plan's votes and scores, because divisions and searches
+/// dominate the cost of a score, and one step of a trajectory changes at most two districts.
+///
+/// `fresh` is true if the last plan is the current one. `keeps` becomes true with the first
+/// mean-median score: without shares it is cheaper to count seats and wasted votes anew.
 #[derive(Drop)]
 pub struct Room {
-    last: [Share; 200],
-    shares: [u64; 200],
-    median: u64,
+    last: LastPlan,
+    changed: [u8; 200],
+    fresh: bool,
+    keeps: bool,
+}
+
+impl Model for Room {
+    ghost use Rattle.scores.specs.Known.{Remembered};
+
+    ghost Value = { Remembered };
+
+    ghost view = { λ r. record { fresh = r.fresh; votes = r.last } };
 }
 
 impl Room {
-    /// Makes buffers whose cache describes districts without votes.
-    pub fn new() -> Room {
+    /// Makes buffers that know no plan.
+    pub fn new() -> Room
+        ensures { result.fresh ≡ false }
+    {
         Room {
-            last: [Share::of(0, 0); 200],
-            shares: [0; 200],
-            median: 0,
+            last: LastPlan::new(),
+            changed: [0; 200],
+            fresh: false,
+            keeps: false,
         }
     }
 
@@ -43,74 +51,88 @@ impl Room {
         requires short { sums.now.length < 2 ^ 63 }
         ensures { result ≡ definition.value score sums.now }
     {
+        self.turn();
+        self.read(score, sums)
+    }
+
+    /// Tells the buffers that the current plan may be another than before.
+    #[inline]
+    pub fn turn(&mut self)
+        ensures { self.new.fresh ≡ false }
+    {
+        self.fresh = false;
+    }
+
+    /// Returns the numerator of the current plan's score, as [`Room::value`] does. Several scores of
+    /// one plan cost one comparison with the last plan's votes.
+    #[inline]
+    pub fn read(&mut self, score: Score, sums: &SumsView) -> i64
+        requires votes { AreVotes sums.now.first sums.now.second }
+        requires short { sums.now.length < 2 ^ 63 }
+        requires ready { IsReady self.old sums.now }
+        ensures value { result ≡ definition.value score sums.now }
+        ensures ready { IsReady self.new sums.now }
+    {
         match score {
-            Score::Seats => i64::from(seats(sums)),
-            Score::MeanMedian => median_less_mean(
-                sums,
-                &mut self.last,
-                &mut self.shares,
-                &mut self.median,
-            ),
-            Score::Gap => efficiency_gap(sums),
+            Score::Seats => self.read_seats(sums),
+            Score::MeanMedian => self.read_mean_median(sums),
+            Score::Gap => self.read_gap(sums),
             Score::CutEdges => i64::from(sums.cut),
             Score::CutLength => sums.length as i64,
         }
     }
-}
 
-impl Share {
-    fn of(first: u64, second: u64) -> Share
-        requires { first + second < 2 ^ 64 }
-        ensures first { result.first ≡ first }
-        ensures second { result.second ≡ second }
+    // Makes the current plan the last one.
+    #[inline]
+    fn refresh(&mut self, sums: &SumsView)
+        requires votes { AreVotes sums.now.first sums.now.second }
+        requires ready { IsReady self.old sums.now }
+        ensures first { self.new.votes.first ≡ sums.now.first }
+        ensures second { self.new.votes.second ≡ sums.now.second }
     {
-        Share {
-            first,
-            second,
-            billionths: share(first, second),
+        if !self.fresh {
+            self.last.update(sums, &mut self.changed);
+            self.fresh = true;
         }
     }
 
-    // Returns the share for these votes in billionths. Divides only if the votes differ from the
-    // cached ones.
-    fn update(&mut self, first: u64, second: u64) -> u64
-        requires { first + second < 2 ^ 64 }
-        ensures { result ≡ definition.share first second }
+    #[inline]
+    fn read_seats(&mut self, sums: &SumsView) -> i64
+        requires votes { AreVotes sums.now.first sums.now.second }
+        requires ready { IsReady self.old sums.now }
+        ensures value { result ≡ pos (definition.seats sums.now) }
+        ensures ready { IsReady self.new sums.now }
     {
-        if self.first != first || self.second != second {
-            *self = Share::of(first, second);
+        if !self.keeps {
+            return i64::from(seats(sums));
         }
-        self.billionths
+        self.refresh(sums);
+        i64::from(self.last.seats())
     }
-}
 
-// Returns what [`crate::median_less_mean`] returns, from the cached shares and median.
-fn median_less_mean(sums: &SumsView, last: &mut [Share], room: &mut [u64], median: &mut u64) -> i64
-    requires votes { AreVotes sums.now.first sums.now.second }
-    requires last { length sums.now.first ≤ length last.old }
-    requires room { length sums.now.first ≤ length room.old }
-    ensures { result ≡ definition.mean_median (definition.shares sums.now) }
-{
-    if sums.first.len() <= 2 {
-        return 0;
+    #[inline]
+    fn read_gap(&mut self, sums: &SumsView) -> i64
+        requires votes { AreVotes sums.now.first sums.now.second }
+        requires ready { IsReady self.old sums.now }
+        ensures value { result ≡ definition.efficiency_gap sums.now }
+        ensures ready { IsReady self.new sums.now }
+    {
+        if !self.keeps {
+            return efficiency_gap(sums);
+        }
+        self.refresh(sums);
+        self.last.gap()
     }
-    let shares = &mut room[..sums.first.len()];
-    update_shares(sums, last, shares);
-    mean_median(shares, median)
-}
 
-// Writes the first party's share of the votes in each district, from the cache where the votes are
-// unchanged.
-#[tactic(auto, using(crate::proofs::Below::map_below_more))]
-fn update_shares(sums: &SumsView, last: &mut [Share], shares: &mut [u64])
-    requires votes { AreVotes sums.now.first sums.now.second }
-    requires last { length sums.now.first ≤ length last.old }
-    requires room { length shares.old ≡ length sums.now.first }
-    ensures { shares.new ≡ definition.shares sums.now }
-{
-    let first = sums.first.as_slice();
-    let second = sums.second.as_slice();
-    for district in 0..first.len() {
-        shares[district] = last[district].update(first[district], second[district]);
+    #[inline]
+    fn read_mean_median(&mut self, sums: &SumsView) -> i64
+        requires votes { AreVotes sums.now.first sums.now.second }
+        requires ready { IsReady self.old sums.now }
+        ensures value { result ≡ definition.mean_median (definition.shares sums.now) }
+        ensures ready { IsReady self.new sums.now }
+    {
+        self.keeps = true;
+        self.refresh(sums);
+        self.last.mean_median()
     }
 }

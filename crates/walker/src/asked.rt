@@ -4,6 +4,8 @@
 ghost use Rattle.std.specs.Prelude.{◌≡◌, ◌+◌, ◌*◌, ◌<◌, ◌^◌, ◌∷◌, [], length, slice_index, ℕ, pos};
 ghost use Rattle.std.specs.List.{slice_get};
 ghost use Rattle.audit_model.specs.Trajectory.{plan_value};
+ghost use Rattle.flip_kernel.specs.ChainState.{sums_in};
+ghost use Rattle.scores.specs.Known.{IsReady};
 ghost use Rattle.walker.specs.Asked.{each, asked_value, four_more, inside};
 
 use audit_model::setting::{Ask, Score};
@@ -28,6 +30,7 @@ pub struct Tally {
 pub fn values<J: Judge>(state: &State<J>, asks: &[Ask], room: &mut Room) -> [i64; 4]
     ensures { result ≡ each (asked_value state.now.job state.now.plan) asks.now }
 {
+    room.turn();
     [
         value_at(state, asks, 0, room),
         value_at(state, asks, 1, room),
@@ -56,6 +59,7 @@ impl Tally {
         ensures start { result.start ≡ each (asked_value state.now.job state.now.job.start) asks.now }
         ensures inside { result.inside ≡ each (inside state.now.job state.now.plan) asks.now }
         ensures counts { result.counts ≡ (0 ∷ 0 ∷ 0 ∷ 0 ∷ []) }
+        ensures ready { IsReady room.new (sums_in state.now.job state.now.plan) }
     {
         let start = values(state, asks, room);
         let mut tally = Tally {
@@ -67,13 +71,15 @@ impl Tally {
         tally
     }
 
-    /// Scores the current plan.
+    /// Scores the current plan. The buffers know its votes afterwards.
     pub fn update<J: Judge>(&mut self, state: &State<J>, asks: &[Ask], room: &mut Room)
         requires start { self.old.start ≡ each (asked_value state.now.job state.now.job.start) asks.now }
         ensures start { self.new.start ≡ self.old.start }
         ensures inside { self.new.inside ≡ each (inside state.now.job state.now.plan) asks.now }
         ensures counts { self.new.counts ≡ self.old.counts }
+        ensures ready { IsReady room.new (sums_in state.now.job state.now.plan) }
     {
+        room.turn();
         self.inside = [
             inside_at(state, asks, 0, self.start[0], room),
             inside_at(state, asks, 1, self.start[1], room),
@@ -99,17 +105,22 @@ impl Tally {
 }
 
 /// Returns the current plan's value of a score.
+#[inline]
 fn current_value<J: Judge>(state: &State<J>, score: Score, room: &mut Room) -> i64
-    ensures { result ≡ plan_value state.now.job state.now.plan score }
+    requires ready { IsReady room.old (sums_in state.now.job state.now.plan) }
+    ensures value { result ≡ plan_value state.now.job state.now.plan score }
+    ensures ready { IsReady room.new (sums_in state.now.job state.now.plan) }
 {
-    room.value(score, state.view())
+    room.read(score, state.view())
 }
 
 /// Returns the current plan's value of the ask with the index `place`, or 0 if the job has no ask
 /// with this index.
 #[tactic(auto, unfolding(crate::specs::Asked::asked_value))]
 fn value_at<J: Judge>(state: &State<J>, asks: &[Ask], place: usize, room: &mut Room) -> i64
-    ensures { result ≡ asked_value state.now.job state.now.plan (slice_get asks.now place) }
+    requires ready { IsReady room.old (sums_in state.now.job state.now.plan) }
+    ensures value { result ≡ asked_value state.now.job state.now.plan (slice_get asks.now place) }
+    ensures ready { IsReady room.new (sums_in state.now.job state.now.plan) }
 {
     match asks.get(place) {
         None => 0,
@@ -119,6 +130,7 @@ fn value_at<J: Judge>(state: &State<J>, asks: &[Ask], place: usize, room: &mut R
 
 /// Returns 1 if the job has an ask with the index `place` and the current plan is in the tail of
 /// this ask, else 0. `start` is the start plan's value of the ask.
+#[inline]
 #[tactic(auto, unfolding(crate::specs::Asked::asked_value, crate::specs::Asked::inside, crate::specs::Asked::is_inside))]
 fn inside_at<J: Judge>(
     state: &State<J>,
@@ -128,7 +140,9 @@ fn inside_at<J: Judge>(
     room: &mut Room,
 ) -> u32
     requires start { start ≡ asked_value state.now.job state.now.job.start (slice_get asks.now place) }
-    ensures { result ≡ inside state.now.job state.now.plan (slice_get asks.now place) }
+    requires ready { IsReady room.old (sums_in state.now.job state.now.plan) }
+    ensures value { result ≡ inside state.now.job state.now.plan (slice_get asks.now place) }
+    ensures ready { IsReady room.new (sums_in state.now.job state.now.plan) }
 {
     match asks.get(place) {
         None => 0,

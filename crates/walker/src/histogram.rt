@@ -4,6 +4,8 @@
 ghost use Rattle.std.specs.Prelude.{◌≡◌, ℕ, ◌+◌, ◌*◌, ◌<◌, ◌^◌, ◌==◌, cond, length, slice_index, IsTrue, IsFalse};
 ghost use Rattle.audit_model.specs.Trajectory.{empty_histogram, plan_seats};
 ghost use Rattle.audit_model.specs.Trajectory as definition;
+ghost use Rattle.flip_kernel.specs.ChainState.{sums_in};
+ghost use Rattle.scores.specs.Known.{IsReady};
 ghost use Rattle.walker.specs.Binned.{plan_bin};
 
 use audit_model::setting::Score;
@@ -27,6 +29,7 @@ impl Histogram {
     /// Makes an empty histogram. The current plan must be the start plan.
     pub fn new<J: Judge>(asked: bool, state: &State<J>, room: &mut Room) -> Histogram
         requires start { state.now.plan ≡ state.now.job.start }
+        requires ready { IsReady room.old (sums_in state.now.job state.now.plan) }
         ensures asked { result.asked ≡ asked }
         ensures start { IsTrue asked → result.start ≡ plan_seats state.now.job state.now.job.start }
         ensures bin { IsTrue asked → result.bin ≡ plan_bin state.now.job state.now.plan }
@@ -46,6 +49,7 @@ impl Histogram {
     pub fn update<J: Judge>(&mut self, state: &State<J>, room: &mut Room)
         requires start { IsTrue self.old.asked → self.old.start ≡ plan_seats state.now.job state.now.job.start }
         requires small { self.old.bin < 9 }
+        requires ready { IsReady room.old (sums_in state.now.job state.now.plan) }
         ensures asked { self.new.asked ≡ self.old.asked }
         ensures start { self.new.start ≡ self.old.start }
         ensures bin { IsTrue self.old.asked → self.new.bin ≡ plan_bin state.now.job state.now.plan }
@@ -76,10 +80,11 @@ impl Histogram {
 }
 
 fn current_seats<J: Judge>(state: &State<J>, room: &mut Room) -> u64
+    requires ready { IsReady room.old (sums_in state.now.job state.now.plan) }
     ensures seats { result ≡ plan_seats state.now.job state.now.plan }
     ensures small { result < 2 ^ 63 }
 {
-    room.value(Score::Seats, state.view()) as u64
+    room.read(Score::Seats, state.view()) as u64
 }
 
 /// Returns the bin of a plan with `seats` seats, if the start plan has `start` seats. Bin 4 is for

@@ -1,0 +1,11 @@
+use Rattle.std.proofs.Common.{◌∙◌, w64, ap, arith}
+use Rattle.std.proofs.lemmas.Int.{ints, to_z-of_z}
+use Rattle.scores.specs.Known.{Remembered}
+use Rattle.scores.proofs.Same.{same_gap}
+use Rattle.scores.proofs.room.Room.read_gap.Goals as goal
+
+pub returns-clause-value : goal.returns-clause-value
+returns-clause-value c =
+    to_z-of_z w64 c.gap.result (omega (arith, ints)) ∙ c.gap.ensures
+    ∙ same_gap c.self-2.inside.last c.args.sums.now (ap (λ (r : Remembered). r.votes.first) c.self-2.view_is ∙ c.refresh.ensures.first)
+    (ap (λ (r : Remembered). r.votes.second) c.self-2.view_is ∙ c.refresh.ensures.second)
