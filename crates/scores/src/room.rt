@@ -11,11 +11,12 @@ use audit_model::outcome::SumsView;
 use audit_model::setting::Score;
 use std::marker::Model;
 
-/// Buffers for scoring. They keep the last plan's votes and scores, because divisions and searches
-/// dominate the cost of a score, and one step of a trajectory changes at most two districts.
+/// Buffers for scoring. They keep the last plan's votes and scores, because one step of a trajectory
+/// changes at most two districts.
 ///
 /// `fresh` is true if the last plan is the current one. `keeps` becomes true with the first
-/// mean-median score: without shares it is cheaper to count seats and wasted votes anew.
+/// mean-median score. A job that never asks for one counts seats and wasted votes anew for each
+/// plan: that is cheaper than a search for the changed districts.
 #[derive(Drop)]
 pub struct Room {
     last: LastPlan,
@@ -51,22 +52,22 @@ impl Room {
         requires short { sums.now.length < 2 ^ 63 }
         ensures { result ≡ definition.value score sums.now }
     {
-        self.turn();
-        self.read(score, sums)
+        self.forget_plan();
+        self.read_value(score, sums)
     }
 
-    /// Tells the buffers that the current plan may be another than before.
+    /// Forgets which plan is the current one. Call this before the first score of another plan.
     #[inline]
-    pub fn turn(&mut self)
+    pub fn forget_plan(&mut self)
         ensures { self.new.fresh ≡ false }
     {
         self.fresh = false;
     }
 
-    /// Returns the numerator of the current plan's score, as [`Room::value`] does. Several scores of
-    /// one plan cost one comparison with the last plan's votes.
+    /// Returns the numerator of the current plan's score, as [`Room::value`] does. All scores of one
+    /// plan take one comparison with the last plan's votes.
     #[inline]
-    pub fn read(&mut self, score: Score, sums: &SumsView) -> i64
+    pub fn read_value(&mut self, score: Score, sums: &SumsView) -> i64
         requires votes { AreVotes sums.now.first sums.now.second }
         requires short { sums.now.length < 2 ^ 63 }
         requires ready { IsReady self.old sums.now }
@@ -96,7 +97,7 @@ impl Room {
         }
     }
 
-    #[inline]
+    #[inline(never)]
     fn read_seats(&mut self, sums: &SumsView) -> i64
         requires votes { AreVotes sums.now.first sums.now.second }
         requires ready { IsReady self.old sums.now }
@@ -110,7 +111,7 @@ impl Room {
         i64::from(self.last.seats())
     }
 
-    #[inline]
+    #[inline(never)]
     fn read_gap(&mut self, sums: &SumsView) -> i64
         requires votes { AreVotes sums.now.first sums.now.second }
         requires ready { IsReady self.old sums.now }
@@ -124,7 +125,7 @@ impl Room {
         self.last.gap()
     }
 
-    #[inline]
+    #[inline(never)]
     fn read_mean_median(&mut self, sums: &SumsView) -> i64
         requires votes { AreVotes sums.now.first sums.now.second }
         requires ready { IsReady self.old sums.now }

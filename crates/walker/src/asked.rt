@@ -30,7 +30,7 @@ pub struct Tally {
 pub fn values<J: Judge>(state: &State<J>, asks: &[Ask], room: &mut Room) -> [i64; 4]
     ensures { result ≡ each (asked_value state.now.job state.now.plan) asks.now }
 {
-    room.turn();
+    room.forget_plan();
     [
         value_at(state, asks, 0, room),
         value_at(state, asks, 1, room),
@@ -79,7 +79,7 @@ impl Tally {
         ensures counts { self.new.counts ≡ self.old.counts }
         ensures ready { IsReady room.new (sums_in state.now.job state.now.plan) }
     {
-        room.turn();
+        room.forget_plan();
         self.inside = [
             inside_at(state, asks, 0, self.start[0], room),
             inside_at(state, asks, 1, self.start[1], room),
@@ -111,7 +111,7 @@ fn current_value<J: Judge>(state: &State<J>, score: Score, room: &mut Room) -> i
     ensures value { result ≡ plan_value state.now.job state.now.plan score }
     ensures ready { IsReady room.new (sums_in state.now.job state.now.plan) }
 {
-    room.read(score, state.view())
+    room.read_value(score, state.view())
 }
 
 /// Returns the current plan's value of the ask with the index `place`, or 0 if the job has no ask

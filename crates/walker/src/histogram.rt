@@ -84,7 +84,7 @@ fn current_seats<J: Judge>(state: &State<J>, room: &mut Room) -> u64
     ensures seats { result ≡ plan_seats state.now.job state.now.plan }
     ensures small { result < 2 ^ 63 }
 {
-    room.read(Score::Seats, state.view()) as u64
+    room.read_value(Score::Seats, state.view()) as u64
 }
 
 /// Returns the bin of a plan with `seats` seats, if the start plan has `start` seats. Bin 4 is for
