@@ -251,7 +251,9 @@ fn count_joined(member: Member, sectors: &[Sector], one: u32, other: u32) -> (u6
     (in_one, in_other)
 }
 
-/// Does the work of `corners_of` for a unit whose neighbors are in no order, corner by corner.
+/// Does the work of `corners_of` for a unit whose neighbors are in no order, corner by corner. Such
+/// units are few on most maps, so the code is kept out of line.
+#[inline(never)]
 fn scan_corners(member: Member, table: &FaceTable, one: u32, other: u32) -> (u64, u64)
     requires { table.now.graph ≡ member.graph.now }
     ensures one { result.0 ≡ count_by (is_filled (in_district member.entry.plan.now one)) (corners_at member.entry.unit table.now.faces) }

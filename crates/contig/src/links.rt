@@ -20,6 +20,10 @@ use dual_graph::member::Member;
 pub const MOST: usize = 32;
 
 /// Returns true if the mates of a unit are linked. `corners` are the corners at the unit.
+///
+/// It serves units whose neighbors are in no order. They are few on most maps, so the code is kept
+/// out of line.
+#[inline(never)]
 pub fn are_linked(leaving: Member, corners: &[Corner]) -> bool
     requires few { length (slice_index_or leaving.graph.now.neighbours leaving.unit []) ≤ 32 }
     requires placed { All (IsOnRow leaving.graph.now (slice_index_or leaving.graph.now.neighbours leaving.unit [])) corners.now }

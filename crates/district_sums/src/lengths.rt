@@ -98,7 +98,9 @@ pub fn length_after(member: Member, lengths: &UnitList, before: u64, district: u
     move_length(member, lengths.as_slice(), before, district)
 }
 
-/// Does the work of [`length_after`] if edges have lengths.
+/// Does the work of [`length_after`] if edges have lengths. Few jobs have lengths, so the code is kept
+/// out of line.
+#[inline(never)]
 fn move_length(member: Member, lengths: &[u32], before: u64, district: u32) -> u64
     requires lengths { AreLengths member.graph.now lengths.now }
     requires long { length lengths.now ≡ sum_below member.graph.now.units (degree member.graph.now) }

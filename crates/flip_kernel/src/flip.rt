@@ -18,7 +18,9 @@ use std::sync::ledger::{Blank, Ledger};
 ///
 /// `steps` counts the searches: at most one. There is none if the unit's neighbors in its district
 /// are connected among themselves.
-#[inline]
+///
+/// It is inlined into the loop over steps, since most steps end after the test of one pair.
+#[inline(always)]
 pub fn try_flip<J: Judge, L: Ledger>(
     job: &Job,
     state: &mut State<J>,
