@@ -1,9 +1,8 @@
 -- The indices of sides, and marks at them.
-use Rattle.std.proofs.Common.{◌≡◌, ◌∷◌, ℕ, zero, suc, ◌+◌, ◌<◌, Bool, true, false, List, [], length, get_or, set, sym, ap, ◌∙◌, subst, inl, inr, arith}
+use Rattle.std.proofs.Common.{◌≡◌, ◌∷◌, ℕ, zero, suc, ◌+◌, ◌<◌, Bool, true, false, List, [], length, get_or, sym, ap, ◌∙◌, subst, inl, inr, arith}
 use Rattle.std.specs.Prelude.{nat_lt}
 use Rattle.std.specs.List.{list_any}
-use Rattle.std.proofs.lemmas.Bool.{or_cases, cases_eq, cases_lt, cond-true, cond-false, lt-ltb, le-ltb}
-use Rattle.std.proofs.lemmas.List.{get_or-set_same, get_or-set_other, set_past}
+use Rattle.std.proofs.lemmas.Bool.{or_cases, cases_lt, cond-true, cond-false, lt-ltb, le-ltb}
 use Rattle.audit_model.specs.Below.{sum_below}
 use Rattle.audit_model.specs.Graph.{Graph, IsGraph, adjacent}
 use Rattle.audit_model.specs.Length.{degree}
@@ -30,20 +29,6 @@ index_within g u k a row lu is lk at =
     let all = sums_within g.units u (degree g) lu in
     let long : length row ≡ degree g u = ap length is in
     omega (arith, all, long, lk, at)
-
--- more marks keep the marks
-pub mark_kept : (marks new : List Bool) (i j : ℕ) → new ≡ set marks i true → get_or marks j false ≡ true → get_or new j false ≡ true
-mark_kept marks new i j is h = elim (cases_eq j i) [
-  | inl e ↦ elim (cases_lt i (length marks)) [
-    | inl l ↦ ap (λ (t : ℕ). get_or new t false) e ∙ ap (λ (t : List Bool). get_or t i false) is ∙ get_or-set_same marks i true false l
-    | inr l ↦ ap (λ (t : List Bool). get_or t j false) (is ∙ set_past marks i true l) ∙ h
-  ]
-  | inr off ↦ ap (λ (t : List Bool). get_or t j false) is ∙ get_or-set_other marks i j true false off ∙ h
-]
-
--- the index of a side is within the marks, and the side is then marked
-pub mark_there : (marks new : List Bool) (i : ℕ) → new ≡ set marks i true → i < length marks → get_or new i false ≡ true
-mark_there marks new i is l = ap (λ (t : List Bool). get_or t i false) is ∙ get_or-set_same marks i true false l
 
 -- ---- rings
 

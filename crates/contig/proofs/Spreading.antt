@@ -267,26 +267,6 @@ module _ (g : Graph) (inside : ℕ → Bool) (row : List ℕ) (label : ℕ) (old
         | inr off ↦ ap (λ t. get_or roots t 0) (off_v w off) ∙ one w j (in_row w off h)
       ]
 
-  -- no part was met
-  pub row_alone : IsOnePart g inside row label new.labels roots → IsSpread g inside row label old new roots roots
-  row_alone one = spread_of g inside [] row label old new roots roots s.spread (λ w i h. (s.found w i h, one w i h))
-
-  -- the parts that were met are joined
-  pub row_joined : (after : List ℕ) → IsSpread g inside row label new new roots after → IsSpread g inside row label old new roots after
-  row_joined after more = record {
-    units = s.spread.units;
-    marked = more.marked;
-    longer = s.spread.longer;
-    front = s.spread.front;
-    kept = s.spread.kept;
-    fresh = s.spread.fresh;
-    added = s.spread.added;
-    each = more.each;
-    coarser = more.coarser;
-    joined = more.joined;
-    width = more.width;
-  }
-
 -- the test of a neighbor fails only if the neighbor has no label or is in the part
 pub not_met : (met : Bool) (there root mine : ℕ) → (met || (not (there == 0) && not (root == mine))) ≡ false → (met ≡ false) × (0 < there → root ≡ mine)
 not_met met there root mine h =

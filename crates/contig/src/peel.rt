@@ -23,19 +23,19 @@ const NO_SIDE: u32 = 4294967295;
 /// The remaining rings that have a side: their number, and the exclusive or of their indices. If
 /// one ring remains, the exclusive or is its index.
 #[derive(Clone, Copy)]
-struct Tally {
+struct RingCount {
     count: u32,
     sum: u32,
 }
 
-/// The sides of rings, and the tally of each side in a graph.
+/// The sides of rings, and the ring count of each side in a graph.
 ///
 /// Each entry of the units' lists of neighbors has an index. The index of a side is that of the
 /// greater unit in the list of the lesser unit.
 pub struct Sides {
     /// The sides of each ring, beginning with its own side. They are searched once and kept.
     rings: Vec<[u32; SIDES]>,
-    tallies: Vec<Tally>,
+    counts: Vec<RingCount>,
     /// Sides that had a single ring when they were added here.
     singles: Vec<u32>,
 }
@@ -46,7 +46,7 @@ impl Drop for Sides {
     fn drop(self) {
         let Sides {
             rings: _rings,
-            tallies: _tallies,
+            counts: _counts,
             singles: _singles,
         } = self;
     }
@@ -112,10 +112,10 @@ fn sides_of(graph: &Graph, ring: Face) -> [u32; SIDES] {
 impl Sides {
     /// Counts the rings at each side of the graph. Fails if there is no memory.
     pub fn of(alloc: Global, graph: &Graph, rings: &[Face]) -> Result<Sides, Memory> {
-        let none = Tally { count: 0, sum: 0 };
+        let none = RingCount { count: 0, sum: 0 };
         let mut sides = Sides {
             rings: Vec::with_capacity(alloc, rings.len())?,
-            tallies: vec![in alloc; none; graph.arcs_before(graph.units())]?,
+            counts: vec![in alloc; none; graph.arcs_before(graph.units())]?,
             singles: Vec::new(alloc),
         };
         sides.add_rings(graph, rings)?;
@@ -126,7 +126,7 @@ impl Sides {
     /// Returns true if fewer than two of the remaining rings have this side.
     pub fn has_room(&self, graph: &Graph, a: u32, b: u32) -> bool {
         let side = side_of(graph, a, b) as usize;
-        side < self.tallies.len() && self.tallies[side].count < 2
+        side < self.counts.len() && self.counts[side].count < 2
     }
 
     fn add_rings(&mut self, graph: &Graph, rings: &[Face]) -> Result<(), Memory> {
@@ -144,11 +144,11 @@ impl Sides {
     fn add_ring(&mut self, sides: [u32; SIDES], number: u32) {
         for place in 0..SIDES {
             let side = sides[place] as usize;
-            if side < self.tallies.len() {
-                let tally = self.tallies[side];
-                self.tallies[side] = Tally {
-                    count: tally.count.wrapping_add(1),
-                    sum: tally.sum ^ number,
+            if side < self.counts.len() {
+                let before = self.counts[side];
+                self.counts[side] = RingCount {
+                    count: before.count.wrapping_add(1),
+                    sum: before.sum ^ number,
                 };
             }
         }
@@ -159,11 +159,11 @@ impl Sides {
     fn remove_ring(&mut self, sides: [u32; SIDES], number: u32) -> Result<(), Memory> {
         for place in 0..SIDES {
             let side = sides[place] as usize;
-            if side < self.tallies.len() {
-                let tally = self.tallies[side];
-                self.tallies[side] = Tally {
-                    count: tally.count.wrapping_sub(1),
-                    sum: tally.sum ^ number,
+            if side < self.counts.len() {
+                let before = self.counts[side];
+                self.counts[side] = RingCount {
+                    count: before.count.wrapping_sub(1),
+                    sum: before.sum ^ number,
                 };
                 self.see(sides[place])?;
             }
@@ -172,7 +172,7 @@ impl Sides {
     }
 
     fn see_all(&mut self) -> Result<(), Memory> {
-        for side in 0..self.tallies.len() {
+        for side in 0..self.counts.len() {
             self.see(index_of(side))?;
         }
         Ok(())
@@ -181,7 +181,7 @@ impl Sides {
     /// Adds a side to `singles` if it has a single ring.
     fn see(&mut self, side: u32) -> Result<(), Memory> {
         let place = side as usize;
-        if place < self.tallies.len() && self.tallies[place].count == 1 {
+        if place < self.counts.len() && self.counts[place].count == 1 {
             self.singles.push(side)?;
         }
         Ok(())
@@ -195,8 +195,8 @@ impl Sides {
                 None => return None,
                 Some(side) => {
                     let place = side as usize;
-                    if place < self.tallies.len() && self.tallies[place].count == 1 {
-                        return Some((side, self.tallies[place].sum));
+                    if place < self.counts.len() && self.counts[place].count == 1 {
+                        return Some((side, self.counts[place].sum));
                     }
                 }
             }
@@ -206,7 +206,7 @@ impl Sides {
 
     /// Counts the rings at each side, with those taken off. Fails if there is no memory.
     fn count_all(&self, alloc: Global) -> Result<Vec<u32>, Memory> {
-        let mut counts: Vec<u32> = vec![in alloc; 0; self.tallies.len()]?;
+        let mut counts: Vec<u32> = vec![in alloc; 0; self.counts.len()]?;
         for sides in &self.rings {
             count_sides(&mut counts, *sides);
         }
@@ -251,7 +251,7 @@ fn rotate_to(ring: Face, sides: [u32; SIDES], side: u32) -> Face {
 /// Rings that are taken off one by one.
 #[derive(Drop)]
 struct Peeling {
-    /// The sides of the rings, with the tallies of the rings that remain.
+    /// The sides of the rings, with the counts of the rings that remain.
     sides: Sides,
     /// For each ring, whether it remains.
     left: Vec<bool>,

@@ -1,14 +1,9 @@
 -- The rows of a graph, neighbor by neighbor.
-use Rattle.std.proofs.Common.{◌≡◌, ℕ, zero, suc, ◌<◌, ◌≤◌, Bool, true, false, cond, ◌&&◌, ◌||◌, ◌==◌, List, [], ◌∷◌, ◌++◌, length, get_or, take, refl, ap, ◌∙◌, inl, inr, arith}
-use Rattle.std.specs.Prelude.{count_by}
-use Rattle.std.specs.List.{slice_index_or}
+use Rattle.std.proofs.Common.{◌≡◌, ℕ, zero, suc, ◌<◌, true, false, cond, ◌||◌, ◌==◌, List, [], ◌∷◌, ◌++◌, length, get_or, take, refl, ap, inl, inr, arith}
 use Rattle.std.proofs.lemmas.Bool.{eq-eqb, ne_eqb, or_cases, or_left, or_right, eqb-true, false_from_ne_true}
-use Rattle.std.proofs.lemmas.List.Sums.{sum_by-take-le}
-use Rattle.audit_model.specs.Below.{count_below}
-use Rattle.audit_model.specs.Graph.{Graph, IsGraph, has, adjacent}
-use Rattle.audit_model.proofs.Below.{count_below_le}
+use Rattle.audit_model.specs.Graph.{has}
 use Rattle.audit_model.proofs.ListFacts.{at_has}
-use Rattle.audit_model.proofs.Rows.{IsRising, tail_rises, above, row_counted}
+use Rattle.audit_model.proofs.Rows.{IsRising, tail_rises, above}
 
 -- items before a position of a rising list are less than the item there
 front_below : (xs : List ℕ) (k v : ℕ) → IsRising xs → k < length xs → has (take k xs) v ≡ true → v < get_or xs k 0
@@ -32,10 +27,3 @@ has_last (x ∷ xs) v = or_right (x == v) (has (xs ++ v ∷ []) v) (has_last xs 
 pub has_others : (xs : List ℕ) (v w : ℕ) → (v ≡ w → ⊥) → has (xs ++ v ∷ []) w ≡ has xs w
 has_others [] v w off = ap (λ b. b || false) (ne_eqb v w off)
 has_others (x ∷ xs) v w off = ap (λ b. (x == w) || b) (has_others xs v w off)
-
--- at most as many neighbors pass a test as there are units
-pub row_few : (g : Graph) (u i : ℕ) (test : ℕ → Bool) (row : List ℕ) → IsGraph g → row ≡ slice_index_or g.neighbours u [] → count_by test (take i row) ≤ g.units
-row_few g u i test row sound is_row =
-    let part : count_by test (take i row) ≤ count_by test row = sum_by-take-le (λ v. cond {A = ℕ} (test v) 1 0) row i in
-    let all : count_by test row ≡ count_below g.units (λ v. adjacent g u v && test v) = ap (count_by test) is_row ∙ row_counted g u test sound in
-    omega (arith, part, all, count_below_le g.units (λ v. adjacent g u v && test v))

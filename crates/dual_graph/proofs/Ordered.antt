@@ -1,6 +1,6 @@
 -- Membership and order of pairs.
 use Rattle.std.proofs.Common.{◌≡◌, refl, ℕ, zero, suc, ◌+◌, ◌<◌, Bool, true, ◌&&◌, List, [], ◌∷◌, length, sym, ap, ◌∙◌, subst, inl, inr, arith, nat_cmp, Ordering, Less, Equal, Greater}
-use Rattle.std.specs.Cmp.{IsTotalOrder, ranks, nat_cmp_is, tied_then, unsigned_ties}
+use Rattle.std.specs.Cmp.{IsTotalOrder, ranks, tied_then, unsigned_ties}
 use Rattle.std.specs.List.{dedup, Contains}
 use Rattle.std.specs.List.Sorted.{IsSorted, IsStrictlySortedBy}
 use Rattle.std.specs.Ordering.{MatchOrdering, ordering_then, eq_by_cmp}
@@ -62,13 +62,6 @@ pair_ranks p q = go (nat_cmp p.0 q.0) (nat_cmp p.1 q.1) (ranks p.0 q.0) (ranks p
     go Equal Equal e f = (e, f)
     go Equal Greater e l = inr (sym e, l)
     go Greater b l h = inl l
-
--- a pair that is before another is less in the order
-pub before_less : (p q : ℕ × ℕ) → IsBefore p q → pair_cmp p q ≡ Less
-before_less p q before = elim before [
-  | inl l ↦ ap (λ (o : Ordering). ordering_then o (nat_cmp p.1 q.1)) (sym (nat_cmp_is p.0 q.0 Less l))
-  | inr l ↦ ap (λ (o : Ordering). ordering_then o (nat_cmp p.1 q.1)) (sym (nat_cmp_is p.0 q.0 Equal l.0)) ∙ sym (nat_cmp_is p.1 q.1 Less l.1)
-]
 
 -- a pair that is less in the order is before the other
 pub less_before : (p q : ℕ × ℕ) → pair_cmp p q ≡ Less → IsBefore p q

@@ -1,5 +1,5 @@
 -- Tables of neighbor counts, pair by pair.
-use Rattle.std.proofs.Common.{◌≡◌, ℕ, ◌+◌, ◌*◌, ◌%◌, ◌<◌, ◌≤◌, Bool, true, false, cond, not, ◌&&◌, ◌||◌, ◌==◌, List, [], ◌∷◌, ◌++◌, length, get_or, set, take, refl, sym, ap, ◌∙◌, subst, inl, inr, arith, length-set, length-take}
+use Rattle.std.proofs.Common.{◌≡◌, ℕ, ◌+◌, ◌*◌, ◌<◌, ◌≤◌, Bool, true, false, cond, not, ◌&&◌, ◌||◌, ◌==◌, List, [], ◌∷◌, ◌++◌, length, get_or, set, take, refl, sym, ap, ◌∙◌, subst, inl, inr, arith, length-set, length-take}
 use Rattle.std.specs.Prelude.{count_by, nat_lt}
 use Rattle.std.specs.List.{list_any}
 use Rattle.std.proofs.lemmas.Bool.{cases_Bool, cases_eq, eq-eqb, ne_eqb, lt-ltb, le-ltb, and_left, and_right, and_from}
@@ -57,13 +57,6 @@ pub entry_other : (g : Graph) (plan : List ℕ) (u d : ℕ) → (get_or plan u 0
 entry_other g plan u d off =
     let none : cond {A = ℕ} (in_district plan d u) 128 0 ≡ 0 = ap (λ b. cond {A = ℕ} b 128 0) (ne_eqb (get_or plan u 0) d off) in
     omega (arith, none)
-
--- an entry without its mark is the number of neighbors
-pub entry_rest : (g : Graph) (plan : List ℕ) (u d : ℕ) → count_near g plan u d < 128 → entry g plan u d % 128 ≡ count_near g plan u d
-entry_rest g plan u d few = elim (cases_eq (get_or plan u 0) d) [
-  | inl here ↦ omega (arith, entry_own g plan u d here, few)
-  | inr off ↦ omega (arith, entry_other g plan u d off, few)
-]
 
 -- a unit with a neighbor has a neighbor in that one's district
 pub near_some : (g : Graph) (plan : List ℕ) (u v : ℕ) → IsGraph g → u < g.units → adjacent g u v ≡ true → 0 < count_near g plan v (get_or plan u 0)

@@ -204,7 +204,7 @@ fn scan_for_mates(member: Member, one: u32, other: u32) -> (u64, u64)
     scan_mates(member, one, other)
 }
 
-/// Returns true if no unit has so many neighbors that its entries do not fit into a byte.
+/// Returns true if the entries of each unit fit into a byte: none has more than `MOST_NEIGHBORS` neighbors.
 fn has_short_rows(graph: &Graph) -> bool
     ensures { IsTrue result ↔ HasShortRows graph.now }
 {

@@ -1,8 +1,7 @@
 -- The first party's shares, and their median minus their mean.
-use Rattle.std.proofs.Common.{◌≡◌, ℕ, zero, suc, ◌+◌, ◌-◌, ◌*◌, ◌/◌, ◌^◌, ◌<◌, ◌≤◌, List, length, sum, All, pos, ◌-ℤ◌, to_z, of_z, w64, FitsSigned, refl, arith, inl, inr}
+use Rattle.std.proofs.Common.{◌≡◌, ℕ, zero, suc, ◌+◌, ◌-◌, ◌*◌, ◌/◌, ◌^◌, ◌<◌, ◌≤◌, List, length, sum, All, pos, ◌-ℤ◌, refl, arith, inl, inr}
 use Rattle.std.specs.Prelude.{slice_index}
 use Rattle.std.proofs.lemmas.Bool.{cases_eq, eq-eqb, ne_eqb}
-use Rattle.std.proofs.lemmas.Int.{ints}
 use Rattle.std.proofs.lemmas.List.Elements.{All-push}
 use Rattle.std.proofs.lemmas.Nat.{div_below}
 use Rattle.audit_model.specs.declared.outcome.SumsView.{SumsView}
@@ -10,14 +9,6 @@ use Rattle.audit_model.specs.Below.{map_below}
 use Rattle.audit_model.specs.Score.{share, shares, ranked, mean_median}
 use Rattle.audit_model.proofs.Below.{length-map_below}
 use Rattle.scores.specs.Votes.{AreVotes, AreShares}
-
--- a difference of numbers up to 4 * 10 ^ 11 fits 64 bits
-pub difference_fits : (a b : ℕ) → a ≤ 4 * 10 ^ 11 → b ≤ 4 * 10 ^ 11 → FitsSigned w64 (to_z w64 a -ℤ to_z w64 b)
-difference_fits a b l m = omega (arith, ints)
-
--- the computed difference of such numbers is exact
-pub difference_is : (a b : ℕ) → a ≤ 4 * 10 ^ 11 → b ≤ 4 * 10 ^ 11 → to_z w64 (of_z w64 (to_z w64 a -ℤ to_z w64 b)) ≡ pos a -ℤ pos b
-difference_is a b l m = omega (arith, ints)
 
 -- the median minus the mean, from the two middle shares and the sum
 pub mean_median_from : (xs : List ℕ) (twice all : ℕ) → twice ≡ ranked xs ((length xs - 1) / 2) + ranked xs (length xs / 2) → all ≡ sum xs
