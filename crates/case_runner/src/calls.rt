@@ -1,7 +1,7 @@
 //! Public calls on jobs.
 
 use crate::flips::{show_flips, show_legal};
-use crate::graphs::{show_faces, show_kept, show_leaving};
+use crate::graphs::{show_faces, show_fillers, show_kept, show_leaving};
 use audit_io::sure::SureSource;
 use audit_start::prepare::prepare;
 use case_format::{begin_case, bytes_of, words_of};
@@ -20,6 +20,8 @@ enum Call {
     KeptPentagons,
     /// The answers of the tests that a unit may leave its district in a plan.
     Leaving(&'static [u32], u32),
+    /// The units that may fill holes after a unit has joined district 0.
+    Fillers(&'static [u32], u32),
     /// The legality of its start plan.
     Legal,
     /// A mirrored draw, and the counts of a walk.
@@ -63,6 +65,7 @@ fn show_call(rt: &HostRuntime, job: &Job, call: Call) -> io::Result<()> {
         Call::KeptFaces => show_kept(rt, job.graph(), &FACES),
         Call::KeptPentagons => show_kept(rt, job.graph(), &PENTAGONS),
         Call::Leaving(plan, unit) => show_leaving(rt, job.graph(), plan, unit),
+        Call::Fillers(plan, unit) => show_fillers(rt, job.graph(), plan, unit),
         Call::Legal => show_legal(rt, job),
         Call::Flips => show_flips(rt, job),
     }
@@ -178,10 +181,28 @@ fn show_each_leaving(rt: &HostRuntime) -> Result<(), Fail> {
     )
 }
 
+fn show_each_fillers(rt: &HostRuntime) -> Result<(), Fail> {
+    // Five units around a sixth, which alone is in another district. It fills the hole.
+    show_case(
+        rt,
+        "fillers_of_a_hole",
+        "round_hub.json",
+        Call::Fillers(&[0, 0, 0, 0, 0, 1], 2),
+    )?;
+    // A row of three. The district of the first two units encloses the last one.
+    show_case(
+        rt,
+        "fillers_at_an_end",
+        "row.json",
+        Call::Fillers(&[0, 0, 1], 1),
+    )
+}
+
 /// Makes each call and prints its answer.
 pub fn show_calls(rt: &HostRuntime) -> Result<(), Fail> {
     show_each_faces(rt)?;
     show_each_leaving(rt)?;
+    show_each_fillers(rt)?;
     show_case(rt, "start_plan_is_legal", "four_in_a_row.json", Call::Legal)?;
     show_case(rt, "flips_on_a_path", "four_in_a_row.json", Call::Flips)?;
     // The district of the ring has a hole, so the kernel needs searches.

@@ -1,32 +1,34 @@
 //! Numbered draws of a key: 64-bit numbers from ChaCha20 (the block function of RFC 8439).
 #![tactic(auto)]
 
-ghost use Rattle.std.specs.Prelude.{◌≡◌, ◌+◌, ◌<◌, ◌^◌};
+mod buffer;
+
+ghost use Rattle.std.specs.Prelude.{◌≡◌, ◌+◌, ◌<◌, ◌≤◌, ◌^◌};
 ghost use Rattle.audit_statement.specs.Draw.{draw};
 ghost use Rattle.rand_chacha.specs.ChaCha.{key_of};
 
+use crate::buffer::{Buffer, refill, turn};
 use rand_chacha::ChaCha20Rng;
 use rand_core::SeedableRng;
-use rand_core::utils::next_u64_via_u32;
 use std::marker::Model;
 
 /// A position in one stream of a key.
 #[derive(Drop)]
 pub struct Draws {
     key: [u8; 32],
-    words: ChaCha20Rng,
+    buffer: Buffer,
 }
 
 impl Model for Draws {
-    ghost use Rattle.std.specs.Prelude.{◌≡◌, ◌*◌, ◌/◌, ◌≤◌, ◌^◌};
+    ghost use Rattle.std.specs.Prelude.{◌+◌, ◌*◌};
+    ghost use Rattle.chacha_draws.specs.Ahead.{IsAhead};
     ghost use Rattle.chacha_draws.specs.DrawPlace.{DrawPlace};
-    ghost use Rattle.rand_chacha.specs.ChaCha.{key_of};
 
     ghost Value = { DrawPlace };
 
-    ghost view = { λ d. record { key = d.key; stream = d.words.stream; place = d.words.word_pos / 2 } };
+    ghost view = { λ d. record { key = d.key; stream = d.buffer.words.stream; place = 32 * d.buffer.block + d.buffer.next } };
 
-    ghost invariant = { λ d. (d.words.key ≡ key_of d.key) × (d.words.word_pos ≡ 2 * (d.words.word_pos / 2)) × (d.words.word_pos ≤ 2 ^ 33) };
+    ghost invariant = { λ d. IsAhead d.key d.buffer };
 }
 
 impl Draws {
@@ -38,7 +40,14 @@ impl Draws {
     {
         let mut words = generator_of(key);
         words.set_stream(stream);
-        Draws { key, words }
+        let mut buffer = Buffer {
+            words,
+            draws: [0; 32],
+            block: 0,
+            next: 0,
+        };
+        refill(&mut buffer);
+        Draws { key, buffer }
     }
 
     /// Returns the next draw. A draw is the next two 32-bit words of the stream; the first word is
@@ -49,15 +58,25 @@ impl Draws {
         ensures value { result ≡ draw self.old.key self.old.stream self.old.place }
         ensures moved { self.new ≡ record self.old { place = self.old.place + 1 } }
     {
-        next_u64_via_u32(&mut self.words)
+        turn(&mut self.buffer);
+        let draw = self.buffer.draws[self.buffer.next];
+        self.buffer.next += 1;
+        draw
+    }
+
+    /// Returns the number of draws that were taken.
+    #[inline]
+    pub fn place(&self) -> u64
+        ensures { result ≡ self.now.place }
+    {
+        32 * u64::from(self.buffer.block) + self.buffer.next as u64
     }
 }
 
 /// Returns the generator of a key, at the first word of stream 0.
 ///
 /// A call out of line hides the generator's position from the compiler. `set_stream` then keeps its
-/// own call of the code that computes blocks. This code stays out of the reading of a word, and the
-/// reading is inlined into the loop over steps.
+/// own call of the code that computes blocks.
 #[inline(never)]
 fn generator_of(key: [u8; 32]) -> ChaCha20Rng
     ensures { result ≡ record { key = key_of key; stream = 0; word_pos = 0 } }

@@ -1,15 +1,15 @@
--- One more corner in the rows, and the rings of a list of faces.
+-- One more corner in the rows, and the faces of a list of candidates.
 use Rattle.std.proofs.Common.{◌≡◌, ℕ, zero, suc, ◌+◌, ◌<◌, List, [], ◌∷◌, ◌++◌, length, get_or, set, take, map, refl, sym, ap, ◌∙◌, subst, inl, inr, arith, length-set, get_or-set_same, get_or-set_other}
 use Rattle.std.specs.Prelude.{◌==◌, All}
 use Rattle.std.proofs.lemmas.Bool.{cases_eq, eq-eqb, ne_eqb, cond-true, cond-false}
 use Rattle.std.proofs.lemmas.List.{append-nil, map_push, take_more, length_push}
 use Rattle.std.proofs.lemmas.List.Elements.{All-push}
 use Rattle.audit_model.specs.Graph.{Graph}
-use Rattle.contig.specs.Faces.{IsRing, AreFaces}
-use Rattle.contig.specs.Listed.{rings}
-use Rattle.contig.specs.Rings.{ring_of}
-use Rattle.contig.specs.declared.face.Face.{Face}
-use Rattle.contig.proofs.Listing.{rings_more}
+use Rattle.contig.specs.Faces.{SparedFace, IsRing, AreFaces, own_ring, spare_ring}
+use Rattle.contig.specs.Listed.{listed}
+use Rattle.contig.specs.Rings.{face_of}
+use Rattle.contig.specs.declared.face.Candidate.{Candidate}
+use Rattle.contig.proofs.Listing.{listed_push}
 use Rattle.contig.specs.declared.corner.Corner.{Corner}
 use Rattle.contig.specs.Corners.{HasCorners, IsOnRow, units_of, with_corner}
 
@@ -53,37 +53,40 @@ one_more g corners rows new u corner one other lu placed is_one is_other is_new 
     same_units : units_of (get_or g.neighbours u []) corner ≡ (one, other, corner.far, corner.further)
     same_units = ap (λ t. (t, get_or (get_or g.neighbours u []) corner.other 0, corner.far, corner.further)) is_one ∙ ap (λ t. (one, t, corner.far, corner.further)) is_other
 
--- ---- the rings of a list of faces
+-- ---- the faces of a list of candidates
 
-abbrev AllRings : Graph → List (List ℕ) → Type 0
-AllRings g [] = Unit {0}
-AllRings g (ring ∷ later) = IsRing g ring × AllRings g later
+-- each face is a ring, and so is its spare ring
+abbrev AllRings : Graph → List SparedFace → Type 0
+AllRings g [] = Unit
+AllRings g (face ∷ later) = (IsRing g (own_ring face) × IsRing g (spare_ring face)) × AllRings g later
 
--- faces of a graph are rings of it
-all_rings : (g : Graph) (faces : List (List ℕ)) → AreFaces g faces → AllRings g faces
+all_rings : (g : Graph) (faces : List SparedFace) → AreFaces g faces → AllRings g faces
 all_rings g [] are = tt
-all_rings g (face ∷ later) are = (are.0, all_rings g later are.2)
+all_rings g (face ∷ later) are = ((are.0, are.1), all_rings g later are.4)
 
 -- if all of an extended list are rings, so are the list and the new face
-rings_split : (g : Graph) (rest : List (List ℕ)) (ring : List ℕ) → AllRings g (rest ++ ring ∷ []) → AllRings g rest × IsRing g ring
-rings_split g [] ring h = (tt, h.0)
-rings_split g (face ∷ rest) ring h = let more = rings_split g rest ring h.1 in ((h.0, more.0), more.1)
+rings_split : (g : Graph) (rest : List SparedFace) (face : SparedFace) → AllRings g (rest ++ face ∷ []) → AllRings g rest × (IsRing g (own_ring face) × IsRing g (spare_ring face))
+rings_split g [] face h = (tt, h.0)
+rings_split g (first ∷ rest) face h = let more = rings_split g rest face h.1 in ((h.0, more.0), more.1)
 
 -- if all are rings, so is the face at a position
-ring_in : (g : Graph) (faces : List Face) (k : ℕ) (d : Face) → k < length faces → AllRings g (rings faces) → IsRing g (ring_of (get_or faces k d))
-ring_in g [] k d l h = absurd (omega arith)
-ring_in g (face ∷ later) zero d l h = (rings_split g (rings later) (ring_of face) h).1
-ring_in g (face ∷ later) (suc k) d l h = ring_in g later k d (omega arith) (rings_split g (rings later) (ring_of face) h).0
+rings_in : (g : Graph) (candidates : List Candidate) (k : ℕ) (d : Candidate) → k < length candidates → AllRings g (listed candidates)
+    → IsRing g (own_ring (face_of (get_or candidates k d))) × IsRing g (spare_ring (face_of (get_or candidates k d)))
+rings_in g [] k d l h = absurd (omega arith)
+rings_in g (candidate ∷ later) zero d l h = (rings_split g (listed later) (face_of candidate) h).1
+rings_in g (candidate ∷ later) (suc k) d l h = rings_in g later k d (omega arith) (rings_split g (listed later) (face_of candidate) h).0
 
--- the face at a position is a ring of the graph
-pub ring_at : (g : Graph) (faces : List Face) (k : ℕ) (d : Face) → k < length faces → AreFaces g (rings faces) → IsRing g (ring_of (get_or faces k d))
-ring_at g faces k d l are = ring_in g faces k d l (all_rings g (rings faces) are)
+-- the face at a position is a ring of the graph, and so is its spare ring
+pub rings_at : (g : Graph) (candidates : List Candidate) (k : ℕ) (d : Candidate) → k < length candidates → AreFaces g (listed candidates)
+    → IsRing g (own_ring (face_of (get_or candidates k d))) × IsRing g (spare_ring (face_of (get_or candidates k d)))
+rings_at g candidates k d l are = rings_in g candidates k d l (all_rings g (listed candidates) are)
 
--- taking one more face puts its ring first
-pub rings_step : (faces : List Face) (k : ℕ) (d : Face) → k < length faces → rings (take (k + 1) faces) ≡ ring_of (get_or faces k d) ∷ rings (take k faces)
-rings_step faces k d l = ap rings (take_more faces k d l) ∙ rings_more (take k faces) (get_or faces k d)
+-- taking one more candidate puts its face first
+pub listed_step : (candidates : List Candidate) (k : ℕ) (d : Candidate) → k < length candidates
+    → listed (take (k + 1) candidates) ≡ face_of (get_or candidates k d) ∷ listed (take k candidates)
+listed_step candidates k d l = ap listed (take_more candidates k d l) ∙ listed_push (take k candidates) (get_or candidates k d)
 
--- there is one ring per face
-pub rings_length : (faces : List Face) → length (rings faces) ≡ length faces
-rings_length [] = refl
-rings_length (face ∷ later) = omega (arith, length_push (rings later) (ring_of face), rings_length later)
+-- there is one face per candidate
+pub listed_length : (candidates : List Candidate) → length (listed candidates) ≡ length candidates
+listed_length [] = refl
+listed_length (candidate ∷ later) = omega (arith, length_push (listed later) (face_of candidate), listed_length later)

@@ -13,7 +13,7 @@ use Rattle.audit_model.proofs.Every.{each_from_all}
 use Rattle.audit_model.proofs.Local.{left_behind, not_beside_itself}
 use Rattle.contig.proofs.RingLinks.{near_link, share_ring}
 use Rattle.contig.proofs.Rings.{pair_same, pair_is, side_in, by_five, five_1, five_2, five_3, five_4, five_5, unit_of_five, has_5}
-use Rattle.contig.specs.Faces.{is_pair, has_side, IsRing, AreFaces, share_face, link_graph, AreLinked}
+use Rattle.contig.specs.Faces.{is_pair, has_side, IsRing, AreRings, share_face, link_graph, AreLinkedBy}
 
 -- ---- rings, rotated to begin with u
 
@@ -360,7 +360,7 @@ module _ (g : Graph) (simple : IsSimple g) (set : ℕ → Bool) (u : ℕ) where
 
 -- ---- around the unit
 
-module _ (g : Graph) (faces : List (List ℕ)) (plan : List ℕ) (u : ℕ) (simple : IsSimple g) (are : AreFaces g faces) where
+module _ (g : Graph) (faces : List (List ℕ)) (plan : List ℕ) (u : ℕ) (simple : IsSimple g) (are : AreRings g faces) where
   mate_behind : (v : ℕ) → IsIn g (is_mate g plan u) v → IsIn g (stays_behind plan u) v
   mate_behind v i =
       let parts = and_parts (adjacent g u v) (in_district plan (slice_index plan u) v) i.1 in
@@ -382,7 +382,7 @@ module _ (g : Graph) (faces : List (List ℕ)) (plan : List ℕ) (u : ℕ) (simp
       let step = link_path w t (near_link g faces (in_district plan (slice_index plan u)) u w t path.1.0 path.2) in
       subst (λ k. HasPath g (stays_behind plan u) k q) path.0 (joined_from g (stays_behind plan u) step.0 w t q step.1 (links_path (t ∷ rest) t q path.3))
 
-  module _ (linked : AreLinked g faces plan u) where
+  module _ (linked : AreLinkedBy g faces plan u) where
     -- two mates have a path that avoids u
     way_round : (a b : ℕ) → IsIn g (in_district plan (slice_index plan u)) a → IsIn g (in_district plan (slice_index plan u)) b
         → adjacent g a u ≡ true → adjacent g u b ≡ true → HasPath g (stays_behind plan u) a b

@@ -11,23 +11,23 @@ use Rattle.audit_model.specs.Local.{IsSimple}
 use Rattle.audit_model.proofs.Below.{count_below_same, count_below_le}
 use Rattle.audit_model.proofs.ListFacts.{first_has}
 use Rattle.audit_model.proofs.Rows.{counted_edges_le}
-use Rattle.contig.specs.Faces.{AreFaces, count_inner_edges, count_inner_faces, without_unit, count_mates}
+use Rattle.contig.specs.Faces.{AreRings, count_inner_edges, count_inner_faces, without_unit, count_mates}
 use Rattle.contig.proofs.FaceCounting.{kept, units_with, edges_with, faces_with}
 use Rattle.contig.specs.Corners.{is_filled, corners_at}
-use Rattle.contig.specs.Counts.{filled_of}
+use Rattle.contig.specs.Counts.{filled_by}
 use Rattle.contig.proofs.Seeing.{IsOther, AreOthers, corners_other, count_corners}
 
 -- ---- equal sets
 
 -- sets that agree on the units of a ring contain all of it, or neither does
-all_alike : (p q : ℕ → Bool) (ring : List ℕ) → ((v : ℕ) → has ring v ≡ true → p v ≡ q v) → list_all p ring ≡ list_all q ring
+pub all_alike : (p q : ℕ → Bool) (ring : List ℕ) → ((v : ℕ) → has ring v ≡ true → p v ≡ q v) → list_all p ring ≡ list_all q ring
 all_alike p q [] same = refl
 all_alike p q (v ∷ rest) same =
     ap (λ b. b && list_all p rest) (same v (first_has v rest))
     ∙ ap (λ b. q v && b) (all_alike p q rest (λ w h. same w (or_right (v == w) (has rest w) h)))
 
 -- sets that agree on all units have equally many inner faces
-faces_alike : (g : Graph) (p q : ℕ → Bool) (faces : List (List ℕ)) → AreFaces g faces → ((v : ℕ) → v < g.units → p v ≡ q v) → count_inner_faces p faces ≡ count_inner_faces q faces
+faces_alike : (g : Graph) (p q : ℕ → Bool) (faces : List (List ℕ)) → AreRings g faces → ((v : ℕ) → v < g.units → p v ≡ q v) → count_inner_faces p faces ≡ count_inner_faces q faces
 faces_alike g p q [] are same = refl
 faces_alike g p q (face ∷ later) are same =
     let rest = faces_alike g p q later are.2 same in
@@ -46,7 +46,7 @@ module _ (g : Graph) (p q : ℕ → Bool) (same : (v : ℕ) → v < g.units → 
       (λ w l. count_below_same w (λ v. adjacent g v w && (p v && p w)) (λ v. adjacent g v w && (q v && q w))
       (λ v below. ap (λ b. adjacent g v w && (b && p w)) (same v (omega (arith, l, below))) ∙ ap (λ b. adjacent g v w && (q v && b)) (same w l)))
 
-  pub filled_alike : (faces : List (List ℕ)) → AreFaces g faces → filled_of g faces p ≡ filled_of g faces q
+  pub filled_alike : (faces : List (List ℕ)) → AreRings g faces → filled_by g faces p ≡ filled_by g faces q
   filled_alike faces are = omega (arith, count_below_same g.units p q same, faces_alike g p q faces are same)
 
 -- ---- one more unit
@@ -61,7 +61,7 @@ count_alike p q (t ∷ rest) same =
     let more = count_alike p q rest (All-tail (λ t. p t ≡ q t) t rest same) in
     omega (arith, first, other, one, more)
 
-module _ (g : Graph) (sound : IsGraph g) (faces : List (List ℕ)) (are : AreFaces g faces) (small large test : ℕ → Bool) (u : ℕ) (lu : u < g.units)
+module _ (g : Graph) (sound : IsGraph g) (faces : List (List ℕ)) (are : AreRings g faces) (small large test : ℕ → Bool) (u : ℕ) (lu : u < g.units)
     (there : large u ≡ true) (absent : small u ≡ false) (more : (v : ℕ) → v < g.units → (v ≡ u → ⊥) → large v ≡ small v)
     (tests : (v : ℕ) → v < g.units → (v ≡ u → ⊥) → test v ≡ small v) where
   simple : IsSimple g
@@ -93,7 +93,7 @@ module _ (g : Graph) (sound : IsGraph g) (faces : List (List ℕ)) (are : AreFac
       ap (λ b. b && (large t.1 && (large t.2 && large t.3))) (at t.0 o.0) ∙ ap (λ b. test t.0 && (b && (large t.2 && large t.3))) (at t.1 o.1)
       ∙ ap (λ b. test t.0 && (test t.1 && (b && large t.3))) (at t.2 o.2) ∙ ap (λ b. test t.0 && (test t.1 && (test t.2 && b))) (at t.3 o.3)
 
-  pub filled_more : filled_of g faces large ≡ filled_of g faces small + 1 + count_by (is_filled test) (corners_at u faces)
+  pub filled_more : filled_by g faces large ≡ filled_by g faces small + 1 + count_by (is_filled test) (corners_at u faces)
   filled_more =
       let units = units_with g large u (lu, there) in
       let law = faces_with large u faces in
@@ -119,5 +119,5 @@ inner_few inside (face ∷ later) = omega (arith, inner_few inside later, one (l
     one false = omega arith
 
 -- the units and inner faces of a set are at most all units and faces
-pub filled_few : (g : Graph) (inside : ℕ → Bool) (faces : List (List ℕ)) → filled_of g faces inside ≤ g.units + length faces
+pub filled_few : (g : Graph) (inside : ℕ → Bool) (faces : List (List ℕ)) → filled_by g faces inside ≤ g.units + length faces
 filled_few g inside faces = omega (arith, count_below_le g.units inside, inner_few inside faces)

@@ -1,16 +1,17 @@
 -- Testing and listing faces.
 use Rattle.std.proofs.Common.{◌≡◌, ℕ, ◌<◌, Bool, true, false, not, ◌||◌, List, [], ◌∷◌, ◌++◌, refl, sym, ap, ◌∙◌, subst, inl, inr, arith}
-use Rattle.std.specs.Prelude.{◌==◌, nat_lt}
+use Rattle.std.specs.Prelude.{◌==◌, nat_lt, Option, Some, None}
 use Rattle.std.specs.List.{list_any}
 use Rattle.std.proofs.lemmas.Bool.{and_parts, or_cases, cases_order, cond-true, cond-false, lt-ltb, le-ltb, false_from_ne_true, or_from, ltb-true, eqb-true, eq-eqb, not-true, both_ways, false≢true}
 use Rattle.audit_model.specs.Graph.{Graph, has, adjacent}
 use Rattle.audit_model.specs.Local.{IsSimple}
 use Rattle.contig.proofs.Rings.{pair_is, by_five, unit_of_five}
+use Rattle.contig.specs.declared.face.Candidate.{Candidate}
 use Rattle.contig.specs.declared.face.Face.{Face}
 use Rattle.contig.specs.declared.face.Face.TheVariants.{Triangle, Square, Pentagon}
-use Rattle.contig.specs.Faces.{is_pair, has_side, IsRing, OwnsSide}
-use Rattle.contig.specs.Listed.{rings, side, own_side}
-use Rattle.contig.specs.Rings.{ring_of, goes_round, differ, follow}
+use Rattle.contig.specs.Faces.{SparedFace, is_pair, has_side, IsRing, OwnsSide, own_ring, spare_ring}
+use Rattle.contig.specs.Listed.{listed, side, own_side}
+use Rattle.contig.specs.Rings.{ring_of, spare_by, face_by, face_of, goes_round, differ, follow}
 
 -- inequality is symmetric
 swapped : (a b : ℕ) → (a == b) ≡ false → (b == a) ≡ false
@@ -218,10 +219,24 @@ pentagon_sides test a b c d e ab bc cd de ea x y h =
 
 -- ---- one more face
 
--- the ring of an appended face comes first
-pub rings_more : (faces : List Face) (face : Face) → rings (faces ++ face ∷ []) ≡ ring_of face ∷ rings faces
-rings_more [] face = refl
-rings_more (first ∷ faces) face = ap (λ (l : List (List ℕ)). l ++ ring_of first ∷ []) (rings_more faces face)
+-- one more candidate puts its face first
+pub listed_push : (candidates : List Candidate) (candidate : Candidate) → listed (candidates ++ candidate ∷ []) ≡ face_of candidate ∷ listed candidates
+listed_push [] candidate = refl
+listed_push (first ∷ candidates) candidate = ap (λ (l : List SparedFace). l ++ face_of first ∷ []) (listed_push candidates candidate)
+
+-- the ring of a candidate's face
+pub own_is : (ring : Face) (spare : Option ℕ) → own_ring (face_by ring spare) ≡ ring_of ring
+own_is (Triangle a b c) (Some d) = refl
+own_is (Triangle a b c) None = refl
+own_is (Square a b c d) spare = refl
+own_is (Pentagon a b c d e) spare = refl
+
+-- the spare ring of a candidate's face
+pub spare_is : (ring : Face) (spare : Option ℕ) → spare_ring (face_by ring spare) ≡ ring_of (spare_by ring spare)
+spare_is (Triangle a b c) (Some d) = refl
+spare_is (Triangle a b c) None = refl
+spare_is (Square a b c d) spare = refl
+spare_is (Pentagon a b c d e) spare = refl
 
 -- a face whose own side is not in the set owns it
 pub owns : (faces : List (List ℕ)) (there : ℕ × ℕ → Bool) (face : Face) → ((x y : ℕ) → list_any (λ f. has_side f x y) faces ≡ true → there (side x y) ≡ true)

@@ -1,9 +1,8 @@
 -- Merging classes of neighbors, corner by corner.
-use Rattle.std.proofs.Common.{◌≡◌, ◌≢◌, ℕ, ◌+◌, ◌<◌, ◌≤◌, Bool, true, ◌&&◌, List, [], ◌∷◌, length, get_or, map, take, refl, sym, ap, ◌∙◌, subst, inl, inr, arith}
-use Rattle.std.specs.Prelude.{◌==◌, slice_index, All}
-use Rattle.std.specs.List.{slice_index_or}
+use Rattle.std.proofs.Common.{◌≡◌, ◌≢◌, ℕ, ◌+◌, ◌<◌, ◌≤◌, Bool, true, false, not, ◌&&◌, List, [], ◌∷◌, length, get_or, take, refl, sym, ap, ◌∙◌, subst, inl, inr, arith}
+use Rattle.std.specs.Prelude.{◌==◌, ◌⊎◌, slice_index, All}
 use Rattle.std.proofs.lemmas.Bool.{and_parts, and_from, cases_eq, eq-eqb, ne_eqb, cond-true, cond-false}
-use Rattle.std.proofs.lemmas.List.{get_or-take, length-take-le, get_or_default, get_or-map, length-map}
+use Rattle.std.proofs.lemmas.List.{get_or-take, length-take-le, get_or_default}
 use Rattle.std.proofs.lemmas.List.Elements.{All-get_or}
 use Rattle.audit_model.specs.Below.{map_below}
 use Rattle.audit_model.specs.Graph.{Graph, IsGraph, adjacent, IsIn}
@@ -13,20 +12,19 @@ use Rattle.audit_model.specs.District.{in_district}
 use Rattle.audit_model.proofs.Below.{get_or-map_below}
 use Rattle.audit_model.proofs.ListFacts.{has_at, at_has}
 use Rattle.audit_model.proofs.Rows.{row_rises}
-use Rattle.contig.specs.Faces.{AreFaces, AreLinked, share_face, link_graph}
+use Rattle.contig.specs.Faces.{AreRings, AreLinkedBy, share_face, link_graph}
 use Rattle.contig.proofs.RingLinks.{link_near, near_link, share_turned}
 use Rattle.audit_model.proofs.Paths.{path_one, path_before, joined_from}
 use Rattle.contig.specs.declared.corner.Corner.{Corner}
-use Rattle.contig.specs.Corners.{IsOnRow, is_filled, units_of, corners_at}
-use Rattle.contig.specs.Links.{AreClasses, AreMerged, is_inner}
+use Rattle.contig.specs.Corners.{IsOnRow}
+use Rattle.contig.specs.Links.{AreClasses, AreLinks, AreMerged, is_link}
 use Rattle.contig.proofs.Counting.{rising_once}
-use Rattle.contig.proofs.Seeing.{corners_share, shared_corner}
 use Rattle.audit_model.specs.Replaced.{Replaced}
 
--- the invariant of the classes, if the corners are those of faces
-abbrev pub Kept : Graph → List ℕ → ℕ → List Corner → List ℕ → List ℕ → Type 0
-Kept g plan u corners old new = (faces : List (List ℕ)) → AreFaces g faces → map (units_of (slice_index_or g.neighbours u [])) corners ≡ corners_at u faces
-    → AreClasses g faces plan u old → AreClasses g faces plan u new
+-- the invariant of the classes, if the corners link only neighbors that share a ring
+abbrev pub Kept : Graph → List ℕ → ℕ → Bool → List Corner → List ℕ → List ℕ → Type 0
+Kept g plan u spare corners old new = (rings : List (List ℕ)) → AreRings g rings → AreLinks g rings plan u spare corners
+    → AreClasses g rings plan u old → AreClasses g rings plan u new
 
 -- the neighbors of u, and its district
 abbrev pub row : Graph → ℕ → List ℕ
@@ -35,23 +33,32 @@ row g u = get_or g.neighbours u []
 abbrev pub home : List ℕ → ℕ → ℕ → Bool
 home plan u = in_district plan (slice_index plan u)
 
+-- the positions i and j are those of x and y, and have one class
+abbrev pub HaveOneClass : List ℕ → List ℕ → ℕ → ℕ → Type 0
+HaveOneClass neighbors classes x y = (i : ℕ) × (j : ℕ) × (i < length neighbors) × (j < length neighbors)
+    × (get_or neighbors i 0 ≡ x) × (get_or neighbors j 0 ≡ y) × (get_or classes i 0 ≡ get_or classes j 0)
+
+-- neighbors that share a face have one class
+abbrev pub AreCovered : Graph → List (List ℕ) → List ℕ → ℕ → List ℕ → Type 0
+AreCovered g faces plan u classes = (x y : ℕ) → share_face faces (home plan u) u x y ≡ true → (x ≡ y) ⊎ HaveOneClass (row g u) classes x y
+
 -- ---- one more corner
 
--- after one more corner, its two neighbors have one class if it is inside, and earlier corners stay merged
-pub merged_step : (g : Graph) (plan : List ℕ) (u : ℕ) (corners : List Corner) (k : ℕ) (d : Corner) (old new : List ℕ) → k < length corners
+-- after one more corner, its two neighbors have one class if it links them, and earlier corners stay merged
+pub merged_step : (g : Graph) (plan : List ℕ) (u : ℕ) (spare : Bool) (corners : List Corner) (k : ℕ) (d : Corner) (old new : List ℕ) → k < length corners
     → length (row g u) ≤ 32 → All (IsOnRow g (row g u)) corners
     → ((a b : ℕ) → a < 32 → b < 32 → get_or old a 0 ≡ get_or old b 0 → get_or new a 0 ≡ get_or new b 0)
-    → (is_inner g plan u (get_or corners k d) ≡ true → get_or new (get_or corners k d).one 0 ≡ get_or new (get_or corners k d).other 0)
-    → AreMerged g plan u (take k corners) old → AreMerged g plan u (take (k + 1) corners) new
-merged_step g plan u corners k d old new lt few placed coarser here before j e lj inner =
+    → (is_link g plan u spare (get_or corners k d) ≡ true → get_or new (get_or corners k d).one 0 ≡ get_or new (get_or corners k d).other 0)
+    → AreMerged g plan u spare (take k corners) old → AreMerged g plan u spare (take (k + 1) corners) new
+merged_step g plan u spare corners k d old new lt few placed coarser here before j e lj inner =
     let small : j < k + 1 = omega (arith, lj, length-take-le (k + 1) corners (omega (arith, lt))) in
     let in_all : get_or (take (k + 1) corners) j e ≡ get_or corners j e = get_or-take (k + 1) corners j e small in
-    let inner_all : is_inner g plan u (get_or corners j e) ≡ true = subst (λ (c : Corner). is_inner g plan u c ≡ true) in_all inner in
+    let inner_all : is_link g plan u spare (get_or corners j e) ≡ true = subst (λ (c : Corner). is_link g plan u spare c ≡ true) in_all inner in
     subst (λ (c : Corner). get_or new c.one 0 ≡ get_or new c.other 0) (sym in_all)
     (elim (cases_eq j k) [
       | inl at ↦
           let same : get_or corners j e ≡ get_or corners k d = get_or_default corners j e d (omega (arith, at, lt)) ∙ ap (λ t. get_or corners t d) at in
-          subst (λ (c : Corner). get_or new c.one 0 ≡ get_or new c.other 0) (sym same) (here (subst (λ (c : Corner). is_inner g plan u c ≡ true) same inner_all))
+          subst (λ (c : Corner). get_or new c.one 0 ≡ get_or new c.other 0) (sym same) (here (subst (λ (c : Corner). is_link g plan u spare c ≡ true) same inner_all))
       | inr off ↦
           let less : j < k = omega (arith, small, off) in
           let in_front : get_or (take k corners) j e ≡ get_or corners j e = get_or-take k corners j e less in
@@ -59,7 +66,7 @@ merged_step g plan u corners k d old new lt few placed coarser here before j e l
           let is : IsOnRow g (row g u) (get_or corners j e) = All-get_or (IsOnRow g (row g u)) corners j e (omega (arith, less, lt)) placed in
           coarser (get_or corners j e).one (get_or corners j e).other (omega (arith, is.one, few)) (omega (arith, is.other, few))
           (subst (λ (c : Corner). get_or old c.one 0 ≡ get_or old c.other 0) in_front
-          (before j e shorter (subst (λ (c : Corner). is_inner g plan u c ≡ true) (sym in_front) inner_all)))
+          (before j e shorter (subst (λ (c : Corner). is_link g plan u spare c ≡ true) (sym in_front) inner_all)))
     ])
 
 -- ---- merging two classes
@@ -100,7 +107,7 @@ module _ (old new : List ℕ) (from into : ℕ) (width : length old ≡ 32) (lf 
 
 -- ---- links
 
-module _ (g : Graph) (plan : List ℕ) (u : ℕ) (sound : IsGraph g) (lu : u < g.units) (faces : List (List ℕ)) (are : AreFaces g faces) where
+module _ (g : Graph) (plan : List ℕ) (u : ℕ) (sound : IsGraph g) (lu : u < g.units) (faces : List (List ℕ)) (are : AreRings g faces) where
   links : Graph
   links = link_graph g faces (home plan u) u
 
@@ -119,113 +126,92 @@ module _ (g : Graph) (plan : List ℕ) (u : ℕ) (sound : IsGraph g) (lu : u < g
       path_before (link_graph g faces (home plan u) u) (is_mate g plan u) x y y ix (link_near g faces (home plan u) u x y ix.0 iy.0 h)
       (path_one (link_graph g faces (home plan u) u) (is_mate g plan u) y iy)
 
-  module _ (corners : List Corner) (is : map (units_of (row g u)) corners ≡ corners_at u faces) (placed : All (IsOnRow g (row g u)) corners) (few : length (row g u) ≤ 32) where
-    units_at : (k : ℕ) (d : Corner) → k < length corners → units_of (row g u) (get_or corners k d) ≡ get_or (corners_at u faces) k (0, 0, 0, 0)
-    units_at k d l = sym (get_or-map (units_of (row g u)) corners k d (0, 0, 0, 0) l) ∙ ap (λ (t : List (ℕ × ℕ × ℕ × ℕ)). get_or t k (0, 0, 0, 0)) is
+  -- the two neighbors of a corner that links them are mates
+  link_parts : (spare : Bool) (corner : Corner) → is_link g plan u spare corner ≡ true
+      → (home plan u (get_or (row g u) corner.one 0) ≡ true) × (home plan u (get_or (row g u) corner.other 0) ≡ true)
+  link_parts true corner h =
+      let first = and_parts (home plan u (get_or (row g u) corner.one 0))
+      (home plan u (get_or (row g u) corner.other 0) && (home plan u corner.far && not (home plan u corner.further))) h in
+      (first.0, (and_parts (home plan u (get_or (row g u) corner.other 0)) (home plan u corner.far && not (home plan u corner.further)) first.1).0)
+  link_parts false corner h =
+      let first = and_parts (home plan u (get_or (row g u) corner.one 0))
+      (home plan u (get_or (row g u) corner.other 0) && (home plan u corner.far && home plan u corner.further)) h in
+      (first.0, (and_parts (home plan u (get_or (row g u) corner.other 0)) (home plan u corner.far && home plan u corner.further) first.1).0)
 
-    as_many : length corners ≡ length (corners_at u faces)
-    as_many = sym (length-map corners (units_of (row g u))) ∙ ap (length {A = ℕ × ℕ × ℕ × ℕ}) is
+  module _ (spare : Bool) (corners : List Corner) (links_of : AreLinks g faces plan u spare corners) (placed : All (IsOnRow g (row g u)) corners) (few : length (row g u) ≤ 32)
+      (old new : List ℕ) (k : ℕ) (d : Corner) (l : k < length corners) (inner : is_link g plan u spare (get_or corners k d) ≡ true) where
+    corner_is : IsOnRow g (row g u) (get_or corners k d)
+    corner_is = All-get_or (IsOnRow g (row g u)) corners k d l placed
 
-    -- the neighbors on an inner corner share a face
-    shares : (k : ℕ) (d : Corner) → k < length corners → is_inner g plan u (get_or corners k d) ≡ true
-        → share_face faces (home plan u) u (get_or (row g u) (get_or corners k d).one 0) (get_or (row g u) (get_or corners k d).other 0) ≡ true
-    shares k d l inner =
-        subst (λ (t : ℕ × ℕ × ℕ × ℕ). is_filled (home plan u) t ≡ true → share_face faces (home plan u) u t.0 t.1 ≡ true) (sym (units_at k d l))
-        (corners_share (home plan u) u in_home g faces are k (0, 0, 0, 0) (omega (arith, l, as_many))) inner
+    inner_parts : (home plan u (get_or (row g u) (get_or corners k d).one 0) ≡ true) × (home plan u (get_or (row g u) (get_or corners k d).other 0) ≡ true)
+    inner_parts = link_parts spare (get_or corners k d) inner
 
-    module _ (old new : List ℕ) (k : ℕ) (d : Corner) (l : k < length corners) (inner : is_inner g plan u (get_or corners k d) ≡ true) where
-      corner_is : IsOnRow g (row g u) (get_or corners k d)
-      corner_is = All-get_or (IsOnRow g (row g u)) corners k d l placed
+    abbrev IsLinked : ℕ → ℕ → Type 0
+    IsLinked a b = a < length (row g u) → b < length (row g u) → IsIn g (is_mate g plan u) (get_or (row g u) a 0) → IsIn g (is_mate g plan u) (get_or (row g u) b 0)
+        → HasPath (link_graph g faces (home plan u) u) (is_mate g plan u) (get_or (row g u) a 0) (get_or (row g u) b 0)
 
-      inner_parts : (home plan u (get_or (row g u) (get_or corners k d).one 0) ≡ true) × (home plan u (get_or (row g u) (get_or corners k d).other 0) ≡ true)
-      inner_parts =
-          let first = and_parts (home plan u (get_or (row g u) (get_or corners k d).one 0))
-          (home plan u (get_or (row g u) (get_or corners k d).other 0) && (home plan u (get_or corners k d).far && home plan u (get_or corners k d).further)) inner in (
-            first.0,
-            (and_parts (home plan u (get_or (row g u) (get_or corners k d).other 0)) (home plan u (get_or corners k d).far && home plan u (get_or corners k d).further) first.1).0,
-          )
+    by : (m : ℕ) → m < length (row g u) → home plan u (get_or (row g u) m 0) ≡ true → (a b : ℕ) → IsLinked a m → IsLinked m b → IsLinked a b
+    by m lm hm a b first then la lb ma mb =
+        let im = near_mate m lm hm in
+        let path = first la lm ma im in
+        joined_from (link_graph g faces (home plan u) u) (is_mate g plan u) path.0 (get_or (row g u) a 0) (get_or (row g u) m 0) (get_or (row g u) b 0) path.1 (then lm lb im mb)
 
-      abbrev IsLinked : ℕ → ℕ → Type 0
-      IsLinked a b = a < length (row g u) → b < length (row g u) → IsIn g (is_mate g plan u) (get_or (row g u) a 0) → IsIn g (is_mate g plan u) (get_or (row g u) b 0)
-          → HasPath (link_graph g faces (home plan u) u) (is_mate g plan u) (get_or (row g u) a 0) (get_or (row g u) b 0)
-
-      by : (m : ℕ) → m < length (row g u) → home plan u (get_or (row g u) m 0) ≡ true → (a b : ℕ) → IsLinked a m → IsLinked m b → IsLinked a b
-      by m lm hm a b first then la lb ma mb =
-          let im = near_mate m lm hm in
-          let path = first la lm ma im in
-          joined_from (link_graph g faces (home plan u) u) (is_mate g plan u) path.0 (get_or (row g u) a 0) (get_or (row g u) m 0) (get_or (row g u) b 0) path.1 (then lm lb im mb)
-
-      -- mates in one class after the merge are linked
-      pub classes_joined : Replaced old new (get_or corners k d).one (get_or corners k d).other → length new ≡ 32 → AreClasses g faces plan u old → AreClasses g faces plan u new
-      classes_joined replaced wide s = record {
-        width = wide;
-        linked = λ i j li lj mi mj e.
-            joined_paths old new (get_or corners k d).one (get_or corners k d).other s.width (omega (arith, corner_is.one, few)) (omega (arith, corner_is.other, few)) replaced
-            IsLinked (λ a b _ _ f la lb ma mb. s.linked a b la lb ma mb f)
-            (by (get_or corners k d).one corner_is.one inner_parts.0) (by (get_or corners k d).other corner_is.other inner_parts.1)
-            (λ la lb ma mb. linked_path (get_or (row g u) (get_or corners k d).one 0) (get_or (row g u) (get_or corners k d).other 0) ma mb (shares k d l inner))
-            (λ la lb ma mb. linked_path (get_or (row g u) (get_or corners k d).other 0) (get_or (row g u) (get_or corners k d).one 0) ma mb
-            (share_turned (home plan u) u (get_or (row g u) (get_or corners k d).one 0) (get_or (row g u) (get_or corners k d).other 0) faces (shares k d l inner)))
-            i j (omega (arith, li, few)) (omega (arith, lj, few)) e li lj mi mj;
-      }
-
-    -- ---- all corners
-
-    module _ (classes : List ℕ) (merged : AreMerged g plan u corners classes) where
-      -- some mate has this class
-      abbrev Has : ℕ → ℕ → Type 0
-      Has class v = (i : ℕ) → i < length (row g u) → get_or (row g u) i 0 ≡ v → get_or classes i 0 ≡ class
-
-      has_on : (class x y : ℕ) → Has class x → share_face faces (home plan u) u x y ≡ true → Has class y
-      has_on class x y hx h = elim (shared_corner (home plan u) u in_home g faces x y are h) [
-        | inl e ↦ subst (λ t. Has class t) e hx
-        | inr (k, lk, filled, ends) ↦
-            let l : k < length corners = omega (arith, lk, as_many) in
-            let d : Corner = record { one = 0; other = 0; far = 0; further = 0 } in
-            let is_at = units_at k d l in
-            let placed_at : IsOnRow g (row g u) (get_or corners k d) = All-get_or (IsOnRow g (row g u)) corners k d l placed in
-            let same : get_or classes (get_or corners k d).one 0 ≡ get_or classes (get_or corners k d).other 0 =
-            merged k d l (subst (λ (t : ℕ × ℕ × ℕ × ℕ). is_filled (home plan u) t ≡ true) (sym is_at) filled) in
-            let one_is : get_or (row g u) (get_or corners k d).one 0 ≡ (get_or (corners_at u faces) k (0, 0, 0, 0)).0 = ap (λ (t : ℕ × ℕ × ℕ × ℕ). t.0) is_at in
-            let other_is : get_or (row g u) (get_or corners k d).other 0 ≡ (get_or (corners_at u faces) k (0, 0, 0, 0)).1 = ap (λ (t : ℕ × ℕ × ℕ × ℕ). t.1) is_at in
-            λ i li e. elim ends [
-              | inl both ↦
-                  let at = rising_once (row g u) (row_rises g u sound) i (get_or corners k d).other li placed_at.other (e ∙ sym both.1 ∙ sym other_is) in
-                  ap (λ t. get_or classes t 0) at ∙ sym same ∙ hx (get_or corners k d).one placed_at.one (one_is ∙ both.0)
-              | inr both ↦
-                  let at = rising_once (row g u) (row_rises g u sound) i (get_or corners k d).one li placed_at.one (e ∙ sym both.0 ∙ sym one_is) in
-                  ap (λ t. get_or classes t 0) at ∙ same ∙ hx (get_or corners k d).other placed_at.other (other_is ∙ both.1)
-            ]
-      ]
-
-      along : (class : ℕ) (units : List ℕ) (x y : ℕ) → IsPath (link_graph g faces (home plan u) u) (is_mate g plan u) units x y → Has class x → Has class y
-      along class [] x y p h = absurd p
-      along class (w ∷ []) x y p h = subst (λ t. Has class t) (sym p.0 ∙ p.1) h
-      along class (w ∷ v ∷ rest) x y p h =
-          along class (v ∷ rest) v y p.3 (has_on class w v (subst (λ t. Has class t) (sym p.0) h) (near_link g faces (home plan u) u w v p.1.0 p.2))
-
-      -- mates of two classes are not linked
-      pub parted : (i j : ℕ) → i < length (row g u) → j < length (row g u) → IsIn g (is_mate g plan u) (get_or (row g u) i 0) → IsIn g (is_mate g plan u) (get_or (row g u) j 0)
-          → get_or classes j 0 ≢ get_or classes i 0 → AreLinked g faces plan u → ⊥
-      parted i j li lj mi mj off linked =
-          let path = linked.joined (get_or (row g u) i 0) (get_or (row g u) j 0) mi mj in
-          off (along (get_or classes i 0) path.0 (get_or (row g u) i 0) (get_or (row g u) j 0) path.1
-          (λ k lk e. ap (λ t. get_or classes t 0) (rising_once (row g u) (row_rises g u sound) k i lk li e)) j lj refl)
-
-    -- mates that are all in one class are linked
-    pub all_linked : (classes : List ℕ) (i : ℕ) → AreClasses g faces plan u classes → i < length (row g u) → IsIn g (is_mate g plan u) (get_or (row g u) i 0)
-        → ((j : ℕ) → j < length (row g u) → IsIn g (is_mate g plan u) (get_or (row g u) j 0) → get_or classes j 0 ≡ get_or classes i 0) → AreLinked g faces plan u
-    all_linked classes i s li mi one = record {
-      inhabited = (get_or (row g u) i 0, mi);
-      joined = λ x y ix iy.
-          let px = has_at (row g u) x (and_parts (adjacent g u x) (home plan u x) ix.1).0 in
-          let py = has_at (row g u) y (and_parts (adjacent g u y) (home plan u y) iy.1).0 in
-          let mx = subst (λ t. IsIn g (is_mate g plan u) t) (sym px.2) ix in
-          let my = subst (λ t. IsIn g (is_mate g plan u) t) (sym py.2) iy in
-          subst (λ t. HasPath (link_graph g faces (home plan u) u) (is_mate g plan u) t y) px.2
-          (subst (λ t. HasPath (link_graph g faces (home plan u) u) (is_mate g plan u) (get_or (row g u) px.0 0) t) py.2
-          (s.linked px.0 py.0 px.1 py.1 mx my (one px.0 px.1 mx ∙ sym (one py.0 py.1 my))));
+    -- mates in one class after the merge are linked
+    pub classes_joined : Replaced old new (get_or corners k d).one (get_or corners k d).other → length new ≡ 32 → AreClasses g faces plan u old → AreClasses g faces plan u new
+    classes_joined replaced wide s = record {
+      width = wide;
+      linked = λ i j li lj mi mj e.
+          joined_paths old new (get_or corners k d).one (get_or corners k d).other s.width (omega (arith, corner_is.one, few)) (omega (arith, corner_is.other, few)) replaced
+          IsLinked (λ a b _ _ f la lb ma mb. s.linked a b la lb ma mb f)
+          (by (get_or corners k d).one corner_is.one inner_parts.0) (by (get_or corners k d).other corner_is.other inner_parts.1)
+          (λ la lb ma mb. linked_path (get_or (row g u) (get_or corners k d).one 0) (get_or (row g u) (get_or corners k d).other 0) ma mb (links_of k d l inner))
+          (λ la lb ma mb. linked_path (get_or (row g u) (get_or corners k d).other 0) (get_or (row g u) (get_or corners k d).one 0) ma mb
+          (share_turned (home plan u) u (get_or (row g u) (get_or corners k d).one 0) (get_or (row g u) (get_or corners k d).other 0) faces (links_of k d l inner)))
+          i j (omega (arith, li, few)) (omega (arith, lj, few)) e li lj mi mj;
     }
+
+  -- ---- all corners
+
+  module _ (classes : List ℕ) (covered : AreCovered g faces plan u classes) where
+    -- some mate has this class
+    abbrev Has : ℕ → ℕ → Type 0
+    Has class v = (i : ℕ) → i < length (row g u) → get_or (row g u) i 0 ≡ v → get_or classes i 0 ≡ class
+
+    has_on : (class x y : ℕ) → Has class x → share_face faces (home plan u) u x y ≡ true → Has class y
+    has_on class x y hx h = elim (covered x y h) [
+      | inl e ↦ subst (λ t. Has class t) e hx
+      | inr (i, j, li, lj, at_x, at_y, same) ↦ λ k lk e.
+          ap (λ t. get_or classes t 0) (rising_once (row g u) (row_rises g u sound) k j lk lj (e ∙ sym at_y)) ∙ sym same ∙ hx i li at_x
+    ]
+
+    along : (class : ℕ) (units : List ℕ) (x y : ℕ) → IsPath (link_graph g faces (home plan u) u) (is_mate g plan u) units x y → Has class x → Has class y
+    along class [] x y p h = absurd p
+    along class (w ∷ []) x y p h = subst (λ t. Has class t) (sym p.0 ∙ p.1) h
+    along class (w ∷ v ∷ rest) x y p h =
+        along class (v ∷ rest) v y p.3 (has_on class w v (subst (λ t. Has class t) (sym p.0) h) (near_link g faces (home plan u) u w v p.1.0 p.2))
+
+    -- mates of two classes are not linked
+    pub parted : (i j : ℕ) → i < length (row g u) → j < length (row g u) → IsIn g (is_mate g plan u) (get_or (row g u) i 0) → IsIn g (is_mate g plan u) (get_or (row g u) j 0)
+        → get_or classes j 0 ≢ get_or classes i 0 → AreLinkedBy g faces plan u → ⊥
+    parted i j li lj mi mj off linked =
+        let path = linked.joined (get_or (row g u) i 0) (get_or (row g u) j 0) mi mj in
+        off (along (get_or classes i 0) path.0 (get_or (row g u) i 0) (get_or (row g u) j 0) path.1
+        (λ k lk e. ap (λ t. get_or classes t 0) (rising_once (row g u) (row_rises g u sound) k i lk li e)) j lj refl)
+
+  -- mates that are all in one class are linked
+  pub all_linked : (classes : List ℕ) (i : ℕ) → AreClasses g faces plan u classes → i < length (row g u) → IsIn g (is_mate g plan u) (get_or (row g u) i 0)
+      → ((j : ℕ) → j < length (row g u) → IsIn g (is_mate g plan u) (get_or (row g u) j 0) → get_or classes j 0 ≡ get_or classes i 0) → AreLinkedBy g faces plan u
+  all_linked classes i s li mi one = record {
+    inhabited = (get_or (row g u) i 0, mi);
+    joined = λ x y ix iy.
+        let px = has_at (row g u) x (and_parts (adjacent g u x) (home plan u x) ix.1).0 in
+        let py = has_at (row g u) y (and_parts (adjacent g u y) (home plan u y) iy.1).0 in
+        let mx = subst (λ t. IsIn g (is_mate g plan u) t) (sym px.2) ix in
+        let my = subst (λ t. IsIn g (is_mate g plan u) t) (sym py.2) iy in
+        subst (λ t. HasPath (link_graph g faces (home plan u) u) (is_mate g plan u) t y) px.2
+        (subst (λ t. HasPath (link_graph g faces (home plan u) u) (is_mate g plan u) (get_or (row g u) px.0 0) t) py.2
+        (s.linked px.0 py.0 px.1 py.1 mx my (one px.0 px.1 mx ∙ sym (one py.0 py.1 my))));
+  }
 
   -- at first, each neighbor has its own class
   pub own_classes : (classes : List ℕ) → length (row g u) ≤ 32 → classes ≡ map_below 32 (λ k. k) → AreClasses g faces plan u classes

@@ -1,16 +1,15 @@
 -- Neighbors in the order of the faces are linked exactly if at most one of them has no link to the one before.
 use Rattle.std.proofs.Common.{◌≡◌, ℕ, zero, suc, ◌+◌, ◌<◌, ◌≤◌, Bool, true, false, cond, not, ◌&&◌, ◌||◌, List, length, get_or, refl, sym, ap, ◌∙◌, subst, inl, inr, arith, add-one}
-use Rattle.std.specs.Prelude.{◌==◌, nat_le}
-use Rattle.std.proofs.lemmas.Bool.{and_parts, and_from, and_left, and_right, cases_Bool, cases_eq, cases_lt, cond-true, cond-false, eq-eqb, ne_eqb, both_ways, not_from_true, not_from_false, leb-true, le-leb}
-use Rattle.audit_model.specs.Below.{any_below, count_below}
+use Rattle.std.specs.Prelude.{◌==◌}
+use Rattle.std.proofs.lemmas.Bool.{and_parts, and_from, and_left, and_right, cases_Bool, cases_eq, cases_lt, cond-true, cond-false, eqb-true, eq-eqb, ne_eqb, both_ways, not_from_true, not_from_false, or_cases, or_left, or_right}
+use Rattle.audit_model.specs.Below.{count_below}
 use Rattle.audit_model.specs.Graph.{Graph, IsGraph, adjacent, IsIn}
 use Rattle.audit_model.specs.Local.{is_mate}
 use Rattle.audit_model.specs.Path.{HasPath}
 use Rattle.audit_model.specs.District.{in_district}
-use Rattle.audit_model.proofs.Below.{any_below_some, any_below_from}
 use Rattle.audit_model.proofs.Paths.{path_one, path_before, path_joined, path_stays}
 use Rattle.contig.specs.Corners.{is_filled, corners_at}
-use Rattle.contig.specs.Faces.{AreFaces, AreLinked, share_face, link_graph}
+use Rattle.contig.specs.Faces.{AreRings, AreLinkedBy, share_face, link_graph}
 use Rattle.contig.specs.Order.{AreSectors, IsSeated, before, is_joined, is_start, near_at, sector_at}
 use Rattle.contig.specs.declared.sector.Sector.{Sector}
 use Rattle.contig.proofs.Merging.{home}
@@ -86,7 +85,12 @@ before_below k (suc i) l = omega (arith, l)
 pub before_next : (k i : ℕ) → before k (i + 1) ≡ i
 before_next k i = subst (λ t. before k t ≡ i) (sym (add-one i)) refl
 
-module _ (g : Graph) (faces : List (List ℕ)) (plan : List ℕ) (u : ℕ) (sound : IsGraph g) (lu : u < g.units) (are : AreFaces g faces)
+-- the position before the end is the last one
+before_end : (k : ℕ) → 0 < k → suc (before k k) ≡ k
+before_end zero l = absurd (omega (arith, l))
+before_end (suc k) l = refl
+
+module _ (g : Graph) (faces : List (List ℕ)) (plan : List ℕ) (u : ℕ) (sound : IsGraph g) (lu : u < g.units) (are : AreRings g faces)
     (sectors : List Sector) (s : AreSectors g faces u sectors) where
   abbrev at : ℕ → ℕ
   at i = near_at sectors i
@@ -228,7 +232,7 @@ module _ (g : Graph) (faces : List (List ℕ)) (plan : List ℕ) (u : ℕ) (soun
         let (i, li, is) = s.near.all x parts.0 in
         (i, li, is, subst (λ t. home plan u t ≡ true) (sym is) parts.1)
 
-    pub few_linked : (i : ℕ) → i < length sectors → home plan u (at i) ≡ true → AreLinked g faces plan u
+    pub few_linked : (i : ℕ) → i < length sectors → home plan u (at i) ≡ true → AreLinkedBy g faces plan u
     few_linked i l h = record {
       inhabited = (at i, mate_at i l h);
       joined = λ x y ix iy.
@@ -292,7 +296,7 @@ module _ (g : Graph) (faces : List (List ℕ)) (plan : List ℕ) (u : ℕ) (soun
         ]
   ]
 
-  pub many_parted : 1 < count_below (length sectors) start → AreLinked g faces plan u → ⊥
+  pub many_parted : 1 < count_below (length sectors) start → AreLinkedBy g faces plan u → ⊥
   many_parted many linked =
       let (i, li, si, ci) = counted_at (length sectors) 0 start (omega (arith, many)) in
       let (j, lj, sj, cj) = counted_at (length sectors) 1 start (omega (arith, many)) in
@@ -307,34 +311,59 @@ module _ (g : Graph) (faces : List (List ℕ)) (plan : List ℕ) (u : ℕ) (soun
       let two : class j ≡ 2 = class_is j 1 cj in
       omega (arith, one, two)
 
-  -- the neighbors are linked exactly if some are in the set and at most one is a start
-  pub in_order : (some : Bool) (starts k : ℕ) → k ≡ length sectors → some ≡ any_below k (λ i. home plan u (at i)) → starts ≡ count_below k start
-      → ((some && nat_le starts 1) ≡ true → AreLinked g faces plan u) × (AreLinked g faces plan u → (some && nat_le starts 1) ≡ true)
-  in_order some starts k end some_is starts_are =
+  -- with no start, the last neighbor is in the set if one is
+  last_in : (i last : ℕ) → suc last ≡ length sectors → count_below (length sectors) start ≡ 0 → i < length sectors → home plan u (at i) ≡ true → home plan u (at last) ≡ true
+  unfolding count_below
+  last_in i last end none li hi =
+      let most : count_below (suc i) start ≤ count_below (length sectors) start = count_longer (length sectors) (suc i) start (omega (arith, li)) in
+      let first : count_below 1 start ≤ count_below (suc i) start = count_longer (suc i) 1 start (omega arith) in
+      let front = run i 0 (omega arith) li hi (omega (arith, none, most, first)) in
+      let off : start 0 ≡ false = elim (cases_Bool (start 0)) [
+        | inr e ↦ e
+        | inl e ↦
+            let one : cond {A = ℕ} (start 0) 1 0 ≡ 1 = cond-true {A = ℕ} (start 0) 1 0 e in
+            absurd (omega (arith, none, most, first, one))
+      ] in
+      let same : prior 0 ≡ last = omega (arith, end) in
+      subst (λ t. home plan u (at t) ≡ true) same (joined_in 0 (joined_at 0 front.0 off)).1
+
+  -- the neighbors are linked exactly if one is a start, or none is and the last one is in the set
+  pub in_order : (ending : Bool) (starts k : ℕ) → 0 < length sectors → k ≡ length sectors → ending ≡ home plan u (at (prior k)) → starts ≡ count_below k start
+      → (((starts == 1) || (ending && (starts == 0))) ≡ true → AreLinkedBy g faces plan u) × (AreLinkedBy g faces plan u → ((starts == 1) || (ending && (starts == 0))) ≡ true)
+  in_order ending starts k some end ending_is starts_are =
       let all : starts ≡ count_below (length sectors) start = starts_are ∙ ap (λ t. count_below t start) end in
-      let any : some ≡ any_below (length sectors) (λ i. home plan u (at i)) = some_is ∙ ap (λ t. any_below t (λ i. home plan u (at i))) end in (
-        λ h.
-            let parts = and_parts some (nat_le starts 1) h in
-            let few = leb-true starts 1 parts.1 in
-            let (i, li, hi) = any_below_some (length sectors) (λ i. home plan u (at i)) (sym any ∙ parts.0) in
-            few_linked (omega (arith, few, all)) i li hi,
+      let final : suc (prior k) ≡ length sectors = ap (λ t. suc (prior t)) end ∙ before_end (length sectors) some in (
+        λ h. elim (or_cases (starts == 1) (ending && (starts == 0)) h) [
+          | inl e ↦
+              let one = eqb-true starts 1 e in
+              let (i, li, si, ci) = counted_at (length sectors) 0 start (omega (arith, one, all)) in
+              few_linked (omega (arith, one, all)) i li (and_parts (home plan u (at i)) (not (joined i)) si).0
+          | inr e ↦
+              let parts = and_parts ending (starts == 0) e in
+              let none = eqb-true starts 0 parts.1 in
+              few_linked (omega (arith, none, all)) (prior k) (omega (arith, final)) (sym ending_is ∙ parts.0)
+        ],
         λ linked.
             let mate = linked.inhabited in
             let parts = and_parts (adjacent g u mate.0) (home plan u mate.0) mate.1.1 in
             let (i, li, is) = s.near.all mate.0 parts.0 in
-            and_from some (nat_le starts 1)
-            (any ∙ any_below_from (length sectors) (λ i. home plan u (at i)) i li (subst (λ t. home plan u t ≡ true) (sym is) parts.1))
-            (elim (cases_lt 1 starts) [
+            elim (cases_lt 1 starts) [
               | inl many ↦ absurd (many_parted (omega (arith, many, all)) linked)
-              | inr few ↦ le-leb starts 1 (omega (arith, few))
-            ]),
+              | inr few ↦ elim (cases_eq starts 0) [
+                | inl none ↦
+                    or_right (starts == 1) (ending && (starts == 0)) (and_from ending (starts == 0)
+                    (ending_is ∙ last_in i (prior k) final (omega (arith, none, all)) li (subst (λ t. home plan u t ≡ true) (sym is) parts.1))
+                    (eq-eqb starts 0 none))
+                | inr off ↦ or_left (starts == 1) (ending && (starts == 0)) (eq-eqb starts 1 (omega (arith, few, off)))
+              ]
+            ],
       )
 
 -- ---- one more sector
 
-abbrev pub Looked : List ℕ → ℕ → List Sector → ℕ → Bool → Bool → ℕ → Type 0
-Looked plan u sectors k prior some starts =
-    (prior ≡ home plan u (near_at sectors (before (length sectors) k))) × (some ≡ any_below k (λ i. home plan u (near_at sectors i)))
+abbrev pub Looked : List ℕ → ℕ → List Sector → ℕ → Bool → ℕ → Type 0
+Looked plan u sectors k prior starts =
+    (prior ≡ home plan u (near_at sectors (before (length sectors) k)))
     × (starts ≡ count_below k (is_start (home plan u) sectors))
 
 regrouped : (f a b x : Bool) → (((f && a) && b) && x) ≡ (f && (a && (b && x)))
@@ -343,21 +372,20 @@ regrouped true false b x = refl
 regrouped true true false x = refl
 regrouped true true true x = refl
 
-pub looked_step : (plan : List ℕ) (u : ℕ) (sectors : List Sector) (k : ℕ) (prior some : Bool) (starts : ℕ) → Looked plan u sectors k prior some starts
-    → Looked plan u sectors (k + 1) (home plan u (near_at sectors k)) (some || home plan u (near_at sectors k))
+pub looked_step : (plan : List ℕ) (u : ℕ) (sectors : List Sector) (k : ℕ) (prior : Bool) (starts : ℕ) → Looked plan u sectors k prior starts
+    → Looked plan u sectors (k + 1) (home plan u (near_at sectors k))
     (starts + cond {A = ℕ} (home plan u (near_at sectors k)
     && not ((((sector_at sectors k).faced && home plan u (near_at sectors k)) && prior) && home plan u (sector_at sectors k).far)) 1 0)
 unfolding count_below
-looked_step plan u sectors k prior some starts h =
+looked_step plan u sectors k prior starts h =
     let next : suc k ≡ k + 1 = sym (add-one k) in
     let tests : Bool → Bool = λ b. home plan u (near_at sectors k) && not b in
     let here : ((((sector_at sectors k).faced && home plan u (near_at sectors k)) && prior) && home plan u (sector_at sectors k).far) ≡ is_joined (home plan u) sectors k =
     regrouped (sector_at sectors k).faced (home plan u (near_at sectors k)) prior (home plan u (sector_at sectors k).far)
     ∙ ap (λ b. (sector_at sectors k).faced && (home plan u (near_at sectors k) && (b && home plan u (sector_at sectors k).far))) h.0 in (
       ap (λ t. home plan u (near_at sectors t)) (sym (before_next (length sectors) k)),
-      ap (λ b. b || home plan u (near_at sectors k)) h.1 ∙ ap (λ t. any_below t (λ i. home plan u (near_at sectors i))) next,
       ap (λ b. starts + cond {A = ℕ} (home plan u (near_at sectors k) && not b) 1 0) here
-          ∙ ap (λ t. t + cond {A = ℕ} (is_start (home plan u) sectors k) 1 0) h.2
+          ∙ ap (λ t. t + cond {A = ℕ} (is_start (home plan u) sectors k) 1 0) h.1
           ∙ ap (λ t. count_below t (is_start (home plan u) sectors)) next,
     )
 
@@ -398,3 +426,16 @@ joined_step plan sectors k o prior count is counted =
     ∙ ap (λ t. (sector_at sectors k).faced && ((get_or plan (near_at sectors k) 0 == o) && ((t == o) && (get_or plan (sector_at sectors k).far 0 == o)))) is)
     ∙ ap (λ t. t + cond {A = ℕ} (is_joined (in_district plan o) sectors k) 1 0) counted
     ∙ ap (λ t. count_below t (is_joined (in_district plan o) sectors)) (sym (add-one k))
+
+-- one more sector, for the count of one district
+pub joined_in_step : (plan : List ℕ) (sectors : List Sector) (k d : ℕ) (prior : Bool) (count : ℕ) → prior ≡ in_district plan d (near_at sectors (before (length sectors) k))
+    → count ≡ count_below k (is_joined (in_district plan d) sectors)
+    → count + cond {A = ℕ} ((((sector_at sectors k).faced && in_district plan d (near_at sectors k)) && prior) && in_district plan d (sector_at sectors k).far) 1 0
+    ≡ count_below (k + 1) (is_joined (in_district plan d) sectors)
+unfolding count_below
+joined_in_step plan sectors k d prior count is counted =
+    ap (λ b. count + cond {A = ℕ} b 1 0)
+    (regrouped (sector_at sectors k).faced (in_district plan d (near_at sectors k)) prior (in_district plan d (sector_at sectors k).far)
+    ∙ ap (λ b. (sector_at sectors k).faced && (in_district plan d (near_at sectors k) && (b && in_district plan d (sector_at sectors k).far))) is)
+    ∙ ap (λ t. t + cond {A = ℕ} (is_joined (in_district plan d) sectors k) 1 0) counted
+    ∙ ap (λ t. count_below t (is_joined (in_district plan d) sectors)) (sym (add-one k))

@@ -8,14 +8,53 @@ use Rattle.audit_model.specs.Graph.{Graph, IsGraph, adjacent}
 use Rattle.audit_model.specs.District.{in_district}
 use Rattle.audit_model.proofs.Below.{count_below_none}
 use Rattle.audit_model.proofs.Bools.{and_true}
-use Rattle.contig.specs.Faces.{AreFaces, count_inner_edges, count_inner_faces, count_mates}
+use Rattle.contig.specs.Faces.{SparedFace, AreRings, own_rings, count_inner_edges, count_inner_faces, count_mates}
 use Rattle.contig.specs.Corners.{is_filled, corners_at}
-use Rattle.contig.specs.Counts.{Counted, filled_of, AreCountsOf, is_before}
+use Rattle.contig.specs.Counts.{Counted, AreCountsOf, AreSpareCounts, filled_by, is_before}
 use Rattle.contig.proofs.Changing.{edges_alike, filled_alike, edges_more, filled_more}
 
-module _ (g : Graph) (sound : IsGraph g) (faces : List (List ℕ)) (are : AreFaces g faces) where
+-- the counts of edges, units and rings of these sets, one for each district
+pub record AreRingCounts (g : Graph) (faces : List (List ℕ)) (insides : ℕ → ℕ → Bool) (districts : ℕ) (counted : Counted) : Type 0 where
+  pub edge_places : length counted.edges ≡ districts
+  pub filled_places : length counted.filled ≡ districts
+  pub edges : (d : ℕ) → d < districts → get_or counted.edges d 0 ≡ count_inner_edges g (insides d)
+  pub filled : (d : ℕ) → d < districts → get_or counted.filled d 0 ≡ filled_by g faces (insides d)
+
+-- counts with the same numbers of edges, units and rings
+pub counts_kept : (g : Graph) (faces : List (List ℕ)) (insides : ℕ → ℕ → Bool) (n : ℕ) (old new : Counted) → new.edges ≡ old.edges → new.filled ≡ old.filled
+    → AreRingCounts g faces insides n old → AreRingCounts g faces insides n new
+counts_kept g faces insides n old new edges filled s = record {
+  edge_places = ap (length {A = ℕ}) edges ∙ s.edge_places;
+  filled_places = ap (length {A = ℕ}) filled ∙ s.filled_places;
+  edges = λ d l. ap (λ (t : List ℕ). get_or t d 0) edges ∙ s.edges d l;
+  filled = λ d l. ap (λ (t : List ℕ). get_or t d 0) filled ∙ s.filled d l;
+}
+
+-- the counts of edges, units and rings among all counts
+pub ring_counts : (g : Graph) (faces : List SparedFace) (insides : ℕ → ℕ → Bool) (n : ℕ) (counted : Counted) → AreCountsOf g faces insides n counted
+    → AreRingCounts g (own_rings faces) insides n counted
+ring_counts g faces insides n counted s = record { edge_places = s.edge_places; filled_places = s.filled_places; edges = s.edges; filled = s.filled }
+
+-- the counts of active spares among all counts
+pub spare_counts : (g : Graph) (faces : List SparedFace) (insides : ℕ → ℕ → Bool) (n : ℕ) (counted : Counted) → AreCountsOf g faces insides n counted
+    → AreSpareCounts faces insides n counted.spared
+spare_counts g faces insides n counted s = record { places = s.spared_places; active = s.spared }
+
+-- all counts
+pub all_counts : (g : Graph) (faces : List SparedFace) (insides : ℕ → ℕ → Bool) (n : ℕ) (counted : Counted) → AreRingCounts g (own_rings faces) insides n counted
+    → AreSpareCounts faces insides n counted.spared → AreCountsOf g faces insides n counted
+all_counts g faces insides n counted r s = record {
+  edge_places = r.edge_places;
+  filled_places = r.filled_places;
+  spared_places = s.places;
+  edges = r.edges;
+  filled = r.filled;
+  spared = s.active;
+}
+
+module _ (g : Graph) (sound : IsGraph g) (faces : List (List ℕ)) (are : AreRings g faces) where
   -- equal sets have equal counts
-  pub counts_alike : (p q : ℕ → ℕ → Bool) (n : ℕ) (counted : Counted) → ((x v : ℕ) → v < g.units → p x v ≡ q x v) → AreCountsOf g faces p n counted → AreCountsOf g faces q n counted
+  pub counts_alike : (p q : ℕ → ℕ → Bool) (n : ℕ) (counted : Counted) → ((x v : ℕ) → v < g.units → p x v ≡ q x v) → AreRingCounts g faces p n counted → AreRingCounts g faces q n counted
   counts_alike p q n counted same s = record {
     edge_places = s.edge_places;
     filled_places = s.filled_places;
@@ -27,7 +66,7 @@ module _ (g : Graph) (sound : IsGraph g) (faces : List (List ℕ)) (are : AreFac
       (others : (x v : ℕ) → v < g.units → ((x ≡ d) → (v ≡ u) → ⊥) → after x v ≡ before x v)
       (tests : (v : ℕ) → v < g.units → (v ≡ u → ⊥) → test v ≡ before d v)
       (are_mates : mates ≡ count_mates g test u) (are_corners : corners ≡ count_by (is_filled test) (corners_at u faces))
-      (s : AreCountsOf g faces before n old) where
+      (s : AreRingCounts g faces before n old) where
     elsewhere : (x : ℕ) → (x ≡ d → ⊥) → (v : ℕ) → v < g.units → before x v ≡ after x v
     elsewhere x off v l = sym (others x v l (λ e f. off e))
 
@@ -38,7 +77,7 @@ module _ (g : Graph) (sound : IsGraph g) (faces : List (List ℕ)) (are : AreFac
           let was = s.edges d ld in
           omega (arith, more, was, are_mates)
 
-      pub raised_filled : get_or old.filled d 0 + 1 + corners ≡ filled_of g faces (after d)
+      pub raised_filled : get_or old.filled d 0 + 1 + corners ≡ filled_by g faces (after d)
       raised_filled =
           let more = filled_more g sound faces are (before d) (after d) test u lu there absent (λ v l off. others d v l (λ e f. off f)) tests in
           let was = s.filled d ld in
@@ -46,7 +85,7 @@ module _ (g : Graph) (sound : IsGraph g) (faces : List (List ℕ)) (are : AreFac
 
       -- a unit that comes
       pub raised : (new : Counted) → new.edges ≡ set old.edges d (get_or old.edges d 0 + mates) → new.filled ≡ set old.filled d (get_or old.filled d 0 + 1 + corners)
-          → AreCountsOf g faces after n new
+          → AreRingCounts g faces after n new
       raised new new_edges new_filled = record {
         edge_places = ap (length {A = ℕ}) new_edges ∙ length-set old.edges d (get_or old.edges d 0 + mates) ∙ s.edge_places;
         filled_places = ap (length {A = ℕ}) new_filled ∙ length-set old.filled d (get_or old.filled d 0 + 1 + corners) ∙ s.filled_places;
@@ -56,7 +95,7 @@ module _ (g : Graph) (sound : IsGraph g) (faces : List (List ℕ)) (are : AreFac
           | inr off ↦ get_or-set_other old.edges d x (get_or old.edges d 0 + mates) 0 off ∙ s.edges x l ∙ edges_alike g (before x) (after x) (elsewhere x off)
         ];
         filled = λ x l. ap (λ (t : List ℕ). get_or t x 0) new_filled ∙ elim (cases_eq x d) [
-          | inl e ↦ subst (λ t. get_or (set old.filled d (get_or old.filled d 0 + 1 + corners)) t 0 ≡ filled_of g faces (after t)) (sym e)
+          | inl e ↦ subst (λ t. get_or (set old.filled d (get_or old.filled d 0 + 1 + corners)) t 0 ≡ filled_by g faces (after t)) (sym e)
               (get_or-set_same old.filled d (get_or old.filled d 0 + 1 + corners) 0 (subst (λ t. d < t) (sym s.filled_places) ld) ∙ raised_filled)
           | inr off ↦ get_or-set_other old.filled d x (get_or old.filled d 0 + 1 + corners) 0 off ∙ s.filled x l ∙ filled_alike g (before x) (after x) (elsewhere x off) faces are
         ];
@@ -75,7 +114,7 @@ module _ (g : Graph) (sound : IsGraph g) (faces : List (List ℕ)) (are : AreFac
           let was = s.edges d ld in
           omega (arith, more, was, are_mates)
 
-      pub lowered_filled : get_or old.filled d 0 ≡ filled_of g faces (after d) + 1 + corners
+      pub lowered_filled : get_or old.filled d 0 ≡ filled_by g faces (after d) + 1 + corners
       lowered_filled =
           let more = filled_more g sound faces are (after d) (before d) test u lu there absent less tests_after in
           let was = s.filled d ld in
@@ -83,7 +122,7 @@ module _ (g : Graph) (sound : IsGraph g) (faces : List (List ℕ)) (are : AreFac
 
       -- a unit that goes
       pub lowered : (new : Counted) → new.edges ≡ set old.edges d (get_or old.edges d 0 - mates) → new.filled ≡ set old.filled d (get_or old.filled d 0 - (1 + corners))
-          → AreCountsOf g faces after n new
+          → AreRingCounts g faces after n new
       lowered new new_edges new_filled = record {
         edge_places = ap (length {A = ℕ}) new_edges ∙ length-set old.edges d (get_or old.edges d 0 - mates) ∙ s.edge_places;
         filled_places = ap (length {A = ℕ}) new_filled ∙ length-set old.filled d (get_or old.filled d 0 - (1 + corners)) ∙ s.filled_places;
@@ -93,7 +132,7 @@ module _ (g : Graph) (sound : IsGraph g) (faces : List (List ℕ)) (are : AreFac
           | inr off ↦ get_or-set_other old.edges d x (get_or old.edges d 0 - mates) 0 off ∙ s.edges x l ∙ edges_alike g (before x) (after x) (elsewhere x off)
         ];
         filled = λ x l. ap (λ (t : List ℕ). get_or t x 0) new_filled ∙ elim (cases_eq x d) [
-          | inl e ↦ subst (λ t. get_or (set old.filled d (get_or old.filled d 0 - (1 + corners))) t 0 ≡ filled_of g faces (after t)) (sym e)
+          | inl e ↦ subst (λ t. get_or (set old.filled d (get_or old.filled d 0 - (1 + corners))) t 0 ≡ filled_by g faces (after t)) (sym e)
               (get_or-set_same old.filled d (get_or old.filled d 0 - (1 + corners)) 0 (subst (λ t. d < t) (sym s.filled_places) ld) ∙ omega (arith, lowered_filled))
           | inr off ↦ get_or-set_other old.filled d x (get_or old.filled d 0 - (1 + corners)) 0 off ∙ s.filled x l ∙ filled_alike g (before x) (after x) (elsewhere x off) faces are
         ];
@@ -101,7 +140,7 @@ module _ (g : Graph) (sound : IsGraph g) (faces : List (List ℕ)) (are : AreFac
 
   -- ---- from no unit to all
 
-  none_inside : (p : ℕ → Bool) → ((v : ℕ) → p v ≡ false) → (faces : List (List ℕ)) → AreFaces g faces → count_inner_faces p faces ≡ 0
+  none_inside : (p : ℕ → Bool) → ((v : ℕ) → p v ≡ false) → (faces : List (List ℕ)) → AreRings g faces → count_inner_faces p faces ≡ 0
   none_inside p none [] are = refl
   none_inside p none ([] ∷ later) are = absurd (omega (arith, are.0.size.0))
   none_inside p none ((v ∷ rest) ∷ later) are =
@@ -114,7 +153,7 @@ module _ (g : Graph) (sound : IsGraph g) (faces : List (List ℕ)) (are : AreFac
 
   -- before the first unit
   pub none_counted : (p : ℕ → ℕ → Bool) (n : ℕ) (counted : Counted) → ((x v : ℕ) → p x v ≡ false) → length counted.edges ≡ n → length counted.filled ≡ n
-      → ((d : ℕ) → get_or counted.edges d 0 ≡ 0) → ((d : ℕ) → get_or counted.filled d 0 ≡ 0) → AreCountsOf g faces p n counted
+      → ((d : ℕ) → get_or counted.edges d 0 ≡ 0) → ((d : ℕ) → get_or counted.filled d 0 ≡ 0) → AreRingCounts g faces p n counted
   none_counted p n counted none le lf ze zf = record {
     edge_places = le;
     filled_places = lf;

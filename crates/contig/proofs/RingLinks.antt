@@ -14,12 +14,12 @@ use Rattle.audit_model.proofs.Paths.{first_in}
 use Rattle.audit_model.proofs.Every.{each_from_all}
 use Rattle.contig.proofs.Parting.{district_parts}
 use Rattle.contig.proofs.Rings.{side_in, side_turned}
-use Rattle.contig.specs.Faces.{has_side, IsRing, AreFaces, share_face, IsClassing, count_units, count_inner_edges, count_inner_faces, link_graph, AreLinked}
+use Rattle.contig.specs.Faces.{has_side, IsRing, AreRings, share_face, IsClassing, count_units, count_inner_edges, count_inner_faces, link_graph, AreLinkedBy}
 
 -- ---- links
 
 -- sharing a face means sharing some ring
-pub share_ring : (g : Graph) (inside : ℕ → Bool) (u p q : ℕ) (faces : List (List ℕ)) → AreFaces g faces → share_face faces inside u p q ≡ true
+pub share_ring : (g : Graph) (inside : ℕ → Bool) (u p q : ℕ) (faces : List (List ℕ)) → AreRings g faces → share_face faces inside u p q ≡ true
     → (ring : List ℕ) × IsRing g ring × (list_all inside ring ≡ true) × (has_side ring u p ≡ true) × (has_side ring u q ≡ true)
 share_ring g inside u p q [] are h = absurd (both_ways false refl h)
 share_ring g inside u p q (face ∷ later) are h =
@@ -56,7 +56,7 @@ module _ (g : Graph) (faces : List (List ℕ)) (inside : ℕ → Bool) (u : ℕ)
 
 -- ---- without holes, the mates of a unit that may leave are linked
 
-module _ (g : Graph) (faces : List (List ℕ)) (plan : List ℕ) (u : ℕ) (simple : IsSimple g) (are : AreFaces g faces) where
+module _ (g : Graph) (faces : List (List ℕ)) (plan : List ℕ) (u : ℕ) (simple : IsSimple g) (are : AreRings g faces) where
   district : ℕ → Bool
   district = in_district plan (slice_index plan u)
 
@@ -128,7 +128,7 @@ module _ (g : Graph) (faces : List (List ℕ)) (plan : List ℕ) (u : ℕ) (simp
   pub leaving_is_linked : u < g.units → IsConnected g (in_district plan (slice_index plan u))
       → count_inner_edges g (in_district plan (slice_index plan u)) + 1
       ≤ count_units g (in_district plan (slice_index plan u)) + count_inner_faces (in_district plan (slice_index plan u)) faces
-      → MayLeave g plan u → AreLinked g faces plan u
+      → MayLeave g plan u → AreLinkedBy g faces plan u
   leaving_is_linked l connected holes leaves = record {
     inhabited =
         let w = leaves.inhabited.0 in

@@ -11,7 +11,7 @@ use Rattle.audit_model.specs.Graph.{Graph, has}
 use Rattle.audit_model.proofs.ListFacts.{first_has, other, has_2, has_3, has_4}
 use Rattle.audit_model.proofs.Bools.{in_1, in_4}
 use Rattle.audit_model.proofs.Every.{each_from_all, all_from_each}
-use Rattle.contig.specs.Faces.{is_pair, has_side, IsRing, AreFaces, share_face, count_inner_faces_at}
+use Rattle.contig.specs.Faces.{is_pair, has_side, IsRing, AreRings, share_face, count_inner_faces_at}
 use Rattle.contig.proofs.Rings.{pair_same, pair_turned, pair_is, side_in, by_five, five_1, five_5, unit_of_five, has_5}
 use Rattle.contig.proofs.Around.{turn_three, turn_four, turn_five}
 use Rattle.contig.specs.Corners.{with_corner, with_face, corners_at, is_filled}
@@ -57,7 +57,7 @@ has4 : (a b c d v : ℕ) → has (a ∷ b ∷ c ∷ d ∷ []) v ≡ true → has
 has4 a b c d v h = round4 (a == v) (b == v) (c == v) (d == v) h
 
 -- rotating a triangle keeps its corners
-turned3 : (a b c u : ℕ) (t : ℕ × ℕ × ℕ × ℕ) → IsCornerOf (b ∷ c ∷ a ∷ []) u t → IsCornerOf (a ∷ b ∷ c ∷ []) u t
+pub turned3 : (a b c u : ℕ) (t : ℕ × ℕ × ℕ × ℕ) → IsCornerOf (b ∷ c ∷ a ∷ []) u t → IsCornerOf (a ∷ b ∷ c ∷ []) u t
 turned3 a b c u t s = record {
   own = back u s.own;
   one = side t.0 s.one;
@@ -121,7 +121,7 @@ turned5 a b c d e u t s = record {
     side x h = turn_five e a b c d u x (turn_five d e a b c u x (turn_five c d e a b u x (turn_five b c d e a u x h)))
 
 -- the corner of a triangle at its first unit
-first3 : (a b c : ℕ) → (a ≡ b → ⊥) → (a ≡ c → ⊥) → IsCornerOf (a ∷ b ∷ c ∷ []) a (b, c, c, c)
+pub first3 : (a b c : ℕ) → (a ≡ b → ⊥) → (a ≡ c → ⊥) → IsCornerOf (a ∷ b ∷ c ∷ []) a (b, c, c, c)
 first3 a b c ab ac = record {
   own = first_has a (b ∷ c ∷ []);
   one = or_left (is_pair a b a b || is_pair b c a b) (is_pair c a a b) (or_left (is_pair a b a b) (is_pair b c a b) (pair_same a b));
@@ -196,11 +196,11 @@ first5 a b c d e ab ac ad ae = record {
 -- ---- one more face
 
 -- a corner at the unit is appended
-with_here : (u v : ℕ) (cs : List (ℕ × ℕ × ℕ × ℕ)) (t : ℕ × ℕ × ℕ × ℕ) → v ≡ u → with_corner u cs v t ≡ cs ++ t ∷ []
+pub with_here : (u v : ℕ) (cs : List (ℕ × ℕ × ℕ × ℕ)) (t : ℕ × ℕ × ℕ × ℕ) → v ≡ u → with_corner u cs v t ≡ cs ++ t ∷ []
 with_here u v cs t e = ap (λ (xs : List (ℕ × ℕ × ℕ × ℕ)). cs ++ xs) (cond-true {A = List (ℕ × ℕ × ℕ × ℕ)} (v == u) (t ∷ []) [] (eq-eqb v u e))
 
 -- a corner at another unit changes nothing
-with_off : (u v : ℕ) (cs : List (ℕ × ℕ × ℕ × ℕ)) (t : ℕ × ℕ × ℕ × ℕ) → (v ≡ u → ⊥) → with_corner u cs v t ≡ cs
+pub with_off : (u v : ℕ) (cs : List (ℕ × ℕ × ℕ × ℕ)) (t : ℕ × ℕ × ℕ × ℕ) → (v ≡ u → ⊥) → with_corner u cs v t ≡ cs
 with_off u v cs t off = ap (λ (xs : List (ℕ × ℕ × ℕ × ℕ)). cs ++ xs) (cond-false {A = List (ℕ × ℕ × ℕ × ℕ)} (v == u) (t ∷ []) [] (ne_eqb v u off)) ∙ append-nil cs
 
 -- a face has one corner at u, or does not have u
@@ -442,7 +442,7 @@ module _ (inside : ℕ → Bool) (u : ℕ) (in_set : inside u ≡ true) where
   abbrev IsShared : List (List ℕ) → ℕ × ℕ × ℕ × ℕ → Type 0
   IsShared faces t = is_filled inside t ≡ true → share_face faces inside u t.0 t.1 ≡ true
 
-  pub corners_share : (g : Graph) (faces : List (List ℕ)) → AreFaces g faces → All (IsShared faces) (corners_at u faces)
+  pub corners_share : (g : Graph) (faces : List (List ℕ)) → AreRings g faces → All (IsShared faces) (corners_at u faces)
   corners_share g [] are = All-nil (IsShared [])
   corners_share g (face ∷ later) are =
       let rest : All (IsShared (face ∷ later)) (corners_at u later) =
@@ -482,7 +482,7 @@ module _ (inside : ℕ → Bool) (u : ℕ) (in_set : inside u ≡ true) where
         subst (λ (c : ℕ × ℕ × ℕ × ℕ). ((c.0 ≡ x) × (c.1 ≡ y)) ⊎ ((c.0 ≡ y) × (c.1 ≡ x))) (sym same) ends,
       )
 
-  pub shared_corner : (g : Graph) (faces : List (List ℕ)) (x y : ℕ) → AreFaces g faces → share_face faces inside u x y ≡ true
+  pub shared_corner : (g : Graph) (faces : List (List ℕ)) (x y : ℕ) → AreRings g faces → share_face faces inside u x y ≡ true
       → (x ≡ y) ⊎ IsBetween (corners_at u faces) x y
   shared_corner g [] x y are h = absurd (false≢true h)
   shared_corner g (face ∷ later) x y are h =
@@ -517,7 +517,7 @@ module _ (inside : ℕ → Bool) (u : ℕ) (in_set : inside u ≡ true) where
       omega (arith, split, one)
 
   -- the faces at u that are inside are counted by their corners
-  pub count_corners : (g : Graph) (faces : List (List ℕ)) → AreFaces g faces → count_inner_faces_at u inside faces ≡ count_by (is_filled inside) (corners_at u faces)
+  pub count_corners : (g : Graph) (faces : List (List ℕ)) → AreRings g faces → count_inner_faces_at u inside faces ≡ count_by (is_filled inside) (corners_at u faces)
   count_corners g [] are = refl
   count_corners g (face ∷ later) are =
       let rest = count_corners g later are.2 in
@@ -542,7 +542,7 @@ abbrev pub AreOthers : Graph → ℕ → ℕ × ℕ × ℕ × ℕ → Type 0
 AreOthers g u t = IsOther g u t.0 × IsOther g u t.1 × IsOther g u t.2 × IsOther g u t.3
 
 -- the units of corners at u are other units of the graph
-pub corners_other : (g : Graph) (u : ℕ) (faces : List (List ℕ)) → AreFaces g faces → All (AreOthers g u) (corners_at u faces)
+pub corners_other : (g : Graph) (u : ℕ) (faces : List (List ℕ)) → AreRings g faces → All (AreOthers g u) (corners_at u faces)
 corners_other g u [] are = All-nil (AreOthers g u)
 corners_other g u (face ∷ later) are = elim (seen g u (corners_at u later) face are.0) [
   | inl off ↦ subst (λ (xs : List (ℕ × ℕ × ℕ × ℕ)). All (AreOthers g u) xs) (sym off.0) (corners_other g u later are.2)

@@ -1,5 +1,5 @@
 -- Lists that are stored in one list.
-use Rattle.std.proofs.Common.{◌≡◌, ℕ, suc, ◌+◌, ◌-◌, ◌<◌, ◌≤◌, List, [], ◌∷◌, ◌++◌, length, take, drop, map, get_or, set, refl, sym, ap, ◌∙◌, subst, inl, inr, length-append, length-set, get_or-set_same, get_or-set_other, arith}
+use Rattle.std.proofs.Common.{◌≡◌, ℕ, zero, suc, ◌+◌, ◌-◌, ◌<◌, ◌≤◌, List, [], ◌∷◌, ◌++◌, length, take, drop, map, get_or, set, replicate, refl, sym, ap, ◌∙◌, subst, inl, inr, length-append, length-set, get_or-set_same, get_or-set_other, arith}
 use Rattle.std.specs.Prelude.{◌⊎◌, All, slice_range}
 use Rattle.std.proofs.lemmas.Bool.{cases_eq, cases_lt}
 use Rattle.std.proofs.lemmas.List.{append_assoc, drop-append-le, drop-set-add, drop-set-lt, ext_get_or, get_or-drop, get_or-map, get_or_past, length-drop, length-map, map_push, take_all, take-append-le, take-set-le, take_more, take_more_set}
@@ -244,4 +244,22 @@ module _ {A : Type 0} (n : ℕ) (f : ℕ → ℕ) (spans : List Span) (limits : 
         let empty : (span_at spans u).end - (span_at spans u).begin ≡ 0 = omega (arith, b, e) in
         get_or-map (part xs) spans u no_span [] (omega (arith, l, width)) ∙ ap (λ k. take k (drop (span_at spans u).begin xs)) empty
     | inr past ↦ let all = length-map spans (part xs) in get_or_past (map (part xs) spans) u [] (omega (arith, past, all, width))
+  ]
+
+-- ---- lists without room
+
+no_span_at : (n u : ℕ) → span_at (replicate {A = Span} n no_span) u ≡ no_span
+no_span_at zero u = refl
+no_span_at (suc n) zero = refl
+no_span_at (suc n) (suc u) = no_span_at n u
+
+-- lists that are empty and have no room
+module _ {A : Type 0} (n : ℕ) (spans : List Span) (limits : List ℕ) (xs : List A) (empty : spans ≡ replicate n no_span) (full : limits ≡ replicate n 0) where
+  empty_at : (u : ℕ) → span_at spans u ≡ no_span
+  empty_at u = ap (λ (s : List Span). span_at s u) empty ∙ no_span_at n u
+
+  pub no_items : (u : ℕ) → get_or (map (part xs) spans) u [] ≡ []
+  no_items u = elim (cases_lt u (length spans)) [
+    | inl l ↦ get_or-map (part xs) spans u no_span [] l ∙ ap (part xs) (empty_at u)
+    | inr past ↦ let all = length-map spans (part xs) in get_or_past (map (part xs) spans) u [] (omega (arith, past, all))
   ]

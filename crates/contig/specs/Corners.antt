@@ -1,7 +1,8 @@
 -- Corners: a face as seen from one of its units, with the unit's two neighbors on it and the two units opposite.
-use Rattle.std.specs.Prelude.{◌≡◌, ℕ, ◌<◌, ◌==◌, ◌&&◌, Bool, cond, List, [], ◌∷◌, ◌++◌, length, slice_index, map, All}
+use Rattle.std.specs.Prelude.{◌≡◌, ℕ, ◌<◌, ◌==◌, ◌&&◌, Bool, not, cond, List, [], ◌∷◌, ◌++◌, length, slice_index, map, All}
 use Rattle.std.specs.List.{slice_index_or}
 use Rattle.audit_model.specs.Graph.{Graph}
+use Rattle.contig.specs.Faces.{SparedFace, WithoutSpare, WithSpare}
 use Rattle.contig.specs.declared.corner.Corner.{Corner}
 use Rattle.contig.specs.declared.face.Face.{Face}
 use Rattle.contig.specs.declared.face.Face.TheVariants.{Triangle, Square, Pentagon}
@@ -34,6 +35,32 @@ corners_at u (face ∷ later) = with_face u (corners_at u later) face
 -- all four units are in the set
 abbrev pub is_filled : (ℕ → Bool) → ℕ × ℕ × ℕ × ℕ → Bool
 is_filled inside corner = inside corner.0 && (inside corner.1 && (inside corner.2 && inside corner.3))
+
+-- ---- spares
+
+-- the corners at u with those of a face's spare, one at each of its units a, b, d and one at c; the unit further is c, which
+-- the spare has not
+abbrev pub add_spare : ℕ → List (ℕ × ℕ × ℕ × ℕ) → SparedFace → List (ℕ × ℕ × ℕ × ℕ)
+add_spare u corners (WithoutSpare ring) = corners
+add_spare u corners (WithSpare a b c d) =
+    with_corner u (with_corner u (with_corner u (with_corner u corners a (b, d, d, c)) b (d, a, a, c)) d (a, b, b, c)) c (a, b, d, c)
+
+-- the corners of the spares at u
+abbrev pub spares_at : ℕ → List SparedFace → List (ℕ × ℕ × ℕ × ℕ)
+spares_at u [] = []
+spares_at u (face ∷ later) = add_spare u (spares_at u later) face
+
+-- the first three units are in the set, and the last is not
+abbrev pub is_spared : (ℕ → Bool) → ℕ × ℕ × ℕ × ℕ → Bool
+is_spared inside corner = inside corner.0 && (inside corner.1 && (inside corner.2 && not (inside corner.3)))
+
+-- a spare ends if u leaves the set
+abbrev pub is_ending : (ℕ → Bool) → ℕ → ℕ × ℕ × ℕ × ℕ → Bool
+is_ending inside u corner = inside corner.0 && (inside corner.1 && (inside corner.2 && (not (corner.3 == u) && not (inside corner.3))))
+
+-- a spare begins if u leaves the set
+abbrev pub is_starting : (ℕ → Bool) → ℕ → ℕ × ℕ × ℕ × ℕ → Bool
+is_starting inside u corner = inside corner.0 && (inside corner.1 && (inside corner.2 && corner.3 == u))
 
 -- ---- as the program stores them
 

@@ -1,5 +1,5 @@
--- Faces: rings of three to five units, listed so that each has a side that no later one has.
-use Rattle.std.specs.Prelude.{◌≡◌, ℕ, ◌+◌, ◌<◌, ◌≤◌, ◌==◌, ◌&&◌, ◌||◌, Bool, false, not, cond, IsTrue, IsFalse, List, [], ◌∷◌, length, slice_index}
+-- Faces: rings of three to five units, listed so that each has a side that no later one has. A face may have a spare ring.
+use Rattle.std.specs.Prelude.{◌≡◌, ◌≢◌, ℕ, ◌+◌, ◌<◌, ◌≤◌, ◌==◌, ◌&&◌, ◌||◌, Bool, false, not, cond, IsTrue, IsFalse, List, [], ◌∷◌, length, slice_index}
 use Rattle.std.specs.List.{list_any, list_all}
 use Rattle.audit_model.specs.Apart.{AllApart}
 use Rattle.audit_model.specs.Below.{count_below, filter_below, map_below}
@@ -31,10 +31,10 @@ abbrev pub OwnsSide : List ℕ → List (List ℕ) → Type 0
 OwnsSide (a ∷ b ∷ rest) later = IsFalse (list_any (λ face. has_side face a b) later)
 OwnsSide _ later = ⊥
 
--- each face is a ring whose own side belongs to no later one
-abbrev pub AreFaces : Graph → List (List ℕ) → Type 0
-AreFaces g [] = Unit {0}
-AreFaces g (face ∷ later) = IsRing g face × OwnsSide face later × AreFaces g later
+-- each is a ring whose own side belongs to no later one
+abbrev pub AreRings : Graph → List (List ℕ) → Type 0
+AreRings g [] = Unit {0}
+AreRings g (face ∷ later) = IsRing g face × OwnsSide face later × AreRings g later
 
 -- ---- the counts of a set
 
@@ -80,6 +80,61 @@ IsClassing faces inside u class = (x y : ℕ) → IsTrue (share_face faces insid
 abbrev pub link_graph : Graph → List (List ℕ) → (ℕ → Bool) → ℕ → Graph
 link_graph g faces inside u = record { units = g.units; neighbours = map_below g.units (λ v. filter_below g.units (λ w. share_face faces inside u v w)) }
 
--- the mates of u are connected by links
-abbrev pub AreLinked : Graph → List (List ℕ) → List ℕ → ℕ → Type 0
-AreLinked g faces plan u = IsConnected (link_graph g faces (in_district plan (slice_index plan u)) u) (is_mate g plan u)
+-- the mates of u are connected by links through these rings
+abbrev pub AreLinkedBy : Graph → List (List ℕ) → List ℕ → ℕ → Type 0
+AreLinkedBy g faces plan u = IsConnected (link_graph g faces (in_district plan (slice_index plan u)) u) (is_mate g plan u)
+
+-- ---- spares
+
+-- a face: a ring, or a triangle a, b, c with the spare triangle a, b, d, which has the same own side
+pub data SparedFace : Type 0 where
+  WithoutSpare : List ℕ → SparedFace
+  WithSpare : ℕ → ℕ → ℕ → ℕ → SparedFace
+
+-- the ring of a face
+abbrev pub own_ring : SparedFace → List ℕ
+own_ring (WithoutSpare ring) = ring
+own_ring (WithSpare a b c d) = a ∷ b ∷ c ∷ []
+
+-- the spare ring of a face, or its ring if it has no spare
+abbrev pub spare_ring : SparedFace → List ℕ
+spare_ring (WithoutSpare ring) = ring
+spare_ring (WithSpare a b c d) = a ∷ b ∷ d ∷ []
+
+-- the rings of the faces
+abbrev pub own_rings : List SparedFace → List (List ℕ)
+own_rings [] = []
+own_rings (face ∷ later) = own_ring face ∷ own_rings later
+
+-- the rings and the spare rings of the faces
+abbrev pub both_rings : List SparedFace → List (List ℕ)
+both_rings [] = []
+both_rings (face ∷ later) = own_ring face ∷ spare_ring face ∷ both_rings later
+
+-- the spare ring has another third unit than the ring
+abbrev pub HasOtherUnit : SparedFace → Type 0
+HasOtherUnit (WithoutSpare ring) = Unit {0}
+HasOtherUnit (WithSpare a b c d) = c ≢ d
+
+-- each face is a ring, maybe with a spare ring, and its own side belongs to no later ring and to no later spare ring
+abbrev pub AreFaces : Graph → List SparedFace → Type 0
+AreFaces g [] = Unit {0}
+AreFaces g (face ∷ later) = IsRing g (own_ring face) × IsRing g (spare_ring face) × HasOtherUnit face × OwnsSide (own_ring face) (both_rings later) × AreFaces g later
+
+-- the spare is active: all units of the spare ring are in the set, and not all of the ring
+abbrev pub is_active : (ℕ → Bool) → SparedFace → Bool
+is_active inside face = list_all inside (spare_ring face) && not (list_all inside (own_ring face))
+
+-- the rings that count for a set: each active spare ring in place of the face's ring
+abbrev pub chosen : (ℕ → Bool) → List SparedFace → List (List ℕ)
+chosen inside [] = []
+chosen inside (face ∷ later) = cond (is_active inside face) (spare_ring face) (own_ring face) ∷ chosen inside later
+
+-- the number of active spares
+abbrev pub count_active : (ℕ → Bool) → List SparedFace → ℕ
+count_active inside [] = 0
+count_active inside (face ∷ later) = count_active inside later + cond (is_active inside face) 1 0
+
+-- the mates of u are connected by links through the rings that count for its district
+abbrev pub AreLinked : Graph → List SparedFace → List ℕ → ℕ → Type 0
+AreLinked g faces plan u = AreLinkedBy g (chosen (in_district plan (slice_index plan u)) faces) plan u

@@ -4,15 +4,16 @@ use Rattle.std.specs.List.{list_any, position_or_len, slice_index_or}
 use Rattle.audit_model.specs.Below.{sum_below}
 use Rattle.audit_model.specs.Graph.{Graph}
 use Rattle.audit_model.specs.Length.{degree}
+use Rattle.contig.specs.declared.face.Candidate.{Candidate}
 use Rattle.contig.specs.declared.face.Face.{Face}
 use Rattle.contig.specs.declared.face.Face.TheVariants.{Triangle, Square, Pentagon}
-use Rattle.contig.specs.Faces.{has_side, AreFaces}
-use Rattle.contig.specs.Rings.{ring_of}
+use Rattle.contig.specs.Faces.{SparedFace, has_side, both_rings, AreFaces}
+use Rattle.contig.specs.Rings.{face_of}
 
--- the rings of the faces, the last one first
-abbrev pub rings : List Face → List (List ℕ)
-rings [] = []
-rings (face ∷ later) = rings later ++ ring_of face ∷ []
+-- the faces of candidates, the last one first
+abbrev pub listed : List Candidate → List SparedFace
+listed [] = []
+listed (candidate ∷ later) = listed later ++ face_of candidate ∷ []
 
 -- x and y as a pair, smaller unit first
 abbrev pub side : ℕ → ℕ → ℕ × ℕ
@@ -36,8 +37,8 @@ arc_index g u v = sum_below u (degree g) + position_or_len (λ m. m == v) (slice
 abbrev pub is_marked : Graph → List Bool → ℕ × ℕ → Bool
 is_marked g marks side = slice_index_or marks (arc_index g side.0 side.1) false
 
--- the rings are faces, and all of their sides are marked
-pub record AreListed (g : Graph) (faces : List (List ℕ)) (marks : List Bool) : Type 0 where
+-- these are faces, and all sides of their rings and spare rings are marked
+pub record AreListed (g : Graph) (faces : List SparedFace) (marks : List Bool) : Type 0 where
   pub are : AreFaces g faces
   pub width : length marks ≡ sum_below g.units (degree g)
-  pub marked : (x y : ℕ) → IsTrue (list_any (λ face. has_side face x y) faces) → IsTrue (is_marked g marks (side x y))
+  pub marked : (x y : ℕ) → IsTrue (list_any (λ ring. has_side ring x y) (both_rings faces)) → IsTrue (is_marked g marks (side x y))

@@ -18,6 +18,9 @@ use std::marker::Model;
 /// `one` and `other` are the two units next to the unit on the face, as positions in the unit's
 /// list of neighbors. `far` and `further` are units of the face: in a pentagon the other two units,
 /// in a square twice the one other unit, in a triangle twice the neighbor at `other`.
+///
+/// The spare triangle a, b, d of a triangle a, b, c has a corner at each of a, b, d and c. `one`,
+/// `other` and `far` are then units of the spare triangle, and `further` is c.
 #[derive(Clone, Copy)]
 pub struct Corner {
     pub one: u32,
@@ -64,6 +67,19 @@ impl CornerLists {
             spans: empty_spans(alloc, graph)?,
             limits: limits_of(alloc, graph)?,
             corners: vec![in alloc; blank; graph.arcs_before(graph.units())]?,
+        })
+    }
+
+    /// Creates an empty list for each unit, without room for corners. Fails if there is no memory.
+    pub fn without_room(alloc: Global, graph: &Graph) -> Result<CornerLists, Memory>
+        ensures width { IfOk result (λ l. length l ≡ graph.now.units) }
+        ensures none { IfOk result (λ l. (u : ℕ) → slice_index_or l u [] ≡ []) }
+    {
+        let units = graph.units() as usize;
+        Ok(CornerLists {
+            spans: vec![in alloc; Span { begin: 0, end: 0 }; units]?,
+            limits: vec![in alloc; 0; units]?,
+            corners: Vec::new(alloc),
         })
     }
 

@@ -1,9 +1,10 @@
 //! Candidates for faces: three to five units in order.
 
-ghost use Rattle.std.specs.Prelude.{◌≡◌, ◌<◌, ◌==◌, ◌&&◌, length, not};
+ghost use Rattle.std.specs.Prelude.{◌≡◌, ◌<◌, ◌==◌, ◌&&◌, length, not, Some};
 ghost use Rattle.audit_model.specs.Graph.{IsGraph, adjacent};
 ghost use Rattle.contig.specs.Listed.{first_pair};
-ghost use Rattle.contig.specs.Rings.{goes_round, turned, differ, follow, ring_of};
+ghost use Rattle.contig.specs.declared.face.Face.TheVariants.{Triangle};
+ghost use Rattle.contig.specs.Rings.{goes_round, turned, differ, follow, ring_of, spare_by, face_of, fit_by};
 
 use dual_graph::graph::Graph;
 
@@ -48,6 +49,56 @@ impl Face {
             Face::Pentagon(a, b, c, d, e) => Face::Pentagon(b, c, d, e, a),
         }
     }
+}
+
+/// A ring that may become a face, with the fourth unit of its spare, if it has one.
+///
+/// The spare ring of a triangle a, b, c is a triangle a, b, d with a fourth unit d. Both rings have
+/// the own side a, b. Where a district has a, b and d, but not c, the spare ring counts in place of
+/// the ring. A ring of four or five units has no spare.
+#[derive(Clone, Copy)]
+pub struct Candidate {
+    pub ring: Face,
+    pub spare: Option<u32>,
+}
+
+impl Candidate {
+    /// Returns the spare ring, or the ring if there is no spare.
+    pub(crate) fn spare_ring(&self) -> Face
+        ensures { result ≡ spare_by self.now.ring self.now.spare }
+    {
+        match (self.ring, self.spare) {
+            (Face::Triangle(a, b, _), Some(d)) => Face::Triangle(a, b, d),
+            (ring, _) => ring,
+        }
+    }
+
+    /// Returns the candidate with its spare only if the spare ring is another ring of the graph.
+    pub(crate) fn fit(self, graph: &Graph) -> Candidate
+        ensures ring { result.ring ≡ self.ring }
+        ensures face { face_of result ≡ fit_by graph.now self.ring self.spare }
+    {
+        match (self.ring, self.spare) {
+            (Face::Triangle(a, b, c), Some(d)) => fit_triangle(graph, (a, b, c), d),
+            (ring, _) => Candidate { ring, spare: None },
+        }
+    }
+}
+
+/// Returns the triangle with this fourth unit only if the spare ring is another ring of the graph.
+fn fit_triangle(graph: &Graph, ring: (u32, u32, u32), spare: u32) -> Candidate
+    ensures ring { result.ring ≡ Triangle ring.0 ring.1 ring.2 }
+    ensures face { face_of result ≡ fit_by graph.now (Triangle ring.0 ring.1 ring.2) (Some spare) }
+{
+    let (a, b, c) = ring;
+    let ring = Face::Triangle(a, b, c);
+    if c != spare && Face::Triangle(a, b, spare).is_ring(graph) {
+        return Candidate {
+            ring,
+            spare: Some(spare),
+        };
+    }
+    Candidate { ring, spare: None }
 }
 
 /// Returns the number of units.

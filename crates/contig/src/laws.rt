@@ -5,7 +5,7 @@ ghost use Rattle.audit_model.specs.Graph.{Graph, adjacent, IsIn};
 ghost use Rattle.audit_model.specs.Local.{IsSimple, is_mate, MayLeave};
 ghost use Rattle.audit_model.specs.Path.{HasPath, IsConnected};
 ghost use Rattle.audit_model.specs.District.{in_district};
-ghost use Rattle.contig.specs.Faces.{AreFaces, AreLinked, IsClassing, count_units, count_inner_edges, count_inner_faces, without_unit, count_mates, count_inner_faces_at};
+ghost use Rattle.contig.specs.Faces.{SparedFace, AreFaces, AreRings, AreLinkedBy, chosen, own_rings, count_active, IsClassing, count_units, count_inner_edges, count_inner_faces, without_unit, count_mates, count_inner_faces_at};
 
 /// Shows when a connected set without holes falls apart without one of its units.
 ///
@@ -14,7 +14,7 @@ ghost use Rattle.contig.specs.Faces.{AreFaces, AreLinked, IsClassing, count_unit
 /// in the set visits the removed unit.
 pub fn classes_part_mates()
     ensures { (g : Graph) (faces : List (List ℕ)) (inside : ℕ → Bool) (u x y : ℕ) (class : ℕ → ℕ) →
-        IsSimple g → AreFaces g faces → IsConnected g inside → IsIn g inside u →
+        IsSimple g → AreRings g faces → IsConnected g inside → IsIn g inside u →
         count_inner_edges g inside + 1 ≤ count_units g inside + count_inner_faces inside faces →
         IsClassing faces inside u class →
         IsIn g inside x → IsTrue (adjacent g u x) → IsIn g inside y → IsTrue (adjacent g u y) → class x ≢ class y →
@@ -25,7 +25,7 @@ pub fn classes_part_mates()
 /// different classes. The classes are those of `classes_part_mates`.
 pub fn parting_units_may_not_leave()
     ensures { (g : Graph) (faces : List (List ℕ)) (plan : List ℕ) (u x y : ℕ) (class : ℕ → ℕ) →
-        IsSimple g → AreFaces g faces → u < g.units → IsConnected g (in_district plan (slice_index plan u)) →
+        IsSimple g → AreRings g faces → u < g.units → IsConnected g (in_district plan (slice_index plan u)) →
         count_inner_edges g (in_district plan (slice_index plan u)) + 1
         ≤ count_units g (in_district plan (slice_index plan u)) + count_inner_faces (in_district plan (slice_index plan u)) faces →
         IsClassing faces (in_district plan (slice_index plan u)) u class →
@@ -47,10 +47,18 @@ pub fn counts_with_a_unit()
 /// hole, a unit whose mates are not linked may not leave.
 pub fn linked_units_may_leave()
     ensures linked { (g : Graph) (faces : List (List ℕ)) (plan : List ℕ) (u : ℕ) →
-        IsSimple g → AreFaces g faces → IsConnected g (in_district plan (slice_index plan u)) → AreLinked g faces plan u → MayLeave g plan u }
+        IsSimple g → AreRings g faces → IsConnected g (in_district plan (slice_index plan u)) → AreLinkedBy g faces plan u → MayLeave g plan u }
     ensures unlinked { (g : Graph) (faces : List (List ℕ)) (plan : List ℕ) (u : ℕ) →
-        IsSimple g → AreFaces g faces → u < g.units → IsConnected g (in_district plan (slice_index plan u)) →
+        IsSimple g → AreRings g faces → u < g.units → IsConnected g (in_district plan (slice_index plan u)) →
         count_inner_edges g (in_district plan (slice_index plan u)) + 1
         ≤ count_units g (in_district plan (slice_index plan u)) + count_inner_faces (in_district plan (slice_index plan u)) faces →
-        MayLeave g plan u → AreLinked g faces plan u }
+        MayLeave g plan u → AreLinkedBy g faces plan u }
+{}
+
+/// Shows that the rings that count for a set are rings that own their sides, and that each active
+/// spare is one more inner face. So the other laws speak of faces with spares, too.
+pub fn spares_count_as_faces()
+    ensures rings { (g : Graph) (inside : ℕ → Bool) (faces : List SparedFace) → AreFaces g faces → AreRings g (chosen inside faces) }
+    ensures count { (inside : ℕ → Bool) (faces : List SparedFace) →
+        count_inner_faces inside (chosen inside faces) ≡ count_inner_faces inside (own_rings faces) + count_active inside faces }
 {}

@@ -117,6 +117,7 @@ fn can_leave<L: Ledger>(leaving: Member, marks: &mut Marks, steps: &mut Steps<L>
 /// connected.
 ///
 /// Returns `None` if the two tests do not decide, and for each unit with more than 32 neighbors.
+#[inline(always)]
 pub fn decide_by_counting(leaving: Member, table: &FaceTable, counts: &FaceCounts) -> Option<bool>
     requires made { table.now.graph ≡ leaving.graph.now }
     requires counts { AreCounts leaving.graph.now table.now.faces (length counts.now.edges) leaving.plan.now counts.now }

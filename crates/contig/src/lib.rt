@@ -7,17 +7,28 @@
 //!   without the unit.
 //! - A *ring* is three to five distinct units, each adjacent to the next and the last to the first.
 //!   A *side* of a ring is two units next to each other on the ring.
-//! - A *face* is a ring in a list of faces. Its *own side* is a side of no face that was added to
-//!   the list before. The definitions in `specs/` have the list in reverse, so there the own side
-//!   belongs to no later face.
+//! - A *face* is a ring in a list of faces. Its *own side* is a side of no ring and of no spare ring
+//!   that was added to the list before. The definitions in `specs/` have the list in reverse, so
+//!   there the own side belongs to no later ring.
+//! - A *group* is four units that are all adjacent. Three of its triangles can be faces.
 //! - A face is *at* each unit of its ring. A *corner* is a face as seen from one of its units.
-//! - An edge, a face or a corner is *inner* if all its units are in one district.
+//! - A triangle a, b, c may have a *spare*: a fourth unit d whose *spare ring* is a, b, d. Both rings
+//!   have the own side a, b. The spare is *active* in a district that has a, b and d, but not c: its
+//!   spare ring then counts in place of the triangle.
+//! - An edge, a ring or a corner is *inner* if all its units are in one district. The *inner faces*
+//!   of a district are its inner rings and its active spares.
 //! - A district *has no hole* if it has fewer inner edges than units and inner faces together.
-//! - A *link* joins two mates of a unit if both are next to the unit on one inner face. The mates
-//!   are *linked* if there is a mate and links connect all of them.
+//! - A *link* joins two mates of a unit if both are next to the unit on the ring of one inner face.
+//!   The mates are *linked* if there is a mate and links connect all of them.
 //! - A *class* is a set of items that were merged. `links` merges two mates that a link joins.
 //! - The mates are *connected among themselves* if there is a mate and edges between mates connect
 //!   all of them. The unit is then *local*: it has a *local certificate*.
+//! - The *missing faces* of a district are the inner faces that it would need in addition to have
+//!   no hole. There are none if it has no hole.
+//! - A *filler* of a district is a unit of another district that is listed because it may fill a
+//!   hole: with it, the district may miss fewer faces. A *pocket* is a few units of other districts
+//!   that the district encloses.
+//! - A *diagonal* is an edge between two units that meet at a corner of four units only.
 //! - A *search* visits the units of a rest. The *counter* of searches, `Steps`, exists in proofs
 //!   only.
 //!
@@ -30,33 +41,47 @@
 //!
 //! For a unit with more than 32 neighbors, only tests 3 and 4 are made.
 //!
-//! `face`, `near`, `peel` and `list` find faces. `corner`, `rows` and `table` store the faces by
-//! unit. `sector` and `order` store the neighbors of a unit in the order of the faces round it,
-//! where there is such an order. `span` has the parts of a list in which such lists are stored.
-//! `classes` and `links` make test 1. `counts` keeps the counts of a plan and makes test 2. `parts`
-//! and `flood` make tests 3 and 4. `leave` has the calls that decide.
+//! `face`, `near`, `groups`, `sides`, `peel` and `list` find faces. `corner`, `rows`, `spare` and
+//! `table` store the faces and their spares by unit. `sector` and `order` store the neighbors of a
+//! unit in the order of the faces round it, where there is such an order. `span` has the parts of a
+//! list in which such lists are stored. `classes` and `links` make test 1. `counts` keeps the counts
+//! of a plan and makes test 2. `parts` and `flood` make tests 3 and 4. `leave` has the calls that
+//! decide. `fill` decides by tests 1 and 2 after filling holes, and `missing` counts the faces that
+//! a filler leaves missing. `fillers` keeps units to fill holes with, `pocket` and `diagonals` find
+//! these, and `short_list` stores them.
 #![tactic(auto)]
 
 mod classes;
 mod corner;
 pub mod counts;
+mod diagonals;
 pub mod face;
+pub mod fill;
+pub mod fillers;
 mod flood;
+mod groups;
 pub mod laws;
 pub mod leave;
 pub mod links;
 pub mod list;
+mod missing;
 pub mod near;
 mod order;
 mod parts;
 mod peel;
+mod pocket;
 mod rows;
 mod sector;
+mod short_list;
+mod sides;
 mod span;
+mod spare;
 pub mod table;
 
 pub use counts::FaceCounts;
-pub use face::Face;
+pub use face::{Candidate, Face};
+pub use fill::decide_by_filling;
+pub use fillers::Fillers;
 pub use leave::{decide_by_counting, local_holds, may_leave, search_holds};
 pub use links::MOST;
 pub use list::{FaceList, list_faces};

@@ -6,30 +6,31 @@ ghost use Rattle.audit_model.specs.Below.{sum_below};
 ghost use Rattle.audit_model.specs.Graph.{adjacent};
 ghost use Rattle.audit_model.specs.Length.{degree};
 ghost use Rattle.contig.specs.Faces.{AreFaces, IsRing, has_side};
-ghost use Rattle.contig.specs.Listed.{rings, side, own_side, arc_index, is_marked, AreListed};
-ghost use Rattle.contig.specs.Rings.{ring_of};
+ghost use Rattle.contig.specs.Listed.{listed, side, own_side, arc_index, is_marked, AreListed};
+ghost use Rattle.contig.specs.Rings.{ring_of, fit_by, face_of};
 
-use crate::face::{Face, first_two, length_of};
+use crate::face::{Candidate, Face, first_two, length_of};
 use crate::rows::place_of;
 use audit_model::memory::Memory;
 use dual_graph::graph::Graph;
 use std::alloc::Global;
 use std::marker::Model;
 
-/// A list of faces. The own side of each face belongs to no face that was added before it. Proofs
-/// see the list in reverse: the last face comes first.
+/// A list of faces, some with a spare. The own side of each face belongs to no ring and to no spare
+/// ring that was added before it. Proofs see the list in reverse: the last face comes first.
 #[derive(Drop)]
 pub struct FaceList {
-    faces: Vec<Face>,
+    faces: Vec<Candidate>,
 }
 
 impl Model for FaceList {
-    ghost use Rattle.std.specs.Prelude.{ℕ, List};
-    ghost use Rattle.contig.specs.Listed.{rings};
+    ghost use Rattle.std.specs.Prelude.{List};
+    ghost use Rattle.contig.specs.Faces.{SparedFace};
+    ghost use Rattle.contig.specs.Listed.{listed};
 
-    ghost Value = { List (List ℕ) };
+    ghost Value = { List SparedFace };
 
-    ghost view = { λ l. rings l.faces.items };
+    ghost view = { λ l. listed l.faces.items };
 }
 
 impl FaceList {
@@ -43,15 +44,15 @@ impl FaceList {
     }
 
     /// Returns the faces in the order in which they were added.
-    pub fn faces(&self) -> &[Face]
-        ensures { rings result.now ≡ self.now }
+    pub fn faces(&self) -> &[Candidate]
+        ensures { listed result.now ≡ self.now }
     {
         &self.faces
     }
 
     /// Appends a face. Fails if there is no memory.
-    fn push(&mut self, face: Face) -> Result<(), Memory>
-        ensures ok { OnOk result (self.new ≡ ring_of face ∷ self.old) }
+    fn push(&mut self, face: Candidate) -> Result<(), Memory>
+        ensures ok { OnOk result (self.new ≡ face_of face ∷ self.old) }
         ensures err { OnErr result (self.new ≡ self.old) }
     {
         self.faces.push(face)?;
@@ -59,38 +60,45 @@ impl FaceList {
     }
 }
 
-/// Lists the candidates that are rings and whose own side belongs to no face listed before, in
-/// their order. Fails if there is no memory.
-pub fn list_faces(alloc: Global, graph: &Graph, candidates: &[Face]) -> Result<FaceList, Memory>
+/// Lists the candidates that are rings and whose own side belongs to no ring and to no spare ring
+/// listed before, in their order. Drops each spare ring that is no other ring of the graph. Fails if
+/// there is no memory.
+pub fn list_faces(
+    alloc: Global,
+    graph: &Graph,
+    candidates: &[Candidate],
+) -> Result<FaceList, Memory>
     ensures { IfOk result (λ l. AreFaces graph.now l) }
 {
     let mut list = FaceList::new(alloc);
     let mut marks: Vec<bool> = vec![in alloc; false; graph.arcs_before(graph.units())]?;
-    for face in candidates {
-        add_face(graph, &mut list, &mut marks, *face)?;
+    for candidate in candidates {
+        add_face(graph, &mut list, &mut marks, *candidate)?;
     }
     Ok(list)
 }
 
-/// Adds a face if it is a ring and its own side is not marked, and marks its sides. Returns true if
-/// the face was added. Fails if there is no memory.
+/// Adds a candidate if it is a ring and its own side is not marked, and marks the sides of its ring
+/// and of its spare ring. Returns true if the candidate was added. Fails if there is no memory.
 fn add_face(
     graph: &Graph,
     list: &mut FaceList,
     marks: &mut Vec<bool>,
-    face: Face,
+    candidate: Candidate,
 ) -> Result<bool, Memory>
     requires listed { AreListed graph.now list.old marks.old.items }
     ensures listed { AreListed graph.now list.new marks.new.items }
-    ensures added { IfOk result (λ added. OnTrue added (list.new ≡ ring_of face ∷ list.old)) }
+    ensures added { IfOk result (λ added. OnTrue added (list.new ≡ fit_by graph.now candidate.ring candidate.spare ∷ list.old)) }
     ensures unchanged { IfOk result (λ added. OnFalse added (list.new ≡ list.old)) }
     ensures err { OnErr result (list.new ≡ list.old) }
 {
-    if !face.is_ring(graph) || has_own(graph, marks, face) {
+    if !candidate.ring.is_ring(graph) || has_own(graph, marks, candidate.ring) {
         return Ok(false);
     }
+    let face = candidate.fit(graph);
     list.push(face)?;
-    mark_sides(graph, marks, face);
+    mark_sides(graph, marks, face.ring);
+    mark_sides(graph, marks, face.spare_ring());
     Ok(true)
 }
 

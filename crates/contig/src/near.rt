@@ -4,17 +4,21 @@
 ghost use Rattle.std.specs.Prelude.{◌≡◌, ◌<◌, IfOk};
 ghost use Rattle.contig.specs.Faces.{AreFaces};
 
-use crate::face::Face;
+use crate::face::{Candidate, Face};
+use crate::groups::{UnitGroup, add_groups, add_groups_kept, add_rings_kept, choose_groups};
 use crate::list::{FaceList, list_faces};
-use crate::peel::{Sides, order_by_peeling};
+use crate::peel::order_by_peeling;
+use crate::sides::Sides;
 use audit_model::memory::Memory;
 use dual_graph::graph::Graph;
 use std::alloc::Global;
+use std::mem;
 
 /// The maximum number of neighbors of a unit on a face.
 const DEGREE: usize = 32;
 
-/// The maximum number of triangles and squares. A graph with more of them gets no faces.
+/// The maximum number of triangles and squares. A graph with more of them gets no faces. The search
+/// for groups ends if more groups are found.
 const MOST: usize = 4000000;
 
 /// The number of paths that the search for pentagons may try, per unit of the graph.
@@ -22,8 +26,8 @@ const WAYS: usize = 16;
 
 /// Lists the faces of a graph. Fails if there is no memory.
 ///
-/// The candidates are triangles and squares. If these do not yield the greatest possible number of
-/// faces, pentagons are candidates too.
+/// The candidates are triangles, squares and groups. If these do not yield the greatest possible
+/// number of faces, pentagons are candidates too.
 pub fn faces_of(alloc: Global, graph: &Graph) -> Result<FaceList, Memory>
     ensures { IfOk result (λ l. AreFaces graph.now l) }
 {
@@ -40,51 +44,63 @@ fn are_all(graph: &Graph, rings: usize) -> bool {
     rings.wrapping_add(graph.units() as usize) > graph.edges() as usize
 }
 
-/// Rings found so far.
+/// Rings and groups found so far.
 #[derive(Drop)]
 struct Rings {
     rings: Vec<Face>,
+    groups: Vec<UnitGroup>,
     /// The number of paths that the search for pentagons may still try.
     ways: usize,
 }
 
 impl Rings {
-    /// Returns the rings in an order in which they can become faces, with pentagons where these may
-    /// yield more faces. Returns none if there are more than `MOST` triangles and squares.
-    fn in_order(&mut self, alloc: Global, graph: &Graph) -> Result<Vec<Face>, Memory> {
+    /// Returns the candidates in an order in which they can become faces, with pentagons where
+    /// these may yield more faces. Returns none if there are more than `MOST` triangles and squares.
+    fn in_order(&mut self, alloc: Global, graph: &Graph) -> Result<Vec<Candidate>, Memory> {
         if self.rings.len() > MOST {
             return Ok(Vec::new(alloc));
         }
-        let order = order_by_peeling(alloc, graph, &self.rings)?;
+        if !self.groups.is_empty() {
+            self.groups = choose_groups(alloc, graph, &self.groups, &mut self.rings)?;
+        }
+        let order = order_by_peeling(alloc, graph, &self.rings, &self.groups)?;
         if are_all(graph, order.len()) {
             return Ok(order);
         }
-        self.replace_by_pentagons(alloc, graph, &order)?;
-        if self.rings.is_empty() {
-            return Ok(order);
-        }
-        self.add_all(&order)?;
-        order_by_peeling(alloc, graph, &self.rings)
+        self.add_pentagons_to(alloc, graph, order)
     }
 
-    /// Replaces the rings by the pentagons whose sides all have room beside these faces.
-    fn replace_by_pentagons(
+    /// Returns these candidates and further pentagons in an order in which they can become faces.
+    fn add_pentagons_to(
         &mut self,
         alloc: Global,
         graph: &Graph,
-        faces: &[Face],
-    ) -> Result<(), Memory> {
-        let sides = Sides::of(alloc, graph, faces)?;
-        self.rings.clear();
-        self.add_pentagons(graph, &sides)
+        order: Vec<Candidate>,
+    ) -> Result<Vec<Candidate>, Memory> {
+        self.replace_by_kept(&order)?;
+        let mut kept = self.replace_by_pentagons(alloc, graph)?;
+        if self.rings.is_empty() {
+            return Ok(order);
+        }
+        self.rings.append(&mut kept)?;
+        order_by_peeling(alloc, graph, &self.rings, &self.groups)
     }
 
-    /// Adds these rings.
-    fn add_all(&mut self, rings: &[Face]) -> Result<(), Memory> {
-        for ring in rings {
-            self.rings.push(*ring)?;
-        }
-        Ok(())
+    /// Replaces the rings and groups by those for which these candidates stand.
+    fn replace_by_kept(&mut self, order: &[Candidate]) -> Result<(), Memory> {
+        self.rings.clear();
+        self.groups.clear();
+        add_rings_kept(order, &mut self.rings)?;
+        add_groups_kept(order, &mut self.groups)
+    }
+
+    /// Replaces the rings by the pentagons whose sides all have room beside them and the groups.
+    /// Returns the rings.
+    fn replace_by_pentagons(&mut self, alloc: Global, graph: &Graph) -> Result<Vec<Face>, Memory> {
+        let sides = Sides::of(alloc, graph, &self.rings, &self.groups)?;
+        let kept = mem::replace(&mut self.rings, Vec::new(alloc));
+        self.add_pentagons(graph, &sides)?;
+        Ok(kept)
     }
 
     /// Adds the triangles and squares of the graph. Stops early if there are more than `MOST`.
@@ -116,10 +132,12 @@ impl Rings {
     }
 
     /// Adds the triangles and squares in which `a` is the least unit, and `b` is the smaller of the
-    /// two units next to `a`.
+    /// two units next to `a`. Adds the groups in which these two are the least units.
     fn add_beside(&mut self, graph: &Graph, a: u32, b: u32) -> Result<(), Memory>
         requires units { (a < graph.now.units) × (b < graph.now.units) }
     {
+        let begin = self.rings.len();
+        let mut triangles = 0u32;
         for other in graph.neighbours(a) {
             let d = *other;
             if d > b && has_few_neighbors(graph, d) {
@@ -127,8 +145,12 @@ impl Rings {
                     self.add_squares(graph, a, b, d)?;
                 } else {
                     self.rings.push(Face::Triangle(a, b, d))?;
+                    triangles = triangles.wrapping_add(1);
                 }
             }
+        }
+        if triangles > 1 && self.groups.len() <= MOST {
+            add_groups(graph, &self.rings, begin, &mut self.groups)?;
         }
         Ok(())
     }
@@ -260,10 +282,11 @@ fn has_few_neighbors(graph: &Graph, unit: u32) -> bool
     graph.neighbours(unit).len() <= DEGREE
 }
 
-/// Finds the triangles and squares of a graph. Stops early if there are more than `MOST`.
+/// Finds the triangles, squares and groups of a graph. Stops early if there are more than `MOST`.
 fn rings_of(alloc: Global, graph: &Graph) -> Result<Rings, Memory> {
     let mut found = Rings {
         rings: Vec::new(alloc),
+        groups: Vec::new(alloc),
         ways: 0,
     };
     found.add_short(graph)?;

@@ -1,268 +1,48 @@
-//! Puts rings in an order in which they can become faces. The order is not proved: it only decides
-//! how many rings the list of faces accepts.
+//! Puts rings and groups in an order in which they can become faces. The order is not proved: it
+//! only decides how many of them the list of faces accepts.
 
-use crate::face::{Face, first_two, length_of};
+use crate::face::{Candidate, Face, first_two, length_of};
+use crate::groups::UnitGroup;
+use crate::sides::{FIRST_GROUP, GroupSides, SIDES, Sides, count_crowded, rotate_to};
 use audit_model::memory::Memory;
 use dual_graph::graph::Graph;
 use std::alloc::Global;
 
 /// The weight of a crowded side, where each neighbor has weight 1. A side is *crowded* if more than
-/// two rings have it. In a plane graph, at most two faces share a side.
+/// two rings and groups have it. In a plane graph, at most two faces share a side.
 const CROWDED: usize = 4;
 
 /// The number of classes, which `class_of` explains: one more than the greatest weight of a ring. A
 /// pentagon with 32 neighbors per unit and five crowded sides has the greatest weight.
 const CLASSES: usize = 181;
 
-/// The greatest number of sides of a ring.
-const SIDES: usize = 5;
+/// The number of triangles that stand for a group.
+const TRIANGLES: usize = 3;
 
-/// Stands for the fourth and fifth side of a ring that has fewer sides. No side has this index.
-const NO_SIDE: u32 = 4294967295;
-
-/// The remaining rings that have a side: their number, and the exclusive or of their indices. If
-/// one ring remains, the exclusive or is its index.
-#[derive(Clone, Copy)]
-struct RingCount {
-    count: u32,
-    sum: u32,
-}
-
-/// The sides of rings, and the ring count of each side in a graph.
-///
-/// Each entry of the units' lists of neighbors has an index. The index of a side is that of the
-/// greater unit in the list of the lesser unit.
-pub struct Sides {
-    /// The sides of each ring, beginning with its own side. They are searched once and kept.
-    rings: Vec<[u32; SIDES]>,
-    counts: Vec<RingCount>,
-    /// Sides that had a single ring when they were added here.
-    singles: Vec<u32>,
-}
-
-/// Drops the fields one by one. Written by hand so that a caller's proof has one call here, not one
-/// per field.
-impl Drop for Sides {
-    fn drop(self) {
-        let Sides {
-            rings: _rings,
-            counts: _counts,
-            singles: _singles,
-        } = self;
-    }
-}
-
-/// Returns the index of the side of two units.
-fn side_of(graph: &Graph, a: u32, b: u32) -> u32 {
-    let (low, high) = if a < b { (a, b) } else { (b, a) };
-    if low >= graph.units() {
-        return NO_SIDE;
-    }
-    let place = position_in(graph.neighbours(low), high);
-    index_of(graph.arcs_before(low).wrapping_add(place))
-}
-
-/// Returns the position of a unit in a list, or the length of the list. The lists are short: units
-/// on rings have few neighbors.
-fn position_in(row: &[u32], unit: u32) -> usize {
-    for place in 0..row.len() {
-        if row[place] == unit {
-            return place;
-        }
-    }
-    row.len()
-}
-
-/// Narrows an index, which is less than `NO_SIDE`.
-fn index_of(side: usize) -> u32 {
-    if side < 4294967295 {
-        side as u32
-    } else {
-        NO_SIDE
-    }
-}
-
-/// Returns the indices of a ring's sides, beginning with its own side.
-fn sides_of(graph: &Graph, ring: Face) -> [u32; SIDES] {
-    match ring {
-        Face::Triangle(a, b, c) => [
-            side_of(graph, a, b),
-            side_of(graph, b, c),
-            side_of(graph, c, a),
-            NO_SIDE,
-            NO_SIDE,
-        ],
-        Face::Square(a, b, c, d) => [
-            side_of(graph, a, b),
-            side_of(graph, b, c),
-            side_of(graph, c, d),
-            side_of(graph, d, a),
-            NO_SIDE,
-        ],
-        Face::Pentagon(a, b, c, d, e) => [
-            side_of(graph, a, b),
-            side_of(graph, b, c),
-            side_of(graph, c, d),
-            side_of(graph, d, e),
-            side_of(graph, e, a),
-        ],
-    }
-}
-
-impl Sides {
-    /// Counts the rings at each side of the graph. Fails if there is no memory.
-    pub fn of(alloc: Global, graph: &Graph, rings: &[Face]) -> Result<Sides, Memory> {
-        let none = RingCount { count: 0, sum: 0 };
-        let mut sides = Sides {
-            rings: Vec::with_capacity(alloc, rings.len())?,
-            counts: vec![in alloc; none; graph.arcs_before(graph.units())]?,
-            singles: Vec::new(alloc),
-        };
-        sides.add_rings(graph, rings)?;
-        sides.see_all()?;
-        Ok(sides)
-    }
-
-    /// Returns true if fewer than two of the remaining rings have this side.
-    pub fn has_room(&self, graph: &Graph, a: u32, b: u32) -> bool {
-        let side = side_of(graph, a, b) as usize;
-        side < self.counts.len() && self.counts[side].count < 2
-    }
-
-    fn add_rings(&mut self, graph: &Graph, rings: &[Face]) -> Result<(), Memory> {
-        let mut number = 0u32;
-        for ring in rings {
-            let sides = sides_of(graph, *ring);
-            self.rings.push(sides)?;
-            self.add_ring(sides, number);
-            number = number.wrapping_add(1);
-        }
-        Ok(())
-    }
-
-    /// Adds the ring `number` to its sides.
-    fn add_ring(&mut self, sides: [u32; SIDES], number: u32) {
-        for place in 0..SIDES {
-            let side = sides[place] as usize;
-            if side < self.counts.len() {
-                let before = self.counts[side];
-                self.counts[side] = RingCount {
-                    count: before.count.wrapping_add(1),
-                    sum: before.sum ^ number,
-                };
-            }
-        }
-    }
-
-    /// Removes the ring `number` from its sides. Adds sides to `singles` that then have a single
-    /// ring.
-    fn remove_ring(&mut self, sides: [u32; SIDES], number: u32) -> Result<(), Memory> {
-        for place in 0..SIDES {
-            let side = sides[place] as usize;
-            if side < self.counts.len() {
-                let before = self.counts[side];
-                self.counts[side] = RingCount {
-                    count: before.count.wrapping_sub(1),
-                    sum: before.sum ^ number,
-                };
-                self.see(sides[place])?;
-            }
-        }
-        Ok(())
-    }
-
-    fn see_all(&mut self) -> Result<(), Memory> {
-        for side in 0..self.counts.len() {
-            self.see(index_of(side))?;
-        }
-        Ok(())
-    }
-
-    /// Adds a side to `singles` if it has a single ring.
-    fn see(&mut self, side: u32) -> Result<(), Memory> {
-        let place = side as usize;
-        if place < self.counts.len() && self.counts[place].count == 1 {
-            self.singles.push(side)?;
-        }
-        Ok(())
-    }
-
-    /// Takes a side from `singles` that still has a single ring. Returns the side and the index of
-    /// the ring.
-    fn next(&mut self) -> Option<(u32, u32)> {
-        for _ in 0..u64::MAX {
-            match self.singles.pop() {
-                None => return None,
-                Some(side) => {
-                    let place = side as usize;
-                    if place < self.counts.len() && self.counts[place].count == 1 {
-                        return Some((side, self.counts[place].sum));
-                    }
-                }
-            }
-        }
-        None
-    }
-
-    /// Counts the rings at each side, with those taken off. Fails if there is no memory.
-    fn count_all(&self, alloc: Global) -> Result<Vec<u32>, Memory> {
-        let mut counts: Vec<u32> = vec![in alloc; 0; self.counts.len()]?;
-        for sides in &self.rings {
-            count_sides(&mut counts, *sides);
-        }
-        Ok(counts)
-    }
-}
-
-/// Adds one to the count of each of these sides.
-fn count_sides(counts: &mut [u32], sides: [u32; SIDES]) {
-    for place in 0..SIDES {
-        let side = sides[place] as usize;
-        if side < counts.len() {
-            counts[side] = counts[side].wrapping_add(1);
-        }
-    }
-}
-
-/// Counts the crowded sides among these. `counts` has the number of rings at each side.
-fn count_crowded(counts: &[u32], sides: [u32; SIDES]) -> u8 {
-    let mut crowded = 0u8;
-    for place in 0..SIDES {
-        let side = sides[place] as usize;
-        if side < counts.len() && counts[side] > 2 {
-            crowded = crowded.wrapping_add(1);
-        }
-    }
-    crowded
-}
-
-/// Rotates a ring to make a side its own side. `sides` are the ring's sides.
-fn rotate_to(ring: Face, sides: [u32; SIDES], side: u32) -> Face {
-    let mut turn = ring;
-    for place in 0..SIDES {
-        if sides[place] == side {
-            return turn;
-        }
-        turn = turn.rotate();
-    }
-    ring
-}
-
-/// Rings that are taken off one by one.
+/// Rings and groups that are taken off one by one.
 #[derive(Drop)]
 struct Peeling {
-    /// The sides of the rings, with the counts of the rings that remain.
+    /// The sides of the rings and groups, with the counts of those that remain.
     sides: Sides,
     /// For each ring, whether it remains.
     left: Vec<bool>,
+    /// For each group, whether it remains.
+    left_groups: Vec<bool>,
 }
 
 impl Peeling {
-    fn of(alloc: Global, graph: &Graph, rings: &[Face]) -> Result<Peeling, Memory> {
+    fn of(
+        alloc: Global,
+        graph: &Graph,
+        rings: &[Face],
+        groups: &[UnitGroup],
+    ) -> Result<Peeling, Memory> {
         let left = vec![in alloc; true; rings.len()]?;
+        let left_groups = vec![in alloc; true; groups.len()]?;
         Ok(Peeling {
-            sides: Sides::of(alloc, graph, rings)?,
+            sides: Sides::of(alloc, graph, rings, groups)?,
             left,
+            left_groups,
         })
     }
 
@@ -284,34 +64,164 @@ impl Peeling {
         rings: &[Face],
         side: u32,
         number: u32,
-        kept: &mut Vec<Face>,
+        kept: &mut Vec<Candidate>,
     ) -> Result<(), Memory> {
         if let Some(sides) = self.take_off(number)? {
             if (number as usize) < rings.len() {
-                kept.push(rotate_to(rings[number as usize], sides, side))?;
+                let ring = rotate_to(rings[number as usize], sides, side);
+                kept.push(Candidate { ring, spare: None })?;
             }
         }
         Ok(())
     }
 
-    /// Takes off and keeps rings that alone have some side, until no such ring remains.
-    fn keep_singles(&mut self, rings: &[Face], kept: &mut Vec<Face>) -> Result<(), Memory> {
+    /// Takes a group off if it gives at least `least` triangles, and adds these to `kept`. `place`
+    /// is the index of the group.
+    fn keep_group(
+        &mut self,
+        place: u32,
+        least: usize,
+        kept: &mut Vec<Candidate>,
+    ) -> Result<(), Memory> {
+        let group = place as usize;
+        if group >= self.sides.groups.len()
+            || group >= self.left_groups.len()
+            || !self.left_groups[group]
+        {
+            return Ok(());
+        }
+        let sides = self.sides.groups[group];
+        if self.count_single(sides) < least {
+            return Ok(());
+        }
+        let order = self.order_of(sides);
+        if self.count_triangles(order) < least {
+            return Ok(());
+        }
+        self.left_groups[group] = false;
+        self.add_triangles(order, kept)?;
+        self.sides.remove_group(order, place | FIRST_GROUP)
+    }
+
+    /// Counts the sides of a group that no other remaining ring or group has.
+    fn count_single(&self, group: GroupSides) -> usize {
+        let mut single = 0usize;
+        for side in group.sides() {
+            if self.sides.is_single(side) {
+                single = single.wrapping_add(1);
+            }
+        }
+        single
+    }
+
+    /// Counts the triangles that `add_triangles` adds, if it adds the first. Otherwise returns 0.
+    fn count_triangles(&self, order: GroupSides) -> usize {
+        let sides = &self.sides;
+        if !sides.is_single(order.ab) {
+            return 0;
+        }
+        let second = sides.is_single(order.ac) || sides.is_single(order.ad);
+        let third = sides.is_single(order.bc)
+            || sides.is_single(order.cd)
+            || sides.is_single(order.bd);
+        1 + second as usize + third as usize
+    }
+
+    /// Orders the units of a group so that `add_triangles` adds as many triangles as possible, and
+    /// among such orders so that all these triangles have the last unit of the group, if it can.
+    fn order_of(&self, group: GroupSides) -> GroupSides {
+        let center = group.group.d;
+        let (mut best, mut most) = (group, 0usize);
+        let mut order = group;
+        for turn in 0..12u32 {
+            let is_central = order.group.c == center || order.group.d == center;
+            let triangles = self.count_triangles(order);
+            let score = triangles.wrapping_mul(2).wrapping_add(is_central as usize);
+            if score > most {
+                (best, most) = (order, score);
+            }
+            order = order.rotate_last();
+            if turn % 3 == 2 {
+                order = order.rotate();
+            }
+        }
+        if best.group.d == center {
+            best.swap_last()
+        } else {
+            best
+        }
+    }
+
+    /// Adds the triangles of a group that have own sides: a, b, c with the spare d; a, c, d; and b,
+    /// c, d. All have the unit `c`. No own side belongs to a triangle that is added later.
+    fn add_triangles(&self, order: GroupSides, kept: &mut Vec<Candidate>) -> Result<(), Memory> {
+        let UnitGroup { a, b, c, d } = order.group;
+        if self.sides.is_single(order.ab) {
+            let ring = Face::Triangle(a, b, c);
+            kept.push(Candidate {
+                ring,
+                spare: Some(d),
+            })?;
+        }
+        if let Some(ring) = self.second_of(order) {
+            kept.push(Candidate { ring, spare: None })?;
+        }
+        if let Some(ring) = self.third_of(order) {
+            kept.push(Candidate { ring, spare: None })?;
+        }
+        Ok(())
+    }
+
+    /// Returns the triangle a, c, d if it has an own side at `a`.
+    fn second_of(&self, order: GroupSides) -> Option<Face> {
+        let UnitGroup { a, c, d, .. } = order.group;
+        if self.sides.is_single(order.ac) {
+            Some(Face::Triangle(a, c, d))
+        } else if self.sides.is_single(order.ad) {
+            Some(Face::Triangle(d, a, c))
+        } else {
+            None
+        }
+    }
+
+    /// Returns the triangle b, c, d if it has an own side.
+    fn third_of(&self, order: GroupSides) -> Option<Face> {
+        let UnitGroup { b, c, d, .. } = order.group;
+        if self.sides.is_single(order.bc) {
+            Some(Face::Triangle(b, c, d))
+        } else if self.sides.is_single(order.cd) {
+            Some(Face::Triangle(c, d, b))
+        } else if self.sides.is_single(order.bd) {
+            Some(Face::Triangle(d, b, c))
+        } else {
+            None
+        }
+    }
+
+    /// Takes off and keeps rings that alone have some side, and groups that give three triangles,
+    /// until none of these remains.
+    fn keep_singles(&mut self, rings: &[Face], kept: &mut Vec<Candidate>) -> Result<(), Memory> {
         for _ in 0..u64::MAX {
             match self.sides.next() {
                 None => return Ok(()),
-                Some((side, number)) => self.keep(rings, side, number, kept)?,
+                Some((side, number)) => {
+                    if number < FIRST_GROUP {
+                        self.keep(rings, side, number, kept)?
+                    } else {
+                        self.keep_group(number ^ FIRST_GROUP, TRIANGLES, kept)?
+                    }
+                }
             }
         }
         Ok(())
     }
 
-    /// Drops the rings that remain, in this order. Before each next one, those that alone have some
-    /// side are kept.
+    /// Drops the rings that remain, in this order. Before each next one, what is ready is kept.
     fn drop_rings(
         &mut self,
         rings: &[Face],
         order: &[u32],
-        kept: &mut Vec<Face>,
+        kept: &mut Vec<Candidate>,
     ) -> Result<(), Memory> {
         for number in order {
             self.take_off(*number)?;
@@ -320,32 +230,57 @@ impl Peeling {
         Ok(())
     }
 
-    /// Adds as many rings as it can to `kept`, in the order in which they are taken off.
+    /// Takes off the groups that remain and keeps the triangles that each gives. Before each next
+    /// one, what is ready is kept.
+    fn drop_groups(&mut self, rings: &[Face], kept: &mut Vec<Candidate>) -> Result<(), Memory> {
+        let mut place = 0u32;
+        for _ in 0..self.left_groups.len() {
+            self.keep_group(place, 0, kept)?;
+            self.keep_singles(rings, kept)?;
+            place = place.wrapping_add(1);
+        }
+        Ok(())
+    }
+
+    /// Adds as many candidates as it can to `kept`, in the order in which they are taken off.
     fn peel(
         &mut self,
         alloc: Global,
         graph: &Graph,
         rings: &[Face],
-        kept: &mut Vec<Face>,
+        kept: &mut Vec<Candidate>,
     ) -> Result<(), Memory> {
         self.keep_singles(rings, kept)?;
-        if kept.len() < rings.len() {
+        if kept.len() < count_most(rings.len(), self.left_groups.len()) {
             let order = drop_order(alloc, graph, &self.sides, rings)?;
             self.drop_rings(rings, &order, kept)?;
+            self.drop_groups(rings, kept)?;
         }
         Ok(())
     }
 }
 
-/// Orders rings so that each has a side that no earlier ring has, and rotates each ring to begin
-/// with this side.
+/// Returns the greatest number of candidates that rings and groups can give.
+fn count_most(rings: usize, groups: usize) -> usize {
+    rings.saturating_add(groups.saturating_mul(TRIANGLES))
+}
+
+/// Orders rings, and the triangles that stand for groups, so that each has a side that no earlier
+/// one has, and rotates each to begin with this side. No earlier spare has this side.
 ///
-/// The order is built from its end. As long as one of the remaining rings has a side that no other
-/// remaining ring has, this ring is taken off and kept. If no remaining ring has one, a ring is
-/// dropped.
-pub fn order_by_peeling(alloc: Global, graph: &Graph, rings: &[Face]) -> Result<Vec<Face>, Memory> {
-    let mut order = Vec::with_capacity(alloc, rings.len())?;
-    let mut peeling = Peeling::of(alloc, graph, rings)?;
+/// The order is built from its end. A ring is *ready* if it has a side that no other remaining ring
+/// or group has. A group is ready if three of its triangles have such sides, which holds if its
+/// other sides contain no cycle. As long as one is ready, it is taken off and kept. If none is
+/// ready, a ring is dropped. If no ring remains, a group is dropped, and those of its triangles are
+/// kept that have own sides.
+pub fn order_by_peeling(
+    alloc: Global,
+    graph: &Graph,
+    rings: &[Face],
+    groups: &[UnitGroup],
+) -> Result<Vec<Candidate>, Memory> {
+    let mut order = Vec::with_capacity(alloc, count_most(rings.len(), groups.len()))?;
+    let mut peeling = Peeling::of(alloc, graph, rings, groups)?;
     peeling.peel(alloc, graph, rings, &mut order)?;
     order.reverse();
     Ok(order)
@@ -372,7 +307,7 @@ fn drop_order(
 }
 
 /// Lists the class of each ring, and adds the number of rings in each class to `sizes`. Sides are
-/// crowded by all rings, including those already taken off.
+/// crowded by all rings and groups, including those already taken off.
 fn classes_of(
     alloc: Global,
     graph: &Graph,
@@ -410,9 +345,8 @@ fn count_one(sizes: &mut [usize], class: usize) {
 /// A ring that encloses units has neighbors inside and outside. A face of the map has neighbors
 /// outside only, so its units tend to have fewer neighbors.
 ///
-/// Of the four triangles of four mutually adjacent units, at most three become faces. The three
-/// units with the most neighbors form the triangle to drop. This triangle matters only for a
-/// district that has its three units but not the fourth. Such a district is rare.
+/// Of the four triangles of four adjacent units, at most three become faces. If the four units are
+/// no chosen group, the three with the most neighbors form the triangle to drop.
 fn class_of(graph: &Graph, ring: Face, crowded_sides: u8) -> usize {
     let crowded = CROWDED.wrapping_mul(crowded_sides as usize);
     let weight = neighbours_of(graph, ring).saturating_add(crowded);

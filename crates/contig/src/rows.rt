@@ -4,24 +4,24 @@ ghost use Rattle.std.specs.Prelude.{◌≡◌, ◌==◌, ◌<◌, ℕ, List, [],
 ghost use Rattle.std.specs.List.{position_or_len, slice_index_or};
 ghost use Rattle.audit_model.specs.Graph.{adjacent, has};
 ghost use Rattle.contig.specs.Corners.{HasCorners, first_corner, with_corner, with_face, corners_at};
-ghost use Rattle.contig.specs.Faces.{IsRing, AreFaces};
-ghost use Rattle.contig.specs.Listed.{rings};
+ghost use Rattle.contig.specs.Faces.{IsRing, AreFaces, own_rings};
+ghost use Rattle.contig.specs.Listed.{listed};
 ghost use Rattle.contig.specs.Rings.{ring_of};
 
 use crate::corner::{Corner, CornerLists};
-use crate::face::{Face, length_of};
+use crate::face::{Candidate, Face, length_of};
 use audit_model::memory::Memory;
 use dual_graph::graph::Graph;
 use std::alloc::Global;
 
 /// Lists the corners at each unit. Fails if there is no memory.
-pub fn rows_of(alloc: Global, graph: &Graph, faces: &[Face]) -> Result<CornerLists, Memory>
-    requires faces { AreFaces graph.now (rings faces.now) }
-    ensures { IfOk result (λ rows. HasCorners graph.now (λ w. corners_at w (rings faces.now)) rows) }
+pub fn rows_of(alloc: Global, graph: &Graph, faces: &[Candidate]) -> Result<CornerLists, Memory>
+    requires faces { AreFaces graph.now (listed faces.now) }
+    ensures { IfOk result (λ rows. HasCorners graph.now (λ w. corners_at w (own_rings (listed faces.now))) rows) }
 {
     let mut rows = CornerLists::of(alloc, graph)?;
     for face in faces {
-        add_face(graph, &mut rows, *face)?;
+        add_face(graph, &mut rows, face.ring)?;
     }
     Ok(rows)
 }
@@ -43,7 +43,8 @@ pub(crate) fn place_of(row: &[u32], other: u32) -> usize
 
 /// Adds a corner at `unit`. `one` and `other` are the unit's neighbors on the face, and `opposite`
 /// are `far` and `further`.
-fn add_corner(
+#[inline]
+pub(crate) fn add_corner(
     graph: &Graph,
     rows: &mut CornerLists,
     unit: u32,

@@ -2,21 +2,22 @@
 
 ghost use Rattle.std.specs.Prelude.{◌≡◌, ◌+◌, ◌<◌, ◌≤◌, ◌↔◌, [], length, map, slice_index, IsTrue, IsFalse, IfOk, All};
 ghost use Rattle.std.specs.List.{slice_index_or};
-ghost use Rattle.contig.specs.Corners.{IsOnRow, units_of, corners_at};
+ghost use Rattle.contig.specs.Corners.{IsOnRow, units_of, corners_at, spares_at};
 ghost use Rattle.audit_model.specs.Local.{MayLeave};
 ghost use Rattle.audit_model.specs.Path.{IsConnected};
 ghost use Rattle.audit_model.specs.District.{in_district};
 ghost use Rattle.contig.specs.Counts.{filled_of};
-ghost use Rattle.contig.specs.Faces.{AreFaces, AreLinked, count_inner_edges};
+ghost use Rattle.contig.specs.Faces.{AreFaces, AreLinked, count_inner_edges, own_rings};
 ghost use Rattle.contig.specs.Order.{AreSectors, IsOnGraph};
 
 use crate::corner::{Corner, CornerLists};
-use crate::links::{are_linked, are_linked_in_order};
+use crate::links::{are_linked, are_linked_in_order, has_active};
 use crate::list::FaceList;
 use crate::near::faces_of;
 use crate::order::all_sectors;
 use crate::rows::rows_of;
 use crate::sector::{Sector, SectorLists};
+use crate::spare::spares_of;
 use audit_model::memory::Memory;
 use dual_graph::graph::Graph;
 use dual_graph::member::Member;
@@ -28,13 +29,14 @@ use std::snapshot::Snapshot;
 const MOST: usize = 4000000;
 
 /// The faces of a graph, stored as corners by unit, and as sectors where a unit's neighbors lie in
-/// their order.
+/// their order. The spares are stored as corners by unit.
 #[derive(Drop)]
 pub struct FaceTable {
     graph: Snapshot<Graph>,
     list: Snapshot<FaceList>,
     rows: CornerLists,
     sectors: SectorLists,
+    spares: CornerLists,
 }
 
 impl Model for FaceTable {
@@ -44,7 +46,7 @@ impl Model for FaceTable {
 
     ghost view = { λ t. record { graph = t.graph.value; faces = t.list.value } };
 
-    ghost invariant = { λ t. IsFaceTable (record { graph = t.graph.value; faces = t.list.value }) t.rows t.sectors };
+    ghost invariant = { λ t. IsFaceTable (record { graph = t.graph.value; faces = t.list.value }) t.rows t.sectors t.spares };
 }
 
 impl FaceTable {
@@ -55,11 +57,13 @@ impl FaceTable {
         let list = some_faces(alloc, graph)?;
         let rows = rows_of(alloc, graph, list.faces())?;
         let sectors = all_sectors(alloc, graph, &rows)?;
+        let spares = spares_of(alloc, graph, list.faces())?;
         Ok(FaceTable {
             graph: Snapshot::of(graph),
             list: Snapshot::of(&list),
             rows,
             sectors,
+            spares,
         })
     }
 
@@ -80,9 +84,23 @@ impl FaceTable {
         ensures faces { AreFaces self.now.graph self.now.faces }
         ensures few { length self.now.faces ≤ 4000000 }
         ensures placed { All (IsOnRow self.now.graph (slice_index_or self.now.graph.neighbours unit [])) result.now }
-        ensures seen { map (units_of (slice_index_or self.now.graph.neighbours unit [])) result.now ≡ corners_at unit self.now.faces }
+        ensures seen { map (units_of (slice_index_or self.now.graph.neighbours unit [])) result.now ≡ corners_at unit (own_rings self.now.faces) }
     {
         self.rows.at(unit)
+    }
+
+    /// Returns the corners of the spares at a unit.
+    #[inline]
+    pub fn spares_at(&self, unit: u32) -> &[Corner]
+        requires { unit < self.now.graph.units }
+        ensures faces { AreFaces self.now.graph self.now.faces }
+        ensures few { length self.now.faces ≤ 4000000 }
+        ensures placed { All (IsOnRow self.now.graph (slice_index_or self.now.graph.neighbours unit [])) result.now }
+        ensures seen { map (units_of (slice_index_or self.now.graph.neighbours unit [])) result.now ≡ spares_at unit self.now.faces }
+    {
+        // Reading a field makes the type's invariant known to the prover.
+        let _ = &self.rows;
+        self.spares.at(unit)
     }
 
     /// Returns the neighbors of a unit in the order of the faces round it. The list is empty if they
@@ -93,15 +111,16 @@ impl FaceTable {
         ensures faces { AreFaces self.now.graph self.now.faces }
         ensures few { length self.now.faces ≤ 4000000 }
         ensures within { All (IsOnGraph self.now.graph) result.now }
-        ensures order { 0 < length result.now → AreSectors self.now.graph self.now.faces unit result.now }
+        ensures order { 0 < length result.now → AreSectors self.now.graph (own_rings self.now.faces) unit result.now }
     {
         // Reading a field makes the type's invariant known to the prover.
         let _ = &self.rows;
         self.sectors.at(unit)
     }
 
-    /// Does the work of `links_mates`: by the order of the faces where there is one, and otherwise
-    /// by merging neighbors corner by corner.
+    /// Does the work of `links_mates`: by the order of the faces where there is one and no spare is
+    /// needed, and otherwise by merging neighbors corner by corner.
+    #[inline(always)]
     fn are_mates_linked(&self, leaving: Member) -> bool
         requires made { self.now.graph ≡ leaving.graph.now }
         requires few { length (slice_index_or leaving.graph.now.neighbours leaving.unit []) ≤ 32 }
@@ -110,15 +129,34 @@ impl FaceTable {
     {
         let sectors = self.sectors_at(leaving.unit);
         if sectors.is_empty() {
-            return are_linked(leaving, self.at(leaving.unit));
+            return self.merge_mates(leaving);
         }
-        are_linked_in_order(leaving, sectors)
+        if are_linked_in_order(leaving, sectors) {
+            return true;
+        }
+        let spares = self.spares_at(leaving.unit);
+        if !has_active(leaving, spares) {
+            return false;
+        }
+        self.merge_mates(leaving)
+    }
+
+    /// Does the work of `links_mates` by merging neighbors corner by corner, and spare by spare.
+    fn merge_mates(&self, leaving: Member) -> bool
+        requires made { self.now.graph ≡ leaving.graph.now }
+        requires few { length (slice_index_or leaving.graph.now.neighbours leaving.unit []) ≤ 32 }
+        ensures linked { IsTrue result ↔ AreLinked leaving.entry.graph.now self.now.faces leaving.entry.plan.now leaving.entry.unit }
+        ensures faces { AreFaces self.now.graph self.now.faces }
+    {
+        let spares = self.spares_at(leaving.unit);
+        are_linked(leaving, self.at(leaving.unit), spares)
     }
 
     /// Returns true if the mates of a unit are linked.
     ///
     /// If the district is connected, the unit may then leave. If the mates are not linked and the
     /// connected district has no hole, the unit may not leave.
+    #[inline(always)]
     pub fn links_mates(&self, leaving: Member) -> bool
         requires made { self.now.graph ≡ leaving.graph.now }
         requires few { length (slice_index_or leaving.graph.now.neighbours leaving.unit []) ≤ 32 }

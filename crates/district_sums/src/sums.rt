@@ -83,6 +83,7 @@ impl Sums {
     /// of the unit's neighbors in its own district and in the new one.
     ///
     /// Scans the unit's neighbors if edges have lengths. Allocates nothing.
+    #[inline(always)]
     pub fn follow(&mut self, member: Member, counts: &Counts, district: u32, mates: (u64, u64))
         requires inputs { AreInputs member.graph.now counts.now (districts_in self.old) member.plan.now }
         requires stands { StandsFor member.graph.now counts.now member.plan.now self.old }

@@ -6,6 +6,7 @@ use Rattle.audit_model.specs.Job.{Job}
 use Rattle.audit_model.specs.JobOf.{IsJob}
 use Rattle.audit_model.specs.Plan.{IsLegal}
 use Rattle.contig.specs.Counts.{AreCounts, Counted}
+use Rattle.contig.specs.Faces.{SparedFace}
 use Rattle.district_sums.specs.Following.{AreInputs, Following, StandsFor}
 use Rattle.flip_kernel.specs.Nearby.{CountsNeighbors}
 use Rattle.flip_kernel.specs.OpenPairs.{MarksOpenPairs}
@@ -16,7 +17,7 @@ module _ (g h : Graph) (p q : List ℕ) (m n : ℕ) (graphs : h ≡ g) (plans : 
       subst (λ (x : Graph). CountsNeighbors x q n table) (sym graphs)
       (subst (λ (x : List ℕ). CountsNeighbors g x n table) (sym plans) (subst (λ (x : ℕ). CountsNeighbors g p x table) (sym numbers) is))
 
-  pub counts_for : (faces : List (List ℕ)) (counted : Counted) → AreCounts g faces m p counted → AreCounts h faces n q counted
+  pub counts_for : (faces : List SparedFace) (counted : Counted) → AreCounts g faces m p counted → AreCounts h faces n q counted
   counts_for faces counted is =
       subst (λ (x : Graph). AreCounts x faces n q counted) (sym graphs)
       (subst (λ (x : List ℕ). AreCounts g faces n x counted) (sym plans) (subst (λ (x : ℕ). AreCounts g faces x p counted) (sym numbers) is))

@@ -12,13 +12,14 @@ ghost use Rattle.audit_model.specs.Step.{next};
 ghost use Rattle.district_sums.specs.Following.{StandsFor, count_near, districts_in};
 ghost use Rattle.flip_kernel.specs.ChainState.{IsMove, IsSummed, KeepsBoundsIn, ProposesOpen, allows, sums_in};
 ghost use Rattle.flip_kernel.specs.Judged.{HasConstraintAt};
-ghost use Rattle.flip_kernel.specs.Nearby.{CountsNeighbors};
 ghost use Rattle.flip_kernel.specs.OpenPairs.{is_open};
 
 use crate::bounds::are_kept;
+use crate::filling::{TriedFillers, fill_holes};
 use crate::moving::Flip;
 use crate::nearby::NeighborCounts;
 use crate::open_pairs::OpenPairs;
+use crate::permission::{is_permitted, is_short, put_unit};
 use crate::proposal::Pairs;
 use crate::start::{start_of, tables_of};
 use audit_model::lists::UnitList;
@@ -28,7 +29,6 @@ use audit_model::steps::Steps;
 use contig::counts::FaceCounts;
 use contig::leave::{decide_by_counting, local_holds, may_leave};
 use contig::table::FaceTable;
-use district_sums::lengths::length_after;
 use district_sums::sums::Sums;
 use dual_graph::marks::Marks;
 use dual_graph::member::Member;
@@ -42,9 +42,9 @@ use std::sync::ledger::Ledger;
 /// The current plan, which is legal for the job, with its sums and tables.
 ///
 /// `sums` has the sums of the districts. `marks` is the buffer of a search. `faces` has the faces of the graph, and
-/// `counts` has the counts of `contig` for each district. `near` has the number of each unit's neighbors in each
-/// district, and `open_pairs` the open pairs if the table of `near` is empty. `low` and `high` are the population
-/// bounds.
+/// `counts` has the counts of `contig` for each district. `fillers` has units that may fill the holes of a district.
+/// `near` has the number of each unit's neighbors in each district, and `open_pairs` the open pairs if the table of
+/// `near` is empty. `low` and `high` are the population bounds.
 pub struct Board {
     job: Snapshot<Job>,
     plan: UnitList,
@@ -52,6 +52,7 @@ pub struct Board {
     marks: Marks,
     faces: FaceTable,
     counts: FaceCounts,
+    fillers: TriedFillers,
     near: NeighborCounts,
     open_pairs: OpenPairs,
     pairs: Pairs,
@@ -70,6 +71,7 @@ impl Drop for Board {
             marks,
             faces,
             counts,
+            fillers,
             near,
             open_pairs,
             pairs: _pairs,
@@ -81,6 +83,7 @@ impl Drop for Board {
         drop(marks);
         drop(faces);
         drop(counts);
+        drop(fillers);
         drop(near);
         drop(open_pairs);
     }
@@ -104,7 +107,7 @@ impl Board {
     {
         let (plan, sums) = start_of(alloc, job)?;
         match tables_of(alloc, job) {
-            Ok((marks, near, open_pairs, faces, counts)) => {
+            Ok((marks, near, open_pairs, faces, counts, fillers)) => {
                 let (low, high) = job.limits();
                 Ok(Board {
                     job: Snapshot::of(job),
@@ -113,6 +116,7 @@ impl Board {
                     marks,
                     faces,
                     counts,
+                    fillers: TriedFillers::new(fillers),
                     near,
                     open_pairs,
                     pairs: Pairs::of(job.units(), job.districts()),
@@ -141,6 +145,7 @@ impl Board {
         self.near.refill(graph, plan, districts);
         self.open_pairs.refill(graph, plan, districts, &self.near);
         self.counts.reset(graph, &self.faces, plan);
+        self.fillers.clear();
     }
 
     /// Returns the current plan.
@@ -244,7 +249,7 @@ impl Board {
     }
 
     /// Returns true if the plan after the flip meets the rules, and its cut edges are not too long in total.
-    #[inline]
+    #[inline(always)]
     fn allows<J: Judge>(&mut self, judge: &J, flip: Flip) -> bool
         requires made { self.old.job ≡ flip.job.now }
         requires judge { HasConstraintAt flip.job.now self.old.plan (J.judging judge.now) }
@@ -260,6 +265,7 @@ impl Board {
 
     /// Decides if the unit may leave its district, by the number of its neighbors there, then by the links and counts
     /// of `contig`, then by the neighbors that would be left alone. Returns `None` if these tests do not decide.
+    #[inline(always)]
     fn decide_by_counting(&self, job: &Job, unit: u32) -> Option<bool>
         requires made { self.now.job ≡ job.now }
         requires unit { unit < job.now.graph.units }
@@ -284,7 +290,8 @@ impl Board {
     }
 
     /// Returns true if the unit may leave its district. The district is searched only if the unit's neighbors in it are
-    /// not connected among themselves. `steps` counts the search.
+    /// not connected among themselves. `steps` counts the search. Tests count the calls, so there are calls.
+    #[inline(never)]
     fn decide_by_search<L: Ledger>(&mut self, job: &Job, unit: u32, steps: &mut Steps<L>) -> bool
         requires made { self.old.job ≡ job.now }
         requires unit { unit < job.now.graph.units }
@@ -300,6 +307,47 @@ impl Board {
             &mut self.marks,
             steps,
         )
+    }
+
+    /// Decides by filling holes of the unit's district if the unit may leave it. Returns `None` if filling does not
+    /// decide, or if the district has no fillers.
+    fn decide_by_filling(&mut self, job: &Job, unit: u32) -> Option<bool>
+        requires made { self.old.job ≡ job.now }
+        requires unit { unit < job.now.graph.units }
+        ensures observed { MatchOption result ⊤ (λ may. IsTrue may ↔ MayLeave job.now.graph self.old.plan unit) }
+        ensures same { self.new ≡ self.old }
+    {
+        let home = self.plan.as_slice()[unit as usize];
+        let fillers = self.fillers.of(home);
+        if fillers.is_empty() {
+            return None;
+        }
+        let decided = fill_holes(
+            job.graph(),
+            &mut self.plan,
+            unit,
+            &self.faces,
+            &self.counts,
+            fillers,
+        );
+        self.fillers.note(decided.is_some());
+        decided
+    }
+
+    /// Returns true if the unit may leave its district. The district is searched only if filling its holes does not
+    /// decide. `steps` counts the search.
+    fn can_leave<L: Ledger>(&mut self, job: &Job, unit: u32, steps: &mut Steps<L>) -> bool
+        requires made { self.old.job ≡ job.now }
+        requires unit { unit < job.now.graph.units }
+        ensures leaves { IsTrue result ↔ MayLeave job.now.graph self.old.plan unit }
+        ensures same { self.new ≡ self.old }
+        ensures searches { (steps.old ≤ steps.new) × (steps.new ≤ steps.old + 1) }
+        ensures local { IsLocal job.now.graph self.old.plan unit → steps.new ≡ steps.old }
+    {
+        match self.decide_by_filling(job, unit) {
+            Some(may) => may,
+            None => self.decide_by_search(job, unit, steps),
+        }
     }
 
     /// Decides without a search if a flip is a move. The pair must be open and the flip within the population bounds.
@@ -348,7 +396,7 @@ impl Board {
     {
         match self.decide_without_search(judge, flip) {
             Some(moves) => moves,
-            None => self.decide_by_search(flip.job, flip.unit, steps),
+            None => self.can_leave(flip.job, flip.unit, steps),
         }
     }
 
@@ -363,7 +411,7 @@ impl Board {
         if !self.keeps_bounds(flip) || self.decide_without_search(judge, flip).is_some() {
             return false;
         }
-        !self.is_local(flip.job, flip.unit)
+        self.decide_by_filling(flip.job, flip.unit).is_none() && !self.is_local(flip.job, flip.unit)
     }
 
     /// Returns true if the unit's neighbors in its district are connected among themselves.
@@ -376,6 +424,7 @@ impl Board {
     }
 
     /// Makes a move.
+    #[inline(always)]
     pub(crate) fn make_move(&mut self, flip: Flip)
         requires made { self.old.job ≡ flip.job.now }
         requires allowed { IsMove flip.job.now self.old.plan flip.unit flip.district }
@@ -400,11 +449,13 @@ impl Board {
             unit: flip.unit,
         };
         self.open_pairs.update(moved, districts, home, &self.near);
+        self.fillers.follow(&self.faces, moved, home, &self.counts);
     }
 }
 
 /// Moves a unit to a district, in the plan and in its sums. `mates` has the number of the unit's neighbors in its old
 /// district, and then in the new one.
+#[inline(always)]
 fn shift(flip: Flip, mates: (u64, u64), sums: &mut Sums, plan: &mut UnitList)
     requires summed { IsSummed flip.job.now plan.old sums.old }
     requires home_mates { mates.0 ≡ count_near flip.job.now.graph plan.old flip.unit (slice_index plan.old flip.unit) }
@@ -428,69 +479,4 @@ fn put_plan(plan: &mut UnitList, other: &[u32])
     ensures { plan.new ≡ other.now }
 {
     plan.as_mut_slice().copy_from_slice(other);
-}
-
-/// Writes a unit's district in the plan, without updating the sums.
-#[inline]
-fn put_unit(plan: &mut UnitList, unit: u32, district: u32)
-    requires { unit < length plan.old }
-    ensures { plan.new ≡ slice_set plan.old unit district }
-{
-    plan.as_mut_slice()[unit as usize] = district;
-}
-
-/// Does the work of `keeps_length` if edges have lengths. The new total is computed from the total before the flip. Few
-/// jobs have lengths, so the code is kept out of line.
-#[inline(never)]
-fn is_short(flip: Flip, sums: &Sums, plan: &UnitList) -> bool
-    requires summed { IsSummed flip.job.now plan.now sums.now }
-    ensures { result ≡ nat_le (cut_length flip.entry.job.now.graph flip.entry.job.now.counts.lengths (slice_set plan.now flip.entry.unit flip.entry.district))
-        flip.entry.job.now.setting.max_length }
-{
-    let member = Member {
-        graph: flip.job.graph(),
-        plan: plan.as_slice(),
-        unit: flip.unit,
-    };
-    let before = sums.view().length;
-    let lengths = &flip.job.counts().lengths;
-    length_after(member, lengths, before, flip.district) <= flip.job.setting().max_length
-}
-
-/// Returns true if the constraint permits the plan after the flip.
-///
-/// The constraint reads a plan and the number of its cut edges. The function therefore writes the flip into `plan` and
-/// the new number into `sums`. It undoes both after the call.
-#[inline(never)]
-fn is_permitted<J: Judge>(
-    judge: &J,
-    flip: Flip,
-    near: &NeighborCounts,
-    sums: &mut Sums,
-    plan: &mut UnitList,
-) -> bool
-    requires summed { IsSummed flip.job.now plan.old sums.old }
-    requires near { CountsNeighbors flip.job.now.graph plan.old flip.job.now.districts near.now }
-    requires judge { HasConstraintAt flip.job.now plan.old (J.judging judge.now) }
-    requires elsewhere { slice_index plan.old flip.unit ≢ flip.district }
-    ensures meets { let after = slice_set plan.old flip.entry.unit flip.entry.district in
-        result ≡ meets_rules (rules flip.entry.job.now) (cut_edges flip.entry.job.now.graph after) after }
-    ensures plan { plan.new ≡ plan.old }
-    ensures sums { sums.new ≡ sums.old }
-{
-    let home = plan.as_slice()[flip.unit as usize];
-    let before = sums.view().cut;
-    let member = Member {
-        graph: flip.job.graph(),
-        plan: plan.as_slice(),
-        unit: flip.unit,
-    };
-    let mates = near.mates(member, flip.job.districts(), home, flip.district);
-    let after = sums.cut_after(member, flip.district, mates);
-    sums.put_cut(after);
-    put_unit(plan, flip.unit, flip.district);
-    let permitted = judge.permits(plan.as_slice(), sums.view(), flip.unit, home);
-    put_unit(plan, flip.unit, home);
-    sums.put_cut(before);
-    permitted
 }

@@ -28,11 +28,13 @@
 
 mod board;
 mod bounds;
+mod filling;
 pub mod flip;
 pub mod laws;
 mod moving;
 mod nearby;
 mod open_pairs;
+mod permission;
 pub mod proposal;
 mod start;
 pub mod state;

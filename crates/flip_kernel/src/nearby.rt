@@ -74,7 +74,7 @@ impl NeighborCounts {
     /// Updates the numbers for a unit that is about to move to another district.
     ///
     /// It costs one pass over the unit's neighbors, and allocates nothing.
-    #[inline]
+    #[inline(always)]
     pub fn follow(&mut self, leaving: Member, districts: u32, district: u32)
         requires in_range { (u : ℕ) → u < leaving.graph.now.units → slice_index leaving.plan.now u < districts }
         requires district { district < districts }
@@ -179,8 +179,9 @@ fn unmark(number: u8) -> u64
 
 /// Returns true if some neighbor of a unit in the unit's district has no other neighbor there.
 ///
-/// The loop has no branch on the entries, which a processor could not predict.
-#[inline]
+/// The loop has no branch on the entries, which a processor could not predict. The code is kept out
+/// of line, so that its values take no registers from the tests before it.
+#[inline(never)]
 fn scan_for_lone_mate(member: Member, districts: u32, table: &[u8]) -> bool
     requires home { slice_index member.plan.now member.unit < districts }
     requires near { AreNear member.graph.now member.plan.now districts table.now }

@@ -11,6 +11,7 @@ use crate::open_pairs::OpenPairs;
 use audit_model::lists::UnitList;
 use audit_model::memory::Memory;
 use contig::counts::FaceCounts;
+use contig::fillers::Fillers;
 use contig::table::FaceTable;
 use district_sums::sums::Sums;
 use dual_graph::marks::Marks;
@@ -96,6 +97,22 @@ fn faces_of(alloc: Global, job: &Job) -> Result<(FaceTable, FaceCounts), Memory>
     }
 }
 
+/// Finds the faces of a job's graph, counts those of its start plan, and creates the lists of fillers.
+fn contiguity_of(alloc: Global, job: &Job) -> Result<(FaceTable, FaceCounts, Fillers), Memory>
+    ensures made { IfOk result (λ f. f.0.graph ≡ job.now.graph) }
+    ensures counts { IfOk result (λ f. AreCounts job.now.graph f.0.faces job.now.districts job.now.start f.1) }
+{
+    let (faces, counts) = faces_of(alloc, job)?;
+    match Fillers::new(alloc, job.graph(), job.districts()) {
+        Ok(fillers) => Ok((faces, counts, fillers)),
+        Err(_) => {
+            drop(faces);
+            drop(counts);
+            Err(Memory)
+        }
+    }
+}
+
 // Allocates the marks of a search, and the tables of pairs.
 fn marks_of(alloc: Global, job: &Job) -> Result<(Marks, NeighborCounts, OpenPairs), Memory>
     ensures marked { IfOk result (λ m. m.0.units ≡ job.now.graph.units) }
@@ -112,11 +129,21 @@ fn marks_of(alloc: Global, job: &Job) -> Result<(Marks, NeighborCounts, OpenPair
     }
 }
 
-/// Allocates the marks of a search, the tables of pairs, and the faces with their counts.
+/// Allocates the marks of a search, the tables of pairs, the faces with their counts, and the lists of fillers.
 pub(crate) fn tables_of(
     alloc: Global,
     job: &Job,
-) -> Result<(Marks, NeighborCounts, OpenPairs, FaceTable, FaceCounts), Memory>
+) -> Result<
+    (
+        Marks,
+        NeighborCounts,
+        OpenPairs,
+        FaceTable,
+        FaceCounts,
+        Fillers,
+    ),
+    Memory,
+>
     ensures marked { IfOk result (λ t. t.0.units ≡ job.now.graph.units) }
     ensures near { IfOk result (λ t. CountsNeighbors job.now.graph job.now.start job.now.districts t.1) }
     ensures opened { IfOk result (λ t. MarksWithoutCounts job.now.graph job.now.start job.now.districts t.1 t.2) }
@@ -124,8 +151,8 @@ pub(crate) fn tables_of(
     ensures counts { IfOk result (λ t. AreCounts job.now.graph t.3.faces job.now.districts job.now.start t.4) }
 {
     let (marks, near, open_pairs) = marks_of(alloc, job)?;
-    match faces_of(alloc, job) {
-        Ok((faces, counts)) => Ok((marks, near, open_pairs, faces, counts)),
+    match contiguity_of(alloc, job) {
+        Ok((faces, counts, fillers)) => Ok((marks, near, open_pairs, faces, counts, fillers)),
         Err(_) => {
             drop(marks);
             drop(near);

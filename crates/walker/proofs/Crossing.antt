@@ -8,6 +8,7 @@ use Rattle.audit_model.specs.contracts.lists.PlainList as PlainList
 use Rattle.dual_graph.specs.contracts.marks.Marks as Marks
 use Rattle.contig.specs.contracts.corner.CornerLists as CornerLists
 use Rattle.contig.specs.contracts.counts.FaceCounts as FaceCounts
+use Rattle.contig.specs.contracts.fillers.Fillers as Fillers
 use Rattle.contig.specs.contracts.table.FaceTable as FaceTable
 use Rattle.flip_kernel.specs.contracts.board.Board as Board
 use Rattle.flip_kernel.specs.contracts.state.State as State
@@ -38,13 +39,17 @@ table_send = search (corners_send, crosses, sendable) depth 20
 counts_send : IsSend FaceCounts.the_row
 counts_send = search (numbers_send, crosses, sendable) depth 20
 
+-- fillers may be sent
+fillers_send : IsSend Fillers.the_row
+fillers_send = search (crosses, sendable) depth 20
+
 -- boards may be sent
 board_send : IsSend Board.the_row
-board_send = search (table_send, counts_send, units_send, numbers_send, marks_send, crosses, sendable) depth 20
+board_send = search (table_send, counts_send, fillers_send, units_send, numbers_send, marks_send, crosses, sendable) depth 20
 
 -- the board field of a state may be sent
 board_field_send : IsSend Board.the_field.row
-board_field_send = search (board_send, table_send, counts_send, units_send, numbers_send, marks_send, crosses, sendable) depth 20
+board_field_send = search (board_send, table_send, counts_send, fillers_send, units_send, numbers_send, marks_send, crosses, sendable) depth 20
 
 -- the buffers for scores may be sent
 room_send : IsSend Room.the_field.row

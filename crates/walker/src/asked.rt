@@ -72,6 +72,7 @@ impl Tally {
     }
 
     /// Scores the current plan. The buffers know its votes afterwards.
+    #[inline(always)]
     pub fn update<J: Judge>(&mut self, state: &State<J>, asks: &[Ask], room: &mut Room)
         requires start { self.old.start ≡ each (asked_value state.now.job state.now.job.start) asks.now }
         ensures start { self.new.start ≡ self.old.start }

@@ -103,7 +103,7 @@ pub fn count_visits<J: Judge, L: Ledger>(
         trail: Trail::new(job, state, course.shift, room),
     };
     for place in 0..course.steps {
-        visit_next(job, state, &mut track, place, room, counter);
+        visit_next(job, state, &mut track, room, counter);
     }
     let mut trail = track.trail;
     trail.flush(course.steps + 1);
@@ -132,27 +132,30 @@ fn step<J: Judge, L: Ledger>(
 }
 
 /// Takes one step. After a move, counts the visits of the plan before the move and scores the plan
-/// after it. `place` is the number of earlier steps.
+/// after it.
+///
+/// The number of steps is that of the draws. It is read only after a move, so that the loop over
+/// steps counts down in one register.
 #[inline(always)]
 fn visit_next<J: Judge, L: Ledger>(
     job: &Job,
     state: &mut State<J>,
     track: &mut Track,
-    place: u32,
     room: &mut Room,
     counter: &mut Steps<L>,
 )
     requires made { state.old.job ≡ job.now }
-    requires few { place < 10 ^ 9 }
-    requires on { IsOnTrack job.now state.old.plan place track.old }
+    requires few { track.old.draws.place < 10 ^ 9 }
+    requires on { IsOnTrack job.now state.old.plan track.old.draws.place track.old }
     ensures made { state.new.job ≡ job.now }
-    ensures on { IsOnTrack job.now state.new.plan (place + 1) track.new }
-    ensures draws { track.new.draws ≡ record track.old.draws { place = place + 1 } }
+    ensures on { IsOnTrack job.now state.new.plan (track.old.draws.place + 1) track.new }
+    ensures draws { track.new.draws ≡ record track.old.draws { place = track.old.draws.place + 1 } }
     ensures asked { track.new.trail.bins.asked ≡ track.old.trail.bins.asked }
 {
     if !step(job, state, &mut track.draws, counter) {
         return;
     }
-    track.trail.flush(place + 1);
+    let visits = track.draws.place() as u32;
+    track.trail.flush(visits);
     track.trail.update(job, state, room);
 }

@@ -6,6 +6,7 @@ use Rattle.audit_model.specs.Graph.{Graph}
 use Rattle.audit_model.specs.District.{in_district}
 use Rattle.contig.specs.Corners.{IsOnRow, is_filled, corners_at, units_of}
 use Rattle.contig.specs.declared.corner.Corner.{Corner}
+use Rattle.contig.specs.Faces.{own_rings}
 use Rattle.contig.proofs.Counting.{counted_more, counted_all, few_more}
 use Rattle.contig.proofs.counts.scan_corners.Goals as goal
 
@@ -40,14 +41,14 @@ pub returns-clause-one : goal.returns-clause-one
 returns-clause-one c =
     let u : ℕ = c.args.member.unit in
     counted_all (is_filled (in_district c.args.member.plan.now c.args.one)) (units_of (slice_index_or c.args.member.graph.now.neighbours u [])) c.at-corner-items.result.now
-    c.loop-corner.corner-index c.loop-corner.in_one (corners_at u c.args.table.now.faces) (omega (arith, c.loop-corner-test.false))
-    (subst (λ (t : Graph). map (units_of (slice_index_or t.neighbours u [])) c.at-corner-items.result.now ≡ corners_at u c.args.table.now.faces) c.requires c.at-corner-items.ensures.seen)
+    c.loop-corner.corner-index c.loop-corner.in_one (corners_at u (own_rings c.args.table.now.faces)) (omega (arith, c.loop-corner-test.false))
+    (subst (λ (t : Graph). map (units_of (slice_index_or t.neighbours u [])) c.at-corner-items.result.now ≡ corners_at u (own_rings c.args.table.now.faces)) c.requires c.at-corner-items.ensures.seen)
     c.loop-corner.invariant.one
 
 pub returns-clause-other : goal.returns-clause-other
 returns-clause-other c =
     let u : ℕ = c.args.member.unit in
     counted_all (is_filled (in_district c.args.member.plan.now c.args.other)) (units_of (slice_index_or c.args.member.graph.now.neighbours u [])) c.at-corner-items.result.now
-    c.loop-corner.corner-index c.loop-corner.in_other (corners_at u c.args.table.now.faces) (omega (arith, c.loop-corner-test.false))
-    (subst (λ (t : Graph). map (units_of (slice_index_or t.neighbours u [])) c.at-corner-items.result.now ≡ corners_at u c.args.table.now.faces) c.requires c.at-corner-items.ensures.seen)
+    c.loop-corner.corner-index c.loop-corner.in_other (corners_at u (own_rings c.args.table.now.faces)) (omega (arith, c.loop-corner-test.false))
+    (subst (λ (t : Graph). map (units_of (slice_index_or t.neighbours u [])) c.at-corner-items.result.now ≡ corners_at u (own_rings c.args.table.now.faces)) c.requires c.at-corner-items.ensures.seen)
     c.loop-corner.invariant.other

@@ -4,10 +4,10 @@ use Rattle.std.proofs.lemmas.List.{take_all}
 use Rattle.std.proofs.lemmas.List.Elements.{All-get_or}
 use Rattle.contig.specs.declared.corner.Corner.{Corner}
 use Rattle.contig.specs.Corners.{IsOnRow}
-use Rattle.contig.specs.Links.{AreMerged, is_inner}
+use Rattle.contig.specs.Links.{AreMerged, is_link}
 use Rattle.contig.proofs.Merging.{Kept, row, merged_step, joined_coarser, joined_one, classes_joined}
 use Rattle.contig.proofs.links.merge.Goals as goal
-use Rattle.contig.proofs.links.merge.Goals.{then-is_inner+then-classes-corner, else-is_inner, else-is_inner-via-then-is_inner+else-classes-corner, else-is_inner-via-else-is_inner}
+use Rattle.contig.proofs.links.merge.Goals.{then-is_link+then-classes-corner, else-is_link, else-is_link-via-then-is_link+else-classes-corner, else-is_link-via-else-is_link}
 use Rattle.audit_model.specs.Replaced.{Replaced}
 
 pub loop-corner-preserved : goal.loop-corner-preserved
@@ -24,35 +24,38 @@ loop-corner-preserved c =
     let li : (get_or corners k d).other < 32 = omega (arith, placed.other, c.requires.few) in
     let old : List ℕ = c.loop-corner.classes in
     let s = c.loop-corner.invariant in
-    elim c.if-is_inner.branch [
-      | then-is_inner+then-classes-corner w ↦
+    elim c.if-is_link.branch [
+      | then-is_link+then-classes-corner w ↦
           let new : List ℕ = w.join.new.classes in
-          let inner : is_inner g plan u (get_or corners k d) ≡ true = sym c.is_inner.ensures ∙ w.if-is_inner.true in
+          let inner : is_link g plan u c.args.spare (get_or corners k d) ≡ true = sym c.is_link.ensures ∙ w.if-is_link.true in
           let replaced : Replaced old new (get_or corners k d).one (get_or corners k d).other = w.join.ensures in
           let wide : length new ≡ 32 = w.join.auto.classes ∙ s.width in
           record {
             width = ap (length {A = ℕ}) w.classes-is ∙ wide;
-            merged = subst (λ (t : List ℕ). AreMerged g plan u (take (k + 1) corners) t) (sym w.classes-is)
-                (merged_step g plan u corners k d old new lt c.requires.few c.requires.placed
+            merged = subst (λ (t : List ℕ). AreMerged g plan u c.args.spare (take (k + 1) corners) t) (sym w.classes-is)
+                (merged_step g plan u c.args.spare corners k d old new lt c.requires.few c.requires.placed
                 (joined_coarser old new (get_or corners k d).one (get_or corners k d).other s.width lf li replaced)
                 (λ _. joined_one old new (get_or corners k d).one (get_or corners k d).other s.width lf li replaced) s.merged);
-            linked = subst (λ (t : List ℕ). Kept g plan u corners c.args.classes.now t) (sym w.classes-is)
-                (λ faces are is had. classes_joined g plan u c.args.leaving.sound c.args.leaving.within faces are corners is c.requires.placed c.requires.few
-                old new k d lt inner replaced wide (s.linked faces are is had));
+            linked = subst (λ (t : List ℕ). Kept g plan u c.args.spare corners c.args.classes.now t) (sym w.classes-is)
+                (λ rings are is had. classes_joined g plan u c.args.leaving.sound c.args.leaving.within rings are c.args.spare corners is c.requires.placed c.requires.few
+                old new k d lt inner replaced wide (s.linked rings are is had));
+            coarser = λ a b la lb e. subst (λ (t : List ℕ). get_or t a 0 ≡ get_or t b 0) (sym w.classes-is)
+                (joined_coarser old new (get_or corners k d).one (get_or corners k d).other s.width lf li replaced a b la lb (s.coarser a b la lb e));
           }
-      | else-is_inner w ↦ record {
+      | else-is_link w ↦ record {
         width = ap (length {A = ℕ}) w.classes-is ∙ s.width;
-        merged = subst (λ (t : List ℕ). AreMerged g plan u (take (k + 1) corners) t) (sym w.classes-is)
-            (merged_step g plan u corners k d old old lt c.requires.few c.requires.placed (λ a b _ _ e. e)
-            (λ inner. elim w.else-is_inner.branch [
-              | else-is_inner-via-then-is_inner+else-classes-corner w' ↦ w'.if-classes-corner.false
-              | else-is_inner-via-else-is_inner w' ↦ absurd (both_ways (is_inner g plan u (get_or corners k d)) (sym c.is_inner.ensures ∙ w'.if-is_inner.false) inner)
+        merged = subst (λ (t : List ℕ). AreMerged g plan u c.args.spare (take (k + 1) corners) t) (sym w.classes-is)
+            (merged_step g plan u c.args.spare corners k d old old lt c.requires.few c.requires.placed (λ a b _ _ e. e)
+            (λ inner. elim w.else-is_link.branch [
+              | else-is_link-via-then-is_link+else-classes-corner w' ↦ w'.if-classes-corner.false
+              | else-is_link-via-else-is_link w' ↦ absurd (both_ways (is_link g plan u c.args.spare (get_or corners k d)) (sym c.is_link.ensures ∙ w'.if-is_link.false) inner)
             ]) s.merged);
-        linked = subst (λ (t : List ℕ). Kept g plan u corners c.args.classes.now t) (sym w.classes-is) s.linked;
+        linked = subst (λ (t : List ℕ). Kept g plan u c.args.spare corners c.args.classes.now t) (sym w.classes-is) s.linked;
+        coarser = λ a b la lb e. subst (λ (t : List ℕ). get_or t a 0 ≡ get_or t b 0) (sym w.classes-is) (s.coarser a b la lb e);
       }
     ]
 
 pub returns-clause-merged : goal.returns-clause-merged
 returns-clause-merged c =
-    subst (λ (t : List Corner). AreMerged c.args.leaving.graph.now c.args.leaving.plan.now c.args.leaving.unit t c.loop-corner.classes)
+    subst (λ (t : List Corner). AreMerged c.args.leaving.graph.now c.args.leaving.plan.now c.args.leaving.unit c.args.spare t c.loop-corner.classes)
     (take_all c.loop-corner.corner-index c.args.corners.now (omega (arith, c.loop-corner-test.false))) c.loop-corner.invariant.merged

@@ -1,8 +1,9 @@
-use Rattle.std.proofs.Common.{◌+◌, Bool, refl, sym, ap, ◌∙◌, arith}
+use Rattle.std.proofs.Common.{ℕ, ◌+◌, Bool, refl, sym, ap, subst, ◌∙◌, arith}
 use Rattle.audit_model.specs.declared.setting.Setting.{Setting}
 use Rattle.chacha_draws.specs.DrawPlace.{DrawPlace}
 use Rattle.audit_statement.specs.Draw.{draw}
 use Rattle.walker.specs.Binned.{histogram_of_visits}
+use Rattle.walker.specs.Track.{IsOnTrack}
 use Rattle.walker.proofs.Flushing.{arrived, tails_fit, histogram_fits}
 use Rattle.walker.proofs.Stepping.{visit_none}
 use Rattle.walker.proofs.steps.count_visits.Goals as goal
@@ -29,11 +30,18 @@ loop-place-preserved g c =
     let so_far = c.loop-place.invariant in
     record {
       made = c.visit_next.ensures.made;
-      on = c.visit_next.ensures.on;
+      on = subst (λ (n : ℕ). IsOnTrack c.args.job.now c.visit_next.new.state.plan (n + 1) c.visit_next.new.track) so_far.on.at c.visit_next.ensures.on;
       same_key = ap (λ (d : DrawPlace). d.key) drawn ∙ so_far.same_key;
       same_stream = ap (λ (d : DrawPlace). d.stream) drawn ∙ so_far.same_stream;
       asked = c.visit_next.ensures.asked ∙ so_far.asked;
     }
+
+pub visit_next-requires-clause-few : goal.visit_next-requires-clause-few
+visit_next-requires-clause-few g c = omega (arith, c.loop-place.invariant.on.at, c.loop-place-test.true, c.requires.few)
+
+pub visit_next-requires-clause-on : goal.visit_next-requires-clause-on
+visit_next-requires-clause-on g c =
+    subst (λ (n : ℕ). IsOnTrack c.args.job.now c.loop-place.state.plan n c.loop-place.track) (sym c.loop-place.invariant.on.at) c.loop-place.invariant.on
 
 pub flush-requires-clause-tails : goal.flush-requires-clause-tails
 flush-requires-clause-tails g c =

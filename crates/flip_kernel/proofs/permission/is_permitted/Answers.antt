@@ -1,7 +1,7 @@
 use Rattle.std.proofs.Common.{ℕ, List, get_or, ap, ◌∙◌}
 use Rattle.flip_kernel.proofs.Holding.{put_back}
 use Rattle.flip_kernel.proofs.Judging.{judged_after}
-use Rattle.flip_kernel.proofs.board.is_permitted.Goals as goal
+use Rattle.flip_kernel.proofs.permission.is_permitted.Goals as goal
 
 pub permits-permitted-requires-clause-after : goal.permits-permitted-requires-clause-after
 permits-permitted-requires-clause-after g c =
