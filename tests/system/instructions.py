@@ -6,7 +6,7 @@ PROGRAM is the auditor and FOLDERS the program audit_folders, both proved builds
 valgrind's callgrind counts, so the numbers do not depend on what else the machine does: each run
 may take at most 1.15 of its number in instructions.json. The runs are those in which work done in
 vain, or again and again, would show: walks with each score and with rules, starts on large graphs,
-saves, a run that goes on from many outcomes, gatherings, several plans. On four maps the searches
+saves, a run that goes on from many outcomes, gatherings, several plans. On five maps the searches
 in a thousand steps are counted, too (calls of the function that searches); they may be 1.15 of
 their number and half a search more. In one run of four workers each thread has to work.
 --record writes the numbers of this build and its toolchain. Record anew only with a reason, and
@@ -89,18 +89,25 @@ def prepare(name: str, *words: str) -> bytes:
         return out.read_bytes()
 
 
-def square(side: int, queen: bool) -> bytes:
-    """Returns a square of units in four bands; with `queen` corners make neighbors, too."""
-    steps = [(0, 1), (1, 0)] + ([(1, 1), (1, -1)] if queen else [])
-    nodes, adjacency = [], []
+def square(side: int, queen: bool, apart: int = 1, bands: int = 4) -> bytes:
+    """Returns a square of units in bands.
+
+    With `queen` the units at corners are neighbors, too: at each `apart`-th corner of each
+    `apart`-th row of corners.
+    """
+    nodes, edges = [], []
     for unit in range(side * side):
         row, column = divmod(unit, side)
         first = unit * 7919 % 101
-        nodes.append({"pop": 1, "a": first, "b": 100 - first, "d": row * 4 // side, "id": unit})
-        near = [(row + down, column + right) for down, right in steps]
-        adjacency.append(
-            [{"id": one * side + other} for one, other in near if one < side and 0 <= other < side]
-        )
+        band = row * bands // side
+        nodes.append({"pop": 1, "a": first, "b": 100 - first, "d": band, "id": unit})
+        right, below = column + 1 < side, row + 1 < side
+        edges += [(unit, unit + 1)] * right + [(unit, unit + side)] * below
+        if queen and right and below and row % apart == 0 and column % apart == 0:
+            edges += [(unit, unit + side + 1), (unit + 1, unit + side)]
+    adjacency: list[list[dict[str, int]]] = [[] for _ in nodes]
+    for one, other in edges:
+        adjacency[one].append({"id": other})
     return json.dumps({"nodes": nodes, "adjacency": adjacency}).encode()
 
 
@@ -180,6 +187,7 @@ def searches() -> dict[str, Run]:
             make_words(*ny8), prepare("ny8.json", *make_words(*ny8)[1:9], "--numbers", "nearest")
         ),
         "searches_with_corners": make_search(SMALL, square(24, True)),
+        "searches_with_some_corners": make_search(SMALL, square(27, True, 3, 9)),
     }
 
 
