@@ -198,9 +198,10 @@ class StepClock(Clock):
 
     def step(self) -> int | None:
         """Returns the step of the last whole line of a plan; None before the first."""
-        end = self.text.seek(0, os.SEEK_END)
-        self.text.seek(max(0, end - TAIL))
-        lines = self.text.read().split(b"\n")[:-1]
+        # The process shares the file's place, where it writes next: a seek would move that too.
+        file = self.text.fileno()
+        start = max(0, os.fstat(file).st_size - TAIL)
+        lines = os.pread(file, TAIL, start).split(b"\n")[:-1]
         if lines[-1:] == [b"end"]:
             return self.steps
         steps = [line.split(b" ")[0] for line in lines[1:] if line[:1].isdigit()]

@@ -1,6 +1,7 @@
 """Calls of the real program: what they answer, each exception, progress, and Ctrl-C."""
 import io
 import json
+import os
 import pathlib
 import signal
 import subprocess
@@ -842,7 +843,10 @@ class Kept(common.ProgramCase):
         half = ["printf", "trace id 0 steps 9 thin 3\\n0 0 0\\n3 1 0 1:1\\n6 1"]
         other = progress.StepClock(1, 9, half, b"", io.StringIO())
         other.process.wait()
+        file = other.text.fileno()
+        os.lseek(file, 2, os.SEEK_SET)
         self.assertEqual(other.step(), 3, "the last whole line")
+        self.assertEqual(os.lseek(file, 0, os.SEEK_CUR), 2, "where the process writes next")
         other.end()
         clock.end()
         self.assertEqual((sorted(seen), seen[-1]), (seen, 300_000))
