@@ -93,6 +93,9 @@ module _ (g : Graph) (inside : ℕ → Bool) where
     flip (w ∷ []) x y p = (w ∷ [], (p.1, p.0, p.2))
     flip (w ∷ t ∷ rest) x y p = subst (λ v. HasPath g inside y v) p.0 (path_after g inside y t w (flip (t ∷ rest) t y p.3) p.1 (graph.symmetric t w ∙ p.2))
 
+    pub path_turned : (x y : ℕ) → HasPath g inside x y → HasPath g inside y x
+    path_turned x y path = flip path.0 x y path.1
+
     pub whole : (start : ℕ) (found : List ℕ) → IsIn g inside start → ((v : ℕ) → (has found v ≡ true) ↔ HasPath g inside start v)
         → (((v : ℕ) → IsIn g inside v → has found v ≡ true) ↔ IsConnected g inside)
     whole start found i reached = (

@@ -43,7 +43,7 @@ fn kept_faces(alloc: Global, graph: &Graph, rings: &[Face]) -> Result<FaceList, 
             spare: None,
         })?;
     }
-    list_faces(alloc, graph, &candidates)
+    list_faces(alloc, graph, candidates)
 }
 
 /// Prints how many of the listed faces are kept in a graph.
@@ -92,7 +92,7 @@ pub fn show_leaving(rt: &HostRuntime, graph: &Graph, plan: &[u32], unit: u32) ->
 // Lists fillers after a unit has moved from district 1 to district 0 and a face went missing there.
 fn fillers_of(alloc: Global, moved: Member) -> Result<Fillers, Memory> {
     let table = FaceTable::of(alloc, moved.graph)?;
-    let mut fillers = Fillers::new(alloc, moved.graph, 2)?;
+    let mut fillers = Fillers::new(alloc, moved.graph, &table, 2)?;
     fillers.update(&table, moved, 1, (0, 1));
     Ok(fillers)
 }

@@ -1,17 +1,19 @@
 -- One more corner in the rows, and the faces of a list of candidates.
-use Rattle.std.proofs.Common.{◌≡◌, ℕ, zero, suc, ◌+◌, ◌<◌, List, [], ◌∷◌, ◌++◌, length, get_or, set, take, map, refl, sym, ap, ◌∙◌, subst, inl, inr, arith, length-set, get_or-set_same, get_or-set_other}
-use Rattle.std.specs.Prelude.{◌==◌, All}
-use Rattle.std.proofs.lemmas.Bool.{cases_eq, eq-eqb, ne_eqb, cond-true, cond-false}
-use Rattle.std.proofs.lemmas.List.{append-nil, map_push, take_more, length_push}
-use Rattle.std.proofs.lemmas.List.Elements.{All-push}
+use Rattle.std.proofs.Common.{◌≡◌, ℕ, true, false, zero, suc, ◌+◌, ◌<◌, List, [], ◌∷◌, ◌++◌, length, get_or, set, take, map, refl, sym, ap, ◌∙◌, subst, inl, inr, arith, length-set, get_or-set_same, get_or-set_other}
+use Rattle.std.specs.Prelude.{◌==◌, All, Option, Some, None, is_some}
+use Rattle.std.proofs.lemmas.Bool.{both_ways, cases_eq, eq-eqb, ne_eqb, cond-true, cond-false}
+use Rattle.std.proofs.lemmas.List.{append-nil, map_push, take_more, take_more_set, length_push}
+use Rattle.std.proofs.lemmas.List.Elements.{All-nil, All-push}
 use Rattle.audit_model.specs.Graph.{Graph}
 use Rattle.contig.specs.Faces.{SparedFace, IsRing, AreFaces, own_ring, spare_ring}
 use Rattle.contig.specs.Listed.{listed}
-use Rattle.contig.specs.Rings.{face_of}
+use Rattle.contig.specs.Rings.{face_by, face_of}
 use Rattle.contig.specs.declared.face.Candidate.{Candidate}
+use Rattle.contig.specs.declared.face.Face.{Face}
+use Rattle.contig.specs.declared.face.Face.TheVariants.{Triangle, Square, Pentagon}
 use Rattle.contig.proofs.Listing.{listed_push}
 use Rattle.contig.specs.declared.corner.Corner.{Corner}
-use Rattle.contig.specs.Corners.{HasCorners, IsOnRow, units_of, with_corner}
+use Rattle.contig.specs.Corners.{HasCorners, IsOnRow, ShowsCorners, spares_at, units_of, with_corner}
 
 -- the rows with one more corner at u
 pub one_more : (g : Graph) (corners : ℕ → List (ℕ × ℕ × ℕ × ℕ)) (rows new : List (List Corner)) (u : ℕ) (corner : Corner) (one other : ℕ)
@@ -85,6 +87,25 @@ rings_at g candidates k d l are = rings_in g candidates k d l (all_rings g (list
 pub listed_step : (candidates : List Candidate) (k : ℕ) (d : Candidate) → k < length candidates
     → listed (take (k + 1) candidates) ≡ face_of (get_or candidates k d) ∷ listed (take k candidates)
 listed_step candidates k d l = ap listed (take_more candidates k d l) ∙ listed_push (take k candidates) (get_or candidates k d)
+
+-- a face without a spare adds no corner of one
+pub bare_spares : (u : ℕ) (ring : Face) (spare : Option ℕ) (later : List SparedFace) → is_some spare ≡ false → spares_at u (face_by ring spare ∷ later) ≡ spares_at u later
+bare_spares u (Triangle a b c) (Some d) later none = absurd (both_ways true none refl)
+bare_spares u (Triangle a b c) None later none = refl
+bare_spares u (Square a b c d) spare later none = refl
+bare_spares u (Pentagon a b c d e) spare later none = refl
+
+-- no rows show that there are no corners
+pub no_corners : (g : Graph) (corners : ℕ → List (ℕ × ℕ × ℕ × ℕ)) (rows : List (List Corner)) → rows ≡ [] → ((u : ℕ) → corners u ≡ []) → ShowsCorners g corners rows
+no_corners g corners rows is none = record {
+  placed = λ u l. subst (λ (r : List (List Corner)). All (IsOnRow g (get_or g.neighbours u [])) (get_or r u [])) (sym is) (All-nil (IsOnRow g (get_or g.neighbours u [])));
+  seen = λ u l. ap (λ (r : List (List Corner)). map (units_of (get_or g.neighbours u [])) (get_or r u [])) is ∙ sym (none u);
+}
+
+-- a candidate that is put after some puts its face first
+pub put_listed : (old new : List Candidate) (k : ℕ) (face : Candidate) → k < length old → new ≡ set old k face
+    → listed (take (k + 1) new) ≡ face_of face ∷ listed (take k old)
+put_listed old new k face l is = ap (λ (t : List Candidate). listed (take (k + 1) t)) is ∙ ap listed (take_more_set old k face l) ∙ listed_push (take k old) face
 
 -- there is one face per candidate
 pub listed_length : (candidates : List Candidate) → length (listed candidates) ≡ length candidates

@@ -1,5 +1,5 @@
 -- The indices of sides, and marks at them.
-use Rattle.std.proofs.Common.{◌≡◌, ◌∷◌, ℕ, zero, suc, ◌+◌, ◌<◌, Bool, true, false, not, ◌&&◌, List, [], length, get_or, sym, ap, ◌∙◌, subst, inl, inr, arith}
+use Rattle.std.proofs.Common.{◌≡◌, ◌∷◌, ℕ, ◌+◌, ◌<◌, Bool, true, false, not, ◌&&◌, List, [], length, get_or, sym, ap, ◌∙◌, subst, inl, inr, arith}
 use Rattle.std.specs.Prelude.{◌==◌, nat_lt, Option, Some, None}
 use Rattle.std.specs.List.{list_any}
 use Rattle.std.proofs.lemmas.Bool.{and_parts, or_cases, cases_Bool, cases_lt, eqb-false, not-true, cond-true, cond-false, lt-ltb, le-ltb}
@@ -12,7 +12,7 @@ use Rattle.contig.specs.declared.face.Face.TheVariants.{Triangle, Square, Pentag
 use Rattle.contig.specs.Faces.{SparedFace, WithoutSpare, WithSpare, has_side, IsRing, OwnsSide, AreFaces, HasOtherUnit, own_ring, spare_ring, both_rings}
 use Rattle.contig.specs.Listed.{side, first_pair, own_side, is_marked, AreListed}
 use Rattle.contig.specs.Rings.{ring_of, fit_by, goes_round}
-use Rattle.contig.proofs.Turning.{AllFit, turned_by, turned_fit}
+use Rattle.contig.proofs.Turning.{AllFit}
 use Rattle.contig.proofs.Listing.{goes_round_ring, owns}
 
 -- a property of two units in either order is one of their side
@@ -38,11 +38,6 @@ pub first_near : (g : Graph) (face : Face) → AllFit g face
 first_near g (Triangle a b c) h = (h.0.units.0, h.1.units.0, h.0.near.0)
 first_near g (Square a b c d) h = (h.0.units.0, h.1.units.0, h.0.near.0)
 first_near g (Pentagon a b c d e) h = (h.0.units.0, h.1.units.0, h.0.near.0)
-
--- each rotation of a face that fits does too
-pub turned_by_fit : (g : Graph) (face : Face) (k : ℕ) → AllFit g face → AllFit g (turned_by k face)
-turned_by_fit g face zero h = h
-turned_by_fit g face (suc k) h = turned_fit g (turned_by k face) (turned_by_fit g face k h)
 
 -- a face that passes the test is a ring
 pub ring_passed : (g : Graph) (face : Face) → IsGraph g → goes_round g face ≡ true → IsRing g (ring_of face)

@@ -1,6 +1,6 @@
 -- Testing and listing faces.
 use Rattle.std.proofs.Common.{◌≡◌, ℕ, ◌<◌, Bool, true, false, not, ◌||◌, List, [], ◌∷◌, ◌++◌, refl, sym, ap, ◌∙◌, subst, inl, inr, arith}
-use Rattle.std.specs.Prelude.{◌==◌, nat_lt, Option, Some, None}
+use Rattle.std.specs.Prelude.{◌==◌, nat_lt, Option, Some, None, is_some}
 use Rattle.std.specs.List.{list_any}
 use Rattle.std.proofs.lemmas.Bool.{and_parts, or_cases, cases_order, cond-true, cond-false, lt-ltb, le-ltb, false_from_ne_true, or_from, ltb-true, eqb-true, eq-eqb, not-true, both_ways, false≢true}
 use Rattle.audit_model.specs.Graph.{Graph, has, adjacent}
@@ -237,6 +237,13 @@ spare_is (Triangle a b c) (Some d) = refl
 spare_is (Triangle a b c) None = refl
 spare_is (Square a b c d) spare = refl
 spare_is (Pentagon a b c d e) spare = refl
+
+-- without a spare, the spare ring is the ring
+pub bare_spare : (ring : Face) (spare : Option ℕ) → is_some spare ≡ false → spare_by ring spare ≡ ring
+bare_spare (Triangle a b c) (Some d) none = absurd (both_ways true none refl)
+bare_spare (Triangle a b c) None none = refl
+bare_spare (Square a b c d) spare none = refl
+bare_spare (Pentagon a b c d e) spare none = refl
 
 -- a face whose own side is not in the set owns it
 pub owns : (faces : List (List ℕ)) (there : ℕ × ℕ → Bool) (face : Face) → ((x y : ℕ) → list_any (λ f. has_side f x y) faces ≡ true → there (side x y) ≡ true)

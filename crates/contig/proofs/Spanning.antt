@@ -17,7 +17,7 @@ part_kept xs ys span is =
     ∙ take-append-le (span.end - span.begin) (drop span.begin xs) ys (let long = length-drop span.begin xs in omega (arith, rises, within, long))
 
 -- so do all parts
-parts_kept : {A : Type 0} (xs ys : List A) (spans : List Span) → All (IsWithin xs) spans → map (part (xs ++ ys)) spans ≡ map (part xs) spans
+pub parts_kept : {A : Type 0} (xs ys : List A) (spans : List Span) → All (IsWithin xs) spans → map (part (xs ++ ys)) spans ≡ map (part xs) spans
 parts_kept xs ys [] all = refl
 parts_kept xs ys (span ∷ spans) all =
     ap (λ p. p ∷ map (part (xs ++ ys)) spans) (part_kept xs ys span (all 0 span (omega arith)))

@@ -1,61 +1,25 @@
--- The rotations of a face, their sides and their corners.
-use Rattle.std.proofs.Common.{◌≡◌, ℕ, zero, suc, ◌+◌, ◌<◌, Bool, true, ◌||◌, List, [], ◌∷◌, length, sym, ap, ◌∙◌, subst, arith, add-one}
+-- The corners of a ring can be added.
+use Rattle.std.proofs.Common.{◌≡◌, ℕ, ◌<◌, true, ◌||◌, [], ◌∷◌}
 use Rattle.std.proofs.lemmas.Bool.{or_left, or_right}
 use Rattle.audit_model.specs.Graph.{Graph, adjacent}
 use Rattle.audit_model.proofs.Bools.{in_1, in_2, in_3, in_4}
 use Rattle.audit_model.proofs.ListFacts.{first_has, has_2, has_3, has_4}
-use Rattle.contig.specs.Corners.{HasCorners, first_corner, with_corner, with_face}
 use Rattle.contig.specs.Faces.{is_pair, has_side, IsRing}
-use Rattle.contig.specs.Listed.{side, own_side}
-use Rattle.contig.specs.Rings.{ring_of, turned}
-use Rattle.contig.specs.declared.corner.Corner.{Corner}
+use Rattle.contig.specs.Rings.{ring_of}
 use Rattle.contig.specs.declared.face.Face.{Face}
 use Rattle.contig.specs.declared.face.Face.TheVariants.{Triangle, Square, Pentagon}
-use Rattle.contig.proofs.Listing.{triangle_sides, square_sides, pentagon_sides}
 use Rattle.contig.proofs.Rings.{has_5, five_1, five_2, five_3, five_4, five_5, pair_same, side_turned}
-
--- the face, rotated this many times
-abbrev pub turned_by : ℕ → Face → Face
-turned_by zero face = face
-turned_by (suc k) face = turned (turned_by k face)
-
--- one more rotation
-pub turned_next : (k : ℕ) (face turn next : Face) → turn ≡ turned_by k face → next ≡ turned turn → next ≡ turned_by (k + 1) face
-turned_next k face turn next at more = more ∙ ap turned at ∙ ap (λ n. turned_by n face) (sym (add-one k))
-
--- ---- sides
-
--- a test that passes the own sides of all rotations passes each side
-pub all_sides : (face : Face) (test : ℕ × ℕ → Bool) → ((k : ℕ) → k < length (ring_of face) → test (own_side (turned_by k face)) ≡ true)
-    → (x y : ℕ) → has_side (ring_of face) x y ≡ true → test (side x y) ≡ true
-all_sides (Triangle a b c) test own x y h = triangle_sides test a b c (own 0 (omega arith)) (own 1 (omega arith)) (own 2 (omega arith)) x y h
-all_sides (Square a b c d) test own x y h = square_sides test a b c d (own 0 (omega arith)) (own 1 (omega arith)) (own 2 (omega arith)) (own 3 (omega arith)) x y h
-all_sides (Pentagon a b c d e) test own x y h =
-    pentagon_sides test a b c d e (own 0 (omega arith)) (own 1 (omega arith)) (own 2 (omega arith)) (own 3 (omega arith)) (own 4 (omega arith)) x y h
-
--- ---- corners
 
 -- a corner at a unit can be added: its units are units of the graph, and its first two are neighbors of the unit
 pub record Fits (g : Graph) (unit one other far further : ℕ) : Type 0 where
   pub units : (unit < g.units) × (far < g.units) × (further < g.units)
   pub near : (adjacent g unit one ≡ true) × (adjacent g unit other ≡ true)
 
--- so can the corners of all rotations
+-- so can the corners at all units of a face
 abbrev pub AllFit : Graph → Face → Type 0
 AllFit g (Triangle a b c) = Fits g a b c c c × Fits g b c a a a × Fits g c a b b b
 AllFit g (Square a b c d) = Fits g a b d c c × Fits g b c a d d × Fits g c d b a a × Fits g d a c b b
 AllFit g (Pentagon a b c d e) = Fits g a b e c d × Fits g b c a d e × Fits g c d b e a × Fits g d e c a b × Fits g e a d b c
-
-pub turned_fit : (g : Graph) (face : Face) → AllFit g face → AllFit g (turned face)
-turned_fit g (Triangle a b c) h = (h.1, h.2, h.0)
-turned_fit g (Square a b c d) h = (h.1, h.2, h.3, h.0)
-turned_fit g (Pentagon a b c d e) h = (h.1, h.2, h.3, h.4, h.0)
-
-pub first_fits : (g : Graph) (face : Face) → AllFit g face
-    → Fits g (first_corner face).0 (first_corner face).1 (first_corner face).2 (first_corner face).3 (first_corner face).4
-first_fits g (Triangle a b c) h = h.0
-first_fits g (Square a b c d) h = h.0
-first_fits g (Pentagon a b c d e) h = h.0
 
 -- the corners of a ring can be added
 pub ring_fits : (g : Graph) (face : Face) → IsRing g (ring_of face) → AllFit g face
@@ -101,26 +65,3 @@ ring_fits g (Pentagon a b c d e) is =
       record { units = (ld, la, lb); near = (is.sides d e de, is.sides d c (side_turned (a ∷ b ∷ c ∷ d ∷ e ∷ []) c d cd)) },
       record { units = (le, lb, lc); near = (is.sides e a ea, is.sides e d (side_turned (a ∷ b ∷ c ∷ d ∷ e ∷ []) d e de)) },
     )
-
--- the corners at w, with the first corners of this many rotations
-abbrev pub with_corners : ℕ → List (ℕ × ℕ × ℕ × ℕ) → Face → ℕ → List (ℕ × ℕ × ℕ × ℕ)
-with_corners w corners face zero = corners
-with_corners w corners face (suc k) =
-    let first = first_corner (turned_by k face) in
-    with_corner w (with_corners w corners face k) first.0 (first.1, first.2, first.3, first.4)
-
--- the rows with the first corner of one more rotation
-pub corners_next : (g : Graph) (corners : ℕ → List (ℕ × ℕ × ℕ × ℕ)) (rows : List (List Corner)) (face turn : Face) (k : ℕ) (first : ℕ × ℕ × ℕ × ℕ × ℕ)
-    → turn ≡ turned_by k face → first ≡ first_corner turn
-    → HasCorners g (λ w. with_corner w (with_corners w (corners w) face k) first.0 (first.1, first.2, first.3, first.4)) rows
-    → HasCorners g (λ w. with_corners w (corners w) face (k + 1)) rows
-corners_next g corners rows face turn k first at is has =
-    subst (λ n. HasCorners g (λ w. with_corners w (corners w) face n) rows) (sym (add-one k))
-    (subst (λ (t : ℕ × ℕ × ℕ × ℕ × ℕ). HasCorners g (λ w. with_corner w (with_corners w (corners w) face k) t.0 (t.1, t.2, t.3, t.4)) rows) (is ∙ ap first_corner at) has)
-
--- after all rotations, the rows have the corners of the face
-pub corners_whole : (g : Graph) (corners : ℕ → List (ℕ × ℕ × ℕ × ℕ)) (rows : List (List Corner)) (face : Face) (k : ℕ) → k ≡ length (ring_of face)
-    → HasCorners g (λ w. with_corners w (corners w) face k) rows → HasCorners g (λ w. with_face w (corners w) (ring_of face)) rows
-corners_whole g corners rows (Triangle a b c) k all has = subst (λ n. HasCorners g (λ w. with_corners w (corners w) (Triangle a b c) n) rows) all has
-corners_whole g corners rows (Square a b c d) k all has = subst (λ n. HasCorners g (λ w. with_corners w (corners w) (Square a b c d) n) rows) all has
-corners_whole g corners rows (Pentagon a b c d e) k all has = subst (λ n. HasCorners g (λ w. with_corners w (corners w) (Pentagon a b c d e) n) rows) all has

@@ -4,8 +4,6 @@ use Rattle.std.specs.List.{slice_index_or}
 use Rattle.audit_model.specs.Graph.{Graph}
 use Rattle.contig.specs.Faces.{SparedFace, WithoutSpare, WithSpare}
 use Rattle.contig.specs.declared.corner.Corner.{Corner}
-use Rattle.contig.specs.declared.face.Face.{Face}
-use Rattle.contig.specs.declared.face.Face.TheVariants.{Triangle, Square, Pentagon}
 
 -- the corners at u, with one more if it is at u
 abbrev pub with_corner : ℕ → List (ℕ × ℕ × ℕ × ℕ) → ℕ → ℕ × ℕ × ℕ × ℕ → List (ℕ × ℕ × ℕ × ℕ)
@@ -20,12 +18,6 @@ with_face u corners (a ∷ b ∷ c ∷ d ∷ []) =
 with_face u corners (a ∷ b ∷ c ∷ d ∷ e ∷ []) =
     with_corner u (with_corner u (with_corner u (with_corner u (with_corner u corners a (b, e, c, d)) b (c, a, d, e)) c (d, b, e, a)) d (e, c, a, b)) e (a, d, b, c)
 with_face u corners _ = corners
-
--- the first unit of a face, and the corner at it
-abbrev pub first_corner : Face → ℕ × ℕ × ℕ × ℕ × ℕ
-first_corner (Triangle a b c) = (a, b, c, c, c)
-first_corner (Square a b c d) = (a, b, d, c, c)
-first_corner (Pentagon a b c d e) = (a, b, e, c, d)
 
 -- the corners of the faces at u
 abbrev pub corners_at : ℕ → List (List ℕ) → List (ℕ × ℕ × ℕ × ℕ)
@@ -78,5 +70,10 @@ pub record IsOnRow (g : Graph) (row : List ℕ) (corner : Corner) : Type 0 where
 -- the rows represent these corners at each unit
 pub record HasCorners (g : Graph) (corners : ℕ → List (ℕ × ℕ × ℕ × ℕ)) (rows : List (List Corner)) : Type 0 where
   pub width : length rows ≡ g.units
+  pub placed : (u : ℕ) → u < g.units → All (IsOnRow g (slice_index_or g.neighbours u [])) (slice_index_or rows u [])
+  pub seen : (u : ℕ) → u < g.units → map (units_of (slice_index_or g.neighbours u [])) (slice_index_or rows u []) ≡ corners u
+
+-- so do these rows, but rows without corners may be missing
+pub record ShowsCorners (g : Graph) (corners : ℕ → List (ℕ × ℕ × ℕ × ℕ)) (rows : List (List Corner)) : Type 0 where
   pub placed : (u : ℕ) → u < g.units → All (IsOnRow g (slice_index_or g.neighbours u [])) (slice_index_or rows u [])
   pub seen : (u : ℕ) → u < g.units → map (units_of (slice_index_or g.neighbours u [])) (slice_index_or rows u []) ≡ corners u

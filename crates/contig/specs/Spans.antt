@@ -1,5 +1,5 @@
 -- Lists that are parts of one list.
-use Rattle.std.specs.Prelude.{◌≡◌, ◌≢◌, ◌⊎◌, ℕ, ◌<◌, ◌≤◌, List, length, slice_index, slice_range}
+use Rattle.std.specs.Prelude.{◌≡◌, ◌≢◌, ◌⊎◌, ℕ, ◌+◌, ◌-◌, ◌<◌, ◌≤◌, List, [], ◌∷◌, length, slice_index, slice_range}
 use Rattle.std.specs.List.{slice_index_or}
 use Rattle.contig.specs.declared.span.Span.{Span}
 
@@ -24,3 +24,20 @@ pub record HaveRoom {A : Type 0} (spans : List Span) (limits : List ℕ) (xs : L
   pub within : (u : ℕ) → u < length spans → slice_index limits u ≤ length xs
   pub apart : (u v : ℕ) → u < length spans → v < length spans → u ≢ v
       → (slice_index limits u ≤ (span_at spans v).begin) ⊎ (slice_index limits v ≤ (span_at spans u).begin)
+
+-- the spans from this place to the first of these, and from each of these to the next
+abbrev pub spans_from : ℕ → List ℕ → List Span
+spans_from begin [] = []
+spans_from begin (end ∷ later) = record { begin = begin; end = end } ∷ spans_from end later
+
+-- the spans from each place to the next
+abbrev pub spans_between : List ℕ → List Span
+spans_between [] = []
+spans_between (first ∷ later) = spans_from first later
+
+-- the places rise up to the last one, which is in the list or at its end
+pub record HaveStarts {A : Type 0} (starts : List ℕ) (xs : List A) : Type 0 where
+  pub some : 0 < length starts
+  pub rises : (i : ℕ) → i + 1 < length starts → slice_index starts i ≤ slice_index starts (i + 1)
+  pub upto : (i : ℕ) → i < length starts → slice_index starts i ≤ slice_index starts (length starts - 1)
+  pub within : slice_index starts (length starts - 1) ≤ length xs

@@ -4,7 +4,7 @@ use Rattle.audit_model.specs.Graph.{Graph}
 use Rattle.contig.specs.Faces.{SparedFace, AreFaces, own_rings}
 use Rattle.contig.specs.declared.corner.Corner.{Corner}
 use Rattle.contig.specs.declared.sector.Sector.{Sector}
-use Rattle.contig.specs.Corners.{HasCorners, corners_at, spares_at}
+use Rattle.contig.specs.Corners.{HasCorners, ShowsCorners, corners_at, spares_at}
 use Rattle.contig.specs.Order.{HasSectors}
 
 -- a graph and a list of its faces
@@ -19,4 +19,4 @@ pub record IsFaceTable (faced : Faced) (rows : List (List Corner)) (sectors : Li
   pub few : length faced.faces ≤ 4000000
   pub corners : HasCorners faced.graph (λ u. corners_at u (own_rings faced.faces)) rows
   pub order : HasSectors faced.graph rows sectors
-  pub spared : HasCorners faced.graph (λ u. spares_at u faced.faces) spares
+  pub spared : ShowsCorners faced.graph (λ u. spares_at u faced.faces) spares

@@ -70,6 +70,17 @@ impl CornerLists {
         })
     }
 
+    /// Creates no lists.
+    pub fn none(alloc: Global) -> CornerLists
+        ensures { result ≡ [] }
+    {
+        CornerLists {
+            spans: Vec::new(alloc),
+            limits: Vec::new(alloc),
+            corners: Vec::new(alloc),
+        }
+    }
+
     /// Creates an empty list for each unit, without room for corners. Fails if there is no memory.
     pub fn without_room(alloc: Global, graph: &Graph) -> Result<CornerLists, Memory>
         ensures width { IfOk result (λ l. length l ≡ graph.now.units) }

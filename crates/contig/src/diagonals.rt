@@ -3,12 +3,10 @@
 
 ghost use Rattle.std.specs.Prelude.{◌≡◌, ◌<◌, length, All};
 
+use crate::near::has_few_neighbors;
 use audit_model::memory::Memory;
 use dual_graph::graph::Graph;
 use std::alloc::Global;
-
-/// The maximum number of neighbors of a unit on a diagonal.
-const DEGREE: usize = 32;
 
 /// A flag for each entry of the units' lists of neighbors: true if the unit and the neighbor are a
 /// diagonal.
@@ -22,6 +20,13 @@ pub struct Diagonals {
 }
 
 impl Diagonals {
+    /// Creates an empty list.
+    pub fn none(alloc: Global) -> Diagonals {
+        Diagonals {
+            flags: Vec::new(alloc),
+        }
+    }
+
     /// Finds the diagonals of a graph. Fails if there is no memory.
     pub fn of(alloc: Global, graph: &Graph) -> Result<Diagonals, Memory> {
         let mut seen: Vec<u32> = vec![in alloc; 0; graph.units() as usize]?;
@@ -75,13 +80,6 @@ impl Diagonals {
     }
 }
 
-/// Returns true if a unit has at most `DEGREE` neighbors.
-fn has_few_neighbors(graph: &Graph, unit: u32) -> bool
-    requires { unit < graph.now.units }
-{
-    graph.neighbours(unit).len() <= DEGREE
-}
-
 /// Stamps the neighbors of a unit.
 fn set_stamp(graph: &Graph, seen: &mut [u32], unit: u32, stamp: u32)
     requires unit { unit < graph.now.units }
@@ -100,7 +98,7 @@ fn is_diagonal(graph: &Graph, seen: &[u32], stamp: u32, unit: u32) -> bool
     requires seen { length seen.now ≡ graph.now.units }
 {
     let row = graph.neighbours(unit);
-    if row.len() > DEGREE || count_stamped(row, seen, stamp) != 2 {
+    if !has_few_neighbors(graph, unit) || count_stamped(row, seen, stamp) != 2 {
         return false;
     }
     let mut first = unit;
@@ -128,16 +126,15 @@ fn count_stamped(row: &[u32], seen: &[u32], stamp: u32) -> u32
 
 /// Returns true if two units are adjacent and have exactly two common neighbors.
 fn have_two_common(graph: &Graph, one: u32, other: u32) -> bool {
-    if one >= graph.units() || other >= graph.units() || !has_few_neighbors(graph, other) {
+    if one >= graph.units() || other >= graph.units() {
         return false;
     }
-    let row = graph.neighbours(one);
-    if row.len() > DEGREE {
+    if !has_few_neighbors(graph, one) || !has_few_neighbors(graph, other) {
         return false;
     }
     let mut near = false;
     let mut common = 0u32;
-    for unit in row {
+    for unit in graph.neighbours(one) {
         near = near || *unit == other;
         common = common.wrapping_add(u32::from(graph.adjacent(other, *unit)));
     }

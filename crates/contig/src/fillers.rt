@@ -41,13 +41,26 @@ impl Model for Fillers {
 
 impl Fillers {
     /// Creates an empty list for each district. Fails if there is no memory.
-    pub fn new(alloc: Global, graph: &Graph, districts: u32) -> Result<Fillers, Memory>
+    ///
+    /// The ends of a diagonal and their two common neighbors are a group. So there are no diagonals
+    /// to look for where no face has a spare.
+    pub fn new(
+        alloc: Global,
+        graph: &Graph,
+        faces: &FaceTable,
+        districts: u32,
+    ) -> Result<Fillers, Memory>
         ensures width { IfOk result (λ f. length f ≡ districts) }
         ensures none { IfOk result (λ f. (d : ℕ) → slice_index_or f d [] ≡ []) }
     {
+        let diagonals = if faces.has_spares() {
+            Diagonals::of(alloc, graph)?
+        } else {
+            Diagonals::none(alloc)
+        };
         Ok(Fillers {
             lists: vec![in alloc; ShortList::new(); districts as usize]?,
-            diagonals: Diagonals::of(alloc, graph)?,
+            diagonals,
             holed: 0,
         })
     }

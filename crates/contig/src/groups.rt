@@ -176,7 +176,7 @@ impl Choice {
 
 /// Returns the position of a triangle, or the number of rings if there is none. The rings must be
 /// in rising order by `key_of`.
-fn place_of(rings: &[Face], triangle: (u32, u32, u32)) -> usize {
+pub fn place_of(rings: &[Face], triangle: (u32, u32, u32)) -> usize {
     let mut low = 0usize;
     let mut high = rings.len();
     for _ in 0..64 {

@@ -9,9 +9,9 @@ ghost use Rattle.contig.specs.Counts.{AreCounts, HasNoHole};
 ghost use Rattle.contig.specs.Faces.{AreLinked};
 
 use crate::counts::FaceCounts;
-use crate::flood::{mates_are_whole, rest_is_whole};
+use crate::flood::{mates_are_whole, rest_is_whole, rest_joins};
 use crate::links::MOST as MOST_LINKED;
-use crate::parts::{MOST, are_linked, mark_mates, meet};
+use crate::parts::{MOST, are_linked, are_two_parts, mark_mates, meet, other_part};
 use crate::table::FaceTable;
 use audit_model::steps::Steps;
 use dual_graph::graph::Graph;
@@ -109,6 +109,13 @@ fn can_leave<L: Ledger>(leaving: Member, marks: &mut Marks, steps: &mut Steps<L>
     let mut roots: [u8; 17] = [0, 1, 2, 3, 4, 5, 6, 7, 8, 9, 10, 11, 12, 13, 14, 15, 16];
     if are_linked(leaving, marks, &mut roots, mates) {
         return true;
+    }
+    // A search from one mate of each part visits fewer units than one from all mates.
+    let other = other_part(&roots, mates);
+    if are_two_parts(&roots, mates, other) {
+        let one = marks.at(0);
+        let other = marks.at(other - 1);
+        return rest_joins(leaving, one, other, marks, steps);
     }
     meet(leaving, marks, &mut roots, mates, steps)
 }

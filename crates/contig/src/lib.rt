@@ -37,18 +37,19 @@
 //! 1. Links: if the mates are linked, the unit may leave.
 //! 2. Counts: otherwise, if the district has no hole, the unit may not leave.
 //! 3. Mates: otherwise, if the mates are connected among themselves, the unit may leave.
-//! 4. Search: otherwise a search decides.
+//! 4. Search: otherwise a search decides. If the edges between mates join them into two sets, it
+//!    starts at one mate of each set, and else at all mates.
 //!
 //! For a unit with more than 32 neighbors, only tests 3 and 4 are made.
 //!
-//! `face`, `near`, `groups`, `sides`, `peel` and `list` find faces. `corner`, `rows`, `spare` and
-//! `table` store the faces and their spares by unit. `sector` and `order` store the neighbors of a
-//! unit in the order of the faces round it, where there is such an order. `span` has the parts of a
-//! list in which such lists are stored. `classes` and `links` make test 1. `counts` keeps the counts
-//! of a plan and makes test 2. `parts` and `flood` make tests 3 and 4. `leave` has the calls that
-//! decide. `fill` decides by tests 1 and 2 after filling holes, and `missing` counts the faces that
-//! a filler leaves missing. `fillers` keeps units to fill holes with, `pocket` and `diagonals` find
-//! these, and `short_list` stores them.
+//! `face`, `near`, `groups`, `sides`, `peel` and `list` find faces, and `uncovered` gives some of
+//! them spares. `corner`, `rows`, `spare` and `table` store the faces and their spares by unit.
+//! `sector` and `order` store the neighbors of a unit in the order of the faces round it, where
+//! there is such an order. `span` has the parts of a list in which such lists are stored. `classes`
+//! and `links` make test 1. `counts` keeps the counts of a plan and makes test 2. `parts` and
+//! `flood` make tests 3 and 4. `leave` has the calls that decide. `fill` decides by tests 1 and 2
+//! after filling holes, and `missing` counts the faces that a filler leaves missing. `fillers` keeps
+//! units to fill holes with, `pocket` and `diagonals` find these, and `short_list` stores them.
 #![tactic(auto)]
 
 mod classes;
@@ -77,6 +78,7 @@ mod sides;
 mod span;
 mod spare;
 pub mod table;
+mod uncovered;
 
 pub use counts::FaceCounts;
 pub use face::{Candidate, Face};

@@ -1,15 +1,15 @@
 //! Lists of faces.
 
-ghost use Rattle.std.specs.Prelude.{◌≡◌, ◌<◌, ◌≤◌, ℕ, [], ◌∷◌, length, IsTrue, IfOk, OnOk, OnErr};
+ghost use Rattle.std.specs.Prelude.{◌≡◌, ◌+◌, ◌<◌, ◌≤◌, ℕ, [], ◌∷◌, length, slice_set, take, IsTrue, IfOk};
 ghost use Rattle.std.specs.Bool.{OnTrue, OnFalse};
 ghost use Rattle.audit_model.specs.Below.{sum_below};
 ghost use Rattle.audit_model.specs.Graph.{adjacent};
 ghost use Rattle.audit_model.specs.Length.{degree};
 ghost use Rattle.contig.specs.Faces.{AreFaces, IsRing, has_side};
 ghost use Rattle.contig.specs.Listed.{listed, side, own_side, arc_index, is_marked, AreListed};
-ghost use Rattle.contig.specs.Rings.{ring_of, fit_by, face_of};
+ghost use Rattle.contig.specs.Rings.{ring_of, fit_by, face_of, spare_by};
 
-use crate::face::{Candidate, Face, first_two, length_of};
+use crate::face::{Candidate, Face, first_two};
 use crate::rows::place_of;
 use audit_model::memory::Memory;
 use dual_graph::graph::Graph;
@@ -49,57 +49,65 @@ impl FaceList {
     {
         &self.faces
     }
-
-    /// Appends a face. Fails if there is no memory.
-    fn push(&mut self, face: Candidate) -> Result<(), Memory>
-        ensures ok { OnOk result (self.new ≡ face_of face ∷ self.old) }
-        ensures err { OnErr result (self.new ≡ self.old) }
-    {
-        self.faces.push(face)?;
-        Ok(())
-    }
 }
 
 /// Lists the candidates that are rings and whose own side belongs to no ring and to no spare ring
 /// listed before, in their order. Drops each spare ring that is no other ring of the graph. Fails if
 /// there is no memory.
+///
+/// The list takes the memory of the candidates.
 pub fn list_faces(
     alloc: Global,
     graph: &Graph,
-    candidates: &[Candidate],
+    candidates: Vec<Candidate>,
 ) -> Result<FaceList, Memory>
     ensures { IfOk result (λ l. AreFaces graph.now l) }
 {
-    let mut list = FaceList::new(alloc);
+    let mut faces = candidates;
     let mut marks: Vec<bool> = vec![in alloc; false; graph.arcs_before(graph.units())]?;
-    for candidate in candidates {
-        add_face(graph, &mut list, &mut marks, *candidate)?;
+    let mut end = 0usize;
+    for place in 0..faces.len() {
+        let candidate = faces[place];
+        if add_face(graph, &mut faces, end, &mut marks, candidate) {
+            end += 1;
+        }
     }
-    Ok(list)
+    faces.truncate(end);
+    Ok(FaceList { faces })
 }
 
-/// Adds a candidate if it is a ring and its own side is not marked, and marks the sides of its ring
-/// and of its spare ring. Returns true if the candidate was added. Fails if there is no memory.
+/// Puts a candidate at `end` if it is a ring and its own side is not marked, and marks the sides of
+/// its ring and of its spare ring. Returns true if it did. The faces up to `end` are those listed so
+/// far.
 fn add_face(
     graph: &Graph,
-    list: &mut FaceList,
+    faces: &mut Vec<Candidate>,
+    end: usize,
     marks: &mut Vec<bool>,
     candidate: Candidate,
-) -> Result<bool, Memory>
-    requires listed { AreListed graph.now list.old marks.old.items }
-    ensures listed { AreListed graph.now list.new marks.new.items }
-    ensures added { IfOk result (λ added. OnTrue added (list.new ≡ fit_by graph.now candidate.ring candidate.spare ∷ list.old)) }
-    ensures unchanged { IfOk result (λ added. OnFalse added (list.new ≡ list.old)) }
-    ensures err { OnErr result (list.new ≡ list.old) }
+) -> bool
+    requires room { end < length faces.old.items }
+    requires listed { AreListed graph.now (listed (take end faces.old.items)) marks.old.items }
+    ensures width { length faces.new.items ≡ length faces.old.items }
+    ensures listed { OnTrue result (AreListed graph.now (listed (take (end + 1) faces.new.items)) marks.new.items) }
+    ensures added { OnTrue result (listed (take (end + 1) faces.new.items) ≡ fit_by graph.now candidate.ring candidate.spare ∷ listed (take end faces.old.items)) }
+    ensures unchanged { OnFalse result ((faces.new.items ≡ faces.old.items) × (marks.new.items ≡ marks.old.items)) }
 {
     if !candidate.ring.is_ring(graph) || has_own(graph, marks, candidate.ring) {
-        return Ok(false);
+        return false;
     }
     let face = candidate.fit(graph);
-    list.push(face)?;
-    mark_sides(graph, marks, face.ring);
-    mark_sides(graph, marks, face.spare_ring());
-    Ok(true)
+    replace(faces, end, face);
+    mark_face(graph, marks, face);
+    true
+}
+
+/// Replaces the face at a place.
+fn replace(faces: &mut Vec<Candidate>, place: usize, face: Candidate)
+    requires { place < length faces.old.items }
+    ensures { faces.new.items ≡ slice_set faces.old.items place face }
+{
+    faces[place] = face;
 }
 
 /// Returns the pair of two units, smaller unit first.
@@ -143,6 +151,22 @@ fn mark(graph: &Graph, marks: &mut Vec<bool>, x: u32, y: u32)
     marks[index_of(graph, x, y)] = true;
 }
 
+/// Marks the sides of a face's ring and of its spare ring.
+fn mark_face(graph: &Graph, marks: &mut Vec<bool>, face: Candidate)
+    requires ring { IsRing graph.now (ring_of face.ring) }
+    requires spare { IsRing graph.now (ring_of (spare_by face.ring face.spare)) }
+    requires width { length marks.old.items ≡ sum_below graph.now.units (degree graph.now) }
+    ensures width { length marks.new.items ≡ length marks.old.items }
+    ensures kept { (q : ℕ × ℕ) → IsTrue (is_marked graph.now marks.old.items q) → IsTrue (is_marked graph.now marks.new.items q) }
+    ensures ring { (x y : ℕ) → IsTrue (has_side (ring_of face.ring) x y) → IsTrue (is_marked graph.now marks.new.items (side x y)) }
+    ensures spare { (x y : ℕ) → IsTrue (has_side (ring_of (spare_by face.ring face.spare)) x y) → IsTrue (is_marked graph.now marks.new.items (side x y)) }
+{
+    mark_sides(graph, marks, face.ring);
+    if face.spare.is_some() {
+        mark_sides(graph, marks, face.spare_ring());
+    }
+}
+
 /// Marks the sides of a ring.
 fn mark_sides(graph: &Graph, marks: &mut Vec<bool>, face: Face)
     requires ring { IsRing graph.now (ring_of face) }
@@ -151,10 +175,54 @@ fn mark_sides(graph: &Graph, marks: &mut Vec<bool>, face: Face)
     ensures kept { (q : ℕ × ℕ) → IsTrue (is_marked graph.now marks.old.items q) → IsTrue (is_marked graph.now marks.new.items q) }
     ensures there { (x y : ℕ) → IsTrue (has_side (ring_of face) x y) → IsTrue (is_marked graph.now marks.new.items (side x y)) }
 {
-    let mut turn = face;
-    for _ in 0..length_of(face) {
-        let (x, y) = first_two(turn);
-        mark(graph, marks, x, y);
-        turn = turn.rotate();
+    match face {
+        Face::Triangle(a, b, c) => mark_triangle(graph, marks, (a, b, c)),
+        Face::Square(a, b, c, d) => mark_square(graph, marks, (a, b, c, d)),
+        Face::Pentagon(a, b, c, d, e) => mark_pentagon(graph, marks, (a, b, c, d, e)),
     }
+}
+
+/// Marks the sides of a triangle.
+fn mark_triangle(graph: &Graph, marks: &mut Vec<bool>, ring: (u32, u32, u32))
+    requires ring { IsRing graph.now (ring.0 ∷ ring.1 ∷ ring.2 ∷ []) }
+    requires width { length marks.old.items ≡ sum_below graph.now.units (degree graph.now) }
+    ensures width { length marks.new.items ≡ length marks.old.items }
+    ensures kept { (q : ℕ × ℕ) → IsTrue (is_marked graph.now marks.old.items q) → IsTrue (is_marked graph.now marks.new.items q) }
+    ensures there { (x y : ℕ) → IsTrue (has_side (ring.0 ∷ ring.1 ∷ ring.2 ∷ []) x y) → IsTrue (is_marked graph.now marks.new.items (side x y)) }
+{
+    let (a, b, c) = ring;
+    mark(graph, marks, a, b);
+    mark(graph, marks, b, c);
+    mark(graph, marks, c, a);
+}
+
+/// Marks the sides of a square.
+fn mark_square(graph: &Graph, marks: &mut Vec<bool>, ring: (u32, u32, u32, u32))
+    requires ring { IsRing graph.now (ring.0 ∷ ring.1 ∷ ring.2 ∷ ring.3 ∷ []) }
+    requires width { length marks.old.items ≡ sum_below graph.now.units (degree graph.now) }
+    ensures width { length marks.new.items ≡ length marks.old.items }
+    ensures kept { (q : ℕ × ℕ) → IsTrue (is_marked graph.now marks.old.items q) → IsTrue (is_marked graph.now marks.new.items q) }
+    ensures there { (x y : ℕ) → IsTrue (has_side (ring.0 ∷ ring.1 ∷ ring.2 ∷ ring.3 ∷ []) x y) → IsTrue (is_marked graph.now marks.new.items (side x y)) }
+{
+    let (a, b, c, d) = ring;
+    mark(graph, marks, a, b);
+    mark(graph, marks, b, c);
+    mark(graph, marks, c, d);
+    mark(graph, marks, d, a);
+}
+
+/// Marks the sides of a pentagon.
+fn mark_pentagon(graph: &Graph, marks: &mut Vec<bool>, ring: (u32, u32, u32, u32, u32))
+    requires ring { IsRing graph.now (ring.0 ∷ ring.1 ∷ ring.2 ∷ ring.3 ∷ ring.4 ∷ []) }
+    requires width { length marks.old.items ≡ sum_below graph.now.units (degree graph.now) }
+    ensures width { length marks.new.items ≡ length marks.old.items }
+    ensures kept { (q : ℕ × ℕ) → IsTrue (is_marked graph.now marks.old.items q) → IsTrue (is_marked graph.now marks.new.items q) }
+    ensures there { (x y : ℕ) → IsTrue (has_side (ring.0 ∷ ring.1 ∷ ring.2 ∷ ring.3 ∷ ring.4 ∷ []) x y) → IsTrue (is_marked graph.now marks.new.items (side x y)) }
+{
+    let (a, b, c, d, e) = ring;
+    mark(graph, marks, a, b);
+    mark(graph, marks, b, c);
+    mark(graph, marks, c, d);
+    mark(graph, marks, d, e);
+    mark(graph, marks, e, a);
 }

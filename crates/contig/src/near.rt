@@ -9,12 +9,13 @@ use crate::groups::{UnitGroup, add_groups, add_groups_kept, add_rings_kept, choo
 use crate::list::{FaceList, list_faces};
 use crate::peel::order_by_peeling;
 use crate::sides::Sides;
+use crate::uncovered::add_spares;
 use audit_model::memory::Memory;
 use dual_graph::graph::Graph;
 use std::alloc::Global;
 use std::mem;
 
-/// The maximum number of neighbors of a unit on a face.
+/// The maximum number of neighbors of a unit on a face or on a diagonal.
 const DEGREE: usize = 32;
 
 /// The maximum number of triangles and squares. A graph with more of them gets no faces. The search
@@ -33,7 +34,7 @@ pub fn faces_of(alloc: Global, graph: &Graph) -> Result<FaceList, Memory>
 {
     let mut found = rings_of(alloc, graph)?;
     let order = found.in_order(alloc, graph)?;
-    list_faces(alloc, graph, &order)
+    list_faces(alloc, graph, order)
 }
 
 /// Returns true if a connected graph cannot have more faces than `rings`.
@@ -60,9 +61,30 @@ impl Rings {
         if self.rings.len() > MOST {
             return Ok(Vec::new(alloc));
         }
-        if !self.groups.is_empty() {
-            self.groups = choose_groups(alloc, graph, &self.groups, &mut self.rings)?;
+        if self.groups.is_empty() {
+            return self.order_rings(alloc, graph);
         }
+        self.order_with_spares(alloc, graph)
+    }
+
+    /// Chooses groups, returns the candidates in order and gives uncovered triangles to them as
+    /// spares. The rings found are copied, because the triangles of the chosen groups are removed
+    /// from them.
+    fn order_with_spares(
+        &mut self,
+        alloc: Global,
+        graph: &Graph,
+    ) -> Result<Vec<Candidate>, Memory> {
+        let found = self.rings.clone()?;
+        self.groups = choose_groups(alloc, graph, &self.groups, &mut self.rings)?;
+        let mut order = self.order_rings(alloc, graph)?;
+        add_spares(alloc, graph, &found, &mut order)?;
+        Ok(order)
+    }
+
+    /// Returns the rings, the triangles of the groups, and pentagons where these may yield more
+    /// faces, in an order in which they can become faces.
+    fn order_rings(&mut self, alloc: Global, graph: &Graph) -> Result<Vec<Candidate>, Memory> {
         let order = order_by_peeling(alloc, graph, &self.rings, &self.groups)?;
         if are_all(graph, order.len()) {
             return Ok(order);
@@ -276,7 +298,7 @@ impl Rings {
 }
 
 /// Returns true if a unit has at most `DEGREE` neighbors.
-fn has_few_neighbors(graph: &Graph, unit: u32) -> bool
+pub(crate) fn has_few_neighbors(graph: &Graph, unit: u32) -> bool
     requires { unit < graph.now.units }
 {
     graph.neighbours(unit).len() <= DEGREE

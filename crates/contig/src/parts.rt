@@ -7,13 +7,13 @@
 //!
 //! In this module, `link`, `link_visited` and `are_linked` concern edges, not faces.
 
-ghost use Rattle.std.specs.Prelude.{◌≡◌, ◌+◌, ◌<◌, ◌≤◌, ◌↔◌, ℕ, [], length, slice_index, slice_set, IsTrue, IsFalse};
+ghost use Rattle.std.specs.Prelude.{◌≡◌, ◌≢◌, ◌+◌, ◌<◌, ◌≤◌, ◌↔◌, ℕ, [], length, slice_index, slice_set, IsTrue, IsFalse};
 ghost use Rattle.std.specs.List.{slice_index_or};
 ghost use Rattle.audit_model.specs.Graph.{adjacent};
 ghost use Rattle.audit_model.specs.Local.{is_mate, stays_behind, IsLocal, MayLeave};
 ghost use Rattle.audit_model.specs.Path.{IsConnected};
 ghost use Rattle.audit_model.specs.District.{in_district};
-ghost use Rattle.contig.specs.Parts.{IsJoined, HoldsFoundParts, AllOne, NotOne, IsSpread, IsRowMarked, IsOnePart, HasLabels, LinksNeighbors, IsSeeded};
+ghost use Rattle.contig.specs.Parts.{IsJoined, HoldsFoundParts, AllOne, AreTwo, NotOne, IsSpread, IsRowMarked, IsOnePart, HasLabels, LinksNeighbors, IsSeeded};
 
 use crate::classes::join;
 use audit_model::steps::Steps;
@@ -116,6 +116,34 @@ fn all_one(roots: &[u8], last: usize) -> bool
 {
     for label in 1..last + 1 {
         if roots[label] != roots[1] {
+            return false;
+        }
+    }
+    true
+}
+
+/// Returns the first label that is not joined with label 1.
+pub fn other_part(roots: &[u8], last: usize) -> usize
+    requires width { last < length roots.now }
+    requires parted { NotOne roots.now last }
+    ensures within { (0 < result) × (result ≤ last) }
+    ensures other { slice_index roots.now result ≢ slice_index roots.now 1 }
+{
+    for label in 1..last + 1 {
+        if roots[1] != roots[label] {
+            return label;
+        }
+    }
+    1
+}
+
+/// Returns true if each label is joined with label 1 or with `other`.
+pub fn are_two_parts(roots: &[u8], last: usize, other: usize) -> bool
+    requires { (last < length roots.now) × (other ≤ last) }
+    ensures { IsTrue result → AreTwo roots.now last other }
+{
+    for label in 1..last + 1 {
+        if roots[label] != roots[1] && roots[label] != roots[other] {
             return false;
         }
     }

@@ -1,15 +1,15 @@
 //! The corners at each unit.
 
-ghost use Rattle.std.specs.Prelude.{◌≡◌, ◌==◌, ◌<◌, ℕ, List, [], length, slice_index, IsTrue, IfOk, OnOk};
+ghost use Rattle.std.specs.Prelude.{◌≡◌, ◌==◌, ◌<◌, ℕ, List, [], ◌∷◌, length, slice_index, IsTrue, IfOk, OnOk};
 ghost use Rattle.std.specs.List.{position_or_len, slice_index_or};
 ghost use Rattle.audit_model.specs.Graph.{adjacent, has};
-ghost use Rattle.contig.specs.Corners.{HasCorners, first_corner, with_corner, with_face, corners_at};
+ghost use Rattle.contig.specs.Corners.{HasCorners, with_corner, with_face, corners_at};
 ghost use Rattle.contig.specs.Faces.{IsRing, AreFaces, own_rings};
 ghost use Rattle.contig.specs.Listed.{listed};
 ghost use Rattle.contig.specs.Rings.{ring_of};
 
 use crate::corner::{Corner, CornerLists};
-use crate::face::{Candidate, Face, length_of};
+use crate::face::{Candidate, Face};
 use audit_model::memory::Memory;
 use dual_graph::graph::Graph;
 use std::alloc::Global;
@@ -70,17 +70,6 @@ pub(crate) fn add_corner(
     Ok(())
 }
 
-/// Returns the first unit of a face, the two units next to it, and then `far` and `further`.
-fn first_corner(face: Face) -> (u32, u32, u32, u32, u32)
-    ensures { result ≡ first_corner face }
-{
-    match face {
-        Face::Triangle(a, b, c) => (a, b, c, c, c),
-        Face::Square(a, b, c, d) => (a, b, d, c, c),
-        Face::Pentagon(a, b, c, d, e) => (a, b, e, c, d),
-    }
-}
-
 /// Adds the corners of a face.
 fn add_face(graph: &Graph, rows: &mut CornerLists, face: Face) -> Result<(), Memory>
     requires ring { IsRing graph.now (ring_of face) }
@@ -89,11 +78,65 @@ fn add_face(graph: &Graph, rows: &mut CornerLists, face: Face) -> Result<(), Mem
     ensures added { OnOk result ((corners : ℕ → List (ℕ × ℕ × ℕ × ℕ)) → HasCorners graph.now corners rows.old →
         HasCorners graph.now (λ w. with_face w (corners w) (ring_of face)) rows.new) }
 {
-    let mut turn = face;
-    for _ in 0..length_of(face) {
-        let (unit, one, other, far, further) = first_corner(turn);
-        add_corner(graph, rows, unit, one, other, (far, further))?;
-        turn = turn.rotate();
+    match face {
+        Face::Triangle(a, b, c) => add_triangle(graph, rows, (a, b, c)),
+        Face::Square(a, b, c, d) => add_square(graph, rows, (a, b, c, d)),
+        Face::Pentagon(a, b, c, d, e) => add_pentagon(graph, rows, (a, b, c, d, e)),
     }
+}
+
+/// Adds the corners of a triangle.
+fn add_triangle(graph: &Graph, rows: &mut CornerLists, ring: (u32, u32, u32)) -> Result<(), Memory>
+    requires ring { IsRing graph.now (ring.0 ∷ ring.1 ∷ ring.2 ∷ []) }
+    requires rows { length rows.old ≡ graph.now.units }
+    ensures width { length rows.new ≡ graph.now.units }
+    ensures added { OnOk result ((corners : ℕ → List (ℕ × ℕ × ℕ × ℕ)) → HasCorners graph.now corners rows.old →
+        HasCorners graph.now (λ w. with_face w (corners w) (ring.0 ∷ ring.1 ∷ ring.2 ∷ [])) rows.new) }
+{
+    let (a, b, c) = ring;
+    add_corner(graph, rows, a, b, c, (c, c))?;
+    add_corner(graph, rows, b, c, a, (a, a))?;
+    add_corner(graph, rows, c, a, b, (b, b))?;
+    Ok(())
+}
+
+/// Adds the corners of a square.
+fn add_square(
+    graph: &Graph,
+    rows: &mut CornerLists,
+    ring: (u32, u32, u32, u32),
+) -> Result<(), Memory>
+    requires ring { IsRing graph.now (ring.0 ∷ ring.1 ∷ ring.2 ∷ ring.3 ∷ []) }
+    requires rows { length rows.old ≡ graph.now.units }
+    ensures width { length rows.new ≡ graph.now.units }
+    ensures added { OnOk result ((corners : ℕ → List (ℕ × ℕ × ℕ × ℕ)) → HasCorners graph.now corners rows.old →
+        HasCorners graph.now (λ w. with_face w (corners w) (ring.0 ∷ ring.1 ∷ ring.2 ∷ ring.3 ∷ [])) rows.new) }
+{
+    let (a, b, c, d) = ring;
+    add_corner(graph, rows, a, b, d, (c, c))?;
+    add_corner(graph, rows, b, c, a, (d, d))?;
+    add_corner(graph, rows, c, d, b, (a, a))?;
+    add_corner(graph, rows, d, a, c, (b, b))?;
+    Ok(())
+}
+
+/// Adds the corners of a pentagon.
+fn add_pentagon(
+    graph: &Graph,
+    rows: &mut CornerLists,
+    ring: (u32, u32, u32, u32, u32),
+) -> Result<(), Memory>
+    requires ring { IsRing graph.now (ring.0 ∷ ring.1 ∷ ring.2 ∷ ring.3 ∷ ring.4 ∷ []) }
+    requires rows { length rows.old ≡ graph.now.units }
+    ensures width { length rows.new ≡ graph.now.units }
+    ensures added { OnOk result ((corners : ℕ → List (ℕ × ℕ × ℕ × ℕ)) → HasCorners graph.now corners rows.old →
+        HasCorners graph.now (λ w. with_face w (corners w) (ring.0 ∷ ring.1 ∷ ring.2 ∷ ring.3 ∷ ring.4 ∷ [])) rows.new) }
+{
+    let (a, b, c, d, e) = ring;
+    add_corner(graph, rows, a, b, e, (c, d))?;
+    add_corner(graph, rows, b, c, a, (d, e))?;
+    add_corner(graph, rows, c, d, b, (e, a))?;
+    add_corner(graph, rows, d, e, c, (a, b))?;
+    add_corner(graph, rows, e, a, d, (b, c))?;
     Ok(())
 }

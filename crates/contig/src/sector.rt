@@ -1,10 +1,9 @@
 //! Neighbors of a unit in the order of the faces round it.
 
-ghost use Rattle.std.specs.Prelude.{◌≡◌, ◌<◌, List, [], ◌∷◌, ◌++◌, length, IfOk, OnOk};
+ghost use Rattle.std.specs.Prelude.{◌≡◌, ◌<◌, ◌≤◌, List, [], ◌∷◌, ◌++◌, length, slice_range, IfOk, OnOk};
 ghost use Rattle.std.specs.List.{slice_index_or};
 ghost use Rattle.contig.specs.declared.sector.Sector.{Sector};
 
-use crate::span::Span;
 use audit_model::memory::Memory;
 use std::alloc::Global;
 use std::marker::Model;
@@ -20,24 +19,28 @@ pub struct Sector {
     pub faced: bool,
 }
 
+/// The maximum number of all sectors, so that a place among them has 32 bits. A graph has fewer.
+const MOST: usize = 4294967295;
+
 /// A list of sectors for each unit. All are stored in one list, which spares an allocation for each
-/// unit.
+/// unit. A unit's list ends where the next one begins: one place per unit is read faster than two.
 #[derive(Drop)]
 pub struct SectorLists {
-    spans: Vec<Span>,
+    /// The place where each list begins, and last the place where the next list will begin.
+    starts: Vec<u32>,
     sectors: Vec<Sector>,
 }
 
 impl Model for SectorLists {
-    ghost use Rattle.std.specs.Prelude.{List, map, All};
+    ghost use Rattle.std.specs.Prelude.{List, map};
     ghost use Rattle.contig.specs.declared.sector.Sector.{Sector};
-    ghost use Rattle.contig.specs.Spans.{IsWithin, part};
+    ghost use Rattle.contig.specs.Spans.{HaveStarts, part, spans_between};
 
     ghost Value = { List (List Sector) };
 
-    ghost view = { λ l. map (part l.sectors.items) l.spans.items };
+    ghost view = { λ l. map (part l.sectors.items) (spans_between l.starts.items) };
 
-    ghost invariant = { λ l. All (IsWithin l.sectors.items) l.spans.items };
+    ghost invariant = { λ l. HaveStarts l.starts.items l.sectors.items };
 }
 
 impl SectorLists {
@@ -45,8 +48,10 @@ impl SectorLists {
     pub fn with_room(alloc: Global, units: usize) -> Result<SectorLists, Memory>
         ensures { IfOk result (λ l. l ≡ []) }
     {
+        let mut starts = Vec::with_capacity(alloc, units.saturating_add(1))?;
+        starts.push(0)?;
         Ok(SectorLists {
-            spans: Vec::with_capacity(alloc, units)?,
+            starts,
             sectors: Vec::new(alloc),
         })
     }
@@ -57,31 +62,33 @@ impl SectorLists {
         requires { unit < length self.now }
         ensures { result.now ≡ slice_index_or self.now unit [] }
     {
-        let span = self.spans[unit as usize];
-        &self.sectors[span.begin..span.end]
+        let begin = self.starts[unit as usize];
+        let end = self.starts[unit as usize + 1];
+        part_of(&self.sectors, begin, end)
     }
 
-    /// Appends the sectors of the next unit. Fails if there is no memory.
+    /// Appends the sectors of the next unit. Fails if there is no memory, also for more than `MOST`.
     pub fn push(&mut self, sectors: &[Sector]) -> Result<(), Memory>
         ensures { OnOk result (self.new ≡ self.old ++ sectors.now ∷ []) }
     {
-        let begin = self.sectors.len();
-        append(&mut self.sectors, sectors)?;
-        self.spans.push(Span {
-            begin,
-            end: self.sectors.len(),
-        })?;
+        let begin = self.starts[self.starts.len() - 1];
+        self.sectors.truncate(begin as usize);
+        self.sectors.extend_from_slice(sectors)?;
+        let end = self.sectors.len();
+        if end > MOST {
+            return Err(Memory);
+        }
+        self.starts.push(end as u32)?;
         Ok(())
     }
 }
 
-/// Appends sectors. Fails if there is no memory, maybe with some of them appended.
-fn append(to: &mut Vec<Sector>, sectors: &[Sector]) -> Result<(), Memory>
-    ensures ok { OnOk result (to.new.items ≡ to.old.items ++ sectors.now) }
-    ensures more { (rest : List Sector) × (to.new.items ≡ to.old.items ++ rest) }
+/// Returns the sectors between two places.
+#[inline]
+fn part_of(sectors: &[Sector], begin: u32, end: u32) -> &[Sector]
+    requires rises { begin ≤ end }
+    requires within { end ≤ length sectors.now }
+    ensures { result.now ≡ slice_range sectors.now begin end }
 {
-    for sector in sectors {
-        to.push(*sector)?;
-    }
-    Ok(())
+    &sectors[begin as usize..end as usize]
 }

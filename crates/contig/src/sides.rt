@@ -136,7 +136,7 @@ impl Drop for Sides {
 }
 
 /// Returns the index of the side of two units.
-fn side_of(graph: &Graph, a: u32, b: u32) -> u32 {
+pub fn side_of(graph: &Graph, a: u32, b: u32) -> u32 {
     let (low, high) = if a < b { (a, b) } else { (b, a) };
     if low >= graph.units() {
         return NO_SIDE;

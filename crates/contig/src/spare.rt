@@ -1,7 +1,7 @@
 //! The spares at each unit.
 
-ghost use Rattle.std.specs.Prelude.{◌≡◌, ℕ, List, [], ◌∷◌, length, IfOk, OnOk};
-ghost use Rattle.contig.specs.Corners.{HasCorners, add_spare, spares_at};
+ghost use Rattle.std.specs.Prelude.{◌≡◌, ℕ, List, [], ◌∷◌, length, IsFalse, IfOk, OnOk};
+ghost use Rattle.contig.specs.Corners.{HasCorners, ShowsCorners, add_spare, spares_at};
 ghost use Rattle.contig.specs.Faces.{WithSpare, IsRing, AreFaces, own_ring, spare_ring};
 ghost use Rattle.contig.specs.Listed.{listed};
 ghost use Rattle.contig.specs.Rings.{face_of};
@@ -13,11 +13,36 @@ use audit_model::memory::Memory;
 use dual_graph::graph::Graph;
 use std::alloc::Global;
 
-/// Lists the corners of the spares at each unit. Fails if there is no memory.
+/// Lists the corners of the spares at each unit. There are no lists if no face has a spare. Fails if
+/// there is no memory.
 ///
 /// A spare of a triangle a, b, c has a corner at each of its units a, b and d, and one at c. In each
 /// of them, `further` is c.
 pub fn spares_of(alloc: Global, graph: &Graph, faces: &[Candidate]) -> Result<CornerLists, Memory>
+    requires faces { AreFaces graph.now (listed faces.now) }
+    ensures { IfOk result (λ spares. ShowsCorners graph.now (λ w. spares_at w (listed faces.now)) spares) }
+{
+    if !have_spare(faces) {
+        return Ok(CornerLists::none(alloc));
+    }
+    let spares = all_spares(alloc, graph, faces)?;
+    Ok(spares)
+}
+
+/// Returns false if no face has a spare.
+fn have_spare(faces: &[Candidate]) -> bool
+    ensures { IsFalse result → (u : ℕ) → spares_at u (listed faces.now) ≡ [] }
+{
+    for face in faces {
+        if face.spare.is_some() {
+            return true;
+        }
+    }
+    false
+}
+
+/// Does the work of `spares_of`, with a list for each unit.
+fn all_spares(alloc: Global, graph: &Graph, faces: &[Candidate]) -> Result<CornerLists, Memory>
     requires faces { AreFaces graph.now (listed faces.now) }
     ensures { IfOk result (λ spares. HasCorners graph.now (λ w. spares_at w (listed faces.now)) spares) }
 {

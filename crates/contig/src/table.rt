@@ -54,6 +54,7 @@ impl FaceTable {
     pub fn of(alloc: Global, graph: &Graph) -> Result<FaceTable, Memory>
         ensures { IfOk result (λ t. t.graph ≡ graph.now) }
     {
+        keep_pages(alloc, graph);
         let list = some_faces(alloc, graph)?;
         let rows = rows_of(alloc, graph, list.faces())?;
         let sectors = all_sectors(alloc, graph, &rows)?;
@@ -75,6 +76,12 @@ impl FaceTable {
         ensures few { length self.now.faces ≤ 4000000 }
     {
         self.rows.units()
+    }
+
+    /// Returns true if some face has a spare. Nothing is proved of the result, which only guides the
+    /// search for fillers.
+    pub(crate) fn has_spares(&self) -> bool {
+        self.spares.units() > 0
     }
 
     /// Returns the corners at a unit.
@@ -100,6 +107,9 @@ impl FaceTable {
     {
         // Reading a field makes the type's invariant known to the prover.
         let _ = &self.rows;
+        if unit as usize >= self.spares.units() {
+            return &[];
+        }
         self.spares.at(unit)
     }
 
@@ -168,6 +178,17 @@ impl FaceTable {
     {
         self.are_mates_linked(leaving)
     }
+}
+
+/// Asks for more room than the largest table takes, and gives it back untouched.
+///
+/// The allocator of the C library then keeps the memory of freed tables for the next ones, and does
+/// not return its pages to the system and ask for them again, which takes a tenth of a start. It
+/// keeps twice as much as was given back at once.
+fn keep_pages(alloc: Global, graph: &Graph) {
+    let places = graph.arcs_before(graph.units());
+    let room: Result<Vec<[Corner; 3]>, _> = Vec::with_capacity(alloc, places);
+    drop(room);
 }
 
 /// Finds the faces of a graph. Returns an empty list if there are too many.

@@ -15,9 +15,9 @@ use crate::marks::Marks;
 
 /// A graph and the set of its units that a search may visit.
 #[derive(Drop)]
-struct Within<'a, I: Inside> {
-    graph: &'a Graph,
-    set: &'a I,
+pub(crate) struct Within<'a, I: Inside> {
+    pub(crate) graph: &'a Graph,
+    pub(crate) set: &'a I,
     ghost sized: { I.units set.now ≡ graph.now.units },
 }
 

@@ -138,6 +138,24 @@ impl Board {
         requires legal { IsLegal job.now plan.now }
         ensures { self.new ≡ record self.old { plan = plan.now } }
     {
+        if !self.has_plan(plan) {
+            self.replace_plan(job, plan);
+        }
+    }
+
+    /// Returns true if this is the current plan.
+    fn has_plan(&self, plan: &[u32]) -> bool
+        ensures { IsTrue result → self.now.plan ≡ plan.now }
+    {
+        self.plan.as_slice() == plan
+    }
+
+    /// Does the work of `set`: recomputes all tables.
+    fn replace_plan(&mut self, job: &Job, plan: &[u32])
+        requires made { self.old.job ≡ job.now }
+        requires legal { IsLegal job.now plan.now }
+        ensures { self.new ≡ record self.old { plan = plan.now } }
+    {
         let graph = job.graph();
         let districts = self.pairs.districts;
         put_plan(&mut self.plan, plan);

@@ -17,8 +17,8 @@ use dual_graph::member::Member;
 /// The number of trials after which filling is judged.
 const ROUND: u32 = 256;
 
-/// The number of moves for which filling rests if it decided less than half of the trials.
-const REST: u32 = 16384;
+/// The number of moves for which filling rests if it decided less than a quarter of the trials.
+const REST: u32 = 4096;
 
 /// The fillers of the districts, and how often filling was tried and has decided.
 ///
@@ -79,7 +79,7 @@ impl TriedFillers {
         if self.tried < ROUND {
             return;
         }
-        if self.decided < ROUND / 2 {
+        if self.decided < ROUND / 4 {
             self.fillers.clear();
             self.rest = REST;
         }

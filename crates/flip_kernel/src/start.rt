@@ -103,7 +103,7 @@ fn contiguity_of(alloc: Global, job: &Job) -> Result<(FaceTable, FaceCounts, Fil
     ensures counts { IfOk result (λ f. AreCounts job.now.graph f.0.faces job.now.districts job.now.start f.1) }
 {
     let (faces, counts) = faces_of(alloc, job)?;
-    match Fillers::new(alloc, job.graph(), job.districts()) {
+    match Fillers::new(alloc, job.graph(), &faces, job.districts()) {
         Ok(fillers) => Ok((faces, counts, fillers)),
         Err(_) => {
             drop(faces);

@@ -5,6 +5,7 @@ use Rattle.std.proofs.Crossing.{crosses}
 use Rattle.flip_guard.specs.declared.judge.Judge.{Ghosts}
 use Rattle.std.specs.Borrow.{u32, u64}
 use Rattle.audit_model.specs.contracts.lists.PlainList as PlainList
+use Rattle.dual_graph.specs.contracts.mark_list.MarkList as MarkList
 use Rattle.dual_graph.specs.contracts.marks.Marks as Marks
 use Rattle.contig.specs.contracts.corner.CornerLists as CornerLists
 use Rattle.contig.specs.contracts.counts.FaceCounts as FaceCounts
@@ -23,9 +24,13 @@ units_send = search (crosses, sendable) depth 20
 numbers_send : IsSend (PlainList.the_row u64)
 numbers_send = search (crosses, sendable) depth 20
 
+-- lists of marks may be sent
+mark_list_send : IsSend MarkList.the_row
+mark_list_send = search (crosses, sendable) depth 20
+
 -- marks may be sent
 marks_send : IsSend Marks.the_row
-marks_send = search (crosses, sendable) depth 20
+marks_send = search (mark_list_send, crosses, sendable) depth 20
 
 -- lists of corners may be sent
 corners_send : IsSend CornerLists.the_row

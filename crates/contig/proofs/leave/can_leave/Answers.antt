@@ -5,6 +5,7 @@ use Rattle.audit_model.proofs.Local.{may_leave, simple}
 use Rattle.contig.proofs.Growing.{seeds_joined}
 use Rattle.contig.proofs.Ending.{one_leaves}
 use Rattle.contig.proofs.Places.{own_labels, own_at}
+use Rattle.contig.proofs.TwoParts.{mate_at, one_stays, other_stays, two_units, two_leave}
 use Rattle.contig.proofs.leave.can_leave.Goals as goal
 
 pub returns-then-mates-eq1-clause-leaves : goal.returns-then-mates-eq1-clause-leaves
@@ -51,6 +52,54 @@ returns-then-mates-eq0-clause-local g c local = absurd (both_ways c.mates_are_wh
 
 pub returns-then-are_linked-clause-marks : goal.returns-then-are_linked-clause-marks
 returns-then-are_linked-clause-marks g c = c.mark_mates-mates.ensures.units ∙ sym c.requires
+
+pub at-one-requires : goal.at-one-requires
+at-one-requires g c =
+    let few : c.mark_mates-mates.result ≤ 16 = omega (arith, c.if-mates-gt-MOST.false) in
+    let other = c.other_part-other.ensures.within in
+    (mate_at c.args.leaving.graph.now c.args.leaving.plan.now c.args.leaving.unit c.mark_mates-mates.result c.mark_mates-mates.new.marks
+    (c.mark_mates-mates.ensures.seeded few) 1 (omega arith) (omega (arith, other.0, other.1))).0
+
+pub at-other-requires : goal.at-other-requires
+at-other-requires g c =
+    let few : c.mark_mates-mates.result ≤ 16 = omega (arith, c.if-mates-gt-MOST.false) in
+    let other = c.other_part-other.ensures.within in
+    (mate_at c.args.leaving.graph.now c.args.leaving.plan.now c.args.leaving.unit c.mark_mates-mates.result c.mark_mates-mates.new.marks
+    (c.mark_mates-mates.ensures.seeded few) c.other_part-other.result other.0 other.1).0
+
+pub rest_joins-requires-clause-one : goal.rest_joins-requires-clause-one
+rest_joins-requires-clause-one g c =
+    let few : c.mark_mates-mates.result ≤ 16 = omega (arith, c.if-mates-gt-MOST.false) in
+    let within = c.other_part-other.ensures.within in
+    one_stays c.args.leaving.graph.now c.args.leaving.plan.now c.args.leaving.unit c.mark_mates-mates.result c.mark_mates-mates.new.marks
+    (c.mark_mates-mates.ensures.seeded few) c.args.leaving.sound c.other_part-other.result c.at-one.result c.at-other.result within.0 within.1 c.at-one.ensures c.at-other.ensures
+
+pub rest_joins-requires-clause-other : goal.rest_joins-requires-clause-other
+rest_joins-requires-clause-other g c =
+    let few : c.mark_mates-mates.result ≤ 16 = omega (arith, c.if-mates-gt-MOST.false) in
+    let within = c.other_part-other.ensures.within in
+    other_stays c.args.leaving.graph.now c.args.leaving.plan.now c.args.leaving.unit c.mark_mates-mates.result c.mark_mates-mates.new.marks
+    (c.mark_mates-mates.ensures.seeded few) c.args.leaving.sound c.other_part-other.result c.at-one.result c.at-other.result within.0 within.1 c.at-one.ensures c.at-other.ensures
+
+pub rest_joins-requires-clause-apart : goal.rest_joins-requires-clause-apart
+rest_joins-requires-clause-apart g c =
+    let few : c.mark_mates-mates.result ≤ 16 = omega (arith, c.if-mates-gt-MOST.false) in
+    let within = c.other_part-other.ensures.within in
+    two_units c.args.leaving.graph.now c.args.leaving.plan.now c.args.leaving.unit c.mark_mates-mates.result c.mark_mates-mates.new.marks
+    (c.mark_mates-mates.ensures.seeded few) c.args.leaving.sound c.other_part-other.result c.at-one.result c.at-other.result within.0 within.1 c.at-one.ensures c.at-other.ensures
+    c.are_linked.new.roots c.other_part-other.ensures.other
+
+pub returns-then-are_two_parts-clause-leaves : goal.returns-then-are_two_parts-clause-leaves
+returns-then-are_two_parts-clause-leaves g c connected =
+    let few : c.mark_mates-mates.result ≤ 16 = omega (arith, c.if-mates-gt-MOST.false) in
+    let within = c.other_part-other.ensures.within in
+    let leave = two_leave c.args.leaving.graph.now c.args.leaving.plan.now c.args.leaving.unit c.mark_mates-mates.result c.mark_mates-mates.new.marks
+    (c.mark_mates-mates.ensures.seeded few) c.args.leaving.sound c.other_part-other.result c.at-one.result c.at-other.result within.0 within.1 c.at-one.ensures c.at-other.ensures
+    c.args.leaving.within connected c.are_linked.new.roots c.are_linked.ensures.joined (c.if-are_two_parts.ensures refl) in
+    (λ h. leave.0 (c.rest_joins.ensures.joined.0 h), λ may. c.rest_joins.ensures.joined.1 (leave.1 may))
+
+pub returns-then-are_two_parts-clause-marks : goal.returns-then-are_two_parts-clause-marks
+returns-then-are_two_parts-clause-marks g c = c.rest_joins.ensures.units ∙ sym c.requires
 
 pub returns-clause-marks : goal.returns-clause-marks
 returns-clause-marks g c = c.meet.ensures.units ∙ sym c.requires

@@ -1,5 +1,10 @@
-use Rattle.contig.specs.Listed.{AreListed}
+use Rattle.std.proofs.Common.{◌≡◌, ◌≤◌, length, take}
+use Rattle.contig.specs.Listed.{AreListed, listed}
 use Rattle.contig.proofs.list.list_faces.Given as goal
 
-abbrev pub invariant-loop-candidate : goal.invariant-loop-candidate
-invariant-loop-candidate l = AreListed l.graph l.list l.marks.items
+abbrev pub invariant-loop-place : goal.invariant-loop-place
+invariant-loop-place l = record {
+  width : length l.faces.items ≡ length l.initial.faces.items;
+  upto : l.end ≤ l.place;
+  listed : AreListed l.graph (listed (take l.end l.faces.items)) l.marks.items;
+}

@@ -2,7 +2,7 @@ use Rattle.std.proofs.Common.{◌≡◌, ℕ, ◌+◌, ◌<◌, ◌++◌, ◌∷
 use Rattle.std.proofs.lemmas.List.{take_more_set}
 use Rattle.dual_graph.specs.Marked.{Marked}
 use Rattle.dual_graph.proofs.Marking.{marked_if}
-use Rattle.dual_graph.proofs.marks.Marks.mark_as.Goals as goal
+use Rattle.dual_graph.proofs.mark_list.MarkList.mark_as.Goals as goal
 
 pub index_mut-requires-2 : goal.index_mut-requires-2
 index_mut-requires-2 c = omega (arith, c.self.inside.order.ok.0, c.self.invariant.0, c.self.invariant.1)

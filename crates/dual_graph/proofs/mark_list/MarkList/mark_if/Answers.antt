@@ -2,8 +2,8 @@ use Rattle.std.proofs.Common.{◌≡◌, ℕ, ◌+◌, ◌<◌, List, length, ge
 use Rattle.std.proofs.lemmas.List.{get_or_read}
 use Rattle.dual_graph.specs.Marked.{Marked}
 use Rattle.dual_graph.proofs.Marking.{marked_if}
-use Rattle.dual_graph.proofs.marks.Marks.mark_if.Goals as goal
-use Rattle.dual_graph.proofs.marks.Marks.mark_if.Goals.{then-fresh, else-fresh}
+use Rattle.dual_graph.proofs.mark_list.MarkList.mark_if.Goals as goal
+use Rattle.dual_graph.proofs.mark_list.MarkList.mark_if.Goals.{then-fresh, else-fresh}
 
 pub invariant_of-self : goal.invariant_of-self
 invariant_of-self c =

@@ -4,7 +4,7 @@ use Rattle.audit_model.specs.Graph.{has}
 use Rattle.audit_model.proofs.ListFacts.{at_has}
 use Rattle.dual_graph.specs.Marked.{Marked, IsMarked}
 use Rattle.dual_graph.proofs.Marking.{clearing_done, marked_none}
-use Rattle.dual_graph.proofs.marks.Marks.clear.Goals as goal
+use Rattle.dual_graph.proofs.mark_list.MarkList.clear.Goals as goal
 
 unit_in : (m : Marked) (order : List ℕ) (count k u n : ℕ) → IsMarked m → m.items ≡ take count order → k < count → count ≤ length order
     → u ≡ get_or order k 0 → n ≡ m.units → u < n

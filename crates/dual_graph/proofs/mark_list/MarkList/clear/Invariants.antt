@@ -1,6 +1,6 @@
 use Rattle.std.proofs.Common.{◌≡◌, take}
 use Rattle.dual_graph.proofs.Marking.{IsClearing}
-use Rattle.dual_graph.proofs.marks.Marks.clear.Given as goal
+use Rattle.dual_graph.proofs.mark_list.MarkList.clear.Given as goal
 
 abbrev pub invariant-loop-place : goal.invariant-loop-place
 invariant-loop-place l = record {

@@ -1,0 +1,6 @@
+use Rattle.std.proofs.Common.{◌≡◌, ℕ, ◌<◌, get_or}
+use Rattle.std.specs.Prelude.{◌⊎◌}
+use Rattle.contig.proofs.parts.are_two_parts.Given as goal
+
+abbrev pub invariant-loop-label : goal.invariant-loop-label
+invariant-loop-label l = (k : ℕ) → 0 < k → k < l.label → (get_or l.roots k 0 ≡ get_or l.roots 1 0) ⊎ (get_or l.roots k 0 ≡ get_or l.roots l.other 0)

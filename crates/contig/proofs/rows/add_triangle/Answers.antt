@@ -1,0 +1,21 @@
+use Rattle.contig.specs.declared.face.Face.TheVariants.{Triangle}
+use Rattle.contig.proofs.Turning.{ring_fits}
+use Rattle.contig.proofs.rows.add_triangle.Goals as goal
+
+pub add_corner-requires : goal.add_corner-requires
+add_corner-requires c =
+    let fits = ring_fits c.args.graph.now (Triangle c.args.ring.0 c.args.ring.1 c.args.ring.2) c.requires.ring in
+    record { units = fits.0.units; near = fits.0.near; rows = c.requires.rows }
+
+pub add_corner-requires-2 : goal.add_corner-requires-2
+add_corner-requires-2 c =
+    let fits = ring_fits c.args.graph.now (Triangle c.args.ring.0 c.args.ring.1 c.args.ring.2) c.requires.ring in
+    record { units = fits.1.units; near = fits.1.near; rows = c.add_corner.ensures.width }
+
+pub add_corner-requires-3 : goal.add_corner-requires-3
+add_corner-requires-3 c =
+    let fits = ring_fits c.args.graph.now (Triangle c.args.ring.0 c.args.ring.1 c.args.ring.2) c.requires.ring in
+    record { units = fits.2.units; near = fits.2.near; rows = c.add_corner-2.ensures.width }
+
+pub returns-clause-added : goal.returns-clause-added
+returns-clause-added c corners h = c.in_ok-add_corner-3.ensures.added _ (c.in_ok-add_corner-2.ensures.added _ (c.in_ok-add_corner.ensures.added corners h))
