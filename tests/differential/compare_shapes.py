@@ -5,16 +5,18 @@ Usage: python3 -m tests.differential.compare_shapes PROGRAM [GRAPHS [SEED [STEPS
 PROGRAM is the built program. It may know from the faces of a graph that a unit can leave its
 district, where the plain program of compare_walks.py asks networkx about each changed plan. So the
 graphs, 50 if not said, are in turn trees, rings, double rings with some of their spokes, wheels,
-complete graphs, tori, drawn grids with holes, and graphs of which drawn units have a ring of others
-round them; each with drawn districts, populations, votes and names of units, and one walk of so
-many steps, 2000 if not said, and a few ends. Ends with status 0 where all reports are the same, and
-prints how many of each shape there were, and the moves in them.
+complete graphs, tori, drawn grids with holes, graphs of which drawn units have a ring of others
+round them, and squares whose units also touch at corners; each with drawn districts, populations,
+votes and names of units, and one walk of so many steps, 2000 if not said, and a few ends. Ends with
+status 0 where all reports are the same, and prints how many of each shape there were, and the moves
+in them.
 """
-# RUN: {auditor} 8 2 500
+# RUN: {auditor} 9 2 500
 # NEEDS: networkx
 from __future__ import annotations
 
 import argparse
+import itertools
 import random
 import sys
 from collections import Counter
@@ -98,6 +100,23 @@ def add_rings(chance: random.Random) -> networkx.Graph:
     return graph
 
 
+def touch_at_corners(chance: random.Random) -> networkx.Graph:
+    """Returns a square whose units are neighbors across some corners, too, and of which now and
+    then a unit is gone, so that all its neighbors meet at a point.
+    """
+    wide, high = chance.randint(3, 7), chance.randint(3, 7)
+    graph = networkx.grid_2d_graph(wide, high)
+    share = chance.choice((0.2, 0.6, 1.0))
+    for x, y in [(x, y) for x in range(wide - 1) for y in range(high - 1)]:
+        if chance.random() < share:
+            graph.add_edges_from([((x, y), (x + 1, y + 1)), ((x + 1, y), (x, y + 1))])
+    for unit in [each for each in list(graph) if chance.random() < 0.1]:
+        around = list(graph.neighbors(unit))
+        graph.remove_node(unit)
+        graph.add_edges_from(itertools.combinations(around, 2))
+    return graph
+
+
 SHAPES = {
     "tree": tree,
     "ring": ring,
@@ -107,6 +126,7 @@ SHAPES = {
     "torus": torus,
     "holes": drawn_graph,
     "ringed": add_rings,
+    "corners": touch_at_corners,
 }
 
 
