@@ -85,7 +85,7 @@ impl MarkList {
         self.order[place]
     }
 
-    /// MarkList an unmarked unit with this label.
+    /// Marks an unmarked unit with this label.
     #[inline]
     pub fn mark_as(&mut self, unit: u32, label: u8)
         requires unit { unit < self.old.units }
@@ -101,7 +101,7 @@ impl MarkList {
         self.count += 1;
     }
 
-    /// MarkList an unmarked unit with this label if `fresh` is true, and marks nothing otherwise.
+    /// Marks an unmarked unit with this label if `fresh` is true, and marks nothing otherwise.
     ///
     /// Both cases take the same instructions, since a branch on `fresh` would often be mispredicted
     /// in a search.
@@ -132,7 +132,7 @@ impl MarkList {
         self.labels[unit as usize] != 0
     }
 
-    /// MarkList the unit with label 1 unless it is marked already. Returns true if it was not marked.
+    /// Marks the unit with label 1 unless it is marked already. Returns true if it was not marked.
     #[inline]
     pub fn mark(&mut self, unit: u32) -> bool
         requires { unit < self.old.units }
