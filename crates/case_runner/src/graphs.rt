@@ -8,11 +8,12 @@ use contig::face::{Candidate, Face};
 use contig::fillers::Fillers;
 use contig::leave::{local_holds, may_leave, search_holds};
 use contig::list::{FaceList, list_faces};
-use contig::near::faces_of;
+use contig::long::{LongFaces, list_long};
 use contig::table::FaceTable;
 use dual_graph::graph::Graph;
 use dual_graph::marks::Marks;
 use dual_graph::member::Member;
+use face_choice::{FaceChoice, candidates_of};
 use plan_core::job::Job;
 use std::alloc::Global;
 use std::io;
@@ -23,12 +24,19 @@ fn show_count(rt: &HostRuntime, faces: &FaceList) -> io::Result<()> {
     println!(rt; "faces {}", faces.faces().len())
 }
 
+// Lists the faces that are kept of those that `face_choice` chooses.
+fn find_faces(alloc: Global, graph: &Graph) -> Result<FaceList, Memory> {
+    let FaceChoice { short, long } = candidates_of(alloc, graph)?;
+    let long = list_long(alloc, graph, &long)?;
+    list_faces(alloc, graph, short, &long)
+}
+
 /// Prints the numbers of units, edges, districts and faces of a job.
 pub fn show_faces(rt: &HostRuntime, job: &Job) -> io::Result<()> {
     let graph = job.graph();
     print!(rt; "units {} edges {} ", graph.units(), graph.edges())?;
     print!(rt; "districts {} ", job.districts())?;
-    match faces_of(rt.alloc(), graph) {
+    match find_faces(rt.alloc(), graph) {
         Ok(faces) => show_count(rt, &faces),
         Err(_) => rt.println("memory"),
     }
@@ -43,7 +51,7 @@ fn kept_faces(alloc: Global, graph: &Graph, rings: &[Face]) -> Result<FaceList, 
             spare: None,
         })?;
     }
-    list_faces(alloc, graph, candidates)
+    list_faces(alloc, graph, candidates, &LongFaces::none(alloc))
 }
 
 /// Prints how many of the listed faces are kept in a graph.
@@ -91,7 +99,8 @@ pub fn show_leaving(rt: &HostRuntime, graph: &Graph, plan: &[u32], unit: u32) ->
 
 // Lists fillers after a unit has moved from district 1 to district 0 and a face went missing there.
 fn fillers_of(alloc: Global, moved: Member) -> Result<Fillers, Memory> {
-    let table = FaceTable::of(alloc, moved.graph)?;
+    let FaceChoice { short, long } = candidates_of(alloc, moved.graph)?;
+    let table = FaceTable::of(alloc, moved.graph, short, &long)?;
     let mut fillers = Fillers::new(alloc, moved.graph, &table, 2)?;
     fillers.update(&table, moved, 1, (0, 1));
     Ok(fillers)

@@ -1,5 +1,5 @@
 -- A path around a unit, along the faces that link its mates.
-use Rattle.std.proofs.Common.{◌≡◌, ℕ, Bool, true, not, ◌||◌, List, [], ◌∷◌, refl, sym, ◌∙◌, subst, inl, inr}
+use Rattle.std.proofs.Common.{◌≡◌, ℕ, Bool, true, not, ◌||◌, List, [], ◌∷◌, refl, sym, ◌∙◌, subst, inl, inr, arith}
 use Rattle.std.specs.Prelude.{◌==◌, ◌⊎◌, slice_index}
 use Rattle.std.proofs.lemmas.Bool.{and_parts, and_from, or_cases, or_left, or_right, cases_eq, eq-eqb, eqb-true, both_ways, not-true, false≢true}
 use Rattle.audit_model.specs.Graph.{Graph, has, adjacent, IsIn}
@@ -11,7 +11,7 @@ use Rattle.audit_model.proofs.ListFacts.{first_has, other, has_2, has_3, has_4}
 use Rattle.audit_model.proofs.Bools.{in_1, in_2, in_3, in_4}
 use Rattle.audit_model.proofs.Every.{each_from_all}
 use Rattle.audit_model.proofs.Local.{left_behind, not_beside_itself}
-use Rattle.contig.proofs.RingLinks.{near_link, share_ring}
+use Rattle.contig.proofs.RingLinks.{near_link, share_short_ring}
 use Rattle.contig.proofs.Rings.{pair_same, pair_is, side_in, by_five, five_1, five_2, five_3, five_4, five_5, unit_of_five, has_5}
 use Rattle.contig.specs.Faces.{is_pair, has_side, IsRing, AreRings, share_face, link_graph, AreLinkedBy}
 
@@ -356,7 +356,7 @@ module _ (g : Graph) (simple : IsSimple g) (set : ℕ → Bool) (u : ℕ) where
       at_e : e ≡ u → HasPath g set p q
       at_e h = past_five e a b c d p q h (λ f. a-e (sym f)) (λ f. b-e (sym f)) (λ f. c-e (sym f)) (λ f. d-e (sym f)) (in_a (λ f. a-e (f ∙ sym h))) (in_b (λ f. b-e (f ∙ sym h))) (in_c (λ f. c-e (f ∙ sym h))) (in_d (λ f. d-e (f ∙ sym h)))
           ab bc cd (turn_five d e a b c u p (turn_five c d e a b u p (turn_five b c d e a u p (turn_five a b c d e u p hp)))) (turn_five d e a b c u q (turn_five c d e a b u q (turn_five b c d e a u q (turn_five a b c d e u q hq))))
-  past_ring (a ∷ b ∷ c ∷ d ∷ e ∷ f ∷ rest) p q is_ring others hp hq = absurd (false≢true hp)
+  past_ring (a ∷ b ∷ c ∷ d ∷ e ∷ f ∷ rest) p q is_ring others hp hq = absurd (omega (arith, is_ring.size.1))
 
 -- ---- around the unit
 
@@ -369,7 +369,7 @@ module _ (g : Graph) (faces : List (List ℕ)) (plan : List ℕ) (u : ℕ) (simp
   -- a link gives a path around u
   link_path : (p q : ℕ) → share_face faces (in_district plan (slice_index plan u)) u p q ≡ true → HasPath g (stays_behind plan u) p q
   link_path p q h =
-      let (ring, is_ring, inner, hp, hq) = share_ring g (in_district plan (slice_index plan u)) u p q faces are h in
+      let (ring, is_ring, inner, hp, hq) = share_short_ring g (in_district plan (slice_index plan u)) u p q faces are h in
       past_ring g simple (stays_behind plan u) u ring p q is_ring
       (λ v member off. left_behind g plan u v (is_ring.below v member, each_from_all (in_district plan (slice_index plan u)) ring v inner member) off) hp hq
 

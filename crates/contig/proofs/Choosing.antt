@@ -22,7 +22,7 @@ inner_not_active inside face h = and_right (list_all inside (spare_ring face)) (
 -- ---- the chosen rings are rings that own their sides
 
 -- both rings of a face have one own side
-spare_owns : (face : SparedFace) (later : List (List ℕ)) → OwnsSide (own_ring face) later → OwnsSide (spare_ring face) later
+pub spare_owns : (face : SparedFace) (later : List (List ℕ)) → OwnsSide (own_ring face) later → OwnsSide (spare_ring face) later
 spare_owns (WithoutSpare ring) later h = h
 spare_owns (WithSpare a b c d) later h = h
 

@@ -9,7 +9,7 @@ use Rattle.audit_model.specs.Length.{degree}
 use Rattle.audit_model.proofs.Lengths.{sums_within}
 use Rattle.contig.specs.declared.face.Face.{Face}
 use Rattle.contig.specs.declared.face.Face.TheVariants.{Triangle, Square, Pentagon}
-use Rattle.contig.specs.Faces.{SparedFace, WithoutSpare, WithSpare, has_side, IsRing, OwnsSide, AreFaces, HasOtherUnit, own_ring, spare_ring, both_rings}
+use Rattle.contig.specs.Faces.{SparedFace, WithoutSpare, WithSpare, has_side, IsRing, OwnsSide, AreFaces, AreClear, HasOtherUnit, own_ring, spare_ring, both_rings}
 use Rattle.contig.specs.Listed.{side, first_pair, own_side, is_marked, AreListed}
 use Rattle.contig.specs.Rings.{ring_of, fit_by, goes_round}
 use Rattle.contig.proofs.Turning.{AllFit}
@@ -44,13 +44,13 @@ pub ring_passed : (g : Graph) (face : Face) → IsGraph g → goes_round g face 
 ring_passed g face sound round = goes_round_ring g face (record { symmetric = sound.symmetric; loopless = sound.loopless }) round
 
 -- a ring whose own side is not marked is one more face
-pub listed_more : (g : Graph) (faces new : List SparedFace) (face : SparedFace) (ring : Face) (marks after : List Bool) → AreListed g faces marks
+pub listed_more : (g : Graph) (long : List (List ℕ)) (faces new : List SparedFace) (face : SparedFace) (ring : Face) (marks after : List Bool) → AreListed g long faces marks
     → own_ring face ≡ ring_of ring → IsRing g (ring_of ring) → IsRing g (spare_ring face) → HasOtherUnit face
     → is_marked g marks (own_side ring) ≡ false → new ≡ face ∷ faces → length after ≡ length marks
     → ((q : ℕ × ℕ) → is_marked g marks q ≡ true → is_marked g after q ≡ true)
     → ((x y : ℕ) → has_side (ring_of ring) x y ≡ true → is_marked g after (side x y) ≡ true)
-    → ((x y : ℕ) → has_side (spare_ring face) x y ≡ true → is_marked g after (side x y) ≡ true) → AreListed g new after
-listed_more g faces new face ring marks after listed own is_ring is_spare differ fresh is width kept there there_spare = record {
+    → ((x y : ℕ) → has_side (spare_ring face) x y ≡ true → is_marked g after (side x y) ≡ true) → AreListed g long new after
+listed_more g long faces new face ring marks after listed own is_ring is_spare differ fresh is width kept there there_spare = record {
   are = subst (AreFaces g) (sym is) (
     subst (IsRing g) (sym own) is_ring,
     is_spare,
@@ -58,7 +58,10 @@ listed_more g faces new face ring marks after listed own is_ring is_spare differ
     subst (λ (r : List ℕ). OwnsSide r (both_rings faces)) (sym own) (owns (both_rings faces) (is_marked g marks) ring listed.marked fresh),
     listed.are,
   );
+  clear = subst (λ (l : List SparedFace). AreClear l long) (sym is)
+      (subst (λ (r : List ℕ). OwnsSide r long) (sym own) (owns long (is_marked g marks) ring listed.long_marked fresh), listed.clear);
   width = width ∙ listed.width;
+  long_marked = λ x y h. kept (side x y) (listed.long_marked x y h);
   marked = λ x y h.
       let at : list_any (λ r. has_side r x y) (own_ring face ∷ spare_ring face ∷ both_rings faces) ≡ true =
       subst (λ (l : List SparedFace). list_any (λ r. has_side r x y) (both_rings l) ≡ true) is h in

@@ -174,7 +174,7 @@ side_turned x y = elim (cases_order x y) [
 ]
 
 -- pairs of the two units have one side
-pair_side : (a b x y : ℕ) → is_pair a b x y ≡ true → side a b ≡ side x y
+pub pair_side : (a b x y : ℕ) → is_pair a b x y ≡ true → side a b ≡ side x y
 pair_side a b x y h = elim (pair_is a b x y h) [
   | inl e ↦ ap (λ k. side k b) e.0 ∙ ap (λ k. side x k) e.1
   | inr e ↦ ap (λ k. side k b) e.0 ∙ ap (λ k. side y k) e.1 ∙ side_turned y x

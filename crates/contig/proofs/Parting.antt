@@ -13,7 +13,7 @@ use Rattle.audit_model.proofs.Below.{count_below_more}
 use Rattle.audit_model.proofs.Every.{each_from_all}
 use Rattle.contig.proofs.Labels.{count_roots, edge_labels, edges_less, two_counted, path_same}
 use Rattle.contig.proofs.Rings.{pair_same, pair_is, pair_turned, side_at, side_turned, side_in, own_side, round}
-use Rattle.contig.specs.Faces.{is_pair, has_side, IsRing, AreRings, count_units, count_inner_edges, count_inner_faces, IsClassing}
+use Rattle.contig.specs.Faces.{is_pair, has_side, IsCycle, AreCycles, count_units, count_inner_edges, count_inner_faces, IsClassing}
 
 module _ (g : Graph) (simple : IsSimple g) (inside : ℕ → Bool) (u : ℕ) (class : ℕ → ℕ) (x : ℕ) where
   -- the copy of v at its edge to w; u has two copies, and the second one is adjacent to mates of x's class
@@ -133,7 +133,7 @@ module _ (g : Graph) (simple : IsSimple g) (inside : ℕ → Bool) (u : ℕ) (cl
   -- ---- faces, one after another
 
   -- a label that is even without a face's own side is even with it
-  with_own : (t : ℕ → ℕ → Bool) (a b : ℕ) (rest : List ℕ) (label : ℕ → ℕ) → IsRing g (a ∷ b ∷ rest)
+  with_own : (t : ℕ → ℕ → Bool) (a b : ℕ) (rest : List ℕ) (label : ℕ → ℕ) → IsCycle g (a ∷ b ∷ rest)
       → ((v w : ℕ) → has_side (a ∷ b ∷ rest) v w ≡ true → t v w ≡ true)
       → ((p q : ℕ) → has_side (a ∷ b ∷ rest) u p ≡ true → has_side (a ∷ b ∷ rest) u q ≡ true → class p ≡ class q)
       → IsEven label (without t a b) → IsEven label t
@@ -155,7 +155,7 @@ module _ (g : Graph) (simple : IsSimple g) (inside : ℕ → Bool) (u : ℕ) (cl
           (and_from (t p q) (not (is_pair a b p q)) (passing p q h) (not_from_false (is_pair a b p q) off)))
           (λ k p q hp hq. copy_same k p q (λ e. classing p q (subst (λ m. has_side (a ∷ b ∷ rest) m p ≡ true) e hp) (subst (λ m. has_side (a ∷ b ∷ rest) m q ≡ true) e hq)))
 
-  labels : (faces : List (List ℕ)) (t : ℕ → ℕ → Bool) → IsMutual t → AreRings g faces → IsClassing faces inside u class → IsCovered t faces
+  labels : (faces : List (List ℕ)) (t : ℕ → ℕ → Bool) → IsMutual t → AreCycles g faces → IsClassing faces inside u class → IsCovered t faces
       → Labelled t (count_inner_faces inside faces)
   unfolding Labelled IsCovered
   labels [] t mutual_t are classing covered = from_edges t mutual_t
@@ -253,7 +253,7 @@ module _ (g : Graph) (simple : IsSimple g) (inside : ℕ → Bool) (u : ℕ) (cl
             let pw = and_parts (inside w) (not (w == u)) iw.1 in
             ap label (sym (copy_off v w (off v pv.1))) ∙ even v w iv.0 iw.0 near (and_from (inside v) (inside w) pv.0 pw.0) ∙ ap label (copy_off w v (off w pw.1))
 
-  pub classes_part : (faces : List (List ℕ)) → AreRings g faces → IsConnected g inside → IsIn g inside u
+  pub classes_part : (faces : List (List ℕ)) → AreCycles g faces → IsConnected g inside → IsIn g inside u
       → count_inner_edges g inside + 1 ≤ count_units g inside + count_inner_faces inside faces → IsClassing faces inside u class
       → IsIn g inside x → adjacent g u x ≡ true → (y : ℕ) → IsIn g inside y → adjacent g u y ≡ true → (class x ≡ class y → ⊥)
       → HasPath g (λ v. inside v && not (v == u)) x y → ⊥
@@ -268,7 +268,7 @@ module _ (g : Graph) (simple : IsSimple g) (inside : ℕ → Bool) (u : ℕ) (cl
       ∙ sym (all_one connected in_set label even same k lk parts_k.0) ∙ eqb-true (label k) k parts_k.1)
 
 -- two mates of different classes have no path in their district without u
-pub district_parts : (g : Graph) (faces : List (List ℕ)) (plan : List ℕ) (u x y : ℕ) (class : ℕ → ℕ) → IsSimple g → AreRings g faces → u < g.units
+pub district_parts : (g : Graph) (faces : List (List ℕ)) (plan : List ℕ) (u x y : ℕ) (class : ℕ → ℕ) → IsSimple g → AreCycles g faces → u < g.units
     → IsConnected g (in_district plan (slice_index plan u))
     → count_inner_edges g (in_district plan (slice_index plan u)) + 1
     ≤ count_units g (in_district plan (slice_index plan u)) + count_inner_faces (in_district plan (slice_index plan u)) faces

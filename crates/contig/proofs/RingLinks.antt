@@ -14,22 +14,33 @@ use Rattle.audit_model.proofs.Paths.{first_in}
 use Rattle.audit_model.proofs.Every.{each_from_all}
 use Rattle.contig.proofs.Parting.{district_parts}
 use Rattle.contig.proofs.Rings.{side_in, side_turned}
-use Rattle.contig.specs.Faces.{has_side, IsRing, AreRings, share_face, IsClassing, count_units, count_inner_edges, count_inner_faces, link_graph, AreLinkedBy}
+use Rattle.contig.specs.Faces.{has_side, IsRing, IsCycle, AreRings, AreCycles, share_face, IsClassing, count_units, count_inner_edges, count_inner_faces, link_graph, AreLinkedBy}
 
 -- ---- links
 
--- sharing a face means sharing some ring
-pub share_ring : (g : Graph) (inside : ℕ → Bool) (u p q : ℕ) (faces : List (List ℕ)) → AreRings g faces → share_face faces inside u p q ≡ true
-    → (ring : List ℕ) × IsRing g ring × (list_all inside ring ≡ true) × (has_side ring u p ≡ true) × (has_side ring u q ≡ true)
-share_ring g inside u p q [] are h = absurd (both_ways false refl h)
-share_ring g inside u p q (face ∷ later) are h =
+-- sharing a face means sharing some ring of the list
+share_some : (Is : List ℕ → Type 0) (Are : List (List ℕ) → Type 0) → ((face : List ℕ) (later : List (List ℕ)) → Are (face ∷ later) → Is face × Are later)
+    → (inside : ℕ → Bool) (u p q : ℕ) (faces : List (List ℕ)) → Are faces → share_face faces inside u p q ≡ true
+    → (ring : List ℕ) × Is ring × (list_all inside ring ≡ true) × (has_side ring u p ≡ true) × (has_side ring u q ≡ true)
+share_some Is Are split inside u p q [] are h = absurd (both_ways false refl h)
+share_some Is Are split inside u p q (face ∷ later) are h =
     elim (or_cases (list_all inside face && (has_side face u p && has_side face u q)) (share_face later inside u p q) h) [
       | inl e ↦
           let first = and_parts (list_all inside face) (has_side face u p && has_side face u q) e in
           let both = and_parts (has_side face u p) (has_side face u q) first.1 in
-          (face, are.0, first.0, both.0, both.1)
-      | inr e ↦ share_ring g inside u p q later are.2 e
+          (face, (split face later are).0, first.0, both.0, both.1)
+      | inr e ↦ share_some Is Are split inside u p q later (split face later are).1 e
     ]
+
+-- sharing a cycle of the list
+pub share_ring : (g : Graph) (inside : ℕ → Bool) (u p q : ℕ) (faces : List (List ℕ)) → AreCycles g faces → share_face faces inside u p q ≡ true
+    → (ring : List ℕ) × IsCycle g ring × (list_all inside ring ≡ true) × (has_side ring u p ≡ true) × (has_side ring u q ≡ true)
+share_ring g = share_some (IsCycle g) (AreCycles g) (λ face later are. (are.0, are.2))
+
+-- sharing a ring of three to five units
+pub share_short_ring : (g : Graph) (inside : ℕ → Bool) (u p q : ℕ) (faces : List (List ℕ)) → AreRings g faces → share_face faces inside u p q ≡ true
+    → (ring : List ℕ) × IsRing g ring × (list_all inside ring ≡ true) × (has_side ring u p ≡ true) × (has_side ring u q ≡ true)
+share_short_ring g = share_some (IsRing g) (AreRings g) (λ face later are. (are.0, are.2))
 
 -- sharing a face is symmetric
 pub share_turned : (inside : ℕ → Bool) (u p q : ℕ) (faces : List (List ℕ)) → share_face faces inside u p q ≡ true → share_face faces inside u q p ≡ true
@@ -56,7 +67,7 @@ module _ (g : Graph) (faces : List (List ℕ)) (inside : ℕ → Bool) (u : ℕ)
 
 -- ---- without holes, the mates of a unit that may leave are linked
 
-module _ (g : Graph) (faces : List (List ℕ)) (plan : List ℕ) (u : ℕ) (simple : IsSimple g) (are : AreRings g faces) where
+module _ (g : Graph) (faces : List (List ℕ)) (plan : List ℕ) (u : ℕ) (simple : IsSimple g) (are : AreCycles g faces) where
   district : ℕ → Bool
   district = in_district plan (slice_index plan u)
 

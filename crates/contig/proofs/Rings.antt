@@ -1,12 +1,12 @@
 -- Sides of rings, and a path around a ring that avoids its own side.
 use Rattle.std.proofs.Common.{◌≡◌, ℕ, ◌≤◌, Bool, true, false, ◌&&◌, ◌||◌, List, [], ◌∷◌, length, refl, sym, ap, ◌∙◌, subst, inl, inr, arith}
 use Rattle.std.specs.Prelude.{◌==◌, ◌⊎◌}
-use Rattle.std.proofs.lemmas.Bool.{and_parts, and_from, or_cases, or_left, or_right, eq-eqb, eqb-true, false≢true, false_from_ne_true}
+use Rattle.std.proofs.lemmas.Bool.{and_parts, and_from, or_cases, or_left, or_right, or_parts, eq-eqb, eqb-true, false≢true, false_from_ne_true, both_ways}
 use Rattle.audit_model.specs.Apart.{AllApart}
-use Rattle.audit_model.specs.Graph.{has}
-use Rattle.audit_model.proofs.ListFacts.{first_has, other, has_2, has_3, has_4}
+use Rattle.audit_model.specs.Graph.{Graph, has}
+use Rattle.audit_model.proofs.ListFacts.{first_has, has_2, has_3, has_4}
 use Rattle.audit_model.proofs.Bools.{in_1, in_2, in_3, in_4}
-use Rattle.contig.specs.Faces.{is_pair, has_side}
+use Rattle.contig.specs.Faces.{is_pair, has_side_from, has_side, IsRing, IsCycle, AreRings, AreCycles}
 
 -- ---- one of five
 
@@ -99,29 +99,27 @@ or_map a b c d f k h = elim (or_cases a b h) [
   | inr e ↦ or_right c d (k e)
 ]
 
+-- a side that was found stays found
+from_found : (first last : ℕ) (found : Bool) (rest : List ℕ) (x y : ℕ) → found ≡ true → has_side_from first last found rest x y ≡ true
+from_found first last found [] x y h = or_left found (is_pair last first x y) h
+from_found first last found (next ∷ rest) x y h = from_found first next (found || is_pair last next x y) rest x y (or_left found (is_pair last next x y) h)
+
+-- the same sides are found in either order
+from_turned : (first last : ℕ) (found turned : Bool) (rest : List ℕ) (x y : ℕ) → (found ≡ true → turned ≡ true)
+    → has_side_from first last found rest x y ≡ true → has_side_from first last turned rest y x ≡ true
+from_turned first last found turned [] x y f h = or_map found (is_pair last first x y) turned (is_pair last first y x) f (pair_turned last first x y) h
+from_turned first last found turned (next ∷ rest) x y f h =
+    from_turned first next (found || is_pair last next x y) (turned || is_pair last next y x) rest x y
+    (or_map found (is_pair last next x y) turned (is_pair last next y x) f (pair_turned last next x y)) h
+
 -- the sides of a ring are symmetric
 pub side_turned : (ring : List ℕ) (x y : ℕ) → has_side ring x y ≡ true → has_side ring y x ≡ true
 side_turned [] x y h = absurd (false≢true h)
 side_turned (a ∷ []) x y h = absurd (false≢true h)
 side_turned (a ∷ b ∷ []) x y h = absurd (false≢true h)
-side_turned (a ∷ b ∷ c ∷ []) x y h =
-    or_map (is_pair a b x y || is_pair b c x y) (is_pair c a x y) (is_pair a b y x || is_pair b c y x) (is_pair c a y x)
-    (or_map (is_pair a b x y) (is_pair b c x y) (is_pair a b y x) (is_pair b c y x) (pair_turned a b x y) (pair_turned b c x y))
-    (pair_turned c a x y) h
-side_turned (a ∷ b ∷ c ∷ d ∷ []) x y h =
-    or_map (is_pair a b x y || is_pair b c x y || is_pair c d x y) (is_pair d a x y) (is_pair a b y x || is_pair b c y x || is_pair c d y x) (is_pair d a y x)
-    (or_map (is_pair a b x y || is_pair b c x y) (is_pair c d x y) (is_pair a b y x || is_pair b c y x) (is_pair c d y x)
-    (or_map (is_pair a b x y) (is_pair b c x y) (is_pair a b y x) (is_pair b c y x) (pair_turned a b x y) (pair_turned b c x y))
-    (pair_turned c d x y)) (pair_turned d a x y) h
-side_turned (a ∷ b ∷ c ∷ d ∷ e ∷ []) x y h =
-    by_five (has_side (a ∷ b ∷ c ∷ d ∷ e ∷ []) y x ≡ true) (is_pair a b x y) (is_pair b c x y) (is_pair c d x y) (is_pair d e x y) (is_pair e a x y)
-    (λ k. five_1 (is_pair a b y x) (is_pair b c y x) (is_pair c d y x) (is_pair d e y x) (is_pair e a y x) (pair_turned a b x y k))
-    (λ k. five_2 (is_pair a b y x) (is_pair b c y x) (is_pair c d y x) (is_pair d e y x) (is_pair e a y x) (pair_turned b c x y k))
-    (λ k. five_3 (is_pair a b y x) (is_pair b c y x) (is_pair c d y x) (is_pair d e y x) (is_pair e a y x) (pair_turned c d x y k))
-    (λ k. five_4 (is_pair a b y x) (is_pair b c y x) (is_pair c d y x) (is_pair d e y x) (is_pair e a y x) (pair_turned d e x y k))
-    (λ k. five_5 (is_pair a b y x) (is_pair b c y x) (is_pair c d y x) (is_pair d e y x) (is_pair e a y x) (pair_turned e a x y k))
-    h
-side_turned (a ∷ b ∷ c ∷ d ∷ e ∷ f ∷ rest) x y h = absurd (false≢true h)
+side_turned (a ∷ b ∷ c ∷ rest) x y h =
+    from_turned a c (is_pair a b x y || is_pair b c x y) (is_pair a b y x || is_pair b c y x) rest x y
+    (or_map (is_pair a b x y) (is_pair b c x y) (is_pair a b y x) (is_pair b c y x) (pair_turned a b x y) (pair_turned b c x y)) h
 
 -- a side that is the pair of a and b is the side from a to b
 pub side_at : (ring : List ℕ) (a b x y : ℕ) → is_pair a b x y ≡ true → has_side ring x y ≡ true → has_side ring a b ≡ true
@@ -131,12 +129,34 @@ side_at ring a b x y pair h = elim (pair_is a b x y pair) [
 ]
 
 -- the first two units of a ring are a side of it
-pub own_side : (a b : ℕ) (rest : List ℕ) → (3 ≤ length (a ∷ b ∷ rest)) × (length (a ∷ b ∷ rest) ≤ 5) → has_side (a ∷ b ∷ rest) a b ≡ true
-own_side a b [] size = absurd (omega (arith, size.0))
-own_side a b (c ∷ []) size = or_left (is_pair a b a b || is_pair b c a b) (is_pair c a a b) (or_left (is_pair a b a b) (is_pair b c a b) (pair_same a b))
-own_side a b (c ∷ d ∷ []) size = in_1 (is_pair a b a b) (is_pair b c a b) (is_pair c d a b) (is_pair d a a b) (pair_same a b)
-own_side a b (c ∷ d ∷ e ∷ []) size = five_1 (is_pair a b a b) (is_pair b c a b) (is_pair c d a b) (is_pair d e a b) (is_pair e a a b) (pair_same a b)
-own_side a b (c ∷ d ∷ e ∷ f ∷ rest) size = absurd (omega (arith, size.1))
+pub own_side : (a b : ℕ) (rest : List ℕ) → 3 ≤ length (a ∷ b ∷ rest) → has_side (a ∷ b ∷ rest) a b ≡ true
+own_side a b [] size = absurd (omega (arith, size))
+own_side a b (c ∷ rest) size = from_found a c (is_pair a b a b || is_pair b c a b) rest a b (or_left (is_pair a b a b) (is_pair b c a b) (pair_same a b))
+
+-- the second and the third unit of a ring are a side of it
+second_side : (a b c : ℕ) (rest : List ℕ) → has_side (a ∷ b ∷ c ∷ rest) b c ≡ true
+second_side a b c rest = from_found a c (is_pair a b b c || is_pair b c b c) rest b c (or_right (is_pair a b b c) (is_pair b c b c) (pair_same b c))
+
+module _ (at : ℕ → ℕ → ℕ) (label : ℕ → ℕ) (ring : List ℕ) (a b : ℕ) (own : has_side ring a b ≡ true)
+    (edge : (x y : ℕ) → has_side ring x y ≡ true → is_pair a b x y ≡ false → label (at x y) ≡ label (at y x))
+    (corner : (v x y : ℕ) → has_side ring v x ≡ true → has_side ring v y ≡ true → at v x ≡ at v y) where
+  -- the label at `last`, on the side from the previous unit, is the label at the first unit
+  walk : (previous last : ℕ) (found : ℕ → ℕ → Bool) (rest : List ℕ) → ((x y : ℕ) → has_side_from a last (found x y) rest x y ≡ true → has_side ring x y ≡ true)
+      → has_side ring last previous ≡ true → (last ≡ a → ⊥) → (last ≡ b → ⊥) → has rest a ≡ false → has rest b ≡ false
+      → label (at last previous) ≡ label (at a b)
+  walk previous last found [] sides back off-a off-b no-a no-b =
+      let side : has_side ring last a ≡ true = sides last a (or_right (found last a) (is_pair last a last a) (pair_same last a)) in
+      ap label (corner last previous a back side) ∙ edge last a side (not_pair a b last a (λ e f. off-a (sym e)) (λ e f. off-b (sym f)))
+      ∙ ap label (corner a last b (side_turned ring last a side) own)
+  walk previous last found (next ∷ rest) sides back off-a off-b no-a no-b =
+      let side : has_side ring last next ≡ true =
+      sides last next (from_found a next (found last next || is_pair last next last next) rest last next
+      (or_right (found last next) (is_pair last next last next) (pair_same last next))) in
+      let next-a : next ≡ a → ⊥ = λ e. both_ways (next == a) (or_parts (next == a) (has rest a) no-a).0 (eq-eqb next a e) in
+      let next-b : next ≡ b → ⊥ = λ e. both_ways (next == b) (or_parts (next == b) (has rest b) no-b).0 (eq-eqb next b e) in
+      ap label (corner last previous next back side) ∙ edge last next side (not_pair a b last next (λ e f. next-b (sym f)) (λ e f. next-a (sym e)))
+      ∙ walk last next (λ x y. found x y || is_pair last next x y) rest sides (side_turned ring last next side) next-a next-b
+      (or_parts (next == a) (has rest a) no-a).1 (or_parts (next == b) (has rest b) no-b).1
 
 -- a label that is equal along all other sides, and at both edges of each corner, is equal along the own side
 pub round : (at : ℕ → ℕ → ℕ) (label : ℕ → ℕ) (a b : ℕ) (rest : List ℕ) → AllApart (a ∷ b ∷ rest) → has_side (a ∷ b ∷ rest) a b ≡ true
@@ -144,91 +164,20 @@ pub round : (at : ℕ → ℕ → ℕ) (label : ℕ → ℕ) (a b : ℕ) (rest :
     → ((v x y : ℕ) → has_side (a ∷ b ∷ rest) v x ≡ true → has_side (a ∷ b ∷ rest) v y ≡ true → at v x ≡ at v y)
     → label (at a b) ≡ label (at b a)
 round at label a b [] apart own edge corner = absurd (false≢true own)
-round at label a b (c ∷ []) apart own edge corner =
-    ap label (corner a b c own ac) ∙ edge a c ac (not_pair a b a c (λ e f. b-c f) (λ e f. a-c e))
-    ∙ ap label (corner c a b (turn a c ac) cb) ∙ edge c b cb (not_pair a b c b (λ e f. a-c e) (λ e f. b-c f))
-    ∙ ap label (corner b c a (turn c b cb) (turn a b own))
+round at label a b (c ∷ rest) apart own edge corner =
+    let side : has_side (a ∷ b ∷ c ∷ rest) b c ≡ true = second_side a b c rest in
+    sym (ap label (corner b a c (side_turned (a ∷ b ∷ c ∷ rest) a b own) side) ∙ edge b c side (not_pair a b b c (λ e f. c-b (sym f)) (λ e f. c-a (sym e)))
+    ∙ walk at label (a ∷ b ∷ c ∷ rest) a b own edge corner b c (λ x y. is_pair a b x y || is_pair b c x y) rest (λ x y h. h)
+    (side_turned (a ∷ b ∷ c ∷ rest) b c side) c-a c-b (or_parts (c == a) (has rest a) no-a).1 (or_parts (c == b) (has rest b) apart.1.0).1)
   where
-    turn : (x y : ℕ) → has_side (a ∷ b ∷ c ∷ []) x y ≡ true → has_side (a ∷ b ∷ c ∷ []) y x ≡ true
-    turn x y h = side_turned (a ∷ b ∷ c ∷ []) x y h
+    no-a : has (c ∷ rest) a ≡ false
+    no-a = (or_parts (b == a) (has (c ∷ rest) a) apart.0).1
 
-    ac : has_side (a ∷ b ∷ c ∷ []) a c ≡ true
-    ac = or_right (is_pair a b a c || is_pair b c a c) (is_pair c a a c) (pair_turned c a c a (pair_same c a))
+    c-a : c ≡ a → ⊥
+    c-a e = both_ways (c == a) (or_parts (c == a) (has rest a) no-a).0 (eq-eqb c a e)
 
-    cb : has_side (a ∷ b ∷ c ∷ []) c b ≡ true
-    cb = or_left (is_pair a b c b || is_pair b c c b) (is_pair c a c b) (or_right (is_pair a b c b) (is_pair b c c b) (pair_turned b c b c (pair_same b c)))
-
-    a-c : a ≡ c → ⊥
-    a-c e = other (b ∷ c ∷ []) a c apart.0 (has_2 b c []) e
-
-    b-c : b ≡ c → ⊥
-    b-c e = other (c ∷ []) b c apart.1.0 (first_has c []) e
-round at label a b (c ∷ d ∷ []) apart own edge corner =
-    ap label (corner a b d own ad) ∙ edge a d ad (not_pair a b a d (λ e f. b-d f) (λ e f. a-d e))
-    ∙ ap label (corner d a c (turn a d ad) dc) ∙ edge d c dc (not_pair a b d c (λ e f. a-d e) (λ e f. a-c e))
-    ∙ ap label (corner c d b (turn d c dc) cb) ∙ edge c b cb (not_pair a b c b (λ e f. a-c e) (λ e f. b-c f))
-    ∙ ap label (corner b c a (turn c b cb) (turn a b own))
-  where
-    turn : (x y : ℕ) → has_side (a ∷ b ∷ c ∷ d ∷ []) x y ≡ true → has_side (a ∷ b ∷ c ∷ d ∷ []) y x ≡ true
-    turn x y h = side_turned (a ∷ b ∷ c ∷ d ∷ []) x y h
-
-    ad : has_side (a ∷ b ∷ c ∷ d ∷ []) a d ≡ true
-    ad = in_4 (is_pair a b a d) (is_pair b c a d) (is_pair c d a d) (is_pair d a a d) (pair_turned d a d a (pair_same d a))
-
-    dc : has_side (a ∷ b ∷ c ∷ d ∷ []) d c ≡ true
-    dc = in_3 (is_pair a b d c) (is_pair b c d c) (is_pair c d d c) (is_pair d a d c) (pair_turned c d c d (pair_same c d))
-
-    cb : has_side (a ∷ b ∷ c ∷ d ∷ []) c b ≡ true
-    cb = in_2 (is_pair a b c b) (is_pair b c c b) (is_pair c d c b) (is_pair d a c b) (pair_turned b c b c (pair_same b c))
-
-    a-c : a ≡ c → ⊥
-    a-c e = other (b ∷ c ∷ d ∷ []) a c apart.0 (has_2 b c (d ∷ [])) e
-
-    a-d : a ≡ d → ⊥
-    a-d e = other (b ∷ c ∷ d ∷ []) a d apart.0 (has_3 b c d []) e
-
-    b-c : b ≡ c → ⊥
-    b-c e = other (c ∷ d ∷ []) b c apart.1.0 (first_has c (d ∷ [])) e
-
-    b-d : b ≡ d → ⊥
-    b-d e = other (c ∷ d ∷ []) b d apart.1.0 (has_2 c d []) e
-round at label a b (c ∷ d ∷ e ∷ []) apart own edge corner =
-    ap label (corner a b e own ae) ∙ edge a e ae (not_pair a b a e (λ h f. b-e f) (λ h f. a-e h))
-    ∙ ap label (corner e a d (turn a e ae) ed) ∙ edge e d ed (not_pair a b e d (λ h f. a-e h) (λ h f. a-d h))
-    ∙ ap label (corner d e c (turn e d ed) dc) ∙ edge d c dc (not_pair a b d c (λ h f. a-d h) (λ h f. a-c h))
-    ∙ ap label (corner c d b (turn d c dc) cb) ∙ edge c b cb (not_pair a b c b (λ h f. a-c h) (λ h f. b-c f))
-    ∙ ap label (corner b c a (turn c b cb) (turn a b own))
-  where
-    turn : (x y : ℕ) → has_side (a ∷ b ∷ c ∷ d ∷ e ∷ []) x y ≡ true → has_side (a ∷ b ∷ c ∷ d ∷ e ∷ []) y x ≡ true
-    turn x y h = side_turned (a ∷ b ∷ c ∷ d ∷ e ∷ []) x y h
-
-    ae : has_side (a ∷ b ∷ c ∷ d ∷ e ∷ []) a e ≡ true
-    ae = five_5 (is_pair a b a e) (is_pair b c a e) (is_pair c d a e) (is_pair d e a e) (is_pair e a a e) (pair_turned e a e a (pair_same e a))
-
-    ed : has_side (a ∷ b ∷ c ∷ d ∷ e ∷ []) e d ≡ true
-    ed = five_4 (is_pair a b e d) (is_pair b c e d) (is_pair c d e d) (is_pair d e e d) (is_pair e a e d) (pair_turned d e d e (pair_same d e))
-
-    dc : has_side (a ∷ b ∷ c ∷ d ∷ e ∷ []) d c ≡ true
-    dc = five_3 (is_pair a b d c) (is_pair b c d c) (is_pair c d d c) (is_pair d e d c) (is_pair e a d c) (pair_turned c d c d (pair_same c d))
-
-    cb : has_side (a ∷ b ∷ c ∷ d ∷ e ∷ []) c b ≡ true
-    cb = five_2 (is_pair a b c b) (is_pair b c c b) (is_pair c d c b) (is_pair d e c b) (is_pair e a c b) (pair_turned b c b c (pair_same b c))
-
-    a-c : a ≡ c → ⊥
-    a-c h = other (b ∷ c ∷ d ∷ e ∷ []) a c apart.0 (has_2 b c (d ∷ e ∷ [])) h
-
-    a-d : a ≡ d → ⊥
-    a-d h = other (b ∷ c ∷ d ∷ e ∷ []) a d apart.0 (has_3 b c d (e ∷ [])) h
-
-    a-e : a ≡ e → ⊥
-    a-e h = other (b ∷ c ∷ d ∷ e ∷ []) a e apart.0 (has_4 b c d e []) h
-
-    b-c : b ≡ c → ⊥
-    b-c h = other (c ∷ d ∷ e ∷ []) b c apart.1.0 (first_has c (d ∷ e ∷ [])) h
-
-    b-e : b ≡ e → ⊥
-    b-e h = other (c ∷ d ∷ e ∷ []) b e apart.1.0 (has_3 c d e []) h
-round at label a b (c ∷ d ∷ e ∷ f ∷ rest) apart own edge corner = absurd (false≢true own)
+    c-b : c ≡ b → ⊥
+    c-b e = both_ways (c == b) (or_parts (c == b) (has rest b) apart.1.0).0 (eq-eqb c b e)
 
 -- ---- the units of a ring
 
@@ -239,34 +188,40 @@ pair_in ring a b x y has-a has-b h = elim (pair_is a b x y h) [
   | inr e ↦ subst (λ k. has ring k ≡ true) e.1 has-b
 ]
 
+-- the units of a side that is found are on the ring
+from_in : (ring : List ℕ) (first last : ℕ) (found : Bool) (rest : List ℕ) (x y : ℕ) → has ring first ≡ true → has ring last ≡ true
+    → ((v : ℕ) → has rest v ≡ true → has ring v ≡ true) → (found ≡ true → has ring x ≡ true) → has_side_from first last found rest x y ≡ true → has ring x ≡ true
+from_in ring first last found [] x y has-first has-last each f h = elim (or_cases found (is_pair last first x y) h) [
+  | inl e ↦ f e
+  | inr e ↦ pair_in ring last first x y has-last has-first e
+]
+from_in ring first last found (next ∷ rest) x y has-first has-last each f h =
+    from_in ring first next (found || is_pair last next x y) rest x y has-first has-next (λ v k. each v (or_right (next == v) (has rest v) k))
+    (λ k. elim (or_cases found (is_pair last next x y) k) [ inl e ↦ f e | inr e ↦ pair_in ring last next x y has-last has-next e ]) h
+  where
+    has-next : has ring next ≡ true
+    has-next = each next (first_has next rest)
+
 -- the units of a side are on the ring
 pub side_in : (ring : List ℕ) (x y : ℕ) → has_side ring x y ≡ true → has ring x ≡ true
 side_in [] x y h = absurd (false≢true h)
 side_in (a ∷ []) x y h = absurd (false≢true h)
 side_in (a ∷ b ∷ []) x y h = absurd (false≢true h)
-side_in (a ∷ b ∷ c ∷ []) x y h = elim (or_cases (is_pair a b x y || is_pair b c x y) (is_pair c a x y) h) [
-  | inl e ↦ elim (or_cases (is_pair a b x y) (is_pair b c x y) e) [
-    | inl f ↦ pair_in (a ∷ b ∷ c ∷ []) a b x y (first_has a (b ∷ c ∷ [])) (has_2 a b (c ∷ [])) f
-    | inr f ↦ pair_in (a ∷ b ∷ c ∷ []) b c x y (has_2 a b (c ∷ [])) (has_3 a b c []) f
-  ]
-  | inr f ↦ pair_in (a ∷ b ∷ c ∷ []) c a x y (has_3 a b c []) (first_has a (b ∷ c ∷ [])) f
-]
-side_in (a ∷ b ∷ c ∷ d ∷ []) x y h = elim (or_cases (is_pair a b x y || is_pair b c x y || is_pair c d x y) (is_pair d a x y) h) [
-  | inl e ↦ elim (or_cases (is_pair a b x y || is_pair b c x y) (is_pair c d x y) e) [
-    | inl e' ↦ elim (or_cases (is_pair a b x y) (is_pair b c x y) e') [
-      | inl f ↦ pair_in (a ∷ b ∷ c ∷ d ∷ []) a b x y (first_has a (b ∷ c ∷ d ∷ [])) (has_2 a b (c ∷ d ∷ [])) f
-      | inr f ↦ pair_in (a ∷ b ∷ c ∷ d ∷ []) b c x y (has_2 a b (c ∷ d ∷ [])) (has_3 a b c (d ∷ [])) f
-    ]
-    | inr f ↦ pair_in (a ∷ b ∷ c ∷ d ∷ []) c d x y (has_3 a b c (d ∷ [])) (has_4 a b c d []) f
-  ]
-  | inr f ↦ pair_in (a ∷ b ∷ c ∷ d ∷ []) d a x y (has_4 a b c d []) (first_has a (b ∷ c ∷ d ∷ [])) f
-]
-side_in (a ∷ b ∷ c ∷ d ∷ e ∷ []) x y h =
-    by_five (has (a ∷ b ∷ c ∷ d ∷ e ∷ []) x ≡ true) (is_pair a b x y) (is_pair b c x y) (is_pair c d x y) (is_pair d e x y) (is_pair e a x y)
-    (λ k. pair_in (a ∷ b ∷ c ∷ d ∷ e ∷ []) a b x y (first_has a (b ∷ c ∷ d ∷ e ∷ [])) (has_2 a b (c ∷ d ∷ e ∷ [])) k)
-    (λ k. pair_in (a ∷ b ∷ c ∷ d ∷ e ∷ []) b c x y (has_2 a b (c ∷ d ∷ e ∷ [])) (has_3 a b c (d ∷ e ∷ [])) k)
-    (λ k. pair_in (a ∷ b ∷ c ∷ d ∷ e ∷ []) c d x y (has_3 a b c (d ∷ e ∷ [])) (has_4 a b c d (e ∷ [])) k)
-    (λ k. pair_in (a ∷ b ∷ c ∷ d ∷ e ∷ []) d e x y (has_4 a b c d (e ∷ [])) (has_5 a b c d e []) k)
-    (λ k. pair_in (a ∷ b ∷ c ∷ d ∷ e ∷ []) e a x y (has_5 a b c d e []) (first_has a (b ∷ c ∷ d ∷ e ∷ [])) k)
-    h
-side_in (a ∷ b ∷ c ∷ d ∷ e ∷ f ∷ rest) x y h = absurd (false≢true h)
+side_in (a ∷ b ∷ c ∷ rest) x y h =
+    from_in (a ∷ b ∷ c ∷ rest) a c (is_pair a b x y || is_pair b c x y) rest x y (first_has a (b ∷ c ∷ rest)) (has_3 a b c rest)
+    (λ v k. or_right (a == v) (has (b ∷ c ∷ rest) v) (or_right (b == v) (has (c ∷ rest) v) (or_right (c == v) (has rest v) k)))
+    (λ k. elim (or_cases (is_pair a b x y) (is_pair b c x y) k) [
+      | inl e ↦ pair_in (a ∷ b ∷ c ∷ rest) a b x y (first_has a (b ∷ c ∷ rest)) (has_2 a b (c ∷ rest)) e
+      | inr e ↦ pair_in (a ∷ b ∷ c ∷ rest) b c x y (has_2 a b (c ∷ rest)) (has_3 a b c rest) e
+    ]) h
+
+-- ---- rings as cycles
+
+-- a ring of three to five units is a cycle
+pub ring_is_cycle : (g : Graph) (ring : List ℕ) → IsRing g ring → IsCycle g ring
+ring_is_cycle g ring is = record { size = is.size.0; apart = is.apart; below = is.below; sides = is.sides }
+
+-- rings that own their sides are cycles that own their sides
+pub rings_are_cycles : (g : Graph) (rings : List (List ℕ)) → AreRings g rings → AreCycles g rings
+rings_are_cycles g [] are = tt
+rings_are_cycles g (ring ∷ later) are = (ring_is_cycle g ring are.0, are.1, rings_are_cycles g later are.2)

@@ -1,4 +1,5 @@
 -- Faces: rings of three to five units, listed so that each has a side that no later one has. A face may have a spare ring.
+-- Cycles: rings of any length, listed likewise.
 use Rattle.std.specs.Prelude.{◌≡◌, ◌≢◌, ℕ, ◌+◌, ◌<◌, ◌≤◌, ◌==◌, ◌&&◌, ◌||◌, Bool, false, not, cond, IsTrue, IsFalse, List, [], ◌∷◌, length, slice_index}
 use Rattle.std.specs.List.{list_any, list_all}
 use Rattle.audit_model.specs.Apart.{AllApart}
@@ -12,11 +13,15 @@ use Rattle.audit_model.specs.District.{in_district}
 abbrev pub is_pair : ℕ → ℕ → ℕ → ℕ → Bool
 is_pair a b x y = ((a == x) && (b == y)) || ((a == y) && (b == x))
 
--- x and y are next to each other on a ring of three to five units
+-- x and y are next to each other on the rest of a ring, from the unit `last` on and back to the unit `first`, or were found to
+-- be before
+abbrev pub has_side_from : ℕ → ℕ → Bool → List ℕ → ℕ → ℕ → Bool
+has_side_from first last found [] x y = found || is_pair last first x y
+has_side_from first last found (next ∷ rest) x y = has_side_from first next (found || is_pair last next x y) rest x y
+
+-- x and y are next to each other on a ring of three or more units
 abbrev pub has_side : List ℕ → ℕ → ℕ → Bool
-has_side (a ∷ b ∷ c ∷ []) x y = is_pair a b x y || is_pair b c x y || is_pair c a x y
-has_side (a ∷ b ∷ c ∷ d ∷ []) x y = is_pair a b x y || is_pair b c x y || is_pair c d x y || is_pair d a x y
-has_side (a ∷ b ∷ c ∷ d ∷ e ∷ []) x y = is_pair a b x y || is_pair b c x y || is_pair c d x y || is_pair d e x y || is_pair e a x y
+has_side (a ∷ b ∷ c ∷ rest) x y = has_side_from a c (is_pair a b x y || is_pair b c x y) rest x y
 has_side _ x y = false
 
 -- three to five distinct units of the graph, each adjacent to the next and the last to the first
@@ -25,6 +30,13 @@ pub record IsRing (g : Graph) (ring : List ℕ) : Type 0 where
   pub apart : AllApart ring
   pub below : (v : ℕ) → IsTrue (has ring v) → v < g.units
   pub sides : (x y : ℕ) → IsTrue (has_side ring x y) → IsTrue (adjacent g x y)
+
+-- three or more distinct units of the graph, each adjacent to the next and the last to the first
+pub record IsCycle (g : Graph) (cycle : List ℕ) : Type 0 where
+  pub size : 3 ≤ length cycle
+  pub apart : AllApart cycle
+  pub below : (v : ℕ) → IsTrue (has cycle v) → v < g.units
+  pub sides : (x y : ℕ) → IsTrue (has_side cycle x y) → IsTrue (adjacent g x y)
 
 -- the own side of a ring, between its first two units, belongs to none of these faces
 abbrev pub OwnsSide : List ℕ → List (List ℕ) → Type 0
@@ -35,6 +47,11 @@ OwnsSide _ later = ⊥
 abbrev pub AreRings : Graph → List (List ℕ) → Type 0
 AreRings g [] = Unit {0}
 AreRings g (face ∷ later) = IsRing g face × OwnsSide face later × AreRings g later
+
+-- each is a cycle whose own side belongs to no later one
+abbrev pub AreCycles : Graph → List (List ℕ) → Type 0
+AreCycles g [] = Unit {0}
+AreCycles g (cycle ∷ later) = IsCycle g cycle × OwnsSide cycle later × AreCycles g later
 
 -- ---- the counts of a set
 
@@ -120,6 +137,11 @@ HasOtherUnit (WithSpare a b c d) = c ≢ d
 abbrev pub AreFaces : Graph → List SparedFace → Type 0
 AreFaces g [] = Unit {0}
 AreFaces g (face ∷ later) = IsRing g (own_ring face) × IsRing g (spare_ring face) × HasOtherUnit face × OwnsSide (own_ring face) (both_rings later) × AreFaces g later
+
+-- the own side of each face belongs to none of these cycles
+abbrev pub AreClear : List SparedFace → List (List ℕ) → Type 0
+AreClear [] cycles = Unit {0}
+AreClear (face ∷ later) cycles = OwnsSide (own_ring face) cycles × AreClear later cycles
 
 -- the spare is active: all units of the spare ring are in the set, and not all of the ring
 abbrev pub is_active : (ℕ → Bool) → SparedFace → Bool

@@ -7,7 +7,7 @@ use Rattle.audit_model.specs.Length.{degree}
 use Rattle.contig.specs.declared.face.Candidate.{Candidate}
 use Rattle.contig.specs.declared.face.Face.{Face}
 use Rattle.contig.specs.declared.face.Face.TheVariants.{Triangle, Square, Pentagon}
-use Rattle.contig.specs.Faces.{SparedFace, has_side, both_rings, AreFaces}
+use Rattle.contig.specs.Faces.{SparedFace, has_side, both_rings, AreFaces, AreClear}
 use Rattle.contig.specs.Rings.{face_of}
 
 -- the faces of candidates, the last one first
@@ -37,8 +37,11 @@ arc_index g u v = sum_below u (degree g) + position_or_len (λ m. m == v) (slice
 abbrev pub is_marked : Graph → List Bool → ℕ × ℕ → Bool
 is_marked g marks side = slice_index_or marks (arc_index g side.0 side.1) false
 
--- these are faces, and all sides of their rings and spare rings are marked
-pub record AreListed (g : Graph) (faces : List SparedFace) (marks : List Bool) : Type 0 where
+-- these are faces whose own sides belong to none of the long rings, and all sides of the long rings, of the faces' rings and
+-- of their spare rings are marked
+pub record AreListed (g : Graph) (long : List (List ℕ)) (faces : List SparedFace) (marks : List Bool) : Type 0 where
   pub are : AreFaces g faces
+  pub clear : AreClear faces long
   pub width : length marks ≡ sum_below g.units (degree g)
   pub marked : (x y : ℕ) → IsTrue (list_any (λ ring. has_side ring x y) (both_rings faces)) → IsTrue (is_marked g marks (side x y))
+  pub long_marked : (x y : ℕ) → IsTrue (list_any (λ ring. has_side ring x y) long) → IsTrue (is_marked g marks (side x y))

@@ -3,7 +3,7 @@
 
 ghost use Rattle.std.specs.Prelude.{◌≡◌, ◌<◌, length, All};
 
-use crate::near::has_few_neighbors;
+use crate::face::has_few_neighbors;
 use audit_model::memory::Memory;
 use dual_graph::graph::Graph;
 use std::alloc::Global;

@@ -8,6 +8,9 @@ ghost use Rattle.contig.specs.Rings.{goes_round, turned, differ, follow, ring_of
 
 use dual_graph::graph::Graph;
 
+/// The maximum number of neighbors of a unit on a face or on a diagonal.
+const DEGREE: usize = 32;
+
 /// Three to five units in order. `is_ring` tests if they are a ring. The own side joins the first
 /// two units.
 #[derive(Clone, Copy)]
@@ -64,7 +67,7 @@ pub struct Candidate {
 
 impl Candidate {
     /// Returns the spare ring, or the ring if there is no spare.
-    pub(crate) fn spare_ring(&self) -> Face
+    pub fn spare_ring(&self) -> Face
         ensures { result ≡ spare_by self.now.ring self.now.spare }
     {
         match (self.ring, self.spare) {
@@ -102,7 +105,7 @@ fn fit_triangle(graph: &Graph, ring: (u32, u32, u32), spare: u32) -> Candidate
 }
 
 /// Returns the number of units.
-pub(crate) fn length_of(ring: Face) -> usize
+pub fn length_of(ring: Face) -> usize
     ensures { result ≡ length (ring_of ring) }
 {
     match ring {
@@ -113,7 +116,7 @@ pub(crate) fn length_of(ring: Face) -> usize
 }
 
 /// Returns the two units of the own side.
-pub(crate) fn first_two(ring: Face) -> (u32, u32)
+pub fn first_two(ring: Face) -> (u32, u32)
     ensures { result ≡ first_pair ring }
 {
     match ring {
@@ -121,6 +124,13 @@ pub(crate) fn first_two(ring: Face) -> (u32, u32)
         Face::Square(a, b, _, _) => (a, b),
         Face::Pentagon(a, b, _, _, _) => (a, b),
     }
+}
+
+/// Returns true if a unit has at most `DEGREE` neighbors.
+pub fn has_few_neighbors(graph: &Graph, unit: u32) -> bool
+    requires { unit < graph.now.units }
+{
+    graph.neighbours(unit).len() <= DEGREE
 }
 
 /// Returns true if three units are distinct, and each is adjacent to the next and the last to the

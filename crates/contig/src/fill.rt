@@ -23,8 +23,9 @@ const MOST: usize = 16;
 /// holes. At the end, the plan is as it was.
 ///
 /// `fillers` are units that may be the holes. Nothing is required of them: a unit that cannot be
-/// used is passed over. At most 16 of them are tried. Returns `None` if the filled district does
-/// not decide, and if more faces are missing than there are fillers.
+/// used is passed over. At most 16 of them are tried. Long faces in the district close holes too.
+/// Returns `None` if the filled district does not decide, and if more faces are missing than there
+/// are fillers and such long faces.
 pub fn decide_by_filling(
     graph: &Graph,
     plan: &mut [u32],
@@ -43,8 +44,16 @@ pub fn decide_by_filling(
     ensures observed { MatchOption result ⊤ (λ may. IsTrue may ↔ MayLeave graph.now plan.old unit) }
 {
     let missing = missing_at(graph.member(plan, unit), table, counts);
+    let closed = count_closed(graph.member(plan, unit), table);
     let tried = fillers.len().min(MOST);
-    fill(graph, plan, unit, table, missing, &fillers[..tried])
+    fill(
+        graph,
+        plan,
+        unit,
+        table,
+        (missing, closed),
+        &fillers[..tried],
+    )
 }
 
 // Returns the number of missing faces of a unit's district.
@@ -57,59 +66,78 @@ fn missing_at(leaving: Member, table: &FaceTable, counts: &FaceCounts) -> u64
     counts.missing(leaving.plan[leaving.unit as usize])
 }
 
-// Does the work of `decide_by_filling`. `missing` is the number of missing faces of the unit's
-// district. Each call moves one filler in and, at its end, out again.
+// Returns the number of missing faces that long faces of a unit's district may stand for.
+fn count_closed(leaving: Member, table: &FaceTable) -> u64
+    requires made { table.now.graph ≡ leaving.graph.now }
+{
+    if !table.has_long_faces() {
+        return 0;
+    }
+    table.long_faces_around(leaving)
+}
+
+// Does the work of `decide_by_filling`. `holes` has the number of missing faces of the unit's
+// district, and the number of those that long faces may stand for. Each call moves one filler in
+// and, at its end, out again.
 //
 // It gives up if fewer fillers are left than faces are missing, since one filler seldom closes two
-// holes.
+// holes. Long faces in the district stay in it when fillers are moved in.
 fn fill(
     graph: &Graph,
     plan: &mut [u32],
     unit: u32,
     table: &FaceTable,
-    missing: u64,
+    holes: (u64, u64),
     fillers: &[u32],
 ) -> Option<bool>
     requires made { table.now.graph ≡ graph.now }
     requires width { length plan.old ≡ graph.now.units }
     requires unit { unit < graph.now.units }
-    requires missing { missing ≡ missing_faces graph.now table.now.faces (in_district plan.old (slice_index plan.old unit)) }
+    requires missing { holes.0 ≡ missing_faces graph.now table.now.faces (in_district plan.old (slice_index plan.old unit)) }
     requires connected { IsConnected graph.now (in_district plan.old (slice_index plan.old unit)) }
     ensures plan { plan.new ≡ plan.old }
     ensures observed { MatchOption result ⊤ (λ may. IsTrue may ↔ MayLeave graph.now plan.old unit) }
 {
-    if missing == 0 {
-        return decide_whole(graph.member(plan, unit), table);
+    let (missing, closed) = holes;
+    if missing <= closed {
+        return decide_whole(graph.member(plan, unit), table, missing);
     }
-    if missing > fillers.len() as u64 {
+    if missing - closed > fillers.len() as u64 {
         return None;
     }
     let filler = fillers[0];
     if !can_fill(graph, plan, unit, filler) {
-        return fill(graph, plan, unit, table, missing, &fillers[1..]);
+        return fill(graph, plan, unit, table, holes, &fillers[1..]);
     }
     let home = plan[unit as usize];
     let from = plan[filler as usize];
     let left = missing_with(graph.member(plan, filler), table, home, missing);
     plan[filler as usize] = home;
-    let filled = fill(graph, plan, unit, table, left, &fillers[1..]);
+    let filled = fill(graph, plan, unit, table, (left, closed), &fillers[1..]);
     let decided = decide_without(graph, plan, unit, table, (filler, from), filled);
     plan[filler as usize] = from;
     decided
 }
 
-// Decides by its links if a unit may leave its district, which must be connected and have no hole.
-// Returns `None` if the unit has more than 32 neighbors.
-fn decide_whole(leaving: Member, table: &FaceTable) -> Option<bool>
+// Decides by its links if a unit may leave its district, which must be connected. Returns `None` if
+// the unit has more than 32 neighbors. Also returns `None` if the mates are not linked, and faces are
+// missing for which no long faces stand.
+fn decide_whole(leaving: Member, table: &FaceTable, missing: u64) -> Option<bool>
     requires made { table.now.graph ≡ leaving.graph.now }
-    requires whole { missing_faces leaving.graph.now table.now.faces (in_district leaving.plan.now (slice_index leaving.plan.now leaving.unit)) ≡ 0 }
+    requires missing { missing ≡ missing_faces leaving.graph.now table.now.faces (in_district leaving.plan.now (slice_index leaving.plan.now leaving.unit)) }
     requires connected { IsConnected leaving.graph.now (in_district leaving.plan.now (slice_index leaving.plan.now leaving.unit)) }
     ensures { MatchOption result ⊤ (λ may. IsTrue may ↔ MayLeave leaving.entry.graph.now leaving.entry.plan.now leaving.entry.unit) }
 {
     if leaving.graph.neighbours(leaving.unit).len() > MOST_LINKED {
         return None;
     }
-    Some(table.links_mates(leaving))
+    if table.links_mates(leaving) {
+        return Some(true);
+    }
+    if missing > 0 && !table.closes_holes(leaving, missing) {
+        return None;
+    }
+    Some(false)
 }
 
 // Returns true if `filler` is outside the unit's district and has a neighbor in it other than the

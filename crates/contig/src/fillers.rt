@@ -42,8 +42,8 @@ impl Model for Fillers {
 impl Fillers {
     /// Creates an empty list for each district. Fails if there is no memory.
     ///
-    /// The ends of a diagonal and their two common neighbors are a group. So there are no diagonals
-    /// to look for where no face has a spare.
+    /// The ends of a diagonal and their two common neighbors are all adjacent. Of such four units, a
+    /// face has a spare. So there are no diagonals to look for where no face has a spare.
     pub fn new(
         alloc: Global,
         graph: &Graph,

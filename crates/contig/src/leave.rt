@@ -120,10 +120,10 @@ fn can_leave<L: Ledger>(leaving: Member, marks: &mut Marks, steps: &mut Steps<L>
     meet(leaving, marks, &mut roots, mates, steps)
 }
 
-/// Decides by the tests of links and counts if a unit may leave its district, which must be
-/// connected.
+/// Decides by the tests of links, counts and long faces if a unit may leave its district, which must
+/// be connected.
 ///
-/// Returns `None` if the two tests do not decide, and for each unit with more than 32 neighbors.
+/// Returns `None` if the three tests do not decide, and for each unit with more than 32 neighbors.
 #[inline(always)]
 pub fn decide_by_counting(leaving: Member, table: &FaceTable, counts: &FaceCounts) -> Option<bool>
     requires made { table.now.graph ≡ leaving.graph.now }
@@ -143,5 +143,23 @@ pub fn decide_by_counting(leaving: Member, table: &FaceTable, counts: &FaceCount
     if counts.has_no_hole(leaving.plan[leaving.unit as usize]) {
         return Some(false);
     }
+    if table.has_long_faces() && has_closed_holes(leaving, table, counts) {
+        return Some(false);
+    }
     None
+}
+
+/// Returns true if the unit's district misses no more faces than it has long faces, none of which
+/// has the unit. If the mates are not linked, the unit may then not leave.
+///
+/// Few graphs have long faces, so the code is kept out of line.
+#[inline(never)]
+fn has_closed_holes(leaving: Member, table: &FaceTable, counts: &FaceCounts) -> bool
+    requires made { table.now.graph ≡ leaving.graph.now }
+    requires counts { AreCounts leaving.graph.now table.now.faces (length counts.now.edges) leaving.plan.now counts.now }
+    requires district { slice_index leaving.plan.now leaving.unit < length counts.now.edges }
+    ensures { let g = leaving.entry.graph.now in let plan = leaving.entry.plan.now in let u = leaving.entry.unit in
+        IsTrue result → IsConnected g (in_district plan (slice_index plan u)) → (AreLinked g table.now.faces plan u → ⊥) → MayLeave g plan u → ⊥ }
+{
+    table.closes_holes(leaving, counts.missing(leaving.plan[leaving.unit as usize]))
 }

@@ -10,7 +10,8 @@
 //! - A *face* is a ring in a list of faces. Its *own side* is a side of no ring and of no spare ring
 //!   that was added to the list before. The definitions in `specs/` have the list in reverse, so
 //!   there the own side belongs to no later ring.
-//! - A *group* is four units that are all adjacent. Three of its triangles can be faces.
+//! - A *long face* is a ring of six to twelve units in a list of its own, again with an own side. The
+//!   own side of a face is a side of no long face. In `specs/`, a *cycle* is a ring of any length.
 //! - A face is *at* each unit of its ring. A *corner* is a face as seen from one of its units.
 //! - A triangle a, b, c may have a *spare*: a fourth unit d whose *spare ring* is a, b, d. Both rings
 //!   have the own side a, b. The spare is *active* in a district that has a, b and d, but not c: its
@@ -36,20 +37,23 @@
 //!
 //! 1. Links: if the mates are linked, the unit may leave.
 //! 2. Counts: otherwise, if the district has no hole, the unit may not leave.
-//! 3. Mates: otherwise, if the mates are connected among themselves, the unit may leave.
-//! 4. Search: otherwise a search decides. If the edges between mates join them into two sets, it
+//! 3. Long faces: otherwise, if at least as many long faces lie in the district as faces are missing,
+//!    and none of these has the unit, the unit may not leave.
+//! 4. Mates: otherwise, if the mates are connected among themselves, the unit may leave.
+//! 5. Search: otherwise a search decides. If the edges between mates join them into two sets, it
 //!    starts at one mate of each set, and else at all mates.
 //!
-//! For a unit with more than 32 neighbors, only tests 3 and 4 are made.
+//! For a unit with more than 32 neighbors, only tests 4 and 5 are made.
 //!
-//! `face`, `near`, `groups`, `sides`, `peel` and `list` find faces, and `uncovered` gives some of
-//! them spares. `corner`, `rows`, `spare` and `table` store the faces and their spares by unit.
-//! `sector` and `order` store the neighbors of a unit in the order of the faces round it, where
-//! there is such an order. `span` has the parts of a list in which such lists are stored. `classes`
-//! and `links` make test 1. `counts` keeps the counts of a plan and makes test 2. `parts` and
-//! `flood` make tests 3 and 4. `leave` has the calls that decide. `fill` decides by tests 1 and 2
-//! after filling holes, and `missing` counts the faces that a filler leaves missing. `fillers` keeps
-//! units to fill holes with, `pocket` and `diagonals` find these, and `short_list` stores them.
+//! `face` has the candidates for faces, which the crate `face_choice` chooses, and `list` keeps faces
+//! of them. `long` lists long faces and makes test 3. `corner`, `rows`, `spare` and `table` store the
+//! faces and their spares by unit. `sector` and `order` store the neighbors of a unit in the order of
+//! the faces round it, where there is such an order. `span` has the parts of a list in which such
+//! lists are stored. `classes` and `links` make test 1. `counts` keeps the counts of a plan and makes
+//! test 2. `parts` and `flood` make tests 4 and 5. `leave` has the calls that decide. `fill` decides by
+//! tests 1 to 3 after filling holes, and `missing` counts the faces that a filler leaves missing.
+//! `fillers` keeps units to fill holes with, `pocket` and `diagonals` find these, and `short_list`
+//! stores them.
 #![tactic(auto)]
 
 mod classes;
@@ -60,25 +64,21 @@ pub mod face;
 pub mod fill;
 pub mod fillers;
 mod flood;
-mod groups;
 pub mod laws;
 pub mod leave;
 pub mod links;
 pub mod list;
+pub mod long;
 mod missing;
-pub mod near;
 mod order;
 mod parts;
-mod peel;
 mod pocket;
 mod rows;
 mod sector;
 mod short_list;
-mod sides;
 mod span;
 mod spare;
 pub mod table;
-mod uncovered;
 
 pub use counts::FaceCounts;
 pub use face::{Candidate, Face};
@@ -87,5 +87,4 @@ pub use fillers::Fillers;
 pub use leave::{decide_by_counting, local_holds, may_leave, search_holds};
 pub use links::MOST;
 pub use list::{FaceList, list_faces};
-pub use near::faces_of;
 pub use table::FaceTable;

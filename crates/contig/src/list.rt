@@ -1,15 +1,18 @@
 //! Lists of faces.
 
-ghost use Rattle.std.specs.Prelude.{◌≡◌, ◌+◌, ◌<◌, ◌≤◌, ℕ, [], ◌∷◌, length, slice_set, take, IsTrue, IfOk};
+ghost use Rattle.std.specs.Prelude.{◌≡◌, ◌+◌, ◌<◌, ◌≤◌, ℕ, List, [], ◌∷◌, length, slice_set, take, IsTrue, IfOk};
 ghost use Rattle.std.specs.Bool.{OnTrue, OnFalse};
+ghost use Rattle.std.specs.List.{list_any};
 ghost use Rattle.audit_model.specs.Below.{sum_below};
 ghost use Rattle.audit_model.specs.Graph.{adjacent};
 ghost use Rattle.audit_model.specs.Length.{degree};
-ghost use Rattle.contig.specs.Faces.{AreFaces, IsRing, has_side};
+ghost use Rattle.contig.specs.Faces.{AreClear, AreCycles, AreFaces, IsCycle, IsRing, has_side};
 ghost use Rattle.contig.specs.Listed.{listed, side, own_side, arc_index, is_marked, AreListed};
+ghost use Rattle.contig.specs.Long.{units_of_all};
 ghost use Rattle.contig.specs.Rings.{ring_of, fit_by, face_of, spare_by};
 
 use crate::face::{Candidate, Face, first_two};
+use crate::long::{LongFaces, LongRing, place_after};
 use crate::rows::place_of;
 use audit_model::memory::Memory;
 use dual_graph::graph::Graph;
@@ -51,20 +54,24 @@ impl FaceList {
     }
 }
 
-/// Lists the candidates that are rings and whose own side belongs to no ring and to no spare ring
-/// listed before, in their order. Drops each spare ring that is no other ring of the graph. Fails if
-/// there is no memory.
+/// Lists the candidates that are rings and whose own side belongs to no long face, and to no ring
+/// and no spare ring listed before, in their order. Drops each spare ring that is no other ring of
+/// the graph. Fails if there is no memory.
 ///
 /// The list takes the memory of the candidates.
 pub fn list_faces(
     alloc: Global,
     graph: &Graph,
     candidates: Vec<Candidate>,
+    long: &LongFaces,
 ) -> Result<FaceList, Memory>
-    ensures { IfOk result (λ l. AreFaces graph.now l) }
+    requires cycles { AreCycles graph.now long.now }
+    ensures faces { IfOk result (λ l. AreFaces graph.now l) }
+    ensures clear { IfOk result (λ l. AreClear l long.now) }
 {
     let mut faces = candidates;
     let mut marks: Vec<bool> = vec![in alloc; false; graph.arcs_before(graph.units())]?;
+    mark_long(graph, &mut marks, long.rings());
     let mut end = 0usize;
     for place in 0..faces.len() {
         let candidate = faces[place];
@@ -87,9 +94,9 @@ fn add_face(
     candidate: Candidate,
 ) -> bool
     requires room { end < length faces.old.items }
-    requires listed { AreListed graph.now (listed (take end faces.old.items)) marks.old.items }
+    requires width { length marks.old.items ≡ sum_below graph.now.units (degree graph.now) }
     ensures width { length faces.new.items ≡ length faces.old.items }
-    ensures listed { OnTrue result (AreListed graph.now (listed (take (end + 1) faces.new.items)) marks.new.items) }
+    ensures listed { OnTrue result ((long : List (List ℕ)) → AreListed graph.now long (listed (take end faces.old.items)) marks.old.items → AreListed graph.now long (listed (take (end + 1) faces.new.items)) marks.new.items) }
     ensures added { OnTrue result (listed (take (end + 1) faces.new.items) ≡ fit_by graph.now candidate.ring candidate.spare ∷ listed (take end faces.old.items)) }
     ensures unchanged { OnFalse result ((faces.new.items ≡ faces.old.items) × (marks.new.items ≡ marks.old.items)) }
 {
@@ -149,6 +156,32 @@ fn mark(graph: &Graph, marks: &mut Vec<bool>, x: u32, y: u32)
     ensures there { IsTrue (is_marked graph.now marks.new.items (side x y)) }
 {
     marks[index_of(graph, x, y)] = true;
+}
+
+/// Marks the sides of all long rings.
+fn mark_long(graph: &Graph, marks: &mut Vec<bool>, rings: &[LongRing])
+    requires cycles { AreCycles graph.now (units_of_all rings.now) }
+    requires width { length marks.old.items ≡ sum_below graph.now.units (degree graph.now) }
+    ensures width { length marks.new.items ≡ length marks.old.items }
+    ensures there { (x y : ℕ) → IsTrue (list_any (λ ring. has_side ring x y) (units_of_all rings.now)) → IsTrue (is_marked graph.now marks.new.items (side x y)) }
+{
+    for place in 0..rings.len() {
+        mark_around(graph, marks, rings[place].as_slice());
+    }
+}
+
+/// Marks the sides of a long ring.
+fn mark_around(graph: &Graph, marks: &mut Vec<bool>, ring: &[u32])
+    requires ring { IsCycle graph.now ring.now }
+    requires width { length marks.old.items ≡ sum_below graph.now.units (degree graph.now) }
+    ensures width { length marks.new.items ≡ length marks.old.items }
+    ensures kept { (q : ℕ × ℕ) → IsTrue (is_marked graph.now marks.old.items q) → IsTrue (is_marked graph.now marks.new.items q) }
+    ensures there { (x y : ℕ) → IsTrue (has_side ring.now x y) → IsTrue (is_marked graph.now marks.new.items (side x y)) }
+{
+    for place in 0..ring.len() {
+        let next = place_after(ring.len(), place);
+        mark(graph, marks, ring[place], ring[next]);
+    }
 }
 
 /// Marks the sides of a face's ring and of its spare ring.

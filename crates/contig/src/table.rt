@@ -1,19 +1,20 @@
 //! The faces of a graph, stored by unit.
 
-ghost use Rattle.std.specs.Prelude.{◌≡◌, ◌+◌, ◌<◌, ◌≤◌, ◌↔◌, [], length, map, slice_index, IsTrue, IsFalse, IfOk, All};
+ghost use Rattle.std.specs.Prelude.{◌≡◌, ◌+◌, ◌<◌, ◌≤◌, ◌↔◌, ℕ, [], length, map, slice_index, IsTrue, IsFalse, IfOk, All};
 ghost use Rattle.std.specs.List.{slice_index_or};
 ghost use Rattle.contig.specs.Corners.{IsOnRow, units_of, corners_at, spares_at};
 ghost use Rattle.audit_model.specs.Local.{MayLeave};
 ghost use Rattle.audit_model.specs.Path.{IsConnected};
 ghost use Rattle.audit_model.specs.District.{in_district};
 ghost use Rattle.contig.specs.Counts.{filled_of};
-ghost use Rattle.contig.specs.Faces.{AreFaces, AreLinked, count_inner_edges, own_rings};
+ghost use Rattle.contig.specs.Faces.{AreClear, AreCycles, AreFaces, AreLinked, count_inner_edges, count_inner_faces, own_rings, share_face};
 ghost use Rattle.contig.specs.Order.{AreSectors, IsOnGraph};
 
 use crate::corner::{Corner, CornerLists};
+use crate::face::Candidate;
 use crate::links::{are_linked, are_linked_in_order, has_active};
-use crate::list::FaceList;
-use crate::near::faces_of;
+use crate::list::{FaceList, list_faces};
+use crate::long::{LongFaces, LongRing, list_long};
 use crate::order::all_sectors;
 use crate::rows::rows_of;
 use crate::sector::{Sector, SectorLists};
@@ -29,11 +30,12 @@ use std::snapshot::Snapshot;
 const MOST: usize = 4000000;
 
 /// The faces of a graph, stored as corners by unit, and as sectors where a unit's neighbors lie in
-/// their order. The spares are stored as corners by unit.
+/// their order. The spares are stored as corners by unit, and the long faces in a list.
 #[derive(Drop)]
 pub struct FaceTable {
     graph: Snapshot<Graph>,
     list: Snapshot<FaceList>,
+    long: LongFaces,
     rows: CornerLists,
     sectors: SectorLists,
     spares: CornerLists,
@@ -44,24 +46,31 @@ impl Model for FaceTable {
 
     ghost Value = { Faced };
 
-    ghost view = { λ t. record { graph = t.graph.value; faces = t.list.value } };
+    ghost view = { λ t. record { graph = t.graph.value; faces = t.list.value; long = t.long } };
 
-    ghost invariant = { λ t. IsFaceTable (record { graph = t.graph.value; faces = t.list.value }) t.rows t.sectors t.spares };
+    ghost invariant = { λ t. IsFaceTable (record { graph = t.graph.value; faces = t.list.value; long = t.long }) t.rows t.sectors t.spares };
 }
 
 impl FaceTable {
-    /// Finds the faces of a graph. Fails if there is no memory.
-    pub fn of(alloc: Global, graph: &Graph) -> Result<FaceTable, Memory>
+    /// Stores the faces and the long faces of a graph that `list_faces` and `list_long` keep of these
+    /// candidates. Fails if there is no memory.
+    pub fn of(
+        alloc: Global,
+        graph: &Graph,
+        candidates: Vec<Candidate>,
+        long: &[LongRing],
+    ) -> Result<FaceTable, Memory>
         ensures { IfOk result (λ t. t.graph ≡ graph.now) }
     {
         keep_pages(alloc, graph);
-        let list = some_faces(alloc, graph)?;
+        let (list, long) = some_faces(alloc, graph, candidates, long)?;
         let rows = rows_of(alloc, graph, list.faces())?;
         let sectors = all_sectors(alloc, graph, &rows)?;
         let spares = spares_of(alloc, graph, list.faces())?;
         Ok(FaceTable {
             graph: Snapshot::of(graph),
             list: Snapshot::of(&list),
+            long,
             rows,
             sectors,
             spares,
@@ -82,6 +91,41 @@ impl FaceTable {
     /// search for fillers.
     pub(crate) fn has_spares(&self) -> bool {
         self.spares.units() > 0
+    }
+
+    /// Returns true if there are long faces.
+    #[inline]
+    pub fn has_long_faces(&self) -> bool {
+        !self.long.rings().is_empty()
+    }
+
+    /// Returns the number of long faces that have all units in the unit's district, or 0 if one of
+    /// these has the unit. Nothing is proved of the result, which only guides the choice of fillers.
+    #[inline(never)]
+    pub(crate) fn long_faces_around(&self, leaving: Member) -> u64
+        requires made { self.now.graph ≡ leaving.graph.now }
+    {
+        self.long.count_around(leaving).unwrap_or(0)
+    }
+
+    /// Returns true if at least `missing` long faces have all units in the unit's district and none
+    /// of these has the unit.
+    ///
+    /// Few graphs have long faces, so the code is kept out of line.
+    #[inline(never)]
+    pub fn closes_holes(&self, leaving: Member, missing: u64) -> bool
+        requires made { self.now.graph ≡ leaving.graph.now }
+        ensures closed { let plan = leaving.entry.plan.now in let u = leaving.entry.unit in
+            IsTrue result → (missing ≤ count_inner_faces (in_district plan (slice_index plan u)) self.now.long)
+            × ((x y : ℕ) → IsFalse (share_face self.now.long (in_district plan (slice_index plan u)) u x y)) }
+        ensures faces { AreFaces self.now.graph self.now.faces }
+        ensures cycles { AreCycles self.now.graph self.now.long }
+        ensures clear { AreClear self.now.faces self.now.long }
+    {
+        match self.long.count_around(leaving) {
+            Some(around) => missing <= around,
+            None => false,
+        }
     }
 
     /// Returns the corners at a unit.
@@ -191,14 +235,23 @@ fn keep_pages(alloc: Global, graph: &Graph) {
     drop(room);
 }
 
-/// Finds the faces of a graph. Returns an empty list if there are too many.
-fn some_faces(alloc: Global, graph: &Graph) -> Result<FaceList, Memory>
-    ensures faces { IfOk result (λ l. AreFaces graph.now l) }
-    ensures few { IfOk result (λ l. length l ≤ 4000000) }
+/// Lists the faces and the long faces of a graph among these candidates. Returns empty lists if there
+/// are too many faces.
+fn some_faces(
+    alloc: Global,
+    graph: &Graph,
+    candidates: Vec<Candidate>,
+    long: &[LongRing],
+) -> Result<(FaceList, LongFaces), Memory>
+    ensures faces { IfOk result (λ f. AreFaces graph.now f.0) }
+    ensures few { IfOk result (λ f. length f.0 ≤ 4000000) }
+    ensures cycles { IfOk result (λ f. AreCycles graph.now f.1) }
+    ensures clear { IfOk result (λ f. AreClear f.0 f.1) }
 {
-    let list = faces_of(alloc, graph)?;
+    let long = list_long(alloc, graph, long)?;
+    let list = list_faces(alloc, graph, candidates, &long)?;
     if list.faces().len() > MOST {
-        return Ok(FaceList::new(alloc));
+        return Ok((FaceList::new(alloc), LongFaces::none(alloc)));
     }
-    Ok(list)
+    Ok((list, long))
 }

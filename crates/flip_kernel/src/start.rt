@@ -14,7 +14,9 @@ use contig::counts::FaceCounts;
 use contig::fillers::Fillers;
 use contig::table::FaceTable;
 use district_sums::sums::Sums;
+use dual_graph::graph::Graph;
 use dual_graph::marks::Marks;
+use face_choice::{FaceChoice, candidates_of};
 use plan_core::job::Job;
 use std::alloc::Global;
 
@@ -80,6 +82,14 @@ fn pairs_of(alloc: Global, job: &Job) -> Result<(NeighborCounts, OpenPairs), Mem
     }
 }
 
+/// Chooses candidates for the faces of a graph, and stores those that are faces.
+fn find_faces(alloc: Global, graph: &Graph) -> Result<FaceTable, Memory>
+    ensures { IfOk result (λ t. t.graph ≡ graph.now) }
+{
+    let FaceChoice { short, long } = candidates_of(alloc, graph)?;
+    FaceTable::of(alloc, graph, short, &long)
+}
+
 /// Finds the faces of a job's graph, and counts those of its start plan.
 fn faces_of(alloc: Global, job: &Job) -> Result<(FaceTable, FaceCounts), Memory>
     ensures made { IfOk result (λ f. f.0.graph ≡ job.now.graph) }
@@ -87,7 +97,7 @@ fn faces_of(alloc: Global, job: &Job) -> Result<(FaceTable, FaceCounts), Memory>
 {
     let graph = job.graph();
     let plan = job.start().as_slice();
-    let faces = FaceTable::of(alloc, graph)?;
+    let faces = find_faces(alloc, graph)?;
     match FaceCounts::new(alloc, graph, &faces, job.districts(), plan) {
         Ok(counts) => Ok((faces, counts)),
         Err(_) => {

@@ -10,6 +10,7 @@ use Rattle.dual_graph.specs.contracts.marks.Marks as Marks
 use Rattle.contig.specs.contracts.corner.CornerLists as CornerLists
 use Rattle.contig.specs.contracts.counts.FaceCounts as FaceCounts
 use Rattle.contig.specs.contracts.fillers.Fillers as Fillers
+use Rattle.contig.specs.contracts.long.LongFaces as LongFaces
 use Rattle.contig.specs.contracts.table.FaceTable as FaceTable
 use Rattle.flip_kernel.specs.contracts.board.Board as Board
 use Rattle.flip_kernel.specs.contracts.state.State as State
@@ -36,9 +37,13 @@ marks_send = search (mark_list_send, crosses, sendable) depth 20
 corners_send : IsSend CornerLists.the_row
 corners_send = search (crosses, sendable) depth 20
 
+-- lists of long faces may be sent
+long_send : IsSend LongFaces.the_row
+long_send = search (crosses, sendable) depth 20
+
 -- face tables may be sent
 table_send : IsSend FaceTable.the_row
-table_send = search (corners_send, crosses, sendable) depth 20
+table_send = search (corners_send, long_send, crosses, sendable) depth 20
 
 -- face counts may be sent
 counts_send : IsSend FaceCounts.the_row

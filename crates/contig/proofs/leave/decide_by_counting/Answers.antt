@@ -1,6 +1,7 @@
 use Rattle.std.proofs.Common.{ℕ, List, get_or, arith}
-use Rattle.std.proofs.lemmas.Bool.{false≢true}
+use Rattle.std.proofs.lemmas.Bool.{both_ways, false≢true}
 use Rattle.audit_model.specs.District.{in_district}
+use Rattle.contig.specs.Faces.{AreLinked}
 use Rattle.contig.proofs.Choosing.{chosen_counted}
 use Rattle.contig.proofs.leave.decide_by_counting.Goals as goal
 
@@ -15,3 +16,9 @@ returns-then-has_no_hole-clause-observed c =
     let spared = c.requires.counts.spared district c.requires.district in
     let more = chosen_counted (in_district plan district) faces in
     (λ h. absurd (false≢true h), λ may. absurd (c.links_mates.ensures.may_not c.if-links_mates.false c.requires.connected (omega (arith, none, edges, filled, spared, more)) may))
+
+pub returns-then-has_closed_holes-clause-observed : goal.returns-then-has_closed_holes-clause-observed
+returns-then-has_closed_holes-clause-observed c =
+    let m = c.args.leaving in
+    let off = λ (linked : AreLinked m.graph.now c.args.table.now.faces m.plan.now m.unit). both_ways c.links_mates.result c.if-links_mates.false (c.links_mates.ensures.linked.1 linked) in
+    (λ h. absurd (false≢true h), λ may. absurd (c.has_closed_holes.ensures c.if-has_closed_holes.true c.requires.connected off may))

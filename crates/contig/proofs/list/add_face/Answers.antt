@@ -26,14 +26,14 @@ mark_face-requires-clause-spare c =
     (fit_spare g c.args.candidate.ring c.args.candidate.spare c.is_ring.ensures.sound ring).0
 
 pub returns-clause-listed : goal.returns-clause-listed
-returns-clause-listed c =
+returns-clause-listed c long before =
     let g = c.args.graph.now in
     let old : List Candidate = c.args.faces.now.items in
     let face = c.fit-face.result in
     let ring = ring_passed g c.args.candidate.ring c.is_ring.ensures.sound (sym c.is_ring.ensures.value ∙ c.if-not-is_ring.false) in
     let fits = subst (λ (f : SparedFace). IsRing g (spare_ring f) × HasOtherUnit f) (sym c.fit-face.ensures.face)
     (fit_spare g c.args.candidate.ring c.args.candidate.spare c.is_ring.ensures.sound ring) in
-    listed_more g (listed (take c.args.end old)) (listed (take (c.args.end + 1) c.replace.new.faces.items)) (face_of face) c.args.candidate.ring c.args.marks.now.items c.mark_face.new.marks.items c.requires.listed
+    listed_more g long (listed (take c.args.end old)) (listed (take (c.args.end + 1) c.replace.new.faces.items)) (face_of face) c.args.candidate.ring c.args.marks.now.items c.mark_face.new.marks.items before
     (own_is face.ring face.spare ∙ ap ring_of c.fit-face.ensures.ring) ring fits.0 fits.1
     (subst (λ (marks : List Bool). is_marked g marks (own_side c.args.candidate.ring) ≡ false) c.deref.ensures.value (sym c.has_own.ensures ∙ c.if-has_own.false))
     (put_listed old c.replace.new.faces.items c.args.end face c.requires.room c.replace.ensures) c.mark_face.ensures.width c.mark_face.ensures.kept

@@ -6,5 +6,5 @@ abbrev pub invariant-loop-place : goal.invariant-loop-place
 invariant-loop-place l = record {
   width : length l.faces.items ≡ length l.initial.faces.items;
   upto : l.end ≤ l.place;
-  listed : AreListed l.graph (listed (take l.end l.faces.items)) l.marks.items;
+  listed : AreListed l.graph l.long (listed (take l.end l.faces.items)) l.marks.items;
 }

@@ -7,6 +7,7 @@ use Rattle.contig.proofs.Around.{linked_may_leave}
 use Rattle.contig.proofs.Choosing.{chosen_are_rings}
 use Rattle.contig.proofs.Merging.{home}
 use Rattle.contig.proofs.RingLinks.{leaving_is_linked}
+use Rattle.contig.proofs.Rings.{rings_are_cycles}
 use Rattle.contig.proofs.table.FaceTable.links_mates.Goals as goal
 
 pub returns-clause-may : goal.returns-clause-may
@@ -24,4 +25,5 @@ returns-clause-may_not c h connected holes may =
     let faces = c.args.self.now.faces in
     both_ways c.are_mates_linked.result h (c.are_mates_linked.ensures.linked.1
     (leaving_is_linked g (chosen inside faces) c.args.leaving.plan.now c.args.leaving.unit (simple g c.args.leaving.sound)
-    (chosen_are_rings g inside faces (subst (λ (t : Graph). AreFaces t faces) c.requires.made c.are_mates_linked.ensures.faces)) c.args.leaving.within connected holes may))
+    (rings_are_cycles g (chosen inside faces) (chosen_are_rings g inside faces (subst (λ (t : Graph). AreFaces t faces) c.requires.made c.are_mates_linked.ensures.faces)))
+    c.args.leaving.within connected holes may))

@@ -1,22 +1,18 @@
-//! Finds the faces of a graph. The search for rings is not proved: the list of faces tests each
-//! ring.
+//! Finds rings of three to five units in a graph, and puts them in order.
 
-ghost use Rattle.std.specs.Prelude.{◌≡◌, ◌<◌, IfOk};
-ghost use Rattle.contig.specs.Faces.{AreFaces};
+ghost use Rattle.std.specs.Prelude.{◌<◌};
 
-use crate::face::{Candidate, Face};
 use crate::groups::{UnitGroup, add_groups, add_groups_kept, add_rings_kept, choose_groups};
-use crate::list::{FaceList, list_faces};
+use crate::long_rings::choose_long;
 use crate::peel::order_by_peeling;
 use crate::sides::Sides;
 use crate::uncovered::add_spares;
 use audit_model::memory::Memory;
+use contig::face::{Candidate, Face, has_few_neighbors};
+use contig::long::LongRing;
 use dual_graph::graph::Graph;
 use std::alloc::Global;
 use std::mem;
-
-/// The maximum number of neighbors of a unit on a face or on a diagonal.
-const DEGREE: usize = 32;
 
 /// The maximum number of triangles and squares. A graph with more of them gets no faces. The search
 /// for groups ends if more groups are found.
@@ -25,24 +21,32 @@ const MOST: usize = 4000000;
 /// The number of paths that the search for pentagons may try, per unit of the graph.
 const WAYS: usize = 16;
 
-/// Lists the faces of a graph. Fails if there is no memory.
-///
-/// The candidates are triangles, squares and groups. If these do not yield the greatest possible
-/// number of faces, pentagons are candidates too.
-pub fn faces_of(alloc: Global, graph: &Graph) -> Result<FaceList, Memory>
-    ensures { IfOk result (λ l. AreFaces graph.now l) }
-{
-    let mut found = rings_of(alloc, graph)?;
-    let order = found.in_order(alloc, graph)?;
-    list_faces(alloc, graph, order)
+/// Candidates for the faces of a graph, each list in an order in which its candidates can become
+/// faces. No candidate of three to five units has its own side on a long one.
+#[derive(Drop)]
+pub struct FaceChoice {
+    /// The candidates of three to five units.
+    pub short: Vec<Candidate>,
+    /// The candidates of more units.
+    pub long: Vec<LongRing>,
 }
 
-/// Returns true if a connected graph cannot have more faces than `rings`.
+/// Chooses candidates for the faces of a graph. Fails if there is no memory.
+///
+/// The candidates are triangles, squares and groups. If these do not yield the greatest possible
+/// number of faces, pentagons are candidates too, and then long rings.
+pub fn candidates_of(alloc: Global, graph: &Graph) -> Result<FaceChoice, Memory> {
+    let mut found = rings_of(alloc, graph)?;
+    found.in_order(alloc, graph)
+}
+
+/// Returns the greatest number of faces that a connected graph can have beside `rings` faces.
 ///
 /// The faces are independent cycles, because each face has its own side. A connected graph has one
 /// independent cycle for each edge beyond those of a spanning tree.
-fn are_all(graph: &Graph, rings: usize) -> bool {
-    rings.wrapping_add(graph.units() as usize) > graph.edges() as usize
+fn count_missing(graph: &Graph, rings: usize) -> usize {
+    let most = (graph.edges() as usize).saturating_add(1);
+    most.saturating_sub(rings.saturating_add(graph.units() as usize))
 }
 
 /// Rings and groups found so far.
@@ -55,14 +59,18 @@ struct Rings {
 }
 
 impl Rings {
-    /// Returns the candidates in an order in which they can become faces, with pentagons where
-    /// these may yield more faces. Returns none if there are more than `MOST` triangles and squares.
-    fn in_order(&mut self, alloc: Global, graph: &Graph) -> Result<Vec<Candidate>, Memory> {
+    /// Returns the candidates in an order in which they can become faces, with pentagons and long
+    /// rings where these may yield more faces. Returns none if there are more than `MOST` triangles
+    /// and squares.
+    fn in_order(&mut self, alloc: Global, graph: &Graph) -> Result<FaceChoice, Memory> {
         if self.rings.len() > MOST {
-            return Ok(Vec::new(alloc));
+            return Ok(FaceChoice {
+                short: Vec::new(alloc),
+                long: Vec::new(alloc),
+            });
         }
         if self.groups.is_empty() {
-            return self.order_rings(alloc, graph);
+            return self.order_with_long(alloc, graph);
         }
         self.order_with_spares(alloc, graph)
     }
@@ -70,23 +78,39 @@ impl Rings {
     /// Chooses groups, returns the candidates in order and gives uncovered triangles to them as
     /// spares. The rings found are copied, because the triangles of the chosen groups are removed
     /// from them.
-    fn order_with_spares(
-        &mut self,
-        alloc: Global,
-        graph: &Graph,
-    ) -> Result<Vec<Candidate>, Memory> {
+    fn order_with_spares(&mut self, alloc: Global, graph: &Graph) -> Result<FaceChoice, Memory> {
         let found = self.rings.clone()?;
         self.groups = choose_groups(alloc, graph, &self.groups, &mut self.rings)?;
-        let mut order = self.order_rings(alloc, graph)?;
-        add_spares(alloc, graph, &found, &mut order)?;
-        Ok(order)
+        let mut choice = self.order_with_long(alloc, graph)?;
+        add_spares(alloc, graph, &found, &mut choice.short)?;
+        Ok(choice)
+    }
+
+    /// Returns the candidates without spares, with long rings where these yield more faces.
+    fn order_with_long(&mut self, alloc: Global, graph: &Graph) -> Result<FaceChoice, Memory> {
+        let short = self.order_rings(alloc, graph)?;
+        let long = choose_long(alloc, graph, &short, count_missing(graph, short.len()))?;
+        if long.is_empty() {
+            return Ok(FaceChoice { short, long });
+        }
+        let beside = order_by_peeling(alloc, graph, &self.rings, &self.groups, &long)?;
+        if beside.len().saturating_add(long.len()) > short.len() {
+            return Ok(FaceChoice {
+                short: beside,
+                long,
+            });
+        }
+        Ok(FaceChoice {
+            short,
+            long: Vec::new(alloc),
+        })
     }
 
     /// Returns the rings, the triangles of the groups, and pentagons where these may yield more
     /// faces, in an order in which they can become faces.
     fn order_rings(&mut self, alloc: Global, graph: &Graph) -> Result<Vec<Candidate>, Memory> {
-        let order = order_by_peeling(alloc, graph, &self.rings, &self.groups)?;
-        if are_all(graph, order.len()) {
+        let order = order_by_peeling(alloc, graph, &self.rings, &self.groups, &[])?;
+        if count_missing(graph, order.len()) == 0 {
             return Ok(order);
         }
         self.add_pentagons_to(alloc, graph, order)
@@ -101,11 +125,12 @@ impl Rings {
     ) -> Result<Vec<Candidate>, Memory> {
         self.replace_by_kept(&order)?;
         let mut kept = self.replace_by_pentagons(alloc, graph)?;
-        if self.rings.is_empty() {
+        let pentagons = self.rings.len();
+        self.rings.append(&mut kept)?;
+        if pentagons == 0 {
             return Ok(order);
         }
-        self.rings.append(&mut kept)?;
-        order_by_peeling(alloc, graph, &self.rings, &self.groups)
+        order_by_peeling(alloc, graph, &self.rings, &self.groups, &[])
     }
 
     /// Replaces the rings and groups by those for which these candidates stand.
@@ -119,7 +144,7 @@ impl Rings {
     /// Replaces the rings by the pentagons whose sides all have room beside them and the groups.
     /// Returns the rings.
     fn replace_by_pentagons(&mut self, alloc: Global, graph: &Graph) -> Result<Vec<Face>, Memory> {
-        let sides = Sides::of(alloc, graph, &self.rings, &self.groups)?;
+        let sides = Sides::of(alloc, graph, &self.rings, &self.groups, &[])?;
         let kept = mem::replace(&mut self.rings, Vec::new(alloc));
         self.add_pentagons(graph, &sides)?;
         Ok(kept)
@@ -191,8 +216,8 @@ impl Rings {
         Ok(())
     }
 
-    /// Returns true if a pentagon may have a side from `from` to `to`. The unit `to` must have at
-    /// most `DEGREE` neighbors, and the side must have room: at most one of the faces found so far
+    /// Returns true if a pentagon may have a side from `from` to `to`. The unit `to` must have few
+    /// neighbors, and the side must have room: at most one of the faces found so far
     /// has it.
     fn goes_on(&self, graph: &Graph, sides: &Sides, from: u32, to: u32) -> bool
         requires { to < graph.now.units }
@@ -295,13 +320,6 @@ impl Rings {
         }
         Ok(())
     }
-}
-
-/// Returns true if a unit has at most `DEGREE` neighbors.
-pub(crate) fn has_few_neighbors(graph: &Graph, unit: u32) -> bool
-    requires { unit < graph.now.units }
-{
-    graph.neighbours(unit).len() <= DEGREE
 }
 
 /// Finds the triangles, squares and groups of a graph. Stops early if there are more than `MOST`.

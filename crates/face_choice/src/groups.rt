@@ -6,8 +6,8 @@
 
 ghost use Rattle.std.specs.Prelude.{◌<◌};
 
-use crate::face::{Candidate, Face};
 use audit_model::memory::Memory;
+use contig::face::{Candidate, Face};
 use dual_graph::graph::Graph;
 use std::alloc::Global;
 
@@ -87,7 +87,7 @@ fn add_groups_of(
 }
 
 /// Chooses groups of which no two share a triangle. Removes their triangles from the rings, which
-/// must be in the order in which `near` finds them.
+/// must be in the order in which `short_rings` finds them.
 pub fn choose_groups(
     alloc: Global,
     graph: &Graph,

@@ -1,10 +1,11 @@
 //! Puts rings and groups in an order in which they can become faces. The order is not proved: it
 //! only decides how many of them the list of faces accepts.
 
-use crate::face::{Candidate, Face, first_two, length_of};
 use crate::groups::UnitGroup;
 use crate::sides::{FIRST_GROUP, GroupSides, SIDES, Sides, count_crowded, rotate_to};
 use audit_model::memory::Memory;
+use contig::face::{Candidate, Face, first_two, length_of};
+use contig::long::LongRing;
 use dual_graph::graph::Graph;
 use std::alloc::Global;
 
@@ -36,11 +37,12 @@ impl Peeling {
         graph: &Graph,
         rings: &[Face],
         groups: &[UnitGroup],
+        long: &[LongRing],
     ) -> Result<Peeling, Memory> {
         let left = vec![in alloc; true; rings.len()]?;
         let left_groups = vec![in alloc; true; groups.len()]?;
         Ok(Peeling {
-            sides: Sides::of(alloc, graph, rings, groups)?,
+            sides: Sides::of(alloc, graph, rings, groups, long)?,
             left,
             left_groups,
         })
@@ -266,21 +268,23 @@ fn count_most(rings: usize, groups: usize) -> usize {
 }
 
 /// Orders rings, and the triangles that stand for groups, so that each has a side that no earlier
-/// one has, and rotates each to begin with this side. No earlier spare has this side.
+/// one has, and rotates each to begin with this side. No earlier spare and no long ring has this
+/// side.
 ///
 /// The order is built from its end. A ring is *ready* if it has a side that no other remaining ring
 /// or group has. A group is ready if three of its triangles have such sides, which holds if its
 /// other sides contain no cycle. As long as one is ready, it is taken off and kept. If none is
 /// ready, a ring is dropped. If no ring remains, a group is dropped, and those of its triangles are
-/// kept that have own sides.
+/// kept that have own sides. The long rings always remain.
 pub fn order_by_peeling(
     alloc: Global,
     graph: &Graph,
     rings: &[Face],
     groups: &[UnitGroup],
+    long: &[LongRing],
 ) -> Result<Vec<Candidate>, Memory> {
     let mut order = Vec::with_capacity(alloc, count_most(rings.len(), groups.len()))?;
-    let mut peeling = Peeling::of(alloc, graph, rings, groups)?;
+    let mut peeling = Peeling::of(alloc, graph, rings, groups, long)?;
     peeling.peel(alloc, graph, rings, &mut order)?;
     order.reverse();
     Ok(order)

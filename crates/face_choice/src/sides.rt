@@ -1,8 +1,9 @@
 //! The sides of rings and groups, and the remaining rings and groups at each side.
 
-use crate::face::Face;
 use crate::groups::UnitGroup;
 use audit_model::memory::Memory;
+use contig::face::Face;
+use contig::long::LongRing;
 use dual_graph::graph::Graph;
 use std::alloc::Global;
 
@@ -14,6 +15,9 @@ pub const GROUP_SIDES: usize = 6;
 
 /// The number of the first group. The number of a ring is its index, which is less.
 pub const FIRST_GROUP: u32 = 2147483648;
+
+/// The number of each long ring. No ring has it as its index, because the rings are fewer.
+const LONG: u32 = 2147483647;
 
 /// Stands for the fourth and fifth side of a ring that has fewer sides. No side has this index.
 const NO_SIDE: u32 = 4294967295;
@@ -145,6 +149,18 @@ pub fn side_of(graph: &Graph, a: u32, b: u32) -> u32 {
     index_of(graph.arcs_before(low).wrapping_add(place))
 }
 
+/// Returns the index of the side between the unit at a place of a ring and the next one.
+pub fn side_after(graph: &Graph, units: &[u32], place: usize) -> u32 {
+    let next = place.wrapping_add(1);
+    if place >= units.len() {
+        NO_SIDE
+    } else if next < units.len() {
+        side_of(graph, units[place], units[next])
+    } else {
+        side_of(graph, units[place], units[0])
+    }
+}
+
 /// Returns the position of a unit in a list, or the length of the list. The lists are short: units
 /// on rings have few neighbors.
 fn position_in(row: &[u32], unit: u32) -> usize {
@@ -166,7 +182,7 @@ fn index_of(side: usize) -> u32 {
 }
 
 /// Returns the indices of a ring's sides, beginning with its own side.
-fn sides_of(graph: &Graph, ring: Face) -> [u32; SIDES] {
+pub fn sides_of(graph: &Graph, ring: Face) -> [u32; SIDES] {
     match ring {
         Face::Triangle(a, b, c) => [
             side_of(graph, a, b),
@@ -193,12 +209,14 @@ fn sides_of(graph: &Graph, ring: Face) -> [u32; SIDES] {
 }
 
 impl Sides {
-    /// Counts the rings and groups at each side of the graph. Fails if there is no memory.
+    /// Counts the rings, groups and long rings at each side of the graph. Fails if there is no
+    /// memory. Long rings are never removed.
     pub fn of(
         alloc: Global,
         graph: &Graph,
         rings: &[Face],
         groups: &[UnitGroup],
+        long: &[LongRing],
     ) -> Result<Sides, Memory> {
         let none = RingCount { count: 0, sum: 0 };
         let mut sides = Sides {
@@ -209,11 +227,15 @@ impl Sides {
         };
         sides.add_rings(graph, rings)?;
         sides.add_groups(graph, groups)?;
+        for ring in long {
+            sides.add_long(graph, ring.as_slice());
+        }
         sides.see_all()?;
         Ok(sides)
     }
 
-    /// Returns true if fewer than two of the remaining rings and groups have this side.
+    /// Returns true if fewer than two of the remaining rings and groups and of the long rings have this
+    /// side. The two units must be adjacent.
     pub fn has_room(&self, graph: &Graph, a: u32, b: u32) -> bool {
         let side = side_of(graph, a, b) as usize;
         side < self.counts.len() && self.counts[side].count < 2
@@ -250,6 +272,13 @@ impl Sides {
             number = number.wrapping_add(1);
         }
         Ok(())
+    }
+
+    /// Adds a long ring to its sides.
+    pub fn add_long(&mut self, graph: &Graph, units: &[u32]) {
+        for place in 0..units.len() {
+            self.add_to(side_after(graph, units, place), LONG);
+        }
     }
 
     /// Adds the ring or group `number` to a side.
