@@ -11,7 +11,11 @@ pub record IsRead (key : List ℕ) (start n : ℕ) (b : Buffer) : Type 0 where
   pub drawn : (i : ℕ) → i < n → slice_index b.draws i ≡ draw key b.words.stream (start + i)
 
 -- all draws of the buffer are those of its block
-pub record IsAhead (key : List ℕ) (b : Buffer) : Type 0 where
+pub record IsFilled (key : List ℕ) (b : Buffer) : Type 0 where
   pub read : IsRead key (32 * b.block) 32 b
-  pub next : b.next ≤ 32
-  pub few : b.block < 2 ^ 27
+  pub few : b.block ≤ 2 ^ 27
+
+-- a filled buffer has a draw that was not taken
+pub record IsAhead (key : List ℕ) (b : Buffer) : Type 0 where
+  pub filled : IsFilled key b
+  pub next : b.next < 32

@@ -2,7 +2,7 @@
 
 ghost use Rattle.std.specs.Prelude.{◌≡◌, ◌+◌, ◌*◌, ◌<◌, ◌≤◌, ◌^◌, ℕ, List};
 ghost use Rattle.rand_chacha.specs.ChaCha.{key_of};
-ghost use Rattle.chacha_draws.specs.Ahead.{IsAhead, IsRead};
+ghost use Rattle.chacha_draws.specs.Ahead.{IsAhead, IsFilled, IsRead};
 
 use rand_chacha::ChaCha20Rng;
 use rand_core::utils::next_u64_via_u32;
@@ -29,11 +29,11 @@ pub struct Buffer {
 #[inline(always)]
 pub fn turn(buffer: &mut Buffer)
     requires next { buffer.old.next ≤ 32 }
-    requires few { 32 * buffer.old.block + buffer.old.next < 2 ^ 32 }
+    requires few { 32 * buffer.old.block + buffer.old.next ≤ 2 ^ 32 }
     ensures next { buffer.new.next < 32 }
     ensures place { 32 * buffer.new.block + buffer.new.next ≡ 32 * buffer.old.block + buffer.old.next }
     ensures stream { buffer.new.words.stream ≡ buffer.old.words.stream }
-    ensures ahead { (key : List ℕ) → IsAhead key buffer.old → IsAhead key buffer.new }
+    ensures ahead { (key : List ℕ) → IsFilled key buffer.old → IsAhead key buffer.new }
 {
     if buffer.next >= ROOM {
         turn_over(buffer);
@@ -46,11 +46,11 @@ pub fn turn(buffer: &mut Buffer)
 #[inline(never)]
 fn turn_over(buffer: &mut Buffer)
     requires next { buffer.old.next ≡ 32 }
-    requires few { 32 * buffer.old.block + 32 < 2 ^ 32 }
+    requires few { 32 * buffer.old.block + 32 ≤ 2 ^ 32 }
     ensures next { buffer.new.next ≡ 0 }
     ensures block { buffer.new.block ≡ buffer.old.block + 1 }
     ensures stream { buffer.new.words.stream ≡ buffer.old.words.stream }
-    ensures ahead { (key : List ℕ) → IsAhead key buffer.old → IsAhead key buffer.new }
+    ensures ahead { (key : List ℕ) → IsFilled key buffer.old → IsAhead key buffer.new }
 {
     buffer.block += 1;
     buffer.next = 0;
@@ -63,7 +63,7 @@ fn turn_over(buffer: &mut Buffer)
 /// from the code, and the words are copied in pairs.
 #[inline(always)]
 pub fn refill(buffer: &mut Buffer)
-    requires few { buffer.old.block < 2 ^ 27 }
+    requires few { buffer.old.block ≤ 2 ^ 27 }
     ensures next { buffer.new.next ≡ buffer.old.next }
     ensures block { buffer.new.block ≡ buffer.old.block }
     ensures stream { buffer.new.words.stream ≡ buffer.old.words.stream }
@@ -80,7 +80,7 @@ fn read_16(buffer: &mut Buffer, first: usize)
     ensures next { buffer.new.next ≡ buffer.old.next }
     ensures block { buffer.new.block ≡ buffer.old.block }
     ensures stream { buffer.new.words.stream ≡ buffer.old.words.stream }
-    ensures read { (key : List ℕ) (start : ℕ) → start < 2 ^ 32 → IsRead key start first buffer.old → IsRead key start (first + 16) buffer.new }
+    ensures read { (key : List ℕ) (start : ℕ) → start ≤ 2 ^ 32 → IsRead key start first buffer.old → IsRead key start (first + 16) buffer.new }
 {
     read_4(buffer, first);
     read_4(buffer, first + 4);
@@ -94,7 +94,7 @@ fn read_4(buffer: &mut Buffer, first: usize)
     ensures next { buffer.new.next ≡ buffer.old.next }
     ensures block { buffer.new.block ≡ buffer.old.block }
     ensures stream { buffer.new.words.stream ≡ buffer.old.words.stream }
-    ensures read { (key : List ℕ) (start : ℕ) → start < 2 ^ 32 → IsRead key start first buffer.old → IsRead key start (first + 4) buffer.new }
+    ensures read { (key : List ℕ) (start : ℕ) → start ≤ 2 ^ 32 → IsRead key start first buffer.old → IsRead key start (first + 4) buffer.new }
 {
     read_draw(buffer, first);
     read_draw(buffer, first + 1);
@@ -110,7 +110,7 @@ fn read_draw(buffer: &mut Buffer, at: usize)
     ensures next { buffer.new.next ≡ buffer.old.next }
     ensures block { buffer.new.block ≡ buffer.old.block }
     ensures stream { buffer.new.words.stream ≡ buffer.old.words.stream }
-    ensures read { (key : List ℕ) (start : ℕ) → start < 2 ^ 32 → IsRead key start at buffer.old → IsRead key start (at + 1) buffer.new }
+    ensures read { (key : List ℕ) (start : ℕ) → start ≤ 2 ^ 32 → IsRead key start at buffer.old → IsRead key start (at + 1) buffer.new }
 {
     buffer.draws[at] = next_u64_via_u32(&mut buffer.words);
 }

@@ -3,7 +3,7 @@
 
 mod buffer;
 
-ghost use Rattle.std.specs.Prelude.{◌≡◌, ◌+◌, ◌<◌, ◌≤◌, ◌^◌};
+ghost use Rattle.std.specs.Prelude.{◌≡◌, ◌+◌, ◌%◌, ◌<◌, ◌≤◌, ◌^◌, ℕ, length, slice_index};
 ghost use Rattle.audit_statement.specs.Draw.{draw};
 ghost use Rattle.rand_chacha.specs.ChaCha.{key_of};
 
@@ -58,10 +58,31 @@ impl Draws {
         ensures value { result ≡ draw self.old.key self.old.stream self.old.place }
         ensures moved { self.new ≡ record self.old { place = self.old.place + 1 } }
     {
-        turn(&mut self.buffer);
         let draw = self.buffer.draws[self.buffer.next];
         self.buffer.next += 1;
+        turn(&mut self.buffer);
         draw
+    }
+
+    /// Returns the next draws that are in the buffer. There is at least one.
+    #[inline]
+    pub fn waiting(&self) -> &[u64]
+        ensures some { 0 < length result.now }
+        ensures count { self.now.place % 32 + length result.now ≡ 32 }
+        ensures values { (k : ℕ) → k < length result.now → slice_index result.now k ≡ draw self.now.key self.now.stream (self.now.place + k) }
+    {
+        &self.buffer.draws[self.buffer.next..]
+    }
+
+    /// Takes draws that are in the buffer.
+    #[inline]
+    pub fn skip(&mut self, count: usize)
+        requires waiting { self.old.place % 32 + count ≤ 32 }
+        requires place { self.old.place + count ≤ 2 ^ 32 }
+        ensures { self.new ≡ record self.old { place = self.old.place + count } }
+    {
+        self.buffer.next += count;
+        turn(&mut self.buffer);
     }
 
     /// Returns the number of draws that were taken.

@@ -54,6 +54,52 @@ module _ (all draw size inverse blocks : ℕ) (some : 0 < size) (l : draw < all)
       split : draw ≡ (blocks + 1) * size + (draw - blocks * size - size)
       split = omega (arith, blocks_fit, large)
 
+-- ---- a quotient that is right, of a small number
+
+-- the quotient of a product of equal numbers
+pub record IsQuotient (number inverse quotient : ℕ) : Type 0 where
+  pub low : quotient * 2 ^ 64 ≤ number * inverse
+  pub high : number * inverse < quotient * 2 ^ 64 + 2 ^ 64
+
+pub quotient_of : (a b number inverse : ℕ) → a ≡ number → b ≡ inverse → IsQuotient number inverse (a * b / 2 ^ 64)
+quotient_of a b number inverse ea eb =
+    let same : a * b ≡ number * inverse = ap (λ (n : ℕ). n * b) ea ∙ ap (λ (n : ℕ). number * n) eb in
+    let parts : a * b / 2 ^ 64 * 2 ^ 64 + a * b % 2 ^ 64 ≡ a * b = div-add-mod' (a * b) (2 ^ 64) in
+    let rest : a * b % 2 ^ 64 < 2 ^ 64 = mod_below (a * b) (2 ^ 64) (omega arith) in
+    record { low = omega (arith, same, parts); high = omega (arith, same, parts, rest) }
+
+-- `blocks` is the high half of the product of the inverse and the next number
+module _ (all number size inverse blocks : ℕ) (little : number * size < all) (enough : inverse * size < all) (most : all ≤ inverse * size + size)
+    (low : blocks * all ≤ (number + 1) * inverse) (high : (number + 1) * inverse < blocks * all + all) where
+  -- the product's quotient is not too large
+  pub small_fits : blocks * size ≤ number
+  small_fits = elim (cases_lt number (blocks * size)) [
+    | inr fits ↦ fits
+    | inl over ↦
+        let one : (number + 1) * all ≤ blocks * size * all = mul-le-mul_right all (omega (arith, over)) in
+        let two : blocks * all * size ≤ (number + 1) * inverse * size = mul-le-mul_right size low in
+        let three : (number + 1) * (inverse * size + 1) ≤ (number + 1) * all = mul-le-mul_left (number + 1) (omega (arith, enough)) in
+        absurd (omega (arith, one, two, three))
+  ]
+
+  -- and not too small
+  small_rest : number < blocks * size + size
+  small_rest = elim (cases_lt number (blocks * size + size)) [
+    | inl below ↦ below
+    | inr over ↦
+        let one : (blocks * size + size) * all ≤ number * all = mul-le-mul_right all over in
+        let two : (number + 1) * all ≤ (number + 1) * (inverse * size + size) = mul-le-mul_left (number + 1) most in
+        let three : ((number + 1) * inverse + 1) * size ≤ (blocks * all + all) * size = mul-le-mul_right size (omega (arith, high)) in
+        absurd (omega (arith, one, two, three, little))
+  ]
+
+  pub small_divided : ◌≡◌ {A = ℕ × ℕ} (blocks, number - blocks * size) (number / size, number % size)
+  small_divided =
+      sym (ap (λ (n : ℕ). (n / size, n % size)) split ∙ divided_at blocks size (number - blocks * size) (omega (arith, small_fits, small_rest)))
+    where
+      split : number ≡ blocks * size + (number - blocks * size)
+      split = omega (arith, small_fits)
+
 -- ---- blocks of draws
 
 module _ (draw size last place : ℕ) (some : 0 < size) (whole : last + size ≡ 2 ^ 64) (is : place ≡ draw % size) where

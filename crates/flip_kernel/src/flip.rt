@@ -1,6 +1,6 @@
 //! One step of the chain, and the draw that leads back.
 
-ghost use Rattle.std.specs.Prelude.{◌≡◌, ℕ, ◌+◌, ◌<◌, ◌-◌, ◌*◌, ◌%◌, ◌≤◌, ◌↔◌, Some, slice_index, IsTrue, IsFalse};
+ghost use Rattle.std.specs.Prelude.{◌≡◌, ℕ, ◌+◌, ◌<◌, ◌-◌, ◌*◌, ◌%◌, ◌≤◌, ◌↔◌, Some, length, slice_index, IsTrue, IsFalse};
 ghost use Rattle.audit_model.specs.Local.{IsLocal};
 ghost use Rattle.audit_model.specs.Proposal.{proposal};
 ghost use Rattle.audit_model.specs.Plan.{IsLegal};
@@ -45,6 +45,41 @@ pub fn try_flip<J: Judge, L: Ledger>(
             },
             steps,
         ),
+    }
+}
+
+/// Takes the steps of draws, from the place `first` on, up to the first draw that proposes an open
+/// pair. Returns the place after the last step, and true if this step changed the plan. No step
+/// before it did.
+///
+/// Nine of ten steps end after the test of one pair. A loop over the draws makes this test and
+/// nothing else.
+#[inline(always)]
+pub fn try_flips<J: Judge, L: Ledger>(
+    job: &Job,
+    state: &mut State<J>,
+    draws: &[u64],
+    first: usize,
+    steps: &mut Steps<L>,
+) -> (usize, bool)
+    requires made { state.old.job ≡ job.now }
+    requires some { first < length draws.now }
+    ensures some { first < result.0 }
+    ensures few { result.0 ≤ length draws.now }
+    ensures closed { (k : ℕ) → first ≤ k → k + 1 < result.0 → next job.now state.old.plan (slice_index draws.now k) ≡ state.old.plan }
+    ensures next { state.new ≡ record state.old { plan = next job.now state.old.plan (slice_index draws.now (result.0 - 1)) } }
+    ensures unchanged { IsFalse result.1 ↔ (state.new.plan ≡ state.old.plan) }
+{
+    match state.find_open(draws, first) {
+        None => (draws.len(), false),
+        Some((place, unit, district)) => {
+            let flip = Flip {
+                job,
+                unit,
+                district,
+            };
+            (place + 1, state.flip(flip, steps))
+        }
     }
 }
 

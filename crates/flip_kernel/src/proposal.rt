@@ -79,7 +79,11 @@ impl Pairs {
         requires few { place < 2 ^ 32 }
         ensures { result ≡ (place / self.now.districts, place % self.now.districts) }
     {
-        let (unit, district) = divide(place, u64::from(self.districts), self.district_inverse);
+        let (unit, district) = divide_small(
+            place,
+            u64::from(self.districts),
+            self.district_inverse,
+        );
         (unit as u32, district as u32)
     }
 }
@@ -102,6 +106,24 @@ fn divide(number: u64, divisor: u64, inverse: u64) -> (u64, u64)
     } else {
         (quotient + 1, rest - divisor)
     }
+}
+
+/// Returns the quotient and the remainder of a small number. `inverse` is 2^64 - 1 divided by
+/// `divisor` and rounded down.
+///
+/// The high half of the product of `number + 1` and `inverse` is the quotient, so nothing is
+/// corrected afterwards.
+#[inline]
+fn divide_small(number: u64, divisor: u64, inverse: u64) -> (u64, u64)
+    requires some { 0 < divisor }
+    requires small { number * divisor < 2 ^ 64 }
+    requires enough { inverse * divisor < 2 ^ 64 }
+    requires most { 2 ^ 64 ≤ inverse * divisor + divisor }
+    requires next { number + 1 < 2 ^ 64 }
+    ensures { result ≡ (number / divisor, number % divisor) }
+{
+    let quotient = ((u128::from(number + 1) * u128::from(inverse)) >> 64) as u64;
+    (quotient, number - quotient * divisor)
 }
 
 /// Returns the unit and the district that a draw proposes.

@@ -1,6 +1,6 @@
 //! The state of the chain: the board with the constraint.
 
-ghost use Rattle.std.specs.Prelude.{◌≡◌, ◌+◌, ◌≤◌, ◌↔◌, slice_set, IfOk, MatchOption, IsTrue, IsFalse};
+ghost use Rattle.std.specs.Prelude.{◌≡◌, ◌+◌, ◌<◌, ◌≤◌, ◌↔◌, ℕ, ⊤, length, slice_index, slice_set, IfOk, MatchOption, IsTrue, IsFalse};
 ghost use Rattle.audit_model.specs.JobOf.{IsJob};
 ghost use Rattle.audit_model.specs.Local.{IsLocal};
 ghost use Rattle.audit_model.specs.Plan.{IsLegal};
@@ -90,6 +90,24 @@ impl<J: Judge> State<J> {
             (λ pair. ProposesOpen self.now.job self.now.plan draw pair.0 pair.1) }
     {
         self.board.proposal_of(draw)
+    }
+
+    /// Finds the first draw from the place `first` on that proposes an open pair. Returns its place
+    /// among the draws, the unit and the district. No draw before it changes the plan.
+    ///
+    /// The loop reads fields of the board and writes nothing, so the fields stay in registers.
+    #[inline(always)]
+    pub(crate) fn find_open(&self, draws: &[u64], first: usize) -> Option<(usize, u32, u32)>
+        ensures closed { (k : ℕ) → first ≤ k → k < length draws.now → MatchOption result ⊤ (λ found. k < found.0) → next self.now.job self.now.plan (slice_index draws.now k) ≡ self.now.plan }
+        ensures found { MatchOption result ⊤ (λ found. (first ≤ found.0) × (found.0 < length draws.now) × ProposesOpen self.now.job self.now.plan (slice_index draws.now found.0) found.1 found.2) }
+    {
+        for place in first..draws.len() {
+            match self.proposal_of(draws[place]) {
+                None => {}
+                Some((unit, district)) => return Some((place, unit, district)),
+            }
+        }
+        None
     }
 
     /// Returns true if the flip is a move. The pair must be open. Neither the plan nor the

@@ -1,8 +1,8 @@
 -- Counting visits, and a trail after one more step.
-use Rattle.std.proofs.Common.{◌≡◌, ℕ, zero, suc, ◌+◌, ◌-◌, ◌*◌, ◌<◌, ◌≤◌, ◌^◌, Bool, true, false, cond, eqb, not, List, [], ◌∷◌, length, get_or, Option, refl, sym, ap, ◌∙◌, subst, inl, inr, arith}
-use Rattle.std.specs.Prelude.{bytes_eq, IsTrue, IsFalse}
+use Rattle.std.proofs.Common.{◌≡◌, ℕ, zero, suc, ◌+◌, ◌-◌, ◌*◌, ◌<◌, ◌≤◌, ◌^◌, Bool, true, false, cond, eqb, not, List, [], ◌∷◌, length, get_or, slice_index, Option, refl, sym, ap, ◌∙◌, subst, inl, inr, arith}
+use Rattle.std.specs.Prelude.{◌↔◌, bytes_eq, IsTrue, IsFalse}
 use Rattle.std.specs.List.{slice_get}
-use Rattle.std.proofs.lemmas.Bool.{cases_lt, not-false}
+use Rattle.std.proofs.lemmas.Bool.{both_ways, cases_lt, not-false}
 use Rattle.std.proofs.lemmas.List.{ext_get_or}
 use Rattle.std.proofs.lemmas.Slice.Eq.{bytes_eq-Decides}
 use Rattle.audit_model.specs.declared.setting.Ask.{Ask}
@@ -182,6 +182,73 @@ module _ (job : Job) (draws : ℕ → ℕ) where
         sym (ap (λ (p : List ℕ). not (bytes_eq p after)) visited ∙ ap (λ (p : List ℕ). not (bytes_eq (visit job draws job.start place) p)) visited_after)
         ∙ sym is ∙ observed
 
+-- steps that leave the plan leave the trail, too
+pub passed : (job : Job) (along : ℕ → ℕ) (plan : List ℕ) (from n : ℕ) (t : Trail) → plan ≡ visit job along job.start from → IsTrail job along from t
+    → ((k : ℕ) → k < n → next job plan (along (from + k)) ≡ plan) → (plan ≡ visit job along job.start (from + n)) × IsTrail job along (from + n) t
+passed job along plan from zero t visited trail still =
+    subst (λ (m : ℕ). (plan ≡ visit job along job.start m) × IsTrail job along m t) (let e : from ≡ from + 0 = omega arith in e) (visited, trail)
+passed job along plan from (suc n) t visited trail still =
+    let before = passed job along plan from n t visited trail (λ k l. still k (omega (arith, l))) in
+    let last = sym (still n (omega arith)) in
+    let same : false ≡ not (bytes_eq plan plan) = sym (ap not ((bytes_eq-Decides plan plan).1 refl)) in
+    subst (λ (m : ℕ). (plan ≡ visit job along job.start m) × IsTrail job along m t) (let e : from + n + 1 ≡ from + suc n = omega arith in e) (
+      visited_after job along (from + n) (from + n) plan plan refl before.0 last,
+      stayed job along (from + n) t before.1 (test_after job along (from + n) (from + n) plan plan refl before.0 last false false same refl),
+    )
+
+-- a Boolean that is false exactly if two plans are equal
+changed_by : (changed same : Bool) (old new : List ℕ) → same ≡ bytes_eq old new → (IsFalse changed ↔ (new ≡ old)) → changed ≡ not (bytes_eq old new)
+changed_by true true old new e h = absurd (both_ways true (h.1 (sym ((bytes_eq-Decides old new).0 (sym e)))) refl)
+changed_by true false old new e h = ap not e
+changed_by false true old new e h = ap not e
+changed_by false false old new e h = absurd (both_ways (bytes_eq old new) (sym e) ((bytes_eq-Decides old new).1 (sym (h.0 refl))))
+
+pub changed_is : (changed : Bool) (old new : List ℕ) → (IsFalse changed ↔ (new ≡ old)) → changed ≡ not (bytes_eq old new)
+changed_is changed old new h = changed_by changed (bytes_eq old new) old new refl h
+
+-- steps with ready draws, of which only the last may change the plan
+module _ (job : Job) (along : ℕ → ℕ) (ready plan new : List ℕ) (p from after : ℕ) (t : Trail) (some : from < after) (most : after ≤ length ready)
+    (these : (k : ℕ) → k < length ready → slice_index ready k ≡ along (p + k))
+    (visited : plan ≡ visit job along job.start (p + from)) (trail : IsTrail job along (p + from) t)
+    (closed : (k : ℕ) → from ≤ k → k + 1 < after → next job plan (slice_index ready k) ≡ plan)
+    (stepped : new ≡ next job plan (slice_index ready (after - 1))) where
+  along_is : (k : ℕ) → k < after - 1 - from → along (p + from + k) ≡ slice_index ready (from + k)
+  along_is k l = ap along (let e : p + from + k ≡ p + (from + k) = omega arith in e) ∙ sym (these (from + k) (omega (arith, l, most)))
+
+  pub before_last : (plan ≡ visit job along job.start (p + (after - 1))) × IsTrail job along (p + (after - 1)) t
+  before_last =
+      subst (λ (m : ℕ). (plan ≡ visit job along job.start m) × IsTrail job along m t)
+      (let e : p + from + (after - 1 - from) ≡ p + (after - 1) = omega (arith, some) in e)
+      (passed job along plan (p + from) (after - 1 - from) t visited trail
+      (λ k l. ap (λ (d : ℕ). next job plan d) (along_is k l) ∙ closed (from + k) (omega arith) (omega (arith, l, some))))
+
+  upto : p + (after - 1) + 1 ≡ p + after
+  upto = omega (arith, some)
+
+  stepped_at : new ≡ next job plan (along (p + (after - 1)))
+  stepped_at = stepped ∙ ap (λ (d : ℕ). next job plan d) (these (after - 1) (omega (arith, some, most)))
+
+  visited_last : new ≡ visit job along job.start (p + (after - 1) + 1)
+  visited_last = visited_after job along (p + (after - 1)) (p + (after - 1)) plan new refl before_last.0 stepped_at
+
+  pub visited_new : new ≡ visit job along job.start (p + after)
+  visited_new = visited_last ∙ ap (λ (n : ℕ). visit job along job.start n) upto
+
+  test_last : (changed value : Bool) → changed ≡ not (bytes_eq plan new) → changed ≡ value
+      → not (bytes_eq (visit job along job.start (p + (after - 1))) (visit job along job.start (p + (after - 1) + 1))) ≡ value
+  test_last changed value is e = test_after job along (p + (after - 1)) (p + (after - 1)) plan new refl before_last.0 stepped_at changed value is e
+
+  pub stayed_last : (changed : Bool) → changed ≡ not (bytes_eq plan new) → changed ≡ false → IsTrail job along (p + after) t
+  stayed_last changed is e =
+      subst (λ (n : ℕ). IsTrail job along n t) upto (stayed job along (p + (after - 1)) t before_last.1 (test_last changed false is e))
+
+  pub went_last : (later : Trail) (changed : Bool) → changed ≡ not (bytes_eq plan new) → changed ≡ true → later.moved ≡ t.moved + 1 → later.visits ≡ p + after
+      → IsTested job new later → IsCounted job along (p + after) later → IsTrail job along (p + after) later
+  went_last later changed is e moved visits tested counted =
+      subst (λ (n : ℕ). IsTrail job along n later) upto
+      (went job along (p + (after - 1)) t before_last.1 later (test_last changed true is e) moved (visits ∙ sym upto)
+      (subst (λ (q : List ℕ). IsTested job q later) visited_last tested) (subst (λ (n : ℕ). IsCounted job along n later) (sym upto) counted))
+
 -- a plan scored through the state is scored
 pub tested_of : (job current : Job) (plan : List ℕ) (asks : List Ask) (t : Trail) → current ≡ job → asks ≡ job.setting.asks
     → t.tally.start ≡ each (asked_value job job.start) job.setting.asks → t.tally.inside ≡ each (inside current plan) asks
@@ -213,13 +280,13 @@ arrived job key stream place steps d t k s e trail =
     subst (λ (n : ℕ). IsTrail job (draw key stream) n t) e
     (subst (λ (n : ℕ). IsTrail job (draw key n) place t) s (subst (λ (n : List ℕ). IsTrail job (draw n d.stream) place t) k trail))
 
--- a walk in progress after one more draw
-pub on_track : (job : Job) (plan : List ℕ) (place : ℕ) (before after : DrawPlace) (t : Trail) → before.place ≡ place
-    → after ≡ record { key = before.key; stream = before.stream; place = before.place + 1 }
-    → plan ≡ visit job (draw before.key before.stream) job.start (place + 1) → IsTrail job (draw before.key before.stream) (place + 1) t
-    → IsOnTrack job plan (place + 1) (record { draws = after; trail = t })
-on_track job plan place before after t here drawn visited trail = record {
-  at = ap (λ (d : DrawPlace). d.place) drawn ∙ ap (λ (n : ℕ). n + 1) here;
-  visited = subst (λ (d : DrawPlace). plan ≡ visit job (draw d.key d.stream) job.start (place + 1)) (sym drawn) visited;
-  trail = subst (λ (d : DrawPlace). IsTrail job (draw d.key d.stream) (place + 1) t) (sym drawn) trail;
+-- a walk in progress after more draws
+pub on_track_by : (job : Job) (plan : List ℕ) (n : ℕ) (before after : DrawPlace) (t : Trail)
+    → after ≡ record { key = before.key; stream = before.stream; place = before.place + n }
+    → plan ≡ visit job (draw before.key before.stream) job.start (before.place + n) → IsTrail job (draw before.key before.stream) (before.place + n) t
+    → IsOnTrack job plan (before.place + n) (record { draws = after; trail = t })
+on_track_by job plan n before after t drawn visited trail = record {
+  at = ap (λ (d : DrawPlace). d.place) drawn;
+  visited = subst (λ (d : DrawPlace). plan ≡ visit job (draw d.key d.stream) job.start (before.place + n)) (sym drawn) visited;
+  trail = subst (λ (d : DrawPlace). IsTrail job (draw d.key d.stream) (before.place + n) t) (sym drawn) trail;
 }

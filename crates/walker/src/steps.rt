@@ -1,19 +1,20 @@
 //! Steps along a stream of draws.
 
-ghost use Rattle.std.specs.Prelude.{◌≡◌, ◌+◌, ◌*◌, ◌<◌, ◌≤◌, ◌^◌, ℕ, List, not, bytes_eq, length};
+ghost use Rattle.std.specs.Prelude.{◌≡◌, ◌+◌, ◌*◌, ◌%◌, ◌<◌, ◌≤◌, ◌^◌, ℕ, List, not, bytes_eq, length, slice_index};
 ghost use Rattle.audit_statement.specs.Draw.{draw};
 ghost use Rattle.audit_model.specs.Step.{next};
 ghost use Rattle.audit_model.specs.Trajectory.{visit, moves};
 ghost use Rattle.walker.specs.Asked.{each, visits_inside};
 ghost use Rattle.walker.specs.Binned.{histogram_of_visits};
 ghost use Rattle.walker.specs.Track.{IsOnTrack};
+ghost use Rattle.walker.specs.Trail.{IsTrail};
 ghost use Rattle.walker.specs.Walked.{IsWalked};
 
 use crate::trail::Trail;
 use audit_model::steps::Steps;
 use chacha_draws::Draws;
 use flip_guard::judge::Judge;
-use flip_kernel::flip::try_flip;
+use flip_kernel::flip::{try_flip, try_flips};
 use flip_kernel::state::State;
 use plan_core::job::Job;
 use scores::Room;
@@ -102,8 +103,9 @@ pub fn count_visits<J: Judge, L: Ledger>(
         draws: Draws::new(job.setting().key, course.stream),
         trail: Trail::new(job, state, course.shift, room),
     };
-    for place in 0..course.steps {
-        visit_next(job, state, &mut track, room, counter);
+    let mut place = 0;
+    'turns: while place < course.steps {
+        place += visit_block(job, state, &mut track, course.steps - place, room, counter);
     }
     let mut trail = track.trail;
     trail.flush(course.steps + 1);
@@ -131,31 +133,109 @@ fn step<J: Judge, L: Ledger>(
     try_flip(job, state, draw, counter)
 }
 
-/// Takes one step. After a move, counts the visits of the plan before the move and scores the plan
-/// after it.
-///
-/// The number of steps is that of the draws. It is read only after a move, so that the loop over
-/// steps counts down in one register.
+/// Takes steps with the draws that are in the buffer, but at most `left` steps. Returns the number
+/// of steps.
+#[inline(always)]
+fn visit_block<J: Judge, L: Ledger>(
+    job: &Job,
+    state: &mut State<J>,
+    track: &mut Track,
+    left: u32,
+    room: &mut Room,
+    counter: &mut Steps<L>,
+) -> u32
+    requires made { state.old.job ≡ job.now }
+    requires some { 0 < left }
+    requires few { track.old.draws.place + left ≤ 10 ^ 9 }
+    requires on { IsOnTrack job.now state.old.plan track.old.draws.place track.old }
+    ensures made { state.new.job ≡ job.now }
+    ensures some { 0 < result }
+    ensures most { result ≤ left }
+    ensures on { IsOnTrack job.now state.new.plan (track.old.draws.place + result) track.new }
+    ensures draws { track.new.draws ≡ record track.old.draws { place = track.old.draws.place + result } }
+    ensures asked { track.new.trail.bins.asked ≡ track.old.trail.bins.asked }
+{
+    let taken = visit_along(
+        job,
+        state,
+        &track.draws,
+        left,
+        &mut track.trail,
+        room,
+        counter,
+    );
+    track.draws.skip(taken as usize);
+    taken
+}
+
+/// Takes steps with the draws that are in the buffer, but at most `left` steps, and leaves the draws
+/// as they are. Returns the number of steps.
+#[inline(always)]
+fn visit_along<J: Judge, L: Ledger>(
+    job: &Job,
+    state: &mut State<J>,
+    draws: &Draws,
+    left: u32,
+    trail: &mut Trail,
+    room: &mut Room,
+    counter: &mut Steps<L>,
+) -> u32
+    requires made { state.old.job ≡ job.now }
+    requires some { 0 < left }
+    requires few { draws.now.place + left ≤ 10 ^ 9 }
+    requires visited { state.old.plan ≡ visit job.now (draw draws.now.key draws.now.stream) job.now.start draws.now.place }
+    requires trail { IsTrail job.now (draw draws.now.key draws.now.stream) draws.now.place trail.old }
+    ensures made { state.new.job ≡ job.now }
+    ensures some { 0 < result }
+    ensures most { result ≤ left }
+    ensures buffered { draws.now.place % 32 + result ≤ 32 }
+    ensures visited { state.new.plan ≡ visit job.now (draw draws.now.key draws.now.stream) job.now.start (draws.now.place + result) }
+    ensures trail { IsTrail job.now (draw draws.now.key draws.now.stream) (draws.now.place + result) trail.new }
+    ensures asked { trail.new.bins.asked ≡ trail.old.bins.asked }
+{
+    let waiting = draws.waiting();
+    let count = waiting.len().min(left as usize);
+    let ready = &waiting[..count];
+    let mut place = 0;
+    'opens: while place < ready.len() {
+        place = visit_next(job, state, draws, ready, place, trail, room, counter);
+    }
+    count as u32
+}
+
+/// Takes the steps of the ready draws, which are the next ones, from the index `place` up to a step
+/// that may be a move. Returns the index after this step. After a move, counts the visits of the
+/// plan before the move and scores the plan after it.
 #[inline(always)]
 fn visit_next<J: Judge, L: Ledger>(
     job: &Job,
     state: &mut State<J>,
-    track: &mut Track,
+    draws: &Draws,
+    ready: &[u64],
+    place: usize,
+    trail: &mut Trail,
     room: &mut Room,
     counter: &mut Steps<L>,
-)
+) -> usize
     requires made { state.old.job ≡ job.now }
-    requires few { track.old.draws.place < 10 ^ 9 }
-    requires on { IsOnTrack job.now state.old.plan track.old.draws.place track.old }
+    requires ready { (k : ℕ) → k < length ready.now → slice_index ready.now k ≡ draw draws.now.key draws.now.stream (draws.now.place + k) }
+    requires some { place < length ready.now }
+    requires few { draws.now.place + length ready.now ≤ 10 ^ 9 }
+    requires visited { state.old.plan ≡ visit job.now (draw draws.now.key draws.now.stream) job.now.start (draws.now.place + place) }
+    requires trail { IsTrail job.now (draw draws.now.key draws.now.stream) (draws.now.place + place) trail.old }
     ensures made { state.new.job ≡ job.now }
-    ensures on { IsOnTrack job.now state.new.plan (track.old.draws.place + 1) track.new }
-    ensures draws { track.new.draws ≡ record track.old.draws { place = track.old.draws.place + 1 } }
-    ensures asked { track.new.trail.bins.asked ≡ track.old.trail.bins.asked }
+    ensures some { place < result }
+    ensures most { result ≤ length ready.now }
+    ensures visited { state.new.plan ≡ visit job.now (draw draws.now.key draws.now.stream) job.now.start (draws.now.place + result) }
+    ensures trail { IsTrail job.now (draw draws.now.key draws.now.stream) (draws.now.place + result) trail.new }
+    ensures asked { trail.new.bins.asked ≡ trail.old.bins.asked }
 {
-    if !step(job, state, &mut track.draws, counter) {
-        return;
+    let (after, changed) = try_flips(job, state, ready, place, counter);
+    if !changed {
+        return after;
     }
-    let visits = track.draws.place() as u32;
-    track.trail.flush(visits);
-    track.trail.update(job, state, room);
+    let visits = draws.place() as u32 + after as u32;
+    trail.flush(visits);
+    trail.update(job, state, room);
+    after
 }

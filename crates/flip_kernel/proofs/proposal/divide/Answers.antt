@@ -1,19 +1,6 @@
-use Rattle.std.proofs.Common.{◌≡◌, ℕ, ◌+◌, ◌*◌, ◌/◌, ◌%◌, ◌^◌, ◌<◌, ◌≤◌, ap, ◌∙◌, arith}
-use Rattle.std.proofs.lemmas.Nat.{div-add-mod', mod_below}
-use Rattle.flip_kernel.proofs.Dividing.{blocks_fit, divided_is, divided_next}
+use Rattle.std.proofs.Common.{◌^◌, arith}
+use Rattle.flip_kernel.proofs.Dividing.{blocks_fit, divided_is, divided_next, quotient_of}
 use Rattle.flip_kernel.proofs.proposal.divide.Goals as goal
-
--- the quotient of a product of equal numbers
-record IsQuotient (number inverse quotient : ℕ) : Type 0 where
-  low : quotient * 2 ^ 64 ≤ number * inverse
-  high : number * inverse < quotient * 2 ^ 64 + 2 ^ 64
-
-quotient_of : (a b number inverse : ℕ) → a ≡ number → b ≡ inverse → IsQuotient number inverse (a * b / 2 ^ 64)
-quotient_of a b number inverse ea eb =
-    let same : a * b ≡ number * inverse = ap (λ (n : ℕ). n * b) ea ∙ ap (λ (n : ℕ). number * n) eb in
-    let parts : a * b / 2 ^ 64 * 2 ^ 64 + a * b % 2 ^ 64 ≡ a * b = div-add-mod' (a * b) (2 ^ 64) in
-    let rest : a * b % 2 ^ 64 < 2 ^ 64 = mod_below (a * b) (2 ^ 64) (omega arith) in
-    record { low = omega (arith, same, parts); high = omega (arith, same, parts, rest) }
 
 pub overflow_sub-rest : goal.overflow_sub-rest
 overflow_sub-rest c =
