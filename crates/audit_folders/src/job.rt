@@ -1,8 +1,8 @@
 //! The job of a run's arguments and of the graph on standard input.
 
 use crate::exit_code::exit_code_of;
-use crate::gather::gather_job;
-use crate::slots::show_folder;
+use crate::gather_command::gather_job;
+use crate::slots_command::show_folder;
 use audit_io::std_adapters::ReadSource;
 use audit_model::fault::WordFault;
 use audit_model::text::Text;

@@ -1,23 +1,28 @@
 //! One program under two names, for folders with checkpoints of runs.
 //!
 //! As `audit_slots`, or with the first argument `slots`, it reports the contents of a folder's two checkpoint files,
-//! and which is the newest. With the arguments of a run, it also reports how many trajectories are done (`slots`). As
-//! `audit_gather`, or with the first argument `gather`, it merges the outcomes that runs of one job have saved in
-//! several folders (`gather`).
+//! and which is the newest. With the arguments of a run, it also reports how many trajectories are done
+//! (`slots_command`). As `audit_gather`, or with the first argument `gather`, it merges the outcomes that runs of one
+//! job have saved in several folders (`gather_command`). `slots` and `gathering` write the reports.
 #![tactic(auto)]
 
 mod exit_code;
-mod gather;
+mod gather_command;
+mod gathering;
+mod help;
 mod job;
+mod lines;
+mod slot_lines;
 mod slots;
+mod slots_command;
 mod this_build;
 
 use crate::exit_code::end_with;
-use crate::gather::gather_by;
-use crate::slots::show_by;
+use crate::gather_command::gather_by;
+use crate::help::{FolderProgram, answer_words};
+use crate::slots_command::show_by;
 use crate::this_build::THIS_BUILD;
 use audit_io::std_adapters::WriteSink;
-use folder_report::{FolderProgram, answer_words};
 use std::process::ExitCode;
 use std::{env, io};
 

@@ -1,4 +1,0 @@
-use Rattle.folder_report.proofs.lines.differing_pieces.Goals as goal
-
-pub returns : goal.returns
-returns c = rw (c.from.ensures)
