@@ -13,19 +13,21 @@ and resumed, and one that goes on from the first version of the format with the 
 must be 3 or the run's own; after 3 the output must be empty and both files as before; else output,
 note and files must be those of the run with all its memory. Status 3 must come early: where a run
 takes more than a second of a processor, in less than a tenth of that, since nothing is walked
-before all memory is taken. With a number only so many allocations of each run are refused, alone
-and with all after them by turns, drawn each from an equal part of those that the run makes. With
-`each` every one is refused once: a call that does not return where there is no memory for it is
-found so, which no contract says of a function that may wait for another thread. With `jobs` every
-allocation is refused, alone and with all after it, in so many jobs that are drawn as fuzz.py draws
-them before it breaks some: words of every kind, a graph, and slots as earlier runs left them. Where
-several workers save, which outcomes a save has depends on chance, and the files are not compared.
-With `folders` the program is audit_folders, and every allocation is refused, alone and with all
-after it, in calls of audit_slots and of audit_gather: a look, gatherings, and one that is refused
-in several lines. Out of memory while a folder is read has to be reported, never as a slot that
-cannot be read or as a folder that differs. After status 3 no folder has changed. Prints how many
-runs there were, and each that is not so, by its name. The last line counts them; ends with 1 where
-one is not so. Where gcc is missing, that counts as skipped.
+before all memory is taken. A machine that others use can delay a run, so a late run is repeated,
+and is wrong only if it is late each time. With a number only so many allocations of each run are
+refused, alone and with all after them by turns, drawn each from an equal part of those that the run
+makes. With `each` every one is refused once: a call that does not return where there is no memory
+for it is found so, which no contract says of a function that may wait for another thread. With
+`jobs` every allocation is refused, alone and with all after it, in so many jobs that are drawn as
+fuzz.py draws them before it breaks some: words of every kind, a graph, and slots as earlier runs
+left them. Where several workers save, which outcomes a save has depends on chance, and the files
+are not compared. With `folders` the program is audit_folders, and every allocation is refused,
+alone and with all after it, in calls of audit_slots and of audit_gather: a look, gatherings, and
+one that is refused in several lines. Out of memory while a folder is read has to be reported, never
+as a slot that cannot be read or as a folder that differs. After status 3 no folder has changed.
+Prints how many runs there were, and before that each that is not so, with what differs. After three
+runs that do not end, no more are made. The last line counts the runs; ends with 1 where one is not
+so. Where gcc is missing, that counts as skipped.
 """
 # RUN: {auditor} each
 # RUN refused_memory_of_folders: {folders} folders
@@ -148,6 +150,14 @@ TWO = (
 )
 SAVED = ["--save", "2", "--budget", "5"]
 OLD = "first version"
+# The number of turns of a tenth of a second after which a run counts as one that does not end.
+# Turns are counted, since a clock also goes on while the machine stands still.
+TURNS = 1200
+NO_END = f"none after {TURNS} turns of a tenth of a second"
+# The number of runs that do not end after which no more are made.
+MOST_HUNG = 3
+# The number of times that a run is made before it counts as late.
+LATE_TRIES = 3
 # The bytes of the files that are there, by their names.
 Files = Mapping[str, bytes]
 
@@ -312,6 +322,39 @@ def build(folder: pathlib.Path) -> pathlib.Path:
     return library
 
 
+def wait_for(process: subprocess.Popen[bytes], given: bytes) -> tuple[int | str, bytes, bytes]:
+    """Returns the status and both texts of a process, which gets this input. One that does not end
+    is killed; then its note says where its threads wait.
+    """
+    data: bytes | None = given
+    for _ in range(TURNS):
+        try:
+            out, note = process.communicate(data, timeout=0.1)
+            return process.returncode, out, note
+        except subprocess.TimeoutExpired:
+            data = None
+    note = describe_threads(process.pid).encode()
+    process.kill()
+    process.communicate()
+    return NO_END, b"", note
+
+
+def describe_threads(process: int) -> str:
+    """Returns the state of each thread of a process, and the call of the kernel in which it waits.
+
+    A thread that waits for another one sleeps (S) on a futex, one that waits for a disk does not
+    sleep (D), and one that computes runs (R).
+    """
+    found = []
+    for task in sorted(pathlib.Path(f"/proc/{process}/task").iterdir()):
+        try:
+            state = (task / "stat").read_text().rpartition(")")[2].split()[0]
+            found.append(f"{state} {(task / 'wchan').read_text()}")
+        except OSError:
+            found.append("ended")
+    return f"threads: {', '.join(found)}"
+
+
 class Room:
     """A folder for the runs, with the library and the two files."""
 
@@ -352,17 +395,13 @@ class Room:
         if is_all:
             given["REFUSE_ALL"] = "1"
         begun = measure_seconds()
-        try:
-            done = subprocess.run(
-                [self.program, *words], input=graph, capture_output=True, cwd=self.slots, env=given,
-                timeout=20, check=False,
-            )
-        except subprocess.TimeoutExpired:
-            return End("none after 20 seconds", b"", b"", files, self.mark.exists())
-        finally:
-            self.seconds = measure_seconds() - begun
-        refused = self.mark.exists()
-        return End(done.returncode, done.stdout, done.stderr, self.files(), refused)
+        with subprocess.Popen(
+            [self.program, *words], stdin=subprocess.PIPE, stdout=subprocess.PIPE,
+            stderr=subprocess.PIPE, cwd=self.slots, env=given,
+        ) as process:
+            status, out, note = wait_for(process, graph)
+        self.seconds = measure_seconds() - begun
+        return End(status, out, note, self.files(), self.mark.exists())
 
 
 class Folders(Room):
@@ -428,6 +467,8 @@ def refuse_folders(room: Room, tally: Tally) -> None:
             tries.found.append(f"{name}: {tries.own[:3]} and not {wanted}")
         tries.refuse_each()
         tally.add(tries)
+        if tally.is_over():
+            return
 
 
 def predict(words: Sequence[str], graph: bytes, files: Files) -> tuple[int, str, str]:
@@ -454,16 +495,28 @@ def find_wrong(end: End, own: End, files: Files, is_known: bool) -> str | None:
     With `is_known` it is known which outcomes each save has, as it is of one worker.
     """
     if end.status == 3 and own.status != 3:
-        if end.out or end.files != files:
-            return "status 3, and the output or the files changed"
-        is_good = end.note in (b"memory\n", b"")
-        return None if is_good else f"status 3 with the note {end.note!r}"
-    parts = 4 if is_known else 3
-    return (
-        None
-        if end[:parts] == own[:parts]
-        else f"status {end.status}, and not all as with all memory: {end.note!r}"
-    )
+        wanted = End(3, b"", end.note if end.note == b"memory\n" else b"", files, True)
+        return compare_ends(end, wanted, True)
+    return compare_ends(end, own, is_known)
+
+
+def compare_ends(end: End, wanted: End, is_known: bool) -> str | None:
+    """Returns what of an end is not as wanted, or None. With `is_known` the files count, too."""
+    pairs: list[tuple[str, object, object]] = [
+        ("output", end.out, wanted.out), ("note", end.note, wanted.note),
+    ]
+    if is_known:
+        names = sorted({*end.files, *wanted.files})
+        pairs += [(name, end.files.get(name), wanted.files.get(name)) for name in names]
+    differing = [
+        f"{name} {str(came)[:200]} and not {str(other)[:200]}"
+        for name, came, other in pairs
+        if came != other
+    ]
+    if end.status == wanted.status and not differing:
+        return None
+    expected = "" if end.status == wanted.status else f" and not {wanted.status}"
+    return "; ".join([f"status {end.status}{expected}", *differing])
 
 
 def draw_allocations(made: int, most: int, draw: random.Random) -> list[tuple[int, bool]]:
@@ -489,41 +542,68 @@ class Tries:
         self.own, self.seconds = room.run(*self.job), room.seconds
         self.made = int.from_bytes(room.counted.read_bytes(), sys.byteorder)
         self.is_known = "--workers" not in words or "--save" not in words
-        self.count, self.threes = 0, 0
-        self.found: list[str] = []
+        self.count, self.threes, self.hung = 0, 0, int(self.own.status == NO_END)
+        self.found = [f"{name}: no end with all memory: {self.own.note!r}"] if self.hung else []
 
     def refuse(self, number: int, is_all: bool) -> bool:
         """Makes the run without an allocation, and answers whether there was one to refuse."""
         end = self.room.run(*self.job, number, is_all)
         self.count += end.is_refused
         self.threes += end.status == 3
+        self.hung += end.status == NO_END
         why = find_wrong(end, self.own, self.files, self.is_known)
-        if end.status == 3 and 1 < self.seconds < 10 * self.room.seconds:
-            why = (
-                f"status 3 after {self.room.seconds:.1f} seconds of a processor, where the run"
-                f" itself takes {self.seconds:.1f}"
-            )
+        if end.status == 3 and not why:
+            why = self.find_late(number, is_all)
         if why:
             self.found.append(
                 f"{self.name}, allocation {number}{' and all after it' if is_all else ''}: {why}"
             )
         return end.is_refused
 
+    def find_late(self, number: int, is_all: bool) -> str | None:
+        """Returns what is wrong with the time of the last run, which ended with 3, or None."""
+        seconds = [self.room.seconds]
+        while 1 < self.seconds < 10 * seconds[-1]:
+            if len(seconds) == LATE_TRIES:
+                return (
+                    f"status 3 after {', '.join(f'{one:.2f}' for one in seconds)} seconds of a"
+                    f" processor, where the run itself takes {self.seconds:.2f}"
+                )
+            end = self.room.run(*self.job, number, is_all)
+            why = find_wrong(end, self.own, self.files, self.is_known)
+            if end.status != 3 or why:
+                return f"status 3, and when repeated status {end.status}: {why}"
+            seconds.append(self.room.seconds)
+        return None
+
     def refuse_each(self) -> None:
         for is_all in (False, True):
             number = 1
-            while self.refuse(number, is_all):
+            while self.hung < MOST_HUNG and self.refuse(number, is_all):
                 number += 1
+
+    def refuse_some(self, most: int, draw: random.Random) -> None:
+        """Refuses at most this number of allocations."""
+        for number, is_all in draw_allocations(self.made, most, draw):
+            if self.hung < MOST_HUNG:
+                self.refuse(number, is_all)
 
 
 class Tally:
     """The sums over all jobs."""
 
     def __init__(self) -> None:
-        self.count, self.threes = 0, 0
+        self.count, self.threes, self.hung = 0, 0, 0
         self.found: list[str] = []
 
+    def is_over(self) -> bool:
+        """Returns whether the number of runs that did not end is that after which no more are made.
+        """
+        return self.hung >= MOST_HUNG
+
     def add(self, tries: Tries) -> None:
+        for one in tries.found:
+            print("WRONG:", one)
         print(
             (
                 f"{tries.name}: status {tries.own.status}, {tries.count} runs with refused memory,"
@@ -531,9 +611,8 @@ class Tally:
             ),
             flush=True,
         )
-        self.count, self.threes, self.found = (
-            self.count + tries.count, self.threes + tries.threes, self.found + tries.found,
-        )
+        self.count, self.threes = self.count + tries.count, self.threes + tries.threes
+        self.hung, self.found = self.hung + tries.hung, self.found + tries.found
 
 
 def refuse_runs(room: Room, most: int, draw: random.Random, tally: Tally) -> None:
@@ -544,11 +623,12 @@ def refuse_runs(room: Room, most: int, draw: random.Random, tally: Tally) -> Non
         for place, (words, graph) in enumerate(chain):
             tries = Tries(room, f"{name} {place + 1}", words, graph, files)
             if most:
-                for number, is_all in draw_allocations(tries.made, most, draw):
-                    tries.refuse(number, is_all)
+                tries.refuse_some(most, draw)
             else:
                 tries.refuse_each()
             tally.add(tries)
+            if tally.is_over():
+                return
             files = tries.own.files
 
 
@@ -592,11 +672,11 @@ def main(program: str, drawn: str = "0", *more: str) -> int:
                 tries = Tries(room, f"job {number + 1}", *drawn_job(draw, graphs))
                 tries.refuse_each()
                 tally.add(tries)
+                if tally.is_over():
+                    break
         else:
             refuse_runs(room, sys.maxsize if drawn == "each" else int(drawn), draw, tally)
     count, threes, found = tally.count, tally.threes, tally.found
-    for one in found:
-        print("WRONG:", one)
     if not threes:
         found.append("no run ended with status 3")
         print("WRONG:", found[-1], "- does the program take its memory from the C library?")
