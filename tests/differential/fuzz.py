@@ -5,7 +5,7 @@ Usage: python3 -m tests.differential.fuzz PROGRAM [RUNS [SEED [PROCESSES]]]
 Each run takes good words, a good graph and good slots of either version of the format, with bins
 and without, breaks some of them (bits, bytes, slices, doubled keys, bins, numbers at the ends of
 their ranges, names and values of words), and runs the program in a folder of its own with at most
-20 seconds and 2 GB. The status, both texts and both files must be exactly the model's. Prints each
+120 seconds and 2 GB. The status, both texts and both files must be exactly the model's. Prints each
 run that differs, with what is needed to make it again, and at the end how many runs ended with
 which status, and how many different notes there were. Ends with 1 where a run differed.
 """
@@ -52,6 +52,8 @@ NAMES = (
     "graph", "l",
 )
 MOST_WORK = 3000
+# The time that a run may take. It only ends one that hangs, so it leaves room for a busy machine.
+SECONDS = 120
 NO_WORDS: list[str] = []
 Node = dict[str, typing.Union[int, str]]
 
@@ -462,7 +464,7 @@ def run_program(
     """Returns the status and both texts of a run."""
     done = subprocess.run(
         [program, *words], input=data, stdout=subprocess.PIPE, stderr=subprocess.PIPE, cwd=folder,
-        timeout=20, check=False,
+        timeout=SECONDS, check=False,
     )
     return done.returncode, done.stdout, done.stderr
 
@@ -492,7 +494,7 @@ def differs(program: str, folder: str, call: Call) -> tuple[str | None, model.En
     try:
         status, out, note = run_program(program, call.words, call.data, folder)
     except subprocess.TimeoutExpired:
-        return "no end within 20 seconds", wanted
+        return f"no end within {SECONDS} seconds", wanted
     after = files(folder)
     if status != wanted.status:
         return f"status {status} and not {wanted.status}: {note[:200]!r}", wanted
