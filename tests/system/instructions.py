@@ -6,7 +6,7 @@ PROGRAM is the auditor and FOLDERS the program audit_folders, both proved builds
 valgrind's callgrind counts, so the numbers do not depend on what else the machine does: each run
 may take at most 1.15 of its number in instructions.json. The runs are those in which work done in
 vain, or again and again, would show: walks with each score and with rules, starts on large graphs,
-saves, a run that goes on from many outcomes, gatherings, several plans. On five maps the searches
+saves, a run that goes on from many outcomes, gatherings, several plans. On six maps the searches
 in a thousand steps are counted, too (calls of the function that searches); they may be 1.15 of
 their number and half a search more. In one run of four workers each thread has to work.
 --record writes the numbers of this build and its toolchain. Record anew only with a reason, and
@@ -179,10 +179,13 @@ def savings() -> dict[str, Run]:
 
 def searches() -> dict[str, Run]:
     """Returns the walks whose searches are counted."""
-    nc, ny8 = ("BIR74", "NWBIR74", "WBIR74", "PLAN11"), ("POP8", "OWNING", "OTHERS", "PLAN8")
+    births = ("BIR74", "NWBIR74", "WBIR74")
+    nc, two = make_words(*births, "PLAN11"), make_words(*births, "PLAN2")
+    ny8 = ("POP8", "OWNING", "OTHERS", "PLAN8")
     return {
         "searches_on_a_grid": make_search(GRID, example("grid.json")),
-        "searches_on_nc": make_search(make_words(*nc), prepare("nc.json", *make_words(*nc)[1:9])),
+        "searches_on_nc": make_search(nc, prepare("nc.json", *nc[1:9])),
+        "searches_round_a_lake": make_search(two, prepare("nc.json", *two[1:9])),
         "searches_on_ny8": make_search(
             make_words(*ny8), prepare("ny8.json", *make_words(*ny8)[1:9], "--numbers", "nearest")
         ),
