@@ -20,9 +20,9 @@ const TRIES: usize = 1024;
 /// The maximum number of long rings to find. The search ends with the last of them.
 const MOST: usize = 256;
 
-/// The maximum number of missing faces. With more of them, the graph is no map, and a search for
-/// long rings would take long.
-const MOST_MISSING: usize = 256;
+/// The maximum number of missing faces. With more of them, long rings seldom close all holes of a
+/// district, and a look at all of them takes as long as what it saves.
+const MOST_MISSING: usize = 64;
 
 /// A unit on a path, and the position of the neighbor to try next.
 #[derive(Clone, Copy)]
