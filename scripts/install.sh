@@ -12,8 +12,9 @@
 # is called.
 # Beside each program NAME the file NAME.origin is written, and printed: the program's SHA-256, the commit that it was built from (with
 # the word `built` the commit of the checkout), the line of `rt version`, and whether it is proved. A part that is not known is `unknown`.
-# While a program builds, the commit of the clone stands in the source files with the texts of --version. The same commit gives the same
-# bytes. If the sources differ from the commit, and with the word `built`, --version answers that the commit is unknown.
+# While a program builds, the commit of the clone and the line of `rt version` stand in the source files with the texts of --version. The
+# same commit and kit give the same bytes. If the sources differ from the commit, --version answers that the commit is unknown; with the
+# word `built`, it answers that both are.
 # On failure, one line on standard error says why, and the status is 1.
 
 here=$(cd "$(dirname "$0")" && pwd) || exit 1
@@ -23,31 +24,41 @@ help_where_asked "$@"
 room=$(mktemp -d) || exit 1
 trap 'unstamp; rm -rf "$room"' EXIT
 
-# The files with the texts of --version, one for each program, and those of them that have the commit.
+# The files with the texts of --version, one for each program, and those of them that have commit and kit.
 builds=("$here"/../crates/audit_{program,folders}/src/this_build.rt)
 stamped=()
 
-# Takes a commit out of the files that a killed build left there.
+# Takes commit and kit out of the files that a killed build left there.
 clear_stamps() {
     local file
     for file in "${builds[@]}"; do
-        grep -q 'commit: "unknown"' "$file" || sed -i 's/commit: "[0-9a-f]*"/commit: "unknown"/' "$file" || fail "$file cannot be written"
+        [ "$(grep -cE '^ *(commit|kit): "unknown",$' "$file")" -eq 2 ] ||
+            sed -i -E 's/^( *(commit|kit)): ".*",$/\1: "unknown",/' "$file" || fail "$file cannot be written"
     done
 }
 
-# Writes the commit of the clone into the files if the sources are those of the commit.
+# Prints the line of `rt version`, or `unknown` if there is none that can stand in a source text.
+kit_line() {
+    local line
+    line=$(rt version </dev/null 2>/dev/null | head -n 1)
+    [[ $line =~ ^[A-Za-z0-9\ ._+-]{1,100}$ ]] || line=unknown
+    echo "$line"
+}
+
+# Writes the kit into the files, and the commit of the clone if the sources are those of the commit.
 stamp() {
-    local commit file top=$here/..
-    commit=$(git -C "$top" rev-parse --verify HEAD 2>/dev/null) || return 0
-    [ -z "$(git -C "$top" status --porcelain -- crates crates.txt HANDLES 2>/dev/null)" ] || return 0
+    local commit=unknown file top=$here/..
+    if [ -z "$(git -C "$top" status --porcelain -- crates crates.txt HANDLES 2>&1)" ]; then
+        commit=$(git -C "$top" rev-parse --verify HEAD 2>/dev/null) || commit=unknown
+    fi
     for file in "${builds[@]}"; do
         cp -p "$file" "$room/${#stamped[@]}.rt" || fail "$file cannot be copied"
         stamped+=("$file")
-        sed -i "s/commit: \"unknown\"/commit: \"$commit\"/" "$file" || fail "$file cannot be written"
+        sed -i "s/commit: \"unknown\"/commit: \"$commit\"/; s/kit: \"unknown\"/kit: \"$kit\"/" "$file" || fail "$file cannot be written"
     done
 }
 
-# Takes the commit back out of the files, so that the clone is as it was.
+# Takes commit and kit back out of the files, so that the clone is as it was.
 unstamp() {
     local place
     for place in "${!stamped[@]}"; do
@@ -91,13 +102,12 @@ commit_of_checkout() {
 
 # Prints what the program $place/$1 is, and leaves that beside it. $2 says whether it is proved.
 tell_origin() {
-    local name=$1 source=commit kit
+    local name=$1 source=commit
     [ $built = no ] || source=checkout
-    kit=$(rt version </dev/null 2>/dev/null | head -n 1)
     {
         echo "sha256 $(sha256sum <"$place/$name" | cut -d ' ' -f 1)"
         echo "$source $checkout"
-        echo "kit ${kit:-unknown}"
+        echo "kit $kit"
         echo "proved $2"
     } >"$place/$name.origin.new" && mv "$place/$name.origin.new" "$place/$name.origin" || fail "$place/$name.origin cannot be written"
     echo "$place/$name"
@@ -119,6 +129,8 @@ leave() {
     cp "$program" "$room/$name" && "$room/$name" "$@" </dev/null >"$room/said" 2>&1 || fail "$program does not run: $(head -c 300 "$room/said")"
     cp "$program" "$place/$name.new" && mv "$place/$name.new" "$place/$name" || fail "$place/$name cannot be written"
     tell_origin "$name" yes
+    # The tests call the program in its crate's folder, and learn there which kit its --version may name.
+    cp "$place/$name.origin" "$program.origin" || fail "$program.origin cannot be written"
 }
 
 # ---- a build that is not proved
@@ -258,6 +270,7 @@ prove() {
 [ $built = yes ] || clear_stamps
 # Asked before the commit is written into files, which changes them.
 checkout=$(commit_of_checkout)
+kit=$(kit_line)
 [ $built = yes ] || stamp
 if [ $unproved = yes ]; then
     install_unproved

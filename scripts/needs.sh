@@ -1,8 +1,8 @@
 #!/bin/bash
-# Looks for what the test command needs beside the toolchain. Installs from Debian what is missing where it may, and elsewhere prints the one line to type.
+# Looks for what the tests need beside the toolchain. For what is missing, prints the one line to type, or installs it from Debian.
 #
-# Usage: scripts/needs.sh               looks, and installs what is missing where root and apt-get are there
-#        scripts/needs.sh look          only looks
+# Usage: scripts/needs.sh               looks, and installs nothing
+#        scripts/needs.sh install       looks, and installs what is missing where root and apt-get are there; a line says what
 #        scripts/needs.sh python M..    prints the first python that has all of these modules, or ends with 1; here alone it is chosen
 # The last line counts: what is there as passed, and what is missing as failed where the variable CI is set, and as skipped elsewhere.
 # Ends with 1 where something failed.
@@ -76,14 +76,14 @@ case ${1:-} in
         python_with "$@"
         exit
         ;;
-    look | '') ;;
+    install | '') ;;
     *)
-        echo "needs: the word $1 is unknown; usage: scripts/needs.sh [look | python MODULE..]" >&2
+        echo "needs: the word $1 is unknown; usage: scripts/needs.sh [install | python MODULE..]" >&2
         exit 2
         ;;
 esac
 look
-if [ ${#missing[@]} -gt 0 ] && [ "${1:-}" != look ]; then
+if [ ${#missing[@]} -gt 0 ] && [ "${1:-}" = install ]; then
     install
     look
 fi

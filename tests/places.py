@@ -1,5 +1,6 @@
 """Paths of files and programs, and a Python with the modules that a test needs."""
 import functools
+import hashlib
 import os
 import pathlib
 import shutil
@@ -66,6 +67,22 @@ def program(name: str) -> pathlib.Path:
     if not os.access(path, os.X_OK):
         raise FileNotFoundError(f"there is no program {path}; the variable {variable} may name it")
     return path.resolve()
+
+
+def origin_of(path: typing.Union[str, pathlib.Path]) -> dict[str, str]:
+    """Returns what the file `.origin` beside a program says of it, by the first word of each line.
+
+    A link is followed. Without such a file, or if it is the file of another program, nothing is
+    returned.
+    """
+    path = pathlib.Path(path).resolve()
+    beside = path.with_name(path.name + ".origin")
+    if not beside.is_file():
+        return {}
+    lines = (line.partition(" ") for line in beside.read_text().splitlines())
+    origin = {name: text for name, _, text in lines}
+    is_its = origin.get("sha256") == hashlib.sha256(path.read_bytes()).hexdigest()
+    return origin if is_its else {}
 
 
 def link_programs(folder: pathlib.Path) -> tuple[pathlib.Path, pathlib.Path, pathlib.Path]:

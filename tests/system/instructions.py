@@ -4,12 +4,14 @@ Usage: python3 -m tests.system.instructions PROGRAM FOLDERS [NAME..]
        python3 -m tests.system.instructions PROGRAM FOLDERS --record
 PROGRAM is the auditor and FOLDERS the program audit_folders, both proved builds as rt leaves them.
 valgrind's callgrind counts, so the numbers do not depend on what else the machine does: each run
-may take at most 1.15 of its number in instructions.json. The runs are those in which work done in
-vain, or again and again, would show: walks with each score and with rules, starts on large graphs,
-saves, a run that goes on from many outcomes, gatherings, several plans. On six maps the searches
-in a thousand steps are counted, too (calls of the function that searches); they may be 1.15 of
-their number and half a search more. In one run of four workers each thread has to work.
---record writes the numbers of this build and its toolchain. Record anew only with a reason, and
+may take at most 1.15 of its number in instructions.json. That file has a table for each kit that
+was measured, by the line of `rt version`. With another kit, a run may take at most 1.5 of the
+greatest number that any kit has for it, and a line says so. The runs are those in which work done
+in vain, or again and again, would show: walks with each score and with rules, starts on large
+graphs, saves, a run that goes on from many outcomes, gatherings, several plans. On six maps the
+searches in a thousand steps are counted, too (calls of the function that searches); they may be
+1.15 of their number and half a search more. In one run of four workers each thread has to work.
+--record writes the numbers of this build as those of its kit. Record anew only with a reason, and
 name it in the commit.
 Prints a line for each run, and FAILED with its name for each that takes too much. The last line
 counts; the status is 1 if one failed. Where valgrind is missing, or no numbers are recorded, what
@@ -31,14 +33,16 @@ import time
 from typing import Iterator, NamedTuple, Optional, Sequence
 
 from tests.oracle import model
-from tests.places import DATA, TEST_DATA, package_command, package_environment
+from tests.places import DATA, TEST_DATA, origin_of, package_command, package_environment
 
 
 RECORD = TEST_DATA / "instructions.json"
 MOST_TIMES, MORE_SEARCHES = 1.15, 0.5
+# With a kit that was not measured, since compilers differ; work done again and again takes more.
+MOST_TIMES_OF_OTHERS = 1.5
 # Parts of the names of functions that search whether a unit may leave its district.
 SEARCHES = "decide_by_search"
-THREADS = "threads_of_four_workers"
+THREADS, LIMITS = "threads_of_four_workers", "limits_of_kits"
 KEY = ["--key", "5" * 64]
 SMALL = [*"run --pop pop --first a --second b --district d --slack 5000".split(), *KEY]
 GRID = [*"run --pop TOTPOP --first DEM --second REP --district CD --slack 1000".split(), *KEY]
@@ -294,9 +298,47 @@ def busy_threads(room: Room) -> tuple[int, int]:
 Result = tuple[str, Optional[bool], str]
 
 
-def compare_run(name: str, came: Counted, recorded: dict[str, dict[str, float]]) -> Result:
+Numbers = dict[str, dict[str, float]]
+
+
+class Limits(NamedTuple):
+    """The numbers that runs are compared with."""
+
+    runs: Numbers
+    times: float
+    """The most that a run may take, as a multiple of its number of instructions."""
+
+
+def choose_limits(kits: dict[str, Numbers], kit: str) -> Limits:
+    """Returns the numbers of a kit; for one that was not measured the greatest of all kits."""
+    if kit in kits:
+        return Limits(kits[kit], MOST_TIMES)
+    greatest: Numbers = {}
+    for runs in kits.values():
+        for name, numbers in runs.items():
+            known = greatest.setdefault(name, dict(numbers))
+            known.update({key: max(known.get(key, 0), one) for key, one in numbers.items()})
+    return Limits(greatest, MOST_TIMES_OF_OTHERS)
+
+
+def check_limits() -> Result:
+    """Checks which numbers stand for a kit that was measured, and for another."""
+    kits: dict[str, Numbers] = {
+        "a": {"walk": {"instructions": 100}},
+        "b": {"walk": {"instructions": 90, "searches": 2}, "start": {"instructions": 7}},
+    }
+    greatest: Numbers = {"walk": {"instructions": 100, "searches": 2}, "start": {"instructions": 7}}
+    expected = [Limits(kits["a"], 1.15), Limits(greatest, 1.5)]
+    came = [choose_limits(kits, kit) for kit in ("a", "c")]
+    verdicts = [compare_run("walk", Counted(number, None), came[0])[1] for number in (115, 116)]
+    verdicts += [compare_run("start", Counted(number, None), came[1])[1] for number in (10, 11)]
+    is_good = came == expected and verdicts == [True, False, True, False]
+    return LIMITS, is_good, f"{came} and {verdicts}; expected {expected}"
+
+
+def compare_run(name: str, came: Counted, limits: Limits) -> Result:
     """Compares what a run took with its numbers; None says that there are none."""
-    wanted = recorded.get(name)
+    wanted = limits.runs.get(name)
     said = f"{came.instructions} instructions"
     if came.searches is not None:
         said += f", {came.searches:.3f} searches in a thousand steps"
@@ -304,8 +346,8 @@ def compare_run(name: str, came: Counted, recorded: dict[str, dict[str, float]])
         return name, None, f"{said}; no numbers are recorded"
     times = came.instructions / wanted["instructions"]
     said += f"; {times:.3f} of the recorded {wanted['instructions']}"
-    if times > MOST_TIMES:
-        return name, False, f"{said}, and at most {MOST_TIMES} is expected"
+    if times > limits.times:
+        return name, False, f"{said}, and at most {limits.times} is expected"
     if "searches" in wanted and came.searches is None:
         return name, False, f"{said}; the program has no function {SEARCHES}"
     most = MOST_TIMES * wanted.get("searches", 0) + MORE_SEARCHES
@@ -321,12 +363,22 @@ def threads(room: Room) -> Result:
     return THREADS, busy >= 4, said
 
 
-def identity() -> str:
-    """Returns the toolchain's line."""
-    if shutil.which("rt") is None:
-        return "unknown"
+def kit_of(program: str) -> str:
+    """Returns the line of the kit that built a program: that of its `.origin`, or of this machine.
+    """
+    origin = origin_of(program)
+    if "kit" in origin or shutil.which("rt") is None:
+        return origin.get("kit", "unknown")
     done = subprocess.run(["rt", "version"], capture_output=True, text=True, check=False)
     return done.stdout.strip() or "unknown"
+
+
+def recorded_kits() -> dict[str, Numbers]:
+    """Returns the recorded numbers of each kit that was measured."""
+    kits: dict[str, Numbers] = {}
+    if RECORD.exists():
+        kits = json.loads(RECORD.read_text(encoding="utf-8"))
+    return kits
 
 
 def record(room: Room, chosen: dict[str, Run]) -> int:
@@ -336,26 +388,34 @@ def record(room: Room, chosen: dict[str, Run]) -> int:
         numbers[name] = {"instructions": came.instructions}
         if came.searches is not None:
             numbers[name]["searches"] = round(came.searches, 3)
-    text = json.dumps({"toolchain": identity(), "runs": numbers}, indent=1) + "\n"
+    kit = kit_of(room.program)
+    text = json.dumps({**recorded_kits(), kit: numbers}, indent=1) + "\n"
     RECORD.write_text(text, encoding="utf-8")
-    print(f"instructions.py: {len(numbers)} runs recorded")
+    print(f"instructions.py: {len(numbers)} runs recorded for {kit}")
     return 0
 
 
 def compare_runs(room: Room, chosen: dict[str, Run], names: Sequence[str]) -> Iterator[Result]:
     """Makes the runs and compares each; without a number only those that are named are made."""
-    recorded: dict[str, dict[str, float]] = {}
-    if RECORD.exists():
-        recorded = json.loads(RECORD.read_text(encoding="utf-8"))["runs"]
+    kits, kit = recorded_kits(), kit_of(room.program)
+    limits = choose_limits(kits, kit)
+    if kit not in kits:
+        print(
+            f"no numbers are recorded for {kit}: each run is compared with the greatest number of"
+            f" {', '.join(kits) or 'no kit'}, and at most {limits.times} of that is expected",
+            flush=True,
+        )
+    if not names or LIMITS in names:
+        yield check_limits()
     if not names or THREADS in names:
         yield threads(room)
     for name, run in chosen.items():
         if shutil.which("valgrind") is None:
             yield name, None, "valgrind is not installed"
-        elif name not in recorded and name not in names:
+        elif name not in limits.runs and name not in names:
             yield name, None, "no numbers are recorded; --record writes them"
         else:
-            yield compare_run(name, room.count(name, run), recorded)
+            yield compare_run(name, room.count(name, run), limits)
 
 
 def compare(room: Room, chosen: dict[str, Run], names: Sequence[str]) -> int:
@@ -372,7 +432,7 @@ def compare(room: Room, chosen: dict[str, Run], names: Sequence[str]) -> int:
 
 def main(program: str, folders: str, *names: str) -> int:
     every = {**walks(), **savings(), **searches()}
-    unknown = [name for name in names if name not in (*every, "--record", THREADS)]
+    unknown = [name for name in names if name not in (*every, "--record", THREADS, LIMITS)]
     if unknown:
         print(f"no such run: {unknown[0]}; there are: {', '.join(every)}", file=sys.stderr)
         return 2

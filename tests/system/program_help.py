@@ -2,7 +2,8 @@
 
 Usage: python3 -m tests.system.program_help AUDITOR SLOTS GATHERER
 The arguments of each command, their values and their defaults are compared with the table of
-docs/user/FORMATS.md, the version with that of the package, and the kit's line with `rt version`.
+docs/user/FORMATS.md, the version with that of the package, and the kit's line with the file
+`.origin` beside the program. No source, document or test may name the kit of one machine.
 The programs must read and write nothing else.
 """
 # RUN: {auditor} {slots} {gatherer}
@@ -10,13 +11,12 @@ The programs must read and write nothing else.
 import os
 import pathlib
 import re
-import shutil
 import subprocess
 import sys
 import tempfile
 
 from tests.checks import Checks, End, run
-from tests.places import DATA, TOP
+from tests.places import DATA, TOP, origin_of
 
 COMMANDS = ("check", "run", "make", "plans", "trace")
 ROW = re.compile(r"^\| `(--[a-z-]+)` \| ([a-z, ]+) \| (.*) \| ([^|]*) \|$")
@@ -136,8 +136,21 @@ def check_versions(checks: Checks, programs: dict[str, str]) -> None:
         checks.is_equal(f"{name}_version_is", lines[0], f"{name} {version}")
         commit = re.fullmatch("commit ([0-9a-f]{40}|unknown)", lines[1])
         checks.is_true(f"{name}_commit", commit, "a commit, or unknown", lines[1])
-        if shutil.which("rt"):
-            checks.is_equal(f"{name}_kit", lines[2] + "\n", run(["rt", "version"]).out)
+        kits = {"unknown", origin_of(program).get("kit", "unknown")}
+        checks.is_true(f"{name}_kit", lines[2] in kits, " or ".join(sorted(kits)), lines[2])
+
+
+def check_kits(checks: Checks) -> None:
+    """Checks that no file names a kit. The table of the kits measured has to."""
+    files = run(["git", "-C", TOP, "ls-files", "-z"]).out.split("\0")
+    found = [
+        name
+        for name in files
+        if name != "tests/data/instructions.json"
+        and (TOP / name).is_file()
+        and re.search(rb"rattle-kit-\d", (TOP / name).read_bytes())
+    ]
+    checks.is_equal("no_file_names_a_kit", found, [])
 
 
 def check_others(checks: Checks, auditor: str, gatherer: str) -> None:
@@ -165,6 +178,7 @@ def main(auditor: str, slots: str, gatherer: str) -> int:
     check_usages(checks, programs)
     check_versions(checks, programs)
     check_others(checks, auditor, gatherer)
+    check_kits(checks)
     crates = ("audit_program", "audit_folders")
     builds = [TOP / "crates" / crate / "src" / "this_build.rt" for crate in crates]
     checks.is_equal("one_build", builds[0].read_text(), builds[1].read_text())
