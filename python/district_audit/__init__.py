@@ -33,7 +33,7 @@ from .errors import (
     WriteFault,
 )
 from .exhibit import exhibit_plans
-from .manifest import Manifest, ManifestRefused, audit_to_file, verify
+from .manifest import Manifest, ManifestRefused
 from .outlier import OutlierTest, RankTest, outlier_test, rank_test
 from .preparing import Change, Prepared, prepare
 from .report import (
@@ -50,8 +50,10 @@ from .report import (
     Walk,
 )
 from .results import NamedReports, PlanReports
+from .study import audit_to_file, load_study
 from .trace_text import TraceHead, TraceRefused
 from .traces import Sample, StaleSample, Trace, read_trace, trace
+from .verifying import verify
 from .words import key_of
 
 __version__ = "0.1.0"
@@ -112,6 +114,7 @@ __all__ = [
     "compactness",
     "exhibit_plans",
     "key_of",
+    "load_study",
     "make",
     "outlier_test",
     "plans",

@@ -7,8 +7,8 @@ import sys
 
 from . import __version__
 from .errors import ProgramMissing
-from .manifest import verify_command
 from .program import find_program
+from .verifying import verify_command
 
 
 def main() -> int:
@@ -18,7 +18,7 @@ def main() -> int:
         prog="python -m district_audit",
         description=(
             "Prints which programs the package calls. With `verify MANIFEST` it"
-            " compares the files of a manifest with its hashes; `verify --help` says more."
+            " compares a study with its manifest; `verify --help` says more."
         ),
     )
     parser.add_argument("--version", action="version", version="district_audit " + __version__)

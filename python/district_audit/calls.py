@@ -8,7 +8,7 @@ import pathlib
 import typing
 import warnings
 
-from . import checkpoints
+from . import checkpoints, custody
 from . import labels as naming
 from . import progress as bars
 from .arguments import (
@@ -79,6 +79,10 @@ class Given:
     """The arguments of `prepare`."""
     table: str = ""
     """The table of plans, where there is one."""
+    path: str | None = None
+    """The path of the graph, if it was one whose bytes go to the program as they are."""
+    custody: custody.Custody | None = None
+    """The preparation of the graph."""
 
     @property
     def audited(self) -> Audited:
@@ -106,6 +110,7 @@ def prepare_call(command: str, graph: object, words: Words) -> Given:
     and what `prepare` answered go to the program as they are.
     """
     named = plain_words(command, words)
+    path, made = None, getattr(graph, "custody", None)
     taken = {name: named.pop(name) for name in PREPARING if name in named}
     rules = typing.cast(Preparation, taken)
     if "assignment" in rules and "district" in named:
@@ -127,12 +132,13 @@ def prepare_call(command: str, graph: object, words: Words) -> Given:
         named = {**{name: named[name] for name in named if name not in shown}, **shown}
     if isinstance(graph, (bytes, bytearray, memoryview, str, os.PathLike)) and not rules:
         data = bytes_of_graph(graph)
+        path = os.fspath(graph) if isinstance(graph, (str, os.PathLike)) else None
         test_labels_of(data, named)
     else:
         prepared = prepare_graph(graph, named, rules)
-        data = prepared.data
+        data, made = prepared.data, getattr(prepared, "custody", None)
         named.update(prepared.columns)
-    return Given(data, words_of(command, named), named, rules)
+    return Given(data, words_of(command, named), named, rules, path=path, custody=made)
 
 
 def columns_left(graph: Prepared, words: Words) -> dict[str, str]:
@@ -542,6 +548,7 @@ def call_program(
     if progress:
         watch = watch_of(asked, place, saves, resumes, slots, program, progress)
     job.begin()
+    made = begin_call(asked, path)
     try:
         ended = call(path, asked.words, asked.data, folder, watch)
     except KeyboardInterrupt:
@@ -555,9 +562,25 @@ def call_program(
         raise job.explain(error) if isinstance(error, CheckpointRefused) else error
     report = Report.parse(ended.text)
     if asked.data:
-        report = dataclasses.replace(report, audited=asked.audited)
+        report = dataclasses.replace(report, audited=add_call(asked.audited, made))
     warn_of_frozen([("", report)], 4)
     return report
+
+
+def begin_call(asked: Given, path: PathLike) -> custody.Call:
+    """Returns the record of a call of the program at a path, which begins now."""
+    now = custody.read_clock()
+    return custody.Call(
+        tuple(asked.words), custody.read_program(path), now, now, asked.data, asked.path,
+        asked.custody,
+    )
+
+
+def add_call(audited: Audited, made: custody.Call) -> Audited:
+    """Returns what a report keeps of its graph and of the call that made it, which ends now."""
+    return dataclasses.replace(
+        audited, call=dataclasses.replace(made, ended=custody.read_clock())
+    )
 
 
 def watch_of(
@@ -751,10 +774,13 @@ def plans(
     text = table_of(table, Known.read(asked.data, asked.named.get("district")), districts)
     line = b"".join(asked.data.split(b"\n"))
     shown_table = text.decode("utf-8", "surrogateescape")
-    asked = dataclasses.replace(asked, data=line + b"\n" + text, table=shown_table)
-    ended = call(find_program("audit", program), asked.words, asked.data)
+    asked = dataclasses.replace(asked, data=line + b"\n" + text, table=shown_table, path=None)
+    path = find_program("audit", program)
+    made = begin_call(asked, path)
+    ended = call(path, asked.words, asked.data)
     if ended.status:
         raise make_error(ended, asked)
+    audited = add_call(audited, made)
     reports = PlanReports(
         (name, dataclasses.replace(report, audited=audited))
         for name, report in Report.parse_plans(ended.text)

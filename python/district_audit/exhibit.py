@@ -14,8 +14,20 @@ from fractions import Fraction
 
 from . import exhibit_figures as figures
 from . import exhibit_text as texts
+from .custody import write_whole
 from .decimals import ROUNDED_DOWN, percent_down, round_down
 from .effect import Effect, Number
+from .exhibit_counting import find_announced_for, multiply, tell_announced
+from .exhibit_custody import (
+    NOT_PROVED,
+    custody_of,
+    preparation_lines,
+    program_of,
+    program_rows,
+    raw_rows,
+    versions_line,
+    warnings_of,
+)
 from .exhibit_districts import (
     Columns,
     District,
@@ -67,13 +79,13 @@ class Options:
     notes: typing.Sequence[str] = ()
     epsilon: Number | None = None
     alpha: Number | None = None
+    decides: str | None = None
+    manifest: PathLike | None = None
 
 
 def write(path: PathLike, plans: Named, options: Options) -> None:
     """Writes the page on one report, or on several plans of one call, as UTF-8."""
-    data = page(plans, options).encode("utf-8")
-    with open(path, "wb") as file:
-        file.write(data)
+    write_whole(path, page(plans, options).encode("utf-8"))
 
 
 def exhibit_plans(
@@ -88,21 +100,27 @@ def exhibit_plans(
     notes: typing.Sequence[str] = (),
     epsilon: Number | None = None,
     alpha: Number | None = None,
+    decides: str | None = None,
+    manifest: PathLike | None = None,
 ) -> None:
     """Writes one page on several plans: what `district_audit.plans` returns, names and reports.
 
     The options are those of `Report.exhibit`. The district table is of the graph's own plan, the
     first. Raises ValueError if the reports are not of one call, or are those of several elections.
     """
-    options = Options(title, parties, graph, columns, command, notes, epsilon, alpha)
+    options = Options(
+        title, parties, graph, columns, command, notes, epsilon, alpha, decides, manifest
+    )
     write(path, plans, options)
 
 
 def page(plans: Named, options: Options) -> str:
     """Returns the page. Raises ValueError if the reports or the options do not belong together."""
-    reports = [report for _, report in plans]
-    if not reports:
+    if not plans:
         raise ValueError("an exhibit needs a report")
+    if options.manifest is not None:
+        plans = add_manifest_to(plans, options.manifest)
+    reports = [report for _, report in plans]
     first = reports[0]
     refuse_other_jobs(reports)
     refuse_half_an_effect(options)
@@ -116,10 +134,12 @@ def page(plans: Named, options: Options) -> str:
         f"<h1>{escape(options.title)}</h1>",
         f"<p>{escape(texts.subject(first, parties, [name for name, _ in plans]))}</p>",
         *(f"<p>{escape(note)}</p>" for note in options.notes),
+        *said_first(reports),
         heading("What was asked"),
         list_asks(first, parties, scores),
         heading("How it was done"),
         *paragraphs(texts.methods(first)),
+        *about_preparation(first),
         heading("Results"),
         *results(plans, options, parties, graph),
         heading("What the numbers mean"),
@@ -136,6 +156,20 @@ def page(plans: Named, options: Options) -> str:
         f"style-src 'unsafe-inline'\"><title>{escape(options.title)}</title>"
         f"<style>{STYLE}</style></head><body>\n{body}\n</body></html>\n"
     )
+
+
+def add_manifest_to(plans: Named, path: PathLike) -> Named:
+    """Returns the reports with what a manifest says of their calls.
+
+    Raises OSError, and ManifestRefused if the manifest does not name the reports.
+    """
+    # A study loads reports, and reports make exhibits.
+    from .study import add_manifest, add_manifest_to_plans, load_manifest
+
+    manifest = load_manifest(path)
+    if manifest.kind == "plan":
+        return add_manifest_to_plans(plans, manifest)
+    return [(name, add_manifest(report, manifest)) for name, report in plans]
 
 
 def is_of_plans(plans: Named) -> bool:
@@ -219,6 +253,31 @@ def table(
 # ---- sections
 
 
+def said_first(reports: typing.Sequence[Report]) -> list[str]:
+    """Returns what a reader must know before all else: no proof, and the warnings."""
+    program = program_of(reports[0])
+    is_unproved = program is not None and not program.is_proved
+    parts = [f"<p><b>{escape(NOT_PROVED)}</b></p>"] if is_unproved else []
+    warned = warnings_of(reports)
+    if warned:
+        parts += ["<p><b>Warnings.</b> The package warned of these when the report was made:</p>"]
+        parts += [items(warned)]
+    return parts
+
+
+def about_preparation(report: Report) -> list[str]:
+    """Returns the section on what was done to the data before the program read it."""
+    custody = custody_of(report)
+    if custody is None:
+        return []
+    said = "The graph was prepared by the package, which no proof is about."
+    return [
+        heading("What was done to the data"),
+        *paragraphs([said]),
+        items([*preparation_lines(custody), versions_line(custody)]),
+    ]
+
+
 def list_asks(report: Report, parties: tuple[str, str], scores: typing.Sequence[str]) -> str:
     """Returns the definitions of the scores and the questions."""
     rows = [(ask, texts.question(ask, parties)) for ask in report.asks]
@@ -239,7 +298,8 @@ def results(
     plans: Named, options: Options, parties: tuple[str, str], graph: Graph | None
 ) -> list[str]:
     """Returns the tables and figures of each plan."""
-    parts: list[str] = []
+    announced = find_announced_for(plans, options.decides)
+    parts = [] if announced is None else paragraphs([tell_announced(plans, announced)])
     number = 1
     for place, (name, report) in enumerate(plans):
         enacted = {score: texts.show(score, value) for score, value in starts_of(report).items()}
@@ -247,7 +307,8 @@ def results(
         if graph is not None and place == 0:
             parts += district_table(report, districts_of(report, graph), parties, graph.is_exact)
         parts += paragraphs(texts.findings(report, enacted, parties))
-        parts += [result_table(report), *paragraphs([texts.warn_of_many(report, len(plans))])]
+        parts += [result_table(report)]
+        parts += [] if announced is not None else paragraphs([multiply(report, len(plans))])
         if options.epsilon is not None and options.alpha is not None and report.walks:
             parts += effect_table(report.effect(options.epsilon, options.alpha))
         drawn = drawings(report, enacted, parties, number, name if len(plans) > 1 else "")
@@ -436,6 +497,7 @@ def provenance(
     if graph is not None:
         size, digest = len(graph.data), hashlib.sha256(graph.data).hexdigest()
         hashes.append((f"SHA-256 of the graph of Table 1, {size} bytes", digest))
+    hashes += [*raw_rows(custody_of(report)), *program_rows(report)]
     command = options.command or command_of(report, columns, is_of_plans(plans))
     rows = [
         f"<tr><td>{escape(what)}</td><td><code>{escape(value)}</code></td></tr>"

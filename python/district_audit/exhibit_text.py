@@ -2,10 +2,11 @@
 from __future__ import annotations
 
 import typing
-from decimal import Decimal
 from fractions import Fraction
 
-from .report import MOST_REGIONS, MOST_SPLITS, Ends, Report, Serial, Stop
+from .exhibit_counting import numbers_of
+from .exhibit_custody import about_proof
+from .report import MOST_REGIONS, MOST_SPLITS, Report
 
 Parties = tuple[str, str]
 
@@ -257,9 +258,7 @@ def theorems(report: Report, alpha: object) -> list[str]:
     """Returns the theorem and the assumption behind each kind of number."""
     found = [
         (
-            "Proved by machine, about the program as its project builds it: every plan visited is"
-            " legal, every count, rank, bound and p-value is the one that its definition says, and"
-            " each step is as likely as its reverse. No statement about probability is proved by"
+            f"{about_proof(report)} No statement about probability is proved by"
             " machine: the theorems below are published ones, and the reader applies them. The"
             " draws are those of the cipher ChaCha20 under the key, which are taken to be random;"
             " the key must be chosen so that nobody could choose among results."
@@ -311,64 +310,6 @@ def findings(report: Report, enacted: typing.Mapping[str, str], parties: Parties
             f" {plural(len(numbers), 'number')} here is {min(numbers)}."
         )
     return found
-
-
-def numbers_of(report: Report) -> list[tuple[str, Decimal]]:
-    """Returns every bound and p-value of a report, with its ask."""
-    tests: list[Stop | Ends | Serial] = [*report.stops, *report.ends, *report.serial]
-    return [
-        *((walk.ask, walk.bound) for walk in report.walks),
-        *((test.ask, test.p) for test in tests),
-    ]
-
-
-def warn_of_many(report: Report, plans: int = 1) -> str:
-    """Returns the warning about several numbers, with Bonferroni's product.
-
-    `plans` is the number of plans on the page.
-    """
-    numbers = [number for _, number in numbers_of(report)]
-    whole = number_of_all(report, plans)
-    if whole == 1:
-        return "The report has one number, and it stands by itself."
-    product = min(Decimal(1), min(numbers) * whole)
-    said, their = f"The table has {count_of_numbers(len(numbers))}.", "their number"
-    if whole > len(numbers):
-        what = "plan" if report.batch is None else report.batch.kind
-        many = plural(plans if report.batch is None else len(report.batch.names), what)
-        once = (
-            " (those on cut edges are the same in each, and count once)"
-            if what == "election" and any(ask.startswith("cut-") for ask in report.asks)
-            else ""
-        )
-        said = (
-            f"The table has {count_of_numbers(len(numbers))}; for all {many} together {whole} were"
-            f" computed{once}."
-        )
-        their = "the number of all"
-    return (
-        f"{said} Unless one of them was named before the run as the one that counts, multiply the"
-        f" least by {their} (Bonferroni): {min(numbers)} times {whole} is"
-        f" {product}{', which is no evidence' if product == 1 else ''}."
-    )
-
-
-def count_of_numbers(count: int) -> str:
-    return "1 bound or p-value" if count == 1 else f"{count} bounds and p-values"
-
-
-def number_of_all(report: Report, plans: int) -> int:
-    """Returns the number of bounds and p-values of all plans or elections of a call.
-
-    Cut edges and their length do not depend on votes, so that their tests are the same in each
-    election.
-    """
-    asks = [ask for ask, _ in numbers_of(report)]
-    if report.batch is None:
-        return plans * len(asks)
-    many = max(plans, len(report.batch.names))
-    once = sum(ask.startswith("cut-") for ask in asks) if report.batch.kind == "election" else 0
-    return many * (len(asks) - once) + once
 
 
 def all_plans(names: typing.Sequence[str]) -> str:

@@ -1,325 +1,321 @@
-"""Manifests: the records of the command, graph and program that made a report.
+"""Manifests: the records of the commands, graph and program that made the reports of one question.
 
-`audit_to_file` runs an audit and leaves three files: the report, `REPORT.manifest.json` beside it
-and, where the graph is no file, the bytes that the program read, `REPORT.graph.json`.
-`python -m district_audit verify MANIFEST` reads a manifest and compares the hashes with the files.
+A *study* is all reports of one question: one report, or those of several elections, plans or
+limits. Its manifest names all of them, so that none can be left out unnoticed. `study.py` writes
+and loads studies, and `verify.py` compares their files with the manifest.
 """
 from __future__ import annotations
 
-import argparse
 import dataclasses
-import datetime
-import hashlib
 import json
-import os
-import pathlib
 import re
-import sys
 import typing
 
-from .arguments import ONE_ELECTION, refuse
-from .calls import prepare_call, call_program
-from .errors import ProgramMissing, ReportRefused, TypeRefused
+from .custody import SHOWN_UNITS, Custody, Edit, File, Program
 from .graphs import Json
-from .program import PathLike, find_program
-from .report import Report
 
-FORMAT = "district-audit manifest 1"
-SUFFIX, GRAPH_SUFFIX = ".manifest.json", ".graph.json"
+FORMAT, FORMAT_OF_ONE = "district-audit manifest 2", "district-audit manifest 1"
+SUFFIX, GRAPH_SUFFIX, CHANGES_SUFFIX = ".manifest.json", ".graph.json", ".changes.csv"
+KINDS = ("report", "election", "plan", "limit")
 HASH = re.compile("[0-9a-f]{64}")
 TIME = re.compile(r"\d{4}-\d\d-\d\dT\d\d:\d\d:\d\d\+00:00")
 
 
 class ManifestRefused(ValueError):
-    """A text that is not a manifest."""
+    """A text that is not a manifest, or a manifest that is not that of a report."""
 
 
 @dataclasses.dataclass(frozen=True)
-class File:
-    """A file, by its name without folders, its SHA-256 in hexadecimal digits and its size."""
+class Entry:
+    """One call of the program: its words, what it read, and the file that it wrote."""
 
-    name: str
-    sha256: str
-    size: int
-
-    @classmethod
-    def measure(cls, path: PathLike) -> File:
-        """Returns what the file at a path is. Raises OSError."""
-        digest, size = hashlib.sha256(), 0
-        with open(path, "rb") as file:
-            while piece := file.read(1 << 20):
-                digest.update(piece)
-                size += len(piece)
-        return cls(pathlib.Path(path).name, digest.hexdigest(), size)
-
-    @classmethod
-    def read(cls, value: object, what: str) -> File:
-        """Returns a file of a manifest. Raises ManifestRefused."""
-        if not isinstance(value, dict) or set(value) != {"name", "sha256", "bytes"}:
-            raise ManifestRefused(f"{what} must have exactly the names name, sha256 and bytes")
-        name, digest, size = value["name"], value["sha256"], value["bytes"]
-        if not isinstance(name, str) or name in ("", ".", "..") or "/" in name or "\0" in name:
-            raise ManifestRefused(f"the name of {what} is not the name of a file")
-        if not isinstance(digest, str) or not HASH.fullmatch(digest):
-            raise ManifestRefused(f"the sha256 of {what} is not 64 hexadecimal digits")
-        if type(size) is not int or size < 0:
-            raise ManifestRefused(f"the bytes of {what} are not a whole number")
-        return cls(name, digest, size)
-
-
-def rename_fields(pairs: typing.Iterable[tuple[str, object]]) -> dict[str, object]:
-    """Returns fields by their names in a manifest, where a size is `bytes`."""
-    return {"bytes" if name == "size" else name: value for name, value in pairs}
+    names: tuple[str, ...]
+    """The name of the election or limit, or those of the plans; one empty name for a report by
+    itself.
+    """
+    command: tuple[str, ...]
+    """The words of the program; its standard input is the graph."""
+    graph: File
+    """The bytes that the program read; for several plans their table is among them."""
+    map_sha256: str
+    """The SHA-256 of the graph alone."""
+    report: File
+    started: str
+    """When the call began, in UTC, as `2026-05-04T12:34:56+00:00`."""
+    ended: str
 
 
 @dataclasses.dataclass(frozen=True)
 class Manifest:
-    """The command, graph and program that made a report, with its time and machine."""
+    """All reports of one question, and the graph, preparation and program that made them."""
 
-    command: tuple[str, ...]
-    """The words of the program; its standard input is the graph."""
-    graph: File
-    report: File
-    program: File
-    package: str
-    """The version of this package."""
-    started: str
-    """When the run started, in UTC, as `2026-05-04T12:34:56+00:00`."""
-    ended: str
+    kind: str
+    """report, election, plan or limit: in what the reports differ."""
+    reports: tuple[Entry, ...]
+    program: Program
+    preparation: Custody | None
+    """The preparation; None if the graph went to the program as it was."""
+    changes: File | None
+    """The table of all changes of the preparation; None if there are none."""
+    warnings: tuple[tuple[str, str], ...]
+    """The kind and the text of each warning of the reports."""
+    decides: str | None
+    """The number that was announced as the one that counts, as "ends seats:low"."""
+    versions: typing.Mapping[str, str]
+    """The versions of Python and of the packages that were installed."""
     processors: int
     """The number of the machine's processors."""
 
+    @property
+    def names(self) -> tuple[str, ...]:
+        """The names of all reports."""
+        return tuple(name for entry in self.reports for name in entry.names)
+
     def __str__(self) -> str:
         """Returns the manifest as JSON, in lines."""
-        values = dataclasses.asdict(self, dict_factory=rename_fields)
-        return json.dumps({"format": FORMAT, **values}, indent=1) + "\n"
+        value = {
+            "format": FORMAT,
+            "kind": self.kind,
+            "reports": [write_entry(entry) for entry in self.reports],
+            "program": write_program(self.program),
+            "preparation": None if self.preparation is None else write_custody(self.preparation),
+            "changes": None if self.changes is None else write_file(self.changes),
+            "warnings": write_warnings(self.warnings),
+            "decides": self.decides,
+            "versions": dict(self.versions),
+            "processors": self.processors,
+        }
+        return json.dumps(value, indent=1) + "\n"
 
     @classmethod
     def parse(cls, text: str) -> Manifest:
-        """Reads a manifest. Raises ManifestRefused."""
+        """Reads a manifest, of this format or of the one before. Raises ManifestRefused."""
         try:
             value = json.loads(text)
         except (ValueError, RecursionError) as error:
             raise ManifestRefused(f"the manifest is not valid JSON: {error}") from None
-        names = {"format", *(field.name for field in dataclasses.fields(cls))}
-        if not isinstance(value, dict) or set(value) != names:
-            raise ManifestRefused(
-                f"the manifest must have exactly these names: {', '.join(sorted(names))}"
-            )
-        if value.pop("format") != FORMAT:
+        if isinstance(value, dict) and value.get("format") == FORMAT_OF_ONE:
+            return read_manifest_of_one(value)
+        names = ("format", *(field.name for field in dataclasses.fields(cls)))
+        value = fields(value, "the manifest", names)
+        if value["format"] != FORMAT:
             raise ManifestRefused(f"the format is not {FORMAT!r}")
-        return cls.from_values(value)
-
-    @classmethod
-    def from_values(cls, value: dict[str, Json]) -> Manifest:
-        """Returns the manifest with these values. Raises ManifestRefused."""
-        command = value["command"]
-        is_text = isinstance(command, list) and all(isinstance(word, str) for word in command)
-        if not is_text or not command:
-            raise ManifestRefused("the command is not a list of texts")
-        if not isinstance(value["package"], str):
-            raise ManifestRefused("the version of the package is not a text")
-        for name in ("started", "ended"):
-            if not isinstance(value[name], str) or not TIME.fullmatch(value[name]):
-                raise ManifestRefused(f"{name} is not a time such as 2026-05-04T12:34:56+00:00")
-        if type(value["processors"]) is not int or value["processors"] < 1:
-            raise ManifestRefused("the number of processors is not a whole number above 0")
-        files = {
-            name: File.read(value[name], f"the {name}") for name in ("graph", "report", "program")
-        }
+        if value["kind"] not in KINDS:
+            raise ManifestRefused(f"the kind is not one of {', '.join(KINDS)}")
+        entries = tuple(read_entry(one) for one in list_in(value["reports"], "the reports"))
+        if not entries:
+            raise ManifestRefused("the manifest names no report")
+        decides = value["decides"]
+        preparation, changes = value["preparation"], value["changes"]
         return cls(
-            tuple(command), files["graph"], files["report"], files["program"], value["package"],
-            value["started"], value["ended"], value["processors"],
+            value["kind"],
+            entries,
+            read_program(value["program"]),
+            None if preparation is None else read_custody(preparation),
+            None if changes is None else read_file(changes, "the table of changes"),
+            read_warnings(value["warnings"]),
+            None if decides is None else text_of(decides, "decides"),
+            texts_by_name(value["versions"], "the versions"),
+            count_of(value["processors"], "the number of processors", 1),
         )
 
 
-def read_clock() -> str:
-    return datetime.datetime.now(datetime.timezone.utc).isoformat(timespec="seconds")
-
-
-def write(path: pathlib.Path, data: bytes) -> None:
-    """Writes a file so that it is there whole or not at all."""
-    room = path.with_name(path.name + ".new")
-    room.write_bytes(data)
-    os.replace(room, path)
-
-
-def graph_file(graph: object, data: bytes, report: pathlib.Path) -> File:
-    """Returns the file whose bytes went to the program, which is written where there is none."""
-    if isinstance(graph, (str, os.PathLike)):
-        file = File.measure(graph)
-        if file.sha256 == hashlib.sha256(data).hexdigest():
-            return file
-    path = report.with_name(report.name + GRAPH_SUFFIX)
-    write(path, data)
-    return File.measure(path)
-
-
-def audit_to_file(
-    report: PathLike,
-    graph: object,
-    *,
-    folder: PathLike | None = None,
-    progress: bool = False,
-    program: PathLike | None = None,
-    slots: PathLike | None = None,
-    **words: object,
-) -> Report:
-    """Audits a plan as `run` does, and writes its report and a manifest beside it.
-
-    Parameters
-    ----------
-    report
-        The path of the report. The manifest is `REPORT.manifest.json` and, unless `graph` is the
-        path of a file that goes to the program as it is, the graph is `REPORT.graph.json`.
-    graph, folder, progress, program, slots, **words
-        As for `run`; `elections` is refused, since each election has a report of its own.
-
-    Raises what `run` raises, and OSError where a file cannot be written.
+def read_manifest_of_one(value: Json) -> Manifest:
+    """Returns a manifest of the format before, which names one report and no build of its program.
     """
-    if "elections" in words:
-        refuse(
-            TypeRefused, "audit_to_file", "elections", words["elections"],
-            "audit_to_file writes the report of one election", ONE_ELECTION,
-        )
-    path, call = pathlib.Path(report), prepare_call("run", graph, words)
-    tool = File.measure(find_program("audit", program))
-    started = read_clock()
-    done = call_program(call, folder, progress, program, slots)
-    ended = read_clock()
-    read = graph_file(graph, call.data, path)
-    write(path, str(done).encode("utf-8", "surrogateescape"))
-    from . import __version__
-
-    made = Manifest(
-        tuple(call.words), read, File.measure(path), tool, __version__, started, ended,
-        os.cpu_count() or 1,
+    value = fields(
+        value, "the manifest",
+        ("format", "command", "graph", "report", "program", "package", "started", "ended",
+         "processors"),
     )
-    write(path.with_name(path.name + SUFFIX), str(made).encode("utf-8"))
-    return done
-
-
-# ---- the check
-
-
-class Checked(typing.NamedTuple):
-    """The comparison of a file with its entry in a manifest; `agrees` is None if it is missing."""
-
-    what: str
-    agrees: bool | None
-    line: str
-
-
-def compare(what: str, wanted: File, path: pathlib.Path | None) -> Checked:
-    """Compares a file with what a manifest says of it; `path` is None where none is known."""
-    if path is None or not path.exists():
-        where = "no file is named" if path is None else f"{path} is not there"
-        return Checked(what, None, f"{what} {wanted.name}: not checked, {where} (--{what} FILE)")
-    found = File.measure(path)
-    if found.sha256 == wanted.sha256 and found.size == wanted.size:
-        return Checked(what, True, f"{what} {path}: agrees, sha256 {wanted.sha256}")
-    return Checked(
-        what,
-        False,
-        (
-            f"{what} {path}: DIFFERS: the manifest says sha256 {wanted.sha256},"
-            f" {wanted.size} bytes; the file has {found.sha256},"
-            f" {found.size} bytes"
-        ),
+    graph = read_file(value["graph"], "the graph")
+    entry = Entry(
+        ("",), texts(value["command"], "the command"), graph, graph.sha256,
+        read_file(value["report"], "the report"), time_of(value["started"], "started"),
+        time_of(value["ended"], "ended"),
+    )
+    return Manifest(
+        "report", (entry,), Program(read_file(value["program"], "the program")), None, None, (),
+        None, {"district-audit": text_of(value["package"], "the version of the package")},
+        count_of(value["processors"], "the number of processors", 1),
     )
 
 
-def report_agrees(made: Manifest, report: Report) -> Checked:
-    """Compares what the report says of itself with the words and the graph of a manifest."""
-    words = dict(zip(made.command[1::2], made.command[2::2]))
-    if report.key != words.get("--key", "").lower():
-        return Checked("words", False, "words: DIFFER: the report has another key than the words")
-    if report.source is not None and report.source.sha256 != made.graph.sha256:
-        line = "words: DIFFER: the report names another source than the manifest's graph"
-        return Checked("words", False, line)
-    return Checked(
-        "words",
-        True,
-        "words: the report's key, and its source where it names one, are the manifest's",
+# ---- values of JSON
+
+
+def fields(value: Json, what: str, names: typing.Sequence[str]) -> dict[str, Json]:
+    """Returns an object that has exactly these names. Raises ManifestRefused."""
+    if not isinstance(value, dict) or set(value) != set(names):
+        raise ManifestRefused(f"{what} must have exactly the names {', '.join(sorted(names))}")
+    return value
+
+
+def list_in(value: Json, what: str) -> list[Json]:
+    if not isinstance(value, list):
+        raise ManifestRefused(f"{what} are not a list")
+    return value
+
+
+def text_of(value: Json, what: str) -> str:
+    if not isinstance(value, str):
+        raise ManifestRefused(f"{what} is not a text")
+    return value
+
+
+def texts(value: Json, what: str) -> tuple[str, ...]:
+    """Returns a list of texts, which is not empty."""
+    is_texts = isinstance(value, list) and all(isinstance(word, str) for word in value)
+    if not is_texts or not value:
+        raise ManifestRefused(f"{what} is not a list of texts")
+    return tuple(value)
+
+
+def texts_by_name(value: Json, what: str) -> dict[str, str]:
+    if not isinstance(value, dict) or not all(isinstance(one, str) for one in value.values()):
+        raise ManifestRefused(f"{what} are not texts by their names")
+    return value
+
+
+def count_of(value: Json, what: str, least: int = 0) -> int:
+    if type(value) is not int or value < least:
+        raise ManifestRefused(f"{what} is not a whole number of at least {least}")
+    return value
+
+
+def time_of(value: Json, what: str) -> str:
+    if not isinstance(value, str) or not TIME.fullmatch(value):
+        raise ManifestRefused(f"{what} is not a time such as 2026-05-04T12:34:56+00:00")
+    return value
+
+
+def hash_of(value: Json, what: str) -> str:
+    if not isinstance(value, str) or not HASH.fullmatch(value):
+        raise ManifestRefused(f"the sha256 of {what} is not 64 hexadecimal digits")
+    return value
+
+
+# ---- parts of a manifest
+
+
+def write_file(file: File) -> dict[str, Json]:
+    return {"name": file.name, "sha256": file.sha256, "bytes": file.size}
+
+
+def read_file(value: Json, what: str) -> File:
+    """Returns a file of a manifest. Raises ManifestRefused."""
+    value = fields(value, what, ("name", "sha256", "bytes"))
+    name = value["name"]
+    if not isinstance(name, str) or name in ("", ".", "..") or "/" in name or "\0" in name:
+        raise ManifestRefused(f"the name of {what} is not the name of a file")
+    return File(
+        name, hash_of(value["sha256"], what), count_of(value["bytes"], f"the bytes of {what}")
     )
 
 
-def verify(
-    manifest: PathLike,
-    graph: PathLike | None = None,
-    report: PathLike | None = None,
-    program: PathLike | None = None,
-) -> list[Checked]:
-    """Compares the files of a manifest with their hashes.
-
-    A file that is not named is looked for beside the manifest, by its name; for the program there
-    is no such place. Raises OSError, and ManifestRefused or ReportRefused for what is no manifest
-    or no report.
-    """
-    place = pathlib.Path(manifest)
-    made = Manifest.parse(place.read_text(encoding="utf-8"))
-    beside = {
-        what: place.with_name(file.name)
-        for what, file in (("graph", made.graph), ("report", made.report))
+def write_entry(entry: Entry) -> dict[str, Json]:
+    return {
+        "names": list(entry.names),
+        "command": list(entry.command),
+        "graph": write_file(entry.graph),
+        "map_sha256": entry.map_sha256,
+        "report": write_file(entry.report),
+        "started": entry.started,
+        "ended": entry.ended,
     }
-    named = {"graph": graph, "report": report, "program": program}
-    paths = {
-        what: beside.get(what) if path is None else pathlib.Path(path)
-        for what, path in named.items()
+
+
+def read_entry(value: Json) -> Entry:
+    value = fields(
+        value, "an entry of the reports", [field.name for field in dataclasses.fields(Entry)]
+    )
+    return Entry(
+        texts(value["names"], "the names of a report"),
+        texts(value["command"], "the command"),
+        read_file(value["graph"], "the graph"),
+        hash_of(value["map_sha256"], "the map"),
+        read_file(value["report"], "the report"),
+        time_of(value["started"], "started"),
+        time_of(value["ended"], "ended"),
+    )
+
+
+def write_program(program: Program) -> dict[str, Json]:
+    return {
+        **write_file(program.file),
+        "commit": program.commit,
+        "toolchain": program.toolchain,
+        "proved": program.is_proved,
     }
-    found_files = [
-        compare("report", made.report, paths["report"]),
-        compare("graph", made.graph, paths["graph"]),
-        compare("program", made.program, paths["program"]),
-    ]
-    text = paths["report"]
-    if found_files[0].agrees and text is not None:
-        read = Report.parse(text.read_bytes().decode("utf-8", "surrogateescape"))
-        found_files.append(report_agrees(made, read))
-    return found_files
 
 
-def status_of(checked: typing.Sequence[Checked]) -> int:
-    """Returns 0 if nothing differs and both the report and the graph were checked, else 1."""
-    needed = {one.what for one in checked if one.agrees} >= {"report", "graph"}
-    return 0 if needed and all(one.agrees is not False for one in checked) else 1
-
-
-def find_installed() -> str | None:
-    """Returns the path of the installed program, if there is one."""
-    try:
-        return find_program("audit")
-    except ProgramMissing:
-        return None
-
-
-def verify_command(words: typing.Sequence[str]) -> int:
-    """Runs the command `python -m district_audit verify`; returns its exit status."""
-    parser = argparse.ArgumentParser(
-        prog="python -m district_audit verify",
-        description=(
-            "Compares the files of a manifest with its hashes. Status 0: the report and the"
-            " graph agree, and nothing differs; 1: something differs or is missing; 2: no"
-            " manifest or no report."
-        ),
+def read_program(value: Json) -> Program:
+    names = ("name", "sha256", "bytes", "commit", "toolchain", "proved")
+    value = fields(value, "the program", names)
+    file = read_file({name: value[name] for name in names[:3]}, "the program")
+    if type(value["proved"]) is not bool:
+        raise ManifestRefused("proved, of the program, is neither true nor false")
+    commit, toolchain = (
+        None if value[name] is None else text_of(value[name], f"the {name}") for name in names[3:5]
     )
-    parser.add_argument("manifest", help="the manifest, as REPORT.manifest.json")
-    parser.add_argument(
-        "--graph", help="the graph; by default the file of its name beside the manifest"
+    return Program(file, commit, toolchain, value["proved"])
+
+
+def write_warnings(warnings: typing.Iterable[tuple[str, str]]) -> list[dict[str, str]]:
+    return [{"kind": kind, "text": text} for kind, text in warnings]
+
+
+def read_warnings(value: Json) -> tuple[tuple[str, str], ...]:
+    found = [fields(one, "a warning", ("kind", "text")) for one in list_in(value, "the warnings")]
+    return tuple(
+        (text_of(one["kind"], "the kind of a warning"), text_of(one["text"], "a warning"))
+        for one in found
     )
-    parser.add_argument("--report", help="the report; by default the file of its name there")
-    parser.add_argument("--program", help="the program; by default the one that is installed")
-    named = parser.parse_args(words)
-    try:
-        program = named.program or find_installed()
-        checked = verify(named.manifest, named.graph, named.report, program)
-    except (ManifestRefused, ReportRefused, OSError, UnicodeDecodeError) as why:
-        print(f"verify: {why}", file=sys.stderr)
-        return 2
-    for one in checked:
-        print(one.line)
-    good, bad, open_ = (
-        sum(one.agrees is value for one in checked) for value in (True, False, None)
+
+
+def write_custody(custody: Custody) -> dict[str, Json]:
+    return {
+        "files": [write_file(file) for file in custody.files],
+        "arguments": dict(custody.arguments),
+        "changes": [
+            {
+                "kind": edit.kind,
+                "count": edit.count,
+                "first": list(edit.units[:SHOWN_UNITS]),
+                "moved": edit.moved,
+                "of_values": edit.is_of_values,
+            }
+            for edit in custody.edits
+        ],
+        "warnings": write_warnings(custody.warnings),
+        "versions": dict(custody.versions),
+    }
+
+
+def read_custody(value: Json) -> Custody:
+    names = ("files", "arguments", "changes", "warnings", "versions")
+    value = fields(value, "the preparation", names)
+    if not isinstance(value["arguments"], dict):
+        raise ManifestRefused("the arguments of the preparation are not an object")
+    return Custody(
+        tuple(read_file(one, "a raw file") for one in list_in(value["files"], "the raw files")),
+        value["arguments"],
+        tuple(read_edit(one) for one in list_in(value["changes"], "the changes")),
+        read_warnings(value["warnings"]),
+        texts_by_name(value["versions"], "the versions of the preparation"),
     )
-    print(f"{good} agree, {bad} differ, {open_} not checked")
-    return status_of(checked)
+
+
+def read_edit(value: Json) -> Edit:
+    value = fields(value, "a change", ("kind", "count", "first", "moved", "of_values"))
+    count = count_of(value["count"], "the count of a change")
+    units = list_in(value["first"], "the first units of a change")
+    if len(units) != min(count, SHOWN_UNITS) or not all(type(one) in (int, str) for one in units):
+        raise ManifestRefused("the first units of a change are not the ids of as many units")
+    if type(value["moved"]) not in (int, float) or type(value["of_values"]) is not bool:
+        raise ManifestRefused("moved or of_values of a change is no number, or neither true nor "
+                              "false")
+    return Edit(
+        text_of(value["kind"], "the kind of a change"), count, tuple(units), value["moved"],
+        value["of_values"],
+    )

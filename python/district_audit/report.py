@@ -27,6 +27,7 @@ if typing.TYPE_CHECKING:
     import matplotlib.figure
     import pandas
 
+    from .custody import Call
     from .districts import District, Plan
     from .preparing import Preparation
 
@@ -191,6 +192,8 @@ class Audited:
     """The names of the columns, by the words pop, first, second, district and so on."""
     rules: Preparation
     """The arguments of `prepare`, except an assignment."""
+    call: Call | None = None
+    """The call that made the report, or what the manifest says of it."""
 
     def is_of(self, data: bytes) -> bool:
         """Returns whether these are the bytes that the program read."""
@@ -1084,6 +1087,31 @@ class Report:
         return report
 
     @classmethod
+    def load(cls, path: PathLike, manifest: PathLike | None = None) -> Report:
+        """Returns the report in a file, with what its manifest says of the call that made it, and
+        of the other reports of its question.
+
+        The manifest is the one in the file's folder that names the report by its SHA-256, or the
+        one that is given. Without one the report is as `parse` reads it.
+
+        Raises OSError; ReportRefused if the file is no report; ManifestRefused if the given
+        manifest does not name it.
+        """
+        from .study import load_report
+
+        return load_report(path, manifest)
+
+    def to_files(self, path: PathLike, decides: str | None = None) -> None:
+        """Writes the report and its manifest `PATH.manifest.json`; see `audit_to_file`.
+
+        Raises ValueError if the report was read from a text, if it is one of several, or if it has
+        no number that is named as `decides` says; OSError.
+        """
+        from .study import write_study
+
+        write_study(path, [("", self)], decides)
+
+    @classmethod
     def parse_plans(cls, text: str) -> list[tuple[str, Report]]:
         """Returns the name and the report of each plan in a text of `plans`, in order.
 
@@ -1269,6 +1297,8 @@ class Report:
         notes: typing.Sequence[str] = (),
         epsilon: Number | None = None,
         alpha: Number | None = None,
+        decides: str | None = None,
+        manifest: PathLike | None = None,
     ) -> None:
         """Writes the report as one self-contained page of HTML, for a court.
 
@@ -1301,13 +1331,25 @@ class Report:
             Paragraphs of your own below the heading: the data, the plan, how the key was chosen.
         epsilon, alpha : Fraction, Decimal, str or int
             With both, the page has the test of `effect` too.
+        decides : str
+            The number that was announced before the run as the one that counts: the word of its
+            line and the ask, as "ends seats:low", "walk 0 gap:high" or, of an election or plan,
+            "GOV18 ends seats:low". Left out it is that of the manifest. Without one the page
+            multiplies the least number by the number of all.
+        manifest : path
+            The manifest of a report that was read from a text. `Report.load` finds it. Without a
+            manifest the page cannot know how many numbers were computed for the question, and says
+            so.
 
-        Raises ValueError if the graph or a column is not that of the report, if a column is
-        missing, or if a graph is given for another plan than the graph's own.
+        Raises ManifestRefused, a ValueError, if the manifest does not name the report; ValueError
+        if the graph or a column is not that of the report, if a column is missing, or if a graph is
+        given for another plan than the graph's own.
         """
         from . import exhibit
 
-        options = exhibit.Options(title, parties, graph, columns, command, notes, epsilon, alpha)
+        options = exhibit.Options(
+            title, parties, graph, columns, command, notes, epsilon, alpha, decides, manifest
+        )
         exhibit.write(path, [("", self)], options)
 
     def plot(

@@ -11,6 +11,8 @@ if typing.TYPE_CHECKING:
     import matplotlib.figure
     import pandas
 
+    from .custody import PathLike
+
 Pair = tuple[str, Report]
 Kind = typing.TypeVar("Kind", bound="NamedReports")
 
@@ -69,6 +71,17 @@ class NamedReports(list[Pair]):
             frame.insert(0, self.what, name)
             frames.append(frame)
         return pandas.concat(frames, ignore_index=True) if frames else pandas.DataFrame()
+
+    def to_files(self, path: PathLike, decides: str | None = None) -> None:
+        """Writes all reports as a study: the reports, one manifest `PATH.manifest.json`, and the
+        graph and the changes of its preparation; see `audit_to_file`.
+
+        Raises ValueError if the reports were read from texts, or if no number is named as `decides`
+        says; OSError.
+        """
+        from .study import write_study
+
+        write_study(path, self, decides)
 
     def plot(
         self,

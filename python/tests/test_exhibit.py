@@ -25,7 +25,7 @@ from common import (
 )
 
 import district_audit
-from district_audit import Report, exhibit
+from district_audit import Report, custody, exhibit
 
 VOID = {"meta"}
 COLUMNS: common.Words = dict(pop="TOTPOP", first="DEM", second="REP", district="CD")
@@ -123,6 +123,14 @@ def page_of(text: str, name: str = "", **options: common.Value) -> str:
     return exhibit.page([(name, Report.parse(text))], exhibit.Options(**options))
 
 
+def with_call(text: str) -> Report:
+    """Returns a report whose call is known, so that the page counts its numbers."""
+    file = custody.File("district-audit", "a" * 64, 1)
+    call = custody.Call(("run",), custody.Program(file), "", "")
+    audited = district_audit.report.Audited("b" * 64, {}, {}, call)
+    return dataclasses.replace(Report.parse(text), audited=audited)
+
+
 class ExhibitTests(FolderCase):
     def check_alone(self, text: str) -> Page:
         """Tests that the page is complete, and refers to nothing outside of it."""
@@ -202,7 +210,7 @@ class ExhibitTests(FolderCase):
 
     def test_numbers_beside_each_other(self) -> None:
         """Bonferroni's product, and fractions with decimals."""
-        text = Page(page_of(TEXTS["both tests"])).text
+        text = Page(exhibit.page([("", with_call(TEXTS["both tests"]))], exhibit.Options())).text
         self.assertIn("0.006324524 times 9 is 0.056920716", text)
         self.assertIn("-600/60000 -1.000 %", text)
 
