@@ -114,7 +114,8 @@ class Result:
 
 def weigh(grid: Grid, weight: int, cut: int) -> int:
     """Returns the weight of a plan with this number of cut edges, as a whole number."""
-    return model.factors(weight, 0, cut) * 64 ** (len(grid.edges) - cut)
+    whole: int = model.factors(weight, 0, cut) * 64 ** (len(grid.edges) - cut)
+    return whole
 
 
 def compare(grid: Grid, rule: Rule, weight: int, most: int) -> Result:
