@@ -29,6 +29,7 @@ MOST_CUT = 400000
 MOST_REGIONS = 5000
 MOST_SPLITS = 995000
 MOST_LENGTH = 400000 * (2**32 - 1)
+NO_WEIGHT = 256  # of 256: four times the 64 of the words
 SCORES = ("seats", "mean-median", "gap", "cut-edges", "cut-length")
 TAILS = ("low", "high")
 BASE = ("--pop", "--first", "--second", "--district")
@@ -37,7 +38,7 @@ TABLE = (
     "--workers", "--budget", "--save", "--resume", "--max-cut", "--shift", "--stop", "--serial",
     "--region", "--max-split", "--parts", "--part", "--max-splits", "--max-split-regions",
     "--group", "--group-of", "--group-districts", "--source", "--ids", "--thin", "--group-share",
-    "--freeze", "--length", "--max-length",
+    "--freeze", "--length", "--max-length", "--pairs", "--cut-weight", "--blind",
 )
 OF_TRACES = ("--ids", "--thin")
 OPTIONAL_COLUMNS = ("--region", "--group", "--group-of", "--freeze")
@@ -46,13 +47,16 @@ OF_A_FILE = (
     "--group-districts", "--source", "--group-share", "--freeze", "--length", "--max-length",
 )
 COMMANDS = {
-    "check": (*BASE, "--slack", "--max-cut", *OF_A_FILE),
+    "check": (*BASE, "--slack", "--max-cut", *OF_A_FILE, "--cut-weight"),
     "run": tuple(name for name in TABLE if name not in ("--size", *OF_TRACES)),
     "make": tuple(name for name in TABLE if name not in (*BASE, *OF_A_FILE, *OF_TRACES)),
     "plans": tuple(
         name
         for name in TABLE
-        if name not in ("--size", "--budget", "--save", "--resume", "--parts", "--part", *OF_TRACES)
+        if name
+        not in (
+            "--size", "--budget", "--save", "--resume", "--parts", "--part", "--blind", *OF_TRACES,
+        )
     ),
     "trace": tuple(
         name
@@ -60,7 +64,7 @@ COMMANDS = {
         if name
         not in (
             "--size", "--workers", "--budget", "--save", "--resume", "--shift", "--stop",
-            "--serial", "--parts", "--part",
+            "--serial", "--parts", "--part", "--pairs", "--blind",
         )
     ),
 }
@@ -94,6 +98,9 @@ DEFAULTS = {
     "--freeze": "",
     "--length": "",
     "--max-length": str(MOST_LENGTH),
+    "--pairs": "no",
+    "--cut-weight": "64",
+    "--blind": "no",
 }
 RANGES = {
     "--size": (1, 30),
@@ -207,6 +214,18 @@ def number(text: str) -> int | None:
     return int(text) if is_plain and len(text) < 64 else None
 
 
+def quarters(text: str) -> int | None:
+    """Returns four times the weight that a text is, from 4 to 256, or None: `33`, `33.25`, `33.5`
+    and `33.75`, but not `33.0` or `33.50`.
+    """
+    whole, point, part = text.partition(".")
+    parts = {"": 0, ".25": 1, ".5": 2, ".75": 3}
+    units, more = number(whole), parts.get(point + part)
+    if units is None or more is None or not 4 <= 4 * units + more <= NO_WEIGHT:
+        return None
+    return 4 * units + more
+
+
 def ids_of(text: str) -> tuple[int | None, int | None]:
     """Returns the first and the last id of a range `A-B`, or of `A`; None for one that is no
     number.
@@ -233,6 +252,8 @@ class Setting:
         for name in names:
             if not self.is_good(name):
                 raise Refused(1, f"words: bad value for {name}")
+        if self.value["--pairs"] == "yes" and self.get("--walks") < 2:
+            raise Refused(1, "words: pairs need two walks")
         self.numbers()
 
     @staticmethod
@@ -275,7 +296,11 @@ class Setting:
         if name == "--serial" and text == "yes":
             plans = self.get("--steps") + 1
             return plans & plans - 1 == 0
-        if name in ("--resume", "--shift", "--serial", "--source"):
+        if name == "--cut-weight":
+            return quarters(text) is not None
+        if name == "--blind" and text == "yes":
+            return not self.keeps_slots()
+        if name in ("--resume", "--shift", "--serial", "--source", "--pairs", "--blind"):
             return text in ("yes", "no")
         if name == "--ids":
             first, last = ids_of(text)
@@ -292,14 +317,19 @@ class Setting:
         if name == "--budget":
             return self.value["--save"] != "0" or total <= self.get("--budget")
         if name == "--stop" and self.get("--stop"):
-            saves = self.get("--save") != 0 or self.value["--resume"] == "yes"
-            return self.get("--ends") >= 1 and not saves
+            return self.get("--ends") >= 1 and not self.keeps_slots()
         if name == "--parts":
             return self.get("--parts") == 1 or self.get("--save") >= 1
         return name != "--part" or self.get("--part") < self.get("--parts")
 
+    def keeps_slots(self) -> bool:
+        """Returns whether the run saves or resumes."""
+        return self.get("--save") != 0 or self.value["--resume"] == "yes"
+
     def numbers(self) -> None:
         value = self.value
+        self.weight = quarters(value["--cut-weight"]) or NO_WEIGHT
+        self.pairs_walks, self.blind = value["--pairs"] == "yes", value["--blind"] == "yes"
         self.slack, self.max_cut = self.get("--slack"), self.get("--max-cut")
         self.columns = (
             tuple(value[name] for name in BASE)
@@ -715,6 +745,41 @@ def draws(key: bytes, stream: int, count: int) -> list[int]:
     return [draw for place in range(-(-count // 8)) for draw in block(key, stream, place)][:count]
 
 
+# ---- the weight on cut edges
+
+
+def pieces(pairs: int) -> int:
+    """Returns the greatest change of cut edges in a step, by the number of pairs of a unit and a
+    district: the greatest m with pairs * 64^(m + 1) <= 2^64.
+    """
+    most = 0
+    while pairs * 64 ** (most + 2) <= 2**64:
+        most += 1
+    return most
+
+
+def factor(weight: int, edge: int) -> int:
+    """Returns the factor of a plan's cut edge of this number, from 0, in units of 1 / 64, by four
+    times the weight. The factors of four in a row add up to that.
+    """
+    return (weight + 3 - edge % 4) // 4
+
+
+def factors(weight: int, cut: int, added: int) -> int:
+    """Returns the product of the factors of the cut edges that are added to a number of them."""
+    return math.prod(factor(weight, edge) for edge in range(cut, cut + added))
+
+
+def takes(weight: int, pairs: int, most: int, draw: int, cut: int, added: int) -> bool:
+    """Returns whether a draw makes a legal change that adds cut edges to a number of them, or takes
+    some away, if added is below 0.
+    """
+    whole = pairs * 64**most
+    if draw >= 2**64 // whole * whole or abs(added) > most:
+        return False
+    return added <= 0 or draw // pairs % 64**added < factors(weight, cut, added)
+
+
 # ---- the job
 
 
@@ -896,16 +961,32 @@ class Job:
                 return False
         return self.is_within_rules(plan)
 
+    def is_taken(self, before: Plan, after: Plan, draw: int) -> bool:
+        """Returns whether the weight on cut edges lets this draw make this change."""
+        if self.setting.weight == NO_WEIGHT:
+            return True
+        pairs, cut = self.units * self.districts, self.cut(before)
+        most, added = pieces(pairs), self.cut(after) - cut
+        return takes(self.setting.weight, pairs, most, draw, cut, added)
+
+    def step(self, plan: Plan, draw: int) -> Plan:
+        """Returns the plan after a step with this draw."""
+        pairs = self.units * self.districts
+        if draw >= 2**64 // pairs * pairs:
+            return plan
+        unit, district = divmod(draw % pairs, self.districts)
+        changed = (*plan[:unit], district, *plan[unit + 1:])
+        if plan[unit] == district or not self.is_taken(plan, changed, draw):
+            return plan
+        return changed if self.is_legal(changed) else plan
+
     def walk(self, plan: Plan, stream: int, steps: int) -> tuple[list[Plan], int]:
         """Returns the plans visited, and the moves."""
-        visited, moved, pairs = [plan], 0, self.units * self.districts
+        visited, moved = [plan], 0
         for draw in draws(self.setting.key, stream, steps):
-            if draw < 2**64 // pairs * pairs:
-                unit, district = divmod(draw % pairs, self.districts)
-                if plan[unit] != district:
-                    changed = (*plan[:unit], district, *plan[unit + 1:])
-                    if self.is_legal(changed):
-                        plan, moved = changed, moved + 1
+            following = self.step(plan, draw)
+            moved += following != plan
+            plan = following
             visited.append(plan)
         return visited, moved
 
@@ -947,6 +1028,7 @@ class Job:
         has_share = self.group and setting.group_share != 5000
         version = 4 if has_share or self.frozen else 3 if further else 2 if limited else 1
         version = 5 if self.lengths else version
+        version = 6 if setting.weight != NO_WEIGHT else version
         parts = [f"district-job {version}".encode()]
         parts += [struct.pack(">3I", self.units, len(self.edges), self.districts)]
         parts += [struct.pack(">2I", *edge) for edge in self.edges]
@@ -984,6 +1066,7 @@ class Job:
             both = [(u, v) for u, near in enumerate(self.neighbours) for v in sorted(near)]
             parts += [b"length", struct.pack(">Q", setting.max_length)]
             parts += [struct.pack(">I", length[min(one), max(one)]) for one in both]
+        parts += [struct.pack(">I", setting.weight)] if setting.weight != NO_WEIGHT else []
         return hashlib.sha256(b"".join(parts)).digest()
 
 
@@ -1085,7 +1168,8 @@ def bound(count: int, of: int) -> int:
     return root if root * root >= least else root + 1
 
 
-def head(job: Job) -> list[str]:
+def head(job: Job, is_blind: bool = False) -> list[str]:
+    """Returns the lines on the map and the rules; blind, without the start plan's length."""
     setting = job.setting
     lines = [
         f"units {job.units} edges {len(job.edges)} districts {job.districts}",
@@ -1108,10 +1192,13 @@ def head(job: Job) -> list[str]:
     has_share = job.group and setting.group_share != 5000
     lines += [f"group-share {setting.group_share}"] if has_share else []
     lines += [f"frozen {sum(job.frozen)}"] if job.frozen else []
-    lines += [f"cut-length {job.cut_length(job.plan)}"] if setting.length else []
-    return lines + (
-        [f"max-length {setting.max_length}"] if setting.max_length < MOST_LENGTH else []
-    )
+    has_length = setting.length and not is_blind
+    lines += [f"cut-length {job.cut_length(job.plan)}"] if has_length else []
+    lines += [f"max-length {setting.max_length}"] if setting.max_length < MOST_LENGTH else []
+    if setting.weight != NO_WEIGHT:
+        most = pieces(job.units * job.districts)
+        lines.append(f"cut-weight {setting.value['--cut-weight']} of 64 pieces {most}")
+    return lines
 
 
 def quote(text: str) -> str:
@@ -1148,20 +1235,53 @@ def part(rank: int, of: int) -> str:
     return f"rank {rank} of {of} {p_value(rank, of)}"
 
 
+def setting_line(setting: Setting) -> str:
+    return (
+        f"walks {setting.walks} steps {setting.steps} ends {setting.ends} hub-steps"
+        f" {setting.hub_steps}"
+    )
+
+
+def front(job: Job, title: str, is_blind: bool = False) -> list[str]:
+    """Returns the lines of a report before those of its walks."""
+    setting = job.setting
+    return [
+        title,
+        *origin_lines(job),
+        f"key {setting.key.hex()}",
+        *head(job, is_blind),
+        setting_line(setting),
+        *([f"stop {setting.stop}"] if setting.stop else []),
+    ]
+
+
+def pilot(job: Job, found: Sequence[Outcome]) -> str:
+    """Returns the text of a blind run, which has nothing of any score."""
+    moves = [f"walk {walk} moved {one.moved}" for walk, one in enumerate(found)]
+    lines = front(job, "walk-pilot 1", is_blind=True)
+    return "\n".join([*lines, *moves[: job.setting.walks], "end", ""])
+
+
+def pair_lines(setting: Setting, words: Sequence[str], found: Sequence[Outcome]) -> list[str]:
+    """Returns a line for each question about each pair of walks: of all plans that both visit, the
+    start plan once, how many are in the tail.
+    """
+    visits, lines = setting.steps + 1, []
+    for first in range(0, setting.walks - 1, 2):
+        both = zip(found[first].values, found[first + 1].values)
+        for ask, (one, other) in zip(words, both):
+            count = one + other - 1
+            lines.append(
+                f"pair {first} {first + 1} {ask} count {count} of {2 * visits - 1} bound"
+                f" {billionths(-(-count * BILLION // visits))}"
+            )
+    return lines
+
+
 def report(job: Job, found: Sequence[Outcome]) -> str:
     """Returns the report on these outcomes, given by rising id as moves, values and bins."""
     setting = job.setting
-    lines = [
-        f"district-audit {2 if setting.shift else 1}",
-        *origin_lines(job),
-        f"key {setting.key.hex()}",
-        *head(job),
-        (
-            f"walks {setting.walks} steps {setting.steps} ends {setting.ends} hub-steps"
-            f" {setting.hub_steps}"
-        ),
-        *([f"stop {setting.stop}"] if setting.stop else []),
-    ]
+    lines = front(job, f"district-audit {2 if setting.shift else 1}")
     start = [job.value(job.plan, score) for score, _ in setting.asks]
     words = [
         f"{score} {tail} start {first}/{job.denominator(score)}"
@@ -1173,6 +1293,7 @@ def report(job: Job, found: Sequence[Outcome]) -> str:
                 f"walk {walk} moved {moved} {ask} count {count} of {setting.steps + 1} bound"
                 f" {billionths(bound(count, setting.steps + 1))}"
             )
+    lines += pair_lines(setting, words, found) if setting.pairs_walks else []
     if setting.shift:
         lines.append(
             " ".join(["shift", *(str(sum(one[2][place] for one in found)) for place in range(9))])
@@ -1369,10 +1490,7 @@ def trace_text(job: Job, first: int, last: int, thin: int) -> str:
         *origin_lines(job),
         f"key {setting.key.hex()}",
         *head(job),
-        (
-            f"walks {setting.walks} steps {setting.steps} ends {setting.ends} hub-steps"
-            f" {setting.hub_steps}"
-        ),
+        setting_line(setting),
         *asks,
     ]
     for number in range(first, last + 1):
@@ -1415,7 +1533,8 @@ def run(job: Job, slots: Slots) -> End:
     found = {**found, **{one: every[one] for one in todo}}
     if len(found) < setting.total:
         return End(7, "", f"stopped: {len(found)} of {setting.total} done\n", after)
-    return End(0, report(job, [found[one] for one in sorted(found)]), "", after)
+    text = pilot if setting.blind else report
+    return End(0, text(job, [found[one] for one in sorted(found)]), "", after)
 
 
 def origin_of(setting: Setting, data: bytes) -> Origin | None:
