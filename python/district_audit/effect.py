@@ -31,7 +31,7 @@ class Effect:
     epsilon: Fraction
     """The fraction of a walk's plans among which the enacted plan must be, itself included."""
     alpha: Fraction
-    """The fraction of all legal plans to which the claim limits the enacted plan."""
+    """The fraction of all legal plans, the most fragile ones, among which the plan may be."""
     walks: int
     """The number of walks, m."""
     plans: int

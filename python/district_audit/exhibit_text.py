@@ -266,8 +266,11 @@ def theorems(report: Report, alpha: object) -> list[str]:
         ),
         (
             "Assumption (the null hypothesis) of every bound and p-value in the table of results:"
-            " the enacted plan was drawn at random from the legal plans that such steps can reach,"
-            " each with the same chance."
+            " the enacted plan was drawn at random from the legal plans, each with the same"
+            " chance. What is legal, and each score, must not depend on which plan was enacted: a"
+            " limit that is computed from the enacted plan puts it at the edge by construction."
+            " Hardly any real map is drawn so. A small number is evidence against the assumption as"
+            " a whole, and does not say which part of it is wrong."
         ),
     ]
     if report.walks:

@@ -1,9 +1,10 @@
 """The program's texts as values: reports, check texts, and the reports of several plans.
 
-Reading is strict: a text that the program cannot have written is refused, with the number of its
-line. `str` of what was read is the text again, byte for byte. Counts are `int`, scores `Start`
-(which is never shortened; its `fraction` is a `Fraction`), and bounds and p-values `Decimal` with
-the report's nine places, which are rounded up.
+Reading is strict: impossible forms and wrong arithmetic are refused, with the number of the line.
+A forged count passes: only a recomputation (`scripts/recheck.py`) finds it. `str` of what was read
+is the text again, byte for byte. Counts are `int`, scores `Start` (which is never shortened; its
+`fraction` is a `Fraction`), and bounds and p-values `Decimal` with the report's nine places, which
+are rounded up.
 """
 from __future__ import annotations
 
@@ -1001,7 +1002,8 @@ class PlanCheck:
     def parse(cls, text: str) -> PlanCheck:
         """Returns a check text as a value.
 
-        Raises ReportRefused, with the number of the line, if the program cannot have written it.
+        Raises ReportRefused, with the number of the line, if its form or its arithmetic is
+        impossible. A forged count passes: only a recomputation finds it.
         """
         lines = Reader(lines_of(text))
         lines.take("plan-check 1", "plan-check 1")
@@ -1075,7 +1077,8 @@ class Report:
     def parse(cls, text: str) -> Report:
         """Returns the text of a report as a value.
 
-        Raises ReportRefused, with the number of the line, if the program cannot have written it.
+        Raises ReportRefused, with the number of the line, if its form or its arithmetic is
+        impossible. A forged count passes: only a recomputation finds it.
         """
         lines = Reader(lines_of(text))
         report = cls.read(lines)
