@@ -5,7 +5,7 @@ import typing
 from decimal import Decimal
 from fractions import Fraction
 
-from .report import MOST_REGIONS, MOST_SPLITS, Ends, Report, Serial, Stop
+from .report import MOST_REGIONS, MOST_SPLITS, Ends, Report, Serial, Stop, weight_text
 
 Parties = tuple[str, str]
 
@@ -196,13 +196,26 @@ def legality(report: Report) -> str:
     return said[0] + more + "."
 
 
+def weighed(report: Report) -> str:
+    """Returns what a step asks beside legality if cut edges are weighed."""
+    weight = report.rules.cut_weight
+    if weight is None:
+        return ""
+    return (
+        ". A move that adds cut edges is also drawn for: it is made with a chance of"
+        f" {weight_text(weight)}/64 for each edge added, multiplied, and a move that changes their"
+        f" number by more than {report.rules.pieces} is not made"
+    )
+
+
 def methods(report: Report) -> list[str]:
     """Returns the methods, one paragraph for each kind of test in the report."""
     setting = report.setting
     found = [
         "The program changes a plan in small random steps. A step names one unit and one district "
-        "at random, and moves the unit there if the resulting plan is legal; otherwise the plan "
-        "stays, and counts again. "
+        "at random, and moves the unit there if the resulting plan is legal"
+        + weighed(report)
+        + "; otherwise the plan stays, and counts again. "
         + legality(report)
         + " The enacted plan meets these rules. All random draws come from the key below."
     ]
@@ -212,6 +225,11 @@ def methods(report: Report) -> list[str]:
             " from the enacted plan. For each question the program counts how many of the"
             f" {setting.steps + 1:,} plans visited on a walk, the enacted plan among them, are at"
             " least as extreme as the enacted plan."
+        )
+    if report.has_pairs:
+        found.append(
+            "Pairs of walks: walks 0 and 1, 2 and 3 and so on are also counted together, the"
+            " enacted plan once. Two walks from one plan are a stronger test than one."
         )
     if setting.ends:
         many = "1 trajectory" if setting.ends == 1 else f"{setting.ends:,} trajectories"
@@ -253,21 +271,42 @@ REPEATED = (
 )
 
 
+def chances(report: Report) -> str:
+    """Returns with which chances the null hypothesis draws a plan."""
+    weight = report.rules.cut_weight
+    if weight is None:
+        return "each with the same chance"
+    return (
+        f"each with a chance proportional to {weight_text(weight)}/64 to the power of its number of"
+        " cut edges, so that plans with fewer cut edges are more likely"
+    )
+
+
+def reversal(report: Report) -> str:
+    """Returns which steps are as likely as which."""
+    if report.rules.cut_weight is None:
+        return "each step is as likely as its reverse"
+    return (
+        "each step is reversible: the chance of a plan times that of a step from it to another plan"
+        " is the chance of the other plan times that of the step back"
+    )
+
+
 def theorems(report: Report, alpha: object) -> list[str]:
     """Returns the theorem and the assumption behind each kind of number."""
     found = [
         (
             "Proved by machine, about the program as its project builds it: every plan visited is"
             " legal, every count, rank, bound and p-value is the one that its definition says, and"
-            " each step is as likely as its reverse. No statement about probability is proved by"
+            f" {reversal(report)}. No statement about probability is proved by"
             " machine: the theorems below are published ones, and the reader applies them. The"
             " draws are those of the cipher ChaCha20 under the key, which are taken to be random;"
             " the key must be chosen so that nobody could choose among results."
         ),
         (
             "Assumption (the null hypothesis) of every bound and p-value in the table of results:"
-            " the enacted plan was drawn at random from the legal plans, each with the same"
-            " chance. What is legal, and each score, must not depend on which plan was enacted: a"
+            f" the enacted plan was drawn at random from the legal plans, {chances(report)}."
+            " What is legal, and each score, must not depend on which plan was enacted: a"
             " limit that is computed from the enacted plan puts it at the edge by construction."
             " Hardly any real map is drawn so. A small number is evidence against the assumption as"
             " a whole, and does not say which part of it is wrong."
@@ -278,6 +317,13 @@ def theorems(report: Report, alpha: object) -> list[str]:
             "Bound of an outlier walk (Chikina, Frieze and Pegden, PNAS 114, 2017): under the "
             "assumption, a bound of z or less has probability at most z, however short the walk "
             "is."
+        )
+    if report.has_pairs:
+        found.append(
+            "Bound of a pair of walks (Chikina, Frieze, Mattingly and Pegden, Statistics and Public"
+            " Policy 7, 2020): under the assumption, a bound of z or less has probability at most"
+            " z. The bounds of pairs must not be multiplied with each other: all walks start at the"
+            " enacted plan."
         )
     if report.ends or report.serial:
         found.append(
@@ -296,7 +342,8 @@ def theorems(report: Report, alpha: object) -> list[str]:
             "the enacted plan is not among the fraction alpha of all legal plans that are most "
             "fragile, then that many walks show it as so extreme with probability at most p. "
             "Fragile means likely to be among the most extreme fraction epsilon of the plans on a "
-            "walk from it. Epsilon and alpha must be fixed before the run. If it is computed "
+            "walk, or a pair of walks, from it. Epsilon, alpha, and whether walks or pairs are "
+            "counted must be fixed before the run. If it is computed "
             "for several questions, elections or pairs of epsilon and alpha, multiply the least p "
             "by their number."
         )
@@ -311,7 +358,7 @@ def findings(report: Report, enacted: typing.Mapping[str, str], parties: Parties
         numbers = [number for name, number in numbers_of(report) if name == ask]
         found.append(
             f"{question(ask, parties)} The enacted plan has {enacted[score]}. The least of its"
-            f" {plural(len(numbers), 'number')} here is {min(numbers)}."
+            f" {plural(len(numbers), 'number')} here is {min(numbers):f}."
         )
     return found
 
@@ -321,6 +368,7 @@ def numbers_of(report: Report) -> list[tuple[str, Decimal]]:
     tests: list[Stop | Ends | Serial] = [*report.stops, *report.ends, *report.serial]
     return [
         *((walk.ask, walk.bound) for walk in report.walks),
+        *((pair.ask, pair.bound) for pair in report.pair_lines),
         *((test.ask, test.p) for test in tests),
     ]
 
@@ -351,8 +399,8 @@ def warn_of_many(report: Report, plans: int = 1) -> str:
         their = "the number of all"
     return (
         f"{said} Unless one of them was named before the run as the one that counts, multiply the"
-        f" least by {their} (Bonferroni): {min(numbers)} times {whole} is"
-        f" {product}{', which is no evidence' if product == 1 else ''}."
+        f" least by {their} (Bonferroni): {min(numbers):f} times {whole} is"
+        f" {product:f}{', which is no evidence' if product == 1 else ''}."
     )
 
 

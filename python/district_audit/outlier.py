@@ -34,7 +34,7 @@ class OutlierTest:
         return Fraction(self.count, self.of)
 
     def __str__(self) -> str:
-        return f"{self.tail} count {self.count} of {self.of} bound {self.bound}"
+        return f"{self.tail} count {self.count} of {self.of} bound {self.bound:f}"
 
 
 @dataclasses.dataclass(frozen=True)
@@ -51,7 +51,7 @@ class RankTest:
     """rank/of, rounded up at nine places."""
 
     def __str__(self) -> str:
-        return f"{self.tail} rank {self.rank} of {self.of} p {self.p}"
+        return f"{self.tail} rank {self.rank} of {self.of} p {self.p:f}"
 
 
 def count_tail(values: typing.Iterable[Foreign], tail: str) -> tuple[int, int]:
