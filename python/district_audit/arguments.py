@@ -13,6 +13,8 @@ import inspect
 import math
 import re
 import typing
+from decimal import Decimal
+from fractions import Fraction
 
 from .errors import TypeRefused, ValueRefused
 from .graphs import is_whole
@@ -29,6 +31,8 @@ TAILS = ("low", "high")
 # As much as 400,000 edges of the greatest length have.
 MOST_CUT_LENGTH = 400_000 * (2**32 - 1)
 DIGITS = re.compile("0|[1-9][0-9]*")
+MOST_WEIGHT = 64
+WEIGHT = re.compile(r"[1-9][0-9]?(\.(25|5|75))?")
 
 
 class AsPrepared:
@@ -59,7 +63,7 @@ class Argument:
 
     name: str
     kind: str
-    """column, count, flag, key, ask or ids."""
+    """column, count, flag, key, ask, ids or weight."""
     commands: tuple[str, ...]
     text: str
     least: int = 0
@@ -88,6 +92,7 @@ class Argument:
                     f" a colon and a tail ({', '.join(TAILS)})"
                 ),
                 "ids": 'a number, a pair of numbers, a range, "A-B", "walks" or "ends"',
+                "weight": "a number from 1 to 64 in steps of one quarter, as 33 or 33.25",
             }[self.kind]
         )
 
@@ -101,6 +106,7 @@ class Argument:
             "key": "str or bytes",
             "ask": "str or list of str",
             "ids": "int, tuple, range or str",
+            "weight": "int, float, Fraction or str",
         }[self.kind]
         shown = "" if self.default in (None, "") else f", default {self.default}"
         return kind + ("" if self.is_needed else shown or ", optional")
@@ -369,8 +375,32 @@ TABLE = {
                 " which limits nothing. Needs `length`."
             ),
         ),
+        Argument(
+            "pairs",
+            "flag",
+            RUNS,
+            "Whether the report has lines on pairs of walks; needs two walks or more.",
+            default=False,
+        ),
+        Argument(
+            "cut_weight",
+            "weight",
+            ALL,
+            "The weight of each cut edge, in 64ths: 1 to 64 in steps of one quarter. A plan is then"
+            " drawn with a chance proportional to (cut_weight/64)^(cut edges). 64 weighs nothing.",
+            default=64,
+        ),
+        Argument(
+            "blind",
+            "flag",
+            SAVES,
+            "Whether nothing of any score is printed, as `pilot` asks for.",
+            default=False,
+        ),
     )
 }
+# Words of the program that `run` and `make` do not take: `pilot` passes them on.
+OF_PILOT = ("blind",)
 
 # Arguments that the program does not have, with their types.
 OTHERS = {
@@ -627,7 +657,24 @@ def plain_words(command: str, given: Words) -> dict[str, object]:
         if name in named:
             refuse(TypeRefused, command, other, value, f"{name} is given too, and says the same")
         named[name] = value if change is None else change(command, value)
+    if "cut_weight" in named:
+        named["cut_weight"] = weight_of(named["cut_weight"])
     return named
+
+
+def weight_of(value: object) -> object:
+    """Returns a weight as the program takes it: a whole number, or a text as 33.25.
+
+    Another value is returned as it is. A text has to have the program's form already.
+    """
+    is_number = isinstance(value, (int, float, Fraction, Decimal)) and not isinstance(value, bool)
+    if not is_number or value != value or abs(typing.cast(float, value)) > MOST_WEIGHT:
+        return value
+    quarters = 4 * Fraction(typing.cast(float, value))
+    if quarters.denominator != 1:
+        return value
+    whole, rest = divmod(int(quarters), 4)
+    return f"{whole}.{('25', '5', '75')[rest - 1]}" if rest else whole
 
 
 def slack_of(command: str, tolerance: object) -> int:
@@ -729,6 +776,11 @@ def test_words(command: str, named: Words) -> None:
             test_value(command, row, named)
         elif name == "ends":
             test_sum(command, row, named)
+    if "pairs" in there and flag(named, "pairs") and (number(named, "walks") or 0) < 2:
+        refuse(
+            ValueRefused, command, "pairs", named["pairs"], "pairs need two walks",
+            "write walks=2", "words: pairs need two walks",
+        )
 
 
 def test_value(command: str, row: Argument, named: Words) -> None:
@@ -741,6 +793,7 @@ def test_value(command: str, row: Argument, named: Words) -> None:
         "key": test_key,
         "ask": test_ask,
         "ids": test_ids,
+        "weight": test_weight,
     }[row.kind](command, row, value)
     why = find_conflict(command, row.name, named)
     if why and row.name == "ends" and number(named, "ends") == 0:
@@ -783,6 +836,14 @@ def hint_of_count(row: Argument, value: object) -> str:
         near = math.ceil(value) if row.name == "group_districts" else math.floor(value)
         return f"write {row.name}={near}"
     return ""
+
+
+def test_weight(command: str, row: Argument, value: object) -> None:
+    form = value if isinstance(value, str) else str(value) if is_whole(value) else ""
+    if not isinstance(value, (int, float, str, Fraction, Decimal)) or isinstance(value, bool):
+        refuse(TypeRefused, command, row.name, value, row.allowed)
+    if not WEIGHT.fullmatch(form) or not 1 <= Fraction(form) <= MOST_WEIGHT:
+        refuse(ValueRefused, command, row.name, value, row.allowed)
 
 
 def test_flag(command: str, row: Argument, value: object) -> None:
@@ -1040,6 +1101,12 @@ def ask_beside(named: Words) -> Why:
     )
 
 
+def blind_beside(named: Words) -> Why:
+    if not flag(named, "blind"):
+        return None
+    return "a blind run has no report", "district_audit.pilot(..) makes one"
+
+
 def max_length_beside(named: Words) -> Why:
     if named.get("length") or number(named, "max_length") in (None, MOST_CUT_LENGTH):
         return None
@@ -1065,4 +1132,5 @@ BESIDE: dict[str, typing.Callable[[Words], Why]] = {
     "group_share": group_share_beside,
     "ask": ask_beside,
     "max_length": max_length_beside,
+    "blind": blind_beside,
 }

@@ -7,6 +7,7 @@ import os
 import pathlib
 import typing
 import warnings
+from fractions import Fraction
 
 from . import checkpoints, custody
 from . import labels as naming
@@ -65,6 +66,7 @@ NO_WORDS = (
 COLUMNS = ("pop", "first", "second", "district", "region", "group", "group_of", "freeze", "length")
 
 Elections = typing.Mapping[str, tuple[str, str]]
+Weight = typing.Union[int, float, str, Fraction]
 
 
 @dataclasses.dataclass(frozen=True)
@@ -289,6 +291,7 @@ def check(
     slack: int | AsPrepared | None = AS_PREPARED,
     tolerance: float | None = None,
     max_cut: int = 400_000,
+    cut_weight: Weight = 64,
     region: str | AsPrepared | None = AS_PREPARED,
     max_split: int | AsPrepared | None = AS_PREPARED,
     max_splits: int | AsPrepared | None = AS_PREPARED,
@@ -391,9 +394,11 @@ def run(
     stop: int = 0,
     serial: bool = False,
     shift: bool = False,
+    pairs: bool = False,
     slack: int | AsPrepared | None = AS_PREPARED,
     tolerance: float | None = None,
     max_cut: int = 400_000,
+    cut_weight: Weight = 64,
     region: str | AsPrepared | None = AS_PREPARED,
     max_split: int | AsPrepared | None = AS_PREPARED,
     max_splits: int | AsPrepared | None = AS_PREPARED,
@@ -467,14 +472,14 @@ def run(
         )
     reports = []
     saves = str(save) != "0" or resume not in (False, None, "no")
-    pairs = tested_elections(elections, saves)
-    for name, columns in pairs.items():
+    named = tested_elections(elections, saves)
+    for name, columns in named.items():
         asked = prepare_call("run", graph, {**words, "first": columns[0], "second": columns[1]})
         place = folder_of(folder, name) if saves else folder
         try:
             reports.append((name, call_program(asked, place, progress, program, slots)))
         except WorkLeft as error:
-            raise name_election(error, name, len(reports), len(pairs)) from None
+            raise name_election(error, name, len(reports), len(named)) from None
     return ElectionReports(join_batch("election", reports))
 
 
@@ -492,9 +497,11 @@ def make(
     stop: int = 0,
     serial: bool = False,
     shift: bool = False,
+    pairs: bool = False,
     slack: int | None = None,
     tolerance: float | None = None,
     max_cut: int = 400_000,
+    cut_weight: Weight = 64,
     workers: int = 1,
     save: int = 0,
     resume: bool = False,
@@ -720,9 +727,11 @@ def plans(
     stop: int = 0,
     serial: bool = False,
     shift: bool = False,
+    pairs: bool = False,
     slack: int | AsPrepared | None = AS_PREPARED,
     tolerance: float | None = None,
     max_cut: int = 400_000,
+    cut_weight: Weight = 64,
     region: str | AsPrepared | None = AS_PREPARED,
     max_split: int | AsPrepared | None = AS_PREPARED,
     max_splits: int | AsPrepared | None = AS_PREPARED,

@@ -34,6 +34,7 @@ NO_JOB = frozenset(
         "parts",
         "part",
         "source",
+        "pairs",
         "pop",
         "first",
         "second",

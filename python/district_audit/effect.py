@@ -31,7 +31,7 @@ class Effect:
     epsilon: Fraction
     """The fraction of a walk's plans among which the enacted plan must be, itself included."""
     alpha: Fraction
-    """The fraction of all legal plans to which the claim limits the enacted plan."""
+    """The fraction of all legal plans, the most fragile ones, among which the plan may be."""
     walks: int
     """The number of walks, m."""
     plans: int
@@ -42,14 +42,36 @@ class Effect:
     """The number of walks whose count is at most `most`."""
     p: Decimal
     """The p-value, rounded up at nine places."""
+    pairs: int = 0
+    """The number of pairs of walks."""
+    pair_plans: int = 0
+    """The number of plans that each pair visits, the enacted plan once among them."""
+    pair_most: int = 0
+    """The greatest count of a pair that is at most `epsilon * pair_plans`."""
+    pair_outliers: int = 0
+    """The number of pairs whose count is at most `pair_most`."""
+    pair_p: Decimal | None = None
+    """The p-value by pairs, rounded up at nine places; None of fewer than two walks."""
 
     def __str__(self) -> str:
-        """Returns the result in one sentence."""
+        """Returns the result in one sentence, or in three if there are pairs."""
+        said = self.describe_walks()
+        if self.pair_p is None:
+            return said
+        return (
+            f"{said}. By pairs of walks: on {self.pair_outliers} of {self.pairs} the count is at"
+            f" most {self.pair_most} of {self.pair_plans}, and that many pairs would show so with"
+            f" probability at most {self.pair_p:f}. One of these two p-values has to be named"
+            " before the run"
+        )
+
+    def describe_walks(self) -> str:
+        """Returns the result by single walks in one sentence."""
         return (
             f"{self.ask}: on {self.outliers} of {self.walks} walks the enacted plan is among the"
             f" most extreme {self.epsilon} of the plans visited (count at most {self.most} of"
             f" {self.plans}); if it were not among the most fragile {self.alpha} of all legal"
-            f" plans, that many walks would show so with probability at most {self.p}"
+            f" plans, that many walks would show so with probability at most {self.p:f}"
         )
 
 
@@ -65,11 +87,20 @@ def test_effects(report: Report, epsilon: Number, alpha: Number) -> dict[str, Ef
             f"epsilon is {part}, and a walk of {plans} plans cannot show less than 1/{plans}: take"
             " a greater epsilon or longer walks"
         )
+    pairs, of_pair = walks // 2, 2 * plans - 1
+    pair_most = math.floor(part * of_pair)
     found = {}
     for ask in report.asks:
         outliers = sum(walk.ask == ask and walk.count <= most for walk in report.walks)
         p = nine_places(tail_billionths(walks, outliers, 2 * part / share))
-        found[ask] = Effect(ask, part, share, walks, plans, most, outliers, p)
+        by_walks = Effect(ask, part, share, walks, plans, most, outliers, p)
+        shown = sum(pair.ask == ask and pair.count <= pair_most for pair in report.pairs)
+        chance = Fraction(pair_most, plans) / share
+        pair_p = nine_places(tail_billionths(pairs, shown, chance**2)) if pairs else None
+        found[ask] = dataclasses.replace(
+            by_walks, pairs=pairs, pair_plans=of_pair if pairs else 0,
+            pair_most=pair_most if pairs else 0, pair_outliers=shown, pair_p=pair_p,
+        )
     return found
 
 

@@ -229,7 +229,7 @@ class Interrupted(KeyboardInterrupt):
 
 
 class ReportRefused(ValueError):
-    """A text that the program cannot have written.
+    """A text with a form or arithmetic that no text of the program has.
 
     `number` is that of the first line at which this shows, from 1.
     """

@@ -38,7 +38,7 @@ from .exhibit_districts import (
     refuse_missing_columns,
 )
 from .exhibit_figures import escape
-from .report import MOST_REGIONS, MOST_SPLITS, Report
+from .report import MOST_REGIONS, MOST_SPLITS, Report, weight_text
 
 PathLike = typing.Union[str, "os.PathLike[str]"]
 # A report with more lines than this is shown in part; its hash is of all of it.
@@ -330,7 +330,7 @@ def result_table(report: Report) -> str:
             (
                 f"outlier walk {walk.number}", walk.ask,
                 *value(walk.score, walk.start, walk.start.fraction), f"{walk.count} of {walk.of}",
-                f"bound {walk.bound}",
+                f"bound {walk.bound:f}",
             )
         )
     for ask in report.asks if is_long else ():
@@ -341,28 +341,47 @@ def result_table(report: Report) -> str:
                 f"{len(walks)} outlier walks", ask,
                 *value(least.score, least.start, least.start.fraction),
                 f"{least.count} to {most.count} of {least.of}",
-                f"bounds {least.bound} to {most.bound}",
+                f"bounds {least.bound:f} to {most.bound:f}",
+            )
+        )
+    for pair in () if is_long else report.pair_lines:
+        rows.append(
+            (
+                f"walks {pair.first} and {pair.second}", pair.ask,
+                *value(pair.score, pair.start, pair.start.fraction), f"{pair.count} of {pair.of}",
+                f"bound {pair.bound:f}",
+            )
+        )
+    for ask in report.asks if is_long and report.has_pairs else ():
+        pairs = sorted((one for one in report.pairs if one.ask == ask), key=lambda one: one.count)
+        fewest, worst = pairs[0], pairs[-1]
+        rows.append(
+            (
+                f"{len(pairs)} pairs of walks", ask,
+                *value(fewest.score, fewest.start, fewest.start.fraction),
+                f"{fewest.count} to {worst.count} of {fewest.of}",
+                f"bounds {fewest.bound:f} to {worst.bound:f}",
             )
         )
     for stop in report.stops:
         rows.append(
             (
                 "sequential test", stop.ask, *value(stop.score, stop.start, stop.start.fraction),
-                f"{stop.top} of {stop.of}", f"p {stop.p}",
+                f"{stop.top} of {stop.of}", f"p {stop.p:f}",
             )
         )
     for test in report.ends:
         rows.append(
             (
                 "parallel test", test.ask, *value(test.score, test.start, test.start.fraction),
-                f"rank {test.rank} of {test.of}", f"p {test.p}",
+                f"rank {test.rank} of {test.of}", f"p {test.p:f}",
             )
         )
     for one in report.serial:
         rows.append(
             (
                 "serial test", one.ask, *value(one.score, one.start, one.start.fraction),
-                f"rank {one.rank} of {one.of}", f"p {one.p}",
+                f"rank {one.rank} of {one.of}", f"p {one.p:f}",
             )
         )
     return table(
@@ -374,19 +393,26 @@ def result_table(report: Report) -> str:
 
 
 def effect_table(found: typing.Mapping[str, Effect]) -> list[str]:
-    rows = [
-        (one.ask, f"{one.outliers} of {one.walks}", one.most, one.plans, one.p)
+    rows: list[tuple[object, ...]] = [
+        (one.ask, f"{one.outliers} of {one.walks} walks", one.most, one.plans, one.p)
         for one in found.values()
+    ]
+    rows += [
+        (one.ask, f"{one.pair_outliers} of {one.pairs} pairs", one.pair_most, one.pair_plans,
+         one.pair_p)
+        for one in found.values()
+        if one.pair_p is not None
     ]
     any_one = next(iter(found.values()))
     said = (
         f"Effect apart from significance: epsilon {any_one.epsilon}, alpha {any_one.alpha}. The"
         " test counts the walks on which at most the given number of visited plans is at least as"
-        " extreme as the enacted plan."
+        " extreme as the enacted plan, or the pairs of walks. Which of the two decides has to be"
+        " named before the run."
     )
     return [
         *paragraphs([said]),
-        table(("ask", "walks that show it", "count at most", "of", "p"), rows),
+        table(("ask", "that show it", "count at most", "of", "p"), rows),
     ]
 
 
@@ -559,6 +585,8 @@ def command_of(report: Report, columns: typing.Mapping[str, str], is_of_plans: b
     )
     if rules.max_cut is not None:
         words["max_cut"] = rules.max_cut
+    if rules.cut_weight is not None:
+        words["cut_weight"] = weight_text(rules.cut_weight)
     if rules.regions is not None:
         words.update(region=columns.get("region", "COLUMN_OF_REGION"), max_split=rules.max_split)
         words.update(max_splits=MOST_SPLITS if rules.max_splits is None else rules.max_splits)
@@ -580,6 +608,7 @@ def command_of(report: Report, columns: typing.Mapping[str, str], is_of_plans: b
         words.update({} if rules.max_length is None else {"max_length": rules.max_length})
     words.update({"stop": setting.stop} if setting.stop else {})
     words.update({"shift": "yes"} if report.shift is not None else {})
+    words.update({"pairs": "yes"} if report.has_pairs else {})
     words.update({"serial": "yes"} if report.serial else {})
     words.update({"source": "yes"} if report.source is not None else {})
     # One option a line, so that no printed line breaks at a hyphen.

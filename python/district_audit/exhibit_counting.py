@@ -7,7 +7,7 @@ import typing
 from decimal import Decimal
 
 from .deciding import TESTS, Announced, find_announced
-from .report import Ends, Report, Serial, Stop, Walk
+from .report import Ends, Pair, Report, Serial, Stop, Walk
 
 NO_MANIFEST = (
     "The manifest of this report is not there. This page therefore cannot know whether other"
@@ -17,7 +17,7 @@ NO_MANIFEST = (
 
 def numbers_of(report: Report) -> list[tuple[str, Decimal]]:
     """Returns every bound and p-value of a report, with its ask."""
-    bounds: list[Walk] = [*report.walks, *getattr(report, "pairs", ())]
+    bounds: list[Walk | Pair] = [*report.walks, *report.pair_lines]
     tests: list[Stop | Ends | Serial] = [*report.stops, *report.ends, *report.serial]
     return [
         *((one.ask, one.bound) for one in bounds),
@@ -105,7 +105,7 @@ def multiply(report: Report, plans: int = 1) -> str:
     if not is_counted(report):
         return (
             f"{NO_MANIFEST}. It has {count_of_numbers(len(numbers) * plans)} itself; the least is"
-            f" {min(numbers)}. Unless one number was named before the run as the one that counts,"
+            f" {min(numbers):f}. Unless one number was named before the run as the one that counts,"
             " multiply the least by the number of all that were computed for the question"
             " (Bonferroni)."
         )
@@ -129,8 +129,8 @@ def multiply(report: Report, plans: int = 1) -> str:
         their = "the number of all"
     return (
         f"{said} Unless one of them was named before the run as the one that counts, multiply the"
-        f" least by {their} (Bonferroni): {min(numbers)} times {whole} is"
-        f" {product}{', which is no evidence' if product == 1 else ''}."
+        f" least by {their} (Bonferroni): {min(numbers):f} times {whole} is"
+        f" {product:f}{', which is no evidence' if product == 1 else ''}."
     )
 
 

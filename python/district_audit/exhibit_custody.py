@@ -36,13 +36,23 @@ def custody_of(report: Report) -> Custody | None:
     return None if call is None else call.custody
 
 
+def reversal(report: Report) -> str:
+    """Returns which steps are as likely as which."""
+    if report.rules.cut_weight is None:
+        return "each step is as likely as its reverse"
+    return (
+        "each step is reversible: the chance of a plan times that of a step from it to another plan"
+        " is the chance of the other plan times that of the step back"
+    )
+
+
 def about_proof(report: Report) -> str:
     """Returns what is proved of the program, and whether it is the one that made the report."""
     program = program_of(report)
     said = (
         "every plan visited is"
         " legal, every count, rank, bound and p-value is the one that its definition says, and"
-        " each step is as likely as its reverse"
+        f" {reversal(report)}"
     )
     if program is None:
         return (

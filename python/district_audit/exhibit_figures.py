@@ -8,6 +8,7 @@ import html
 import math
 import typing
 import unicodedata
+from decimal import Decimal
 
 from .report import SEATS, Ends, Report, Serial, Shift, Walk
 
@@ -28,7 +29,7 @@ def escape(value: object) -> str:
     """Returns a text for HTML: markup escaped, and invisible characters shown as code points."""
     shown = "".join(
         f"\\u{ord(one):04x}" if unicodedata.category(one) in ("Cc", "Cf", "Cs", "Co") else one
-        for one in str(value)
+        for one in (f"{value:f}" if isinstance(value, Decimal) else str(value))
     )
     return html.escape(shown, quote=True)
 
@@ -86,13 +87,22 @@ def walk_rows(report: Report, enacted: typing.Mapping[str, str]) -> list[Row]:
             )
         else:
             rows += [walk_row(name, walk) for walk in walks]
+            rows += [
+                Row(
+                    f"{name} (walks {pair.first}, {pair.second})",
+                    [(pair.count / pair.of, float(pair.bound))],
+                    f"{pair.count} of {pair.of}, bound {pair.bound:f}",
+                )
+                for pair in report.pair_lines
+                if pair.ask == ask
+            ]
     return rows
 
 
 def walk_row(name: str, walk: Walk) -> Row:
     return Row(
         f"{name} (walk {walk.number})", [(walk.count / walk.of, float(walk.bound))],
-        f"{walk.count} of {walk.of}, bound {walk.bound}",
+        f"{walk.count} of {walk.of}, bound {walk.bound:f}",
     )
 
 
@@ -156,7 +166,7 @@ def rank_rows(report: Report, enacted: typing.Mapping[str, str]) -> list[Rank]:
         rows.append(
             Rank(
                 f"{label(stop.ask, enacted)}, sequential", stop.top / stop.of,
-                f"value {stop.top} of {stop.of}, p {stop.p}",
+                f"value {stop.top} of {stop.of}, p {stop.p:f}",
             )
         )
     tests: list[Ends | Serial] = [*report.ends, *report.serial]
@@ -165,7 +175,7 @@ def rank_rows(report: Report, enacted: typing.Mapping[str, str]) -> list[Rank]:
         rows.append(
             Rank(
                 f"{label(test.ask, enacted)}, {what}", test.rank / test.of,
-                f"rank {test.rank} of {test.of}, p {test.p}",
+                f"rank {test.rank} of {test.of}, p {test.p:f}",
             )
         )
     return rows

@@ -6,7 +6,7 @@ from fractions import Fraction
 
 from .exhibit_counting import numbers_of
 from .exhibit_custody import about_proof
-from .report import MOST_REGIONS, MOST_SPLITS, Report
+from .report import MOST_REGIONS, MOST_SPLITS, Report, weight_text
 
 Parties = tuple[str, str]
 
@@ -197,13 +197,26 @@ def legality(report: Report) -> str:
     return said[0] + more + "."
 
 
+def weighed(report: Report) -> str:
+    """Returns what a step asks beside legality if cut edges are weighed."""
+    weight = report.rules.cut_weight
+    if weight is None:
+        return ""
+    return (
+        ". A move that adds cut edges is also drawn for: it is made with a chance of"
+        f" {weight_text(weight)}/64 for each edge added, multiplied, and a move that changes their"
+        f" number by more than {report.rules.pieces} is not made"
+    )
+
+
 def methods(report: Report) -> list[str]:
     """Returns the methods, one paragraph for each kind of test in the report."""
     setting = report.setting
     found = [
         "The program changes a plan in small random steps. A step names one unit and one district "
-        "at random, and moves the unit there if the resulting plan is legal; otherwise the plan "
-        "stays, and counts again. "
+        "at random, and moves the unit there if the resulting plan is legal"
+        + weighed(report)
+        + "; otherwise the plan stays, and counts again. "
         + legality(report)
         + " The enacted plan meets these rules. All random draws come from the key below."
     ]
@@ -213,6 +226,11 @@ def methods(report: Report) -> list[str]:
             " from the enacted plan. For each question the program counts how many of the"
             f" {setting.steps + 1:,} plans visited on a walk, the enacted plan among them, are at"
             " least as extreme as the enacted plan."
+        )
+    if report.has_pairs:
+        found.append(
+            "Pairs of walks: walks 0 and 1, 2 and 3 and so on are also counted together, the"
+            " enacted plan once. Two walks from one plan are a stronger test than one."
         )
     if setting.ends:
         many = "1 trajectory" if setting.ends == 1 else f"{setting.ends:,} trajectories"
@@ -254,6 +272,17 @@ REPEATED = (
 )
 
 
+def chances(report: Report) -> str:
+    """Returns with which chances the null hypothesis draws a plan."""
+    weight = report.rules.cut_weight
+    if weight is None:
+        return "each with the same chance"
+    return (
+        f"each with a chance proportional to {weight_text(weight)}/64 to the power of its number of"
+        " cut edges, so that plans with fewer cut edges are more likely"
+    )
+
+
 def theorems(report: Report, alpha: object) -> list[str]:
     """Returns the theorem and the assumption behind each kind of number."""
     found = [
@@ -265,8 +294,11 @@ def theorems(report: Report, alpha: object) -> list[str]:
         ),
         (
             "Assumption (the null hypothesis) of every bound and p-value in the table of results:"
-            " the enacted plan was drawn at random from the legal plans that such steps can reach,"
-            " each with the same chance."
+            f" the enacted plan was drawn at random from the legal plans, {chances(report)}."
+            " What is legal, and each score, must not depend on which plan was enacted: a"
+            " limit that is computed from the enacted plan puts it at the edge by construction."
+            " Hardly any real map is drawn so. A small number is evidence against the assumption as"
+            " a whole, and does not say which part of it is wrong."
         ),
     ]
     if report.walks:
@@ -274,6 +306,13 @@ def theorems(report: Report, alpha: object) -> list[str]:
             "Bound of an outlier walk (Chikina, Frieze and Pegden, PNAS 114, 2017): under the "
             "assumption, a bound of z or less has probability at most z, however short the walk "
             "is."
+        )
+    if report.has_pairs:
+        found.append(
+            "Bound of a pair of walks (Chikina, Frieze, Mattingly and Pegden, Statistics and Public"
+            " Policy 7, 2020): under the assumption, a bound of z or less has probability at most"
+            " z. The bounds of pairs must not be multiplied with each other: all walks start at the"
+            " enacted plan."
         )
     if report.ends or report.serial:
         found.append(
@@ -292,7 +331,8 @@ def theorems(report: Report, alpha: object) -> list[str]:
             "the enacted plan is not among the fraction alpha of all legal plans that are most "
             "fragile, then that many walks show it as so extreme with probability at most p. "
             "Fragile means likely to be among the most extreme fraction epsilon of the plans on a "
-            "walk from it. Epsilon and alpha must be fixed before the run. If it is computed "
+            "walk, or a pair of walks, from it. Epsilon, alpha, and whether walks or pairs are "
+            "counted must be fixed before the run. If it is computed "
             "for several questions, elections or pairs of epsilon and alpha, multiply the least p "
             "by their number."
         )
@@ -307,7 +347,7 @@ def findings(report: Report, enacted: typing.Mapping[str, str], parties: Parties
         numbers = [number for name, number in numbers_of(report) if name == ask]
         found.append(
             f"{question(ask, parties)} The enacted plan has {enacted[score]}. The least of its"
-            f" {plural(len(numbers), 'number')} here is {min(numbers)}."
+            f" {plural(len(numbers), 'number')} here is {min(numbers):f}."
         )
     return found
 

@@ -34,7 +34,7 @@ class OutlierTest:
         return Fraction(self.count, self.of)
 
     def __str__(self) -> str:
-        return f"{self.tail} count {self.count} of {self.of} bound {self.bound}"
+        return f"{self.tail} count {self.count} of {self.of} bound {self.bound:f}"
 
 
 @dataclasses.dataclass(frozen=True)
@@ -51,7 +51,7 @@ class RankTest:
     """rank/of, rounded up at nine places."""
 
     def __str__(self) -> str:
-        return f"{self.tail} rank {self.rank} of {self.of} p {self.p}"
+        return f"{self.tail} rank {self.rank} of {self.of} p {self.p:f}"
 
 
 def count_tail(values: typing.Iterable[Foreign], tail: str) -> tuple[int, int]:
@@ -110,11 +110,14 @@ def outlier_test(values: typing.Iterable[Foreign], tail: str) -> OutlierTest:
       .. steps of a trace with `thin=N` are a walk of that chain. A last plan after fewer than N
       further steps is not one of them; `trace` leaves it out by default.
     - **Stationary start.** This is the null hypothesis: the enacted plan was drawn at random from
-      the legal plans that the walk can reach, all equally likely. The walk must begin at the
+      the legal plans, all equally likely. (Then it is as likely among those that the walk can
+      reach, which is enough.) No limit may come from the enacted plan. The walk must begin at the
       enacted plan, so the samples are those of one walk, and not of an endpoint trajectory.
-    - **A fixed label.** The score is a function of the plan alone, and the score, the tail, the
-      number of steps and N were fixed before anybody looked. For m tests multiply the least bound
-      by m, or fix in advance which one counts.
+    - **A fixed label.** The score would be the same function of plans whichever legal plan had been
+      enacted. "Units whose district differs from the enacted plan's" is no such score: it is 0 for
+      the enacted plan alone, so every plan would be an outlier. The score, the tail, the number of
+      steps and N were fixed before anybody looked. For m tests multiply the least bound by m, or
+      fix in advance which one counts.
 
     A `float` must be the same whenever the plan is the same. Floats that were rounded from exact
     values can only make equal what was not, which makes the count greater and never smaller.
@@ -146,7 +149,8 @@ def rank_test(values: typing.Iterable[Foreign], tail: str) -> RankTest:
     drawn from its stationary distribution (the null hypothesis), then the enacted plan and the
     endpoints are exchangeable, and a rank of g or less has probability at most g/of. The number of
     endpoints, the steps, the score and the tail must be fixed before anybody looked, all
-    endpoints must be used, and the score must be a function of the plan alone.
+    endpoints must be used. The score must be the same function of plans whichever legal plan had
+    been enacted, and no limit may come from the enacted plan.
     """
     rank, total = count_tail(values, tail)
     return RankTest(tail, rank, total, round_up(rank, total))

@@ -99,7 +99,7 @@ def walk_rows(
             rows += [
                 Row(
                     f"{ask}, walk {walk.number}", [(walk.count / walk.of, float(walk.bound))],
-                    f"{walk.count} of {walk.of}, bound {walk.bound}",
+                    f"{walk.count} of {walk.of}, bound {walk.bound:f}",
                 )
                 for walk in found
             ]
@@ -108,10 +108,24 @@ def walk_rows(
             rows.append(
                 Row(
                     f"{ask}, {len(found)} walks", [(part, float(bound)) for part, bound in points],
-                    f"bounds {points[0][1]} to {points[-1][1]}",
+                    f"bounds {points[0][1]:f} to {points[-1][1]:f}",
                 )
             )
     return rows
+
+
+def pair_rows(report: Report, parties: Parties = None) -> list[Row]:
+    """Returns a row for each pair of walks of a report that was asked for them, if they are few."""
+    if report.setting.walks > MOST_ROWS:
+        return []
+    return [
+        Row(
+            f"{ask_label(pair, parties)}, walks {pair.first} and {pair.second}",
+            [(pair.count / pair.of, float(pair.bound))],
+            f"{pair.count} of {pair.of}, bound {pair.bound:f}",
+        )
+        for pair in report.pair_lines
+    ]
 
 
 def test_rows(report: Report, parties: Parties = None) -> list[Test]:
@@ -121,20 +135,21 @@ def test_rows(report: Report, parties: Parties = None) -> list[Test]:
     rows = [
         Test(
             label(line, "sequential"), line.top / line.of,
-            f"value {line.top} of {line.of}, p {line.p}",
+            f"value {line.top} of {line.of}, p {line.p:f}",
         )
         for line in report.stops
     ]
     rows += [
         Test(
             label(line, "parallel"), line.rank / line.of,
-            f"rank {line.rank} of {line.of}, p {line.p}",
+            f"rank {line.rank} of {line.of}, p {line.p:f}",
         )
         for line in report.ends
     ]
     return rows + [
         Test(
-            label(line, "serial"), line.rank / line.of, f"rank {line.rank} of {line.of}, p {line.p}"
+            label(line, "serial"), line.rank / line.of,
+            f"rank {line.rank} of {line.of}, p {line.p:f}",
         )
         for line in report.serial
     ]
@@ -320,7 +335,8 @@ def draw(
     """
     extra("matplotlib")
     report, both = select_scores(report, scores), named_parties(parties)
-    panels = panels_of(walk_rows(report.walks, both), test_rows(report, both))
+    walks = walk_rows(report.walks, both) + pair_rows(report, both)
+    panels = panels_of(walks, test_rows(report, both))
     shift = report.shift
     if ax is not None:
         panels[0].paint(ax)

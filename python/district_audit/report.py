@@ -1,9 +1,10 @@
 """The program's texts as values: reports, check texts, and the reports of several plans.
 
-Reading is strict: a text that the program cannot have written is refused, with the number of its
-line. `str` of what was read is the text again, byte for byte. Counts are `int`, scores `Start`
-(which is never shortened; its `fraction` is a `Fraction`), and bounds and p-values `Decimal` with
-the report's nine places, which are rounded up.
+Reading is strict: impossible forms and wrong arithmetic are refused, with the number of the line.
+A forged count passes: only a recomputation (`scripts/recheck.py`) finds it. `str` of what was read
+is the text again, byte for byte. Counts are `int`, scores `Start` (which is never shortened; its
+`fraction` is a `Fraction`), and bounds and p-values `Decimal` with the report's nine places, which
+are rounded up.
 """
 from __future__ import annotations
 
@@ -17,6 +18,7 @@ import typing
 from decimal import Decimal
 from fractions import Fraction
 
+from .arguments import MOST_WEIGHT
 from .effect import Effect, Number, test_effects
 from .errors import ReportRefused, extra
 
@@ -49,6 +51,7 @@ SEATS = ("-4 or fewer", "-3", "-2", "-1", "0", "+1", "+2", "+3", "+4 or more")
 NUMBER = "(0|[1-9][0-9]*)"
 WHOLE = "(0|-?[1-9][0-9]*)"
 NINE = r"((?:0|[1-9][0-9]*)\.[0-9]{9})"
+QUARTERS = r"([1-9][0-9]?(?:\.(?:25|5|75))?)"
 ASK = f"({'|'.join(SCORES)}) ({'|'.join(TAILS)}) start {WHOLE}/{NUMBER}"
 
 
@@ -94,6 +97,10 @@ class Rules:
     """
     max_length: int | None = None
     """The greatest total length of the edges between districts; None: any length."""
+    cut_weight: Fraction | None = None
+    """The weight of each cut edge, in 64ths; None: none, so that all plans weigh the same."""
+    pieces: int | None = None
+    """The greatest change of the number of cut edges in one step; None: there is no weight."""
 
     def describe(self) -> list[str]:
         """Returns the limits on cut edges and on the districts of a region, in words."""
@@ -128,10 +135,15 @@ class Rules:
                 f" in {self.group_districts}"
             )
         said += [] if self.frozen is None else [f"{self.frozen} units keep their districts"]
-        return said + (
+        said += (
             []
             if self.max_length is None
             else [f"cut edges have a length of at most {self.max_length} in all"]
+        )
+        return said + (
+            []
+            if self.cut_weight is None
+            else [f"each cut edge weighs {weight_text(self.cut_weight)}/{MOST_WEIGHT}"]
         )
 
 
@@ -238,6 +250,20 @@ def join_batch(
     ]
 
 
+def weight_text(weight: Fraction) -> str:
+    """Returns a weight as the program writes it: 33, 33.25, 33.5 or 33.75."""
+    whole, rest = divmod(int(4 * weight), 4)
+    return f"{whole}.{('25', '5', '75')[rest - 1]}" if rest else str(whole)
+
+
+def pieces_of(units: int, districts: int) -> int:
+    """Returns the greatest change of cut edges that a draw of 64 bits can weigh in one step."""
+    pieces = 0
+    while units * districts * MOST_WEIGHT ** (pieces + 2) <= 2**64:
+        pieces += 1
+    return pieces
+
+
 def quote(text: str) -> str:
     """Returns a text as the program writes it: as JSON, with the shortest escapes."""
     return json.dumps(text, ensure_ascii=False)
@@ -318,11 +344,72 @@ class Walk(Line):
         """The part of the visited plans that is in the tail."""
         return Fraction(self.count, self.of)
 
+    @property
+    def sharp_bound(self) -> Decimal:
+        """The square root of (2 count - 1)/of, rounded up at nine places.
+
+        It holds as `bound` does, which is the published one: docs/user/READING_A_REPORT.md proves
+        it. Which of the two decides has to be named before the run.
+        """
+        return root_up(2 * self.count - 1, self.of)
+
     def __str__(self) -> str:
         return (
             f"walk {self.number} moved {self.moved} {self.words()} count {self.count} of"
-            f" {self.of} bound {self.bound}"
+            f" {self.of} bound {self.bound:f}"
         )
+
+
+@dataclasses.dataclass(frozen=True)
+class Pair(Line):
+    """Two outlier trajectories together, and one question."""
+
+    first: int
+    """The number of the first trajectory."""
+    second: int
+    """The number of the second."""
+    count: int
+    """The number of plans in the tail that both visited, the start plan once among them."""
+    of: int
+    """The number of plans that both visited, the start plan once among them."""
+    bound: Decimal
+    """count / q, rounded up at nine places, for q plans visited by each trajectory."""
+
+    @classmethod
+    def of_walks(cls, one: Walk, other: Walk) -> Pair:
+        """Returns the pair of two trajectories with the same question."""
+        count = one.count + other.count - 1
+        return cls(
+            one.score, one.tail, one.start, one.number, other.number, count, 2 * one.of - 1,
+            round_up(count, one.of),
+        )
+
+    @property
+    def part(self) -> Fraction:
+        """The part of the visited plans that is in the tail."""
+        return Fraction(self.count, self.of)
+
+    def __str__(self) -> str:
+        return (
+            f"pair {self.first} {self.second} {self.words()} count {self.count} of {self.of}"
+            f" bound {self.bound:f}"
+        )
+
+
+def pair_up(walks: typing.Sequence[Walk]) -> tuple[Pair, ...]:
+    """Returns the pairs of trajectories 0 and 1, 2 and 3 and so on, with each question in turn.
+
+    An odd last trajectory has no pair.
+    """
+    by_number: dict[int, list[Walk]] = {}
+    for walk in walks:
+        by_number.setdefault(walk.number, []).append(walk)
+    numbers = sorted(by_number)
+    return tuple(
+        Pair.of_walks(one, other)
+        for first, second in zip(numbers[::2], numbers[1::2])
+        for one, other in zip(by_number[first], by_number[second])
+    )
 
 
 @dataclasses.dataclass(frozen=True)
@@ -337,7 +424,7 @@ class Ends(Line):
     """rank/of, rounded up at nine places."""
 
     def __str__(self) -> str:
-        return f"ends {self.words()} rank {self.rank} of {self.of} p {self.p}"
+        return f"ends {self.words()} rank {self.rank} of {self.of} p {self.p:f}"
 
 
 @dataclasses.dataclass(frozen=True)
@@ -353,7 +440,7 @@ class Stop(Line):
     """The value, rounded up at nine places."""
 
     def __str__(self) -> str:
-        return f"stop {self.words()} place {self.place} value {self.top}/{self.of} p {self.p}"
+        return f"stop {self.words()} place {self.place} value {self.top}/{self.of} p {self.p:f}"
 
 
 @dataclasses.dataclass(frozen=True)
@@ -370,7 +457,10 @@ class Serial(Line):
     """rank/of, rounded up at nine places."""
 
     def __str__(self) -> str:
-        return f"serial {self.words()} place {self.place} rank {self.rank} of {self.of} p {self.p}"
+        return (
+            f"serial {self.words()} place {self.place} rank {self.rank} of {self.of}"
+            f" p {self.p:f}"
+        )
 
 
 @dataclasses.dataclass(frozen=True)
@@ -471,7 +561,15 @@ class Head(typing.NamedTuple):
         lines += [] if rules.group_share is None else [f"group-share {rules.group_share}"]
         lines += [] if rules.frozen is None else [f"frozen {rules.frozen}"]
         lines += [] if rules.cut_length is None else [f"cut-length {rules.cut_length}"]
-        return lines + ([] if rules.max_length is None else [f"max-length {rules.max_length}"])
+        lines += [] if rules.max_length is None else [f"max-length {rules.max_length}"]
+        return lines + (
+            []
+            if rules.cut_weight is None
+            else [
+                f"cut-weight {weight_text(rules.cut_weight)} of {MOST_WEIGHT} pieces"
+                f" {rules.pieces}"
+            ]
+        )
 
 
 def source_of(lines: Reader) -> Source | None:
@@ -606,6 +704,27 @@ def rules_of(
     return found
 
 
+# Rules without any limit, which `head_of` fills.
+WITHOUT = Rules(0, 0, 0)
+
+
+def weight_in(
+    lines: Reader, units: int, districts: int
+) -> tuple[Fraction | None, int | None]:
+    """Returns the weight of a cut edge and the number of its pieces, if there is a weight."""
+    if not lines.is_at("cut-weight"):
+        return None, None
+    weight, pieces = lines.take(
+        f"cut-weight {QUARTERS} of {MOST_WEIGHT} pieces {NUMBER}", "cut-weight t of 64 pieces m"
+    )
+    lines.ask_that(Fraction(weight) < MOST_WEIGHT, "the weight is out of range, or at its default")
+    lines.ask_that(
+        int(pieces) == pieces_of(units, districts),
+        "the number of pieces is not that of the units and districts",
+    )
+    return Fraction(weight), int(pieces)
+
+
 def head_of(lines: Reader, source: Source | None) -> Head:
     units, edges, districts = lines.numbers(
         "units N edges N districts N", "units n edges e districts D"
@@ -631,10 +750,11 @@ def head_of(lines: Reader, source: Source | None) -> Head:
         and low <= high,
         "the bounds are not those of the population and the slack",
     )
-    return Head(
-        units, edges, districts, population,
-        Rules(slack, low, high, **rules_of(lines, units, edges, districts, source)),
-    )
+    found = rules_of(lines, units, edges, districts, source)
+    weight, pieces = weight_in(lines, units, districts)
+    rules = dataclasses.replace(WITHOUT, slack=slack, low=low, high=high, cut_weight=weight)
+    rules = dataclasses.replace(rules, pieces=pieces, **found)
+    return Head(units, edges, districts, population, rules)
 
 
 def setting_of(lines: Reader) -> Setting:
@@ -665,7 +785,12 @@ def round_up(top: int, of: int) -> Decimal:
 
 def bound_of(count: int, of: int) -> Decimal:
     """Returns the square root of 2 count/of, rounded up at nine places."""
-    least = -(-2 * count * BILLION * BILLION // of)
+    return root_up(2 * count, of)
+
+
+def root_up(top: int, of: int) -> Decimal:
+    """Returns the square root of top/of, rounded up at nine places."""
+    least = -(-top * BILLION * BILLION // of)
     root = math.isqrt(least)
     whole, rest = divmod(root if root * root >= least else root + 1, BILLION)
     return Decimal(f"{whole}.{rest:09}")
@@ -794,6 +919,28 @@ class Tests:
         self.both_tails(found, [walk.count for walk in found], self.setting.steps + 2)
         return found
 
+    def pairs(self, walks: tuple[Walk, ...]) -> None:
+        """Reads the lines of pairs, which follow from the lines of walks."""
+        found = pair_up(walks)
+        if not found:
+            refuse(self.lines.number, "a pair needs two walks")
+        for pair in found:
+            _, words = self.line(
+                (pair.score, pair.tail), "pair N N A count N of N bound Z",
+                "pair j l SCORE TAIL start x/y count c of n bound z",
+            )
+            self.lines.ask_that(
+                words[:2] == [str(pair.first), str(pair.second)],
+                f"pair {pair.first} {pair.second} is expected here",
+            )
+            self.lines.ask_that(
+                words[2:4] == [str(pair.count), str(pair.of)],
+                "the counts are not those of both walks, with the start plan counted once",
+            )
+            self.lines.ask_that(
+                words[4] == f"{pair.bound:f}", "the bound is not that of the count"
+            )
+
     def shift(self, walks: tuple[Walk, ...]) -> Shift:
         counts = self.lines.numbers("shift" + 9 * " N", "shift " + " ".join("c" * 9))
         setting = self.setting
@@ -897,7 +1044,10 @@ def table(rows: typing.Iterable[typing.Sequence[object]], titles: typing.Sequenc
     """Returns a plain table in HTML."""
 
     def row_of(tag: str, row: typing.Sequence[object]) -> str:
-        texts = ("" if cell is None else str(cell) for cell in row)
+        texts = (
+            "" if cell is None else f"{cell:f}" if isinstance(cell, Decimal) else str(cell)
+            for cell in row
+        )
         return f"<tr>{''.join(f'<{tag}>{html.escape(text)}</{tag}>' for text in texts)}</tr>"
 
     body = "".join(row_of("td", row) for row in rows)
@@ -1004,7 +1154,8 @@ class PlanCheck:
     def parse(cls, text: str) -> PlanCheck:
         """Returns a check text as a value.
 
-        Raises ReportRefused, with the number of the line, if the program cannot have written it.
+        Raises ReportRefused, with the number of the line, if its form or its arithmetic is
+        impossible. A forged count passes: only a recomputation finds it.
         """
         lines = Reader(lines_of(text))
         lines.take("plan-check 1", "plan-check 1")
@@ -1035,12 +1186,13 @@ def finish(lines: Reader) -> None:
 COLUMNS = ("test", "walk", "ask", "start", "moved", "place", "count", "of", "bound", "p")
 # The columns of a frame, each with one meaning, and those of them that are whole numbers.
 FRAME = (
-    "test", "walk", "ask", "score", "tail", "start", "moved", "visited", "in_tail", "share",
-    "bound", "rank", "of", "stopped_after", "start_place", "p",
+    "test", "walk", "second_walk", "ask", "score", "tail", "start", "moved", "visited", "in_tail",
+    "share", "bound", "rank", "of", "stopped_after", "start_place", "p",
 )
 FLOAT_COLUMNS = ("start", "share", "bound", "p")
 WHOLE_COLUMNS = (
-    "walk", "moved", "visited", "in_tail", "rank", "of", "stopped_after", "start_place",
+    "walk", "second_walk", "moved", "visited", "in_tail", "rank", "of", "stopped_after",
+    "start_place",
 )
 
 
@@ -1073,12 +1225,15 @@ class Report:
     """The graph of the call that made this report; None for a text that was read."""
     batch: Batch | None = dataclasses.field(default=None, compare=False)
     """The plans or elections among which this report is one; None if it is by itself."""
+    has_pairs: bool = False
+    """Whether the text has lines of pairs, as `pairs=True` asks for."""
 
     @classmethod
     def parse(cls, text: str) -> Report:
         """Returns the text of a report as a value.
 
-        Raises ReportRefused, with the number of the line, if the program cannot have written it.
+        Raises ReportRefused, with the number of the line, if its form or its arithmetic is
+        impossible. A forged count passes: only a recomputation finds it.
         """
         lines = Reader(lines_of(text))
         report = cls.read(lines)
@@ -1135,12 +1290,17 @@ class Report:
         head, setting = head_of(lines, source), setting_of(lines)
         tests = Tests(lines, head, setting)
         walks = tests.walks()
+        has_pairs = lines.is_at("pair")
+        if has_pairs:
+            tests.pairs(walks)
         shift = tests.shift(walks) if version == "2" else None
         stops = tests.stops() if setting.stop else ()
         ends = tests.ends() if setting.ends and not setting.stop else ()
         serial = tests.serial() if lines.is_at("serial") else ()
         lines.take("end", "end")
-        return cls(key, *head, setting, walks, shift, stops, ends, serial, source)
+        return cls(
+            key, *head, setting, walks, shift, stops, ends, serial, source, has_pairs=has_pairs
+        )
 
     def __str__(self) -> str:
         setting = self.setting
@@ -1156,10 +1316,44 @@ class Report:
             ),
         ]
         lines += [f"stop {setting.stop}"] if setting.stop else []
-        lines += map(str, self.walks)
+        lines += map(str, (*self.walks, *self.pair_lines))
         lines += [] if self.shift is None else [str(self.shift)]
         lines += map(str, (*self.stops, *self.ends, *self.serial))
         return "\n".join([*lines, "end", ""])
+
+    @property
+    def pairs(self) -> tuple[Pair, ...]:
+        """Each pair of outlier trajectories (0 and 1, 2 and 3, ..) with each question.
+
+        They follow from the counts of the walks, so a report without lines of pairs has them, too.
+        Under the null hypothesis a pair's bound of z or less has probability at most z:
+        docs/user/READING_A_REPORT.md has the proof. Never multiply bounds with each other.
+        """
+        return pair_up(self.walks)
+
+    @property
+    def pair_lines(self) -> tuple[Pair, ...]:
+        """The pairs if the text has them, and nothing otherwise."""
+        return self.pairs if self.has_pairs else ()
+
+    def combine_pairs(self) -> dict[str, Decimal]:
+        """Returns one bound for all pairs of a question, by question, in the report's order.
+
+        With one pair it is the pair's bound. With several it is twice the mean of count/q over the
+        pairs, for q plans of a walk, rounded up at nine places. Twice the mean of p-values is a
+        p-value however they depend on each other (Vovk and Wang, Biometrika 107, 2020). All walks
+        start at the same plan, so a product of bounds would say too much. Announce before the run
+        that this number decides. A question without a pair is left out.
+        """
+        found = {}
+        for ask in self.asks:
+            pairs = [pair for pair in self.pairs if pair.ask == ask]
+            total, plans = sum(pair.count for pair in pairs), self.setting.steps + 1
+            if len(pairs) == 1:
+                found[ask] = pairs[0].bound
+            elif pairs:
+                found[ask] = round_up(2 * total, len(pairs) * plans)
+        return found
 
     @property
     def asks(self) -> tuple[str, ...]:
@@ -1177,6 +1371,13 @@ class Report:
                 walk.bound, None,
             )
             for walk in self.walks
+        ]
+        rows += [
+            (
+                "pair", f"{pair.first} {pair.second}", pair.ask, pair.start, None, None, pair.count,
+                pair.of, pair.bound, None,
+            )
+            for pair in self.pair_lines
         ]
         rows += [
             ("stop", None, one.ask, one.start, None, one.place, one.top, one.of, None, one.p)
@@ -1201,6 +1402,13 @@ class Report:
                     share=walk.part, bound=walk.bound, **make_cells("walk", walk),
                 )
             )
+        for pair in self.pair_lines:
+            rows.append(
+                dict(
+                    walk=pair.first, second_walk=pair.second, visited=pair.of, in_tail=pair.count,
+                    share=pair.part, bound=pair.bound, **make_cells("pair", pair),
+                )
+            )
         for stop in self.stops:
             rows.append(
                 dict(
@@ -1222,14 +1430,15 @@ class Report:
     def to_frame(self, exact: bool = False) -> pandas.DataFrame:
         """Returns a pandas DataFrame with a row for each line of a test.
 
-        `test` is walk, stop, ends or serial; `ask` is `score`, a colon and `tail`; `start` is the
-        enacted plan's score. Of a walk: `walk` is its number, `moved` the number of steps that
+        `test` is walk, pair, stop, ends or serial; `ask` is `score`, a colon and `tail`; `start` is
+        the enacted plan's score. Of a walk: `walk` is its number, `moved` the number of steps that
         changed the plan, `visited` the number of plans visited, `in_tail` how many of them are as
         extreme as the enacted plan, itself among them, `share` their part, and `bound` the report's
-        bound. Of the other tests: `rank` of `of` is the enacted plan's rank, and `p` the p-value;
-        of a test that stops early these are the two numbers of its value, and `stopped_after` the
-        number of ends that it took; `start_place` is the enacted plan's place in a serial run, from
-        0.
+        bound. Of a pair of walks the same, for both together; `second_walk` is the number of the
+        second. A report has pairs here if it was asked for them. Of the other tests: `rank` of `of`
+        is the enacted plan's rank, and `p` the p-value; of a test that stops early these are the
+        two numbers of its value, and `stopped_after` the number of ends that it took; `start_place`
+        is the enacted plan's place in a serial run, from 0.
 
         Whole numbers are nullable integers (Int64): what a test does not have is NA. Scores, bounds
         and p-values are floats; with exact=True they are Fraction and Decimal.
@@ -1259,6 +1468,11 @@ class Report:
         with chance sqrt(2 epsilon / alpha) each. `p` is that tail, computed in exact arithmetic
         and rounded up at nine places. A plan's fragility is its chance to be an epsilon-outlier
         on a walk from it.
+
+        `pair_p` is the same for pairs of walks. A pair shows an outlier if its count is at most
+        c, the greatest whole number in epsilon times its plans, and each of the pairs does so with
+        chance at most c / (alpha q), for q plans of a walk. Fragile means here: likely to be an
+        outlier of a pair. Name before the run which of `p` and `pair_p` decides.
 
         Parameters
         ----------

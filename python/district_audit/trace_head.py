@@ -6,7 +6,7 @@ import warnings
 from fractions import Fraction
 
 from . import scores
-from .arguments import TABLE, Words, number, plain_words
+from .arguments import MOST_WEIGHT, TABLE, Words, number, plain_words
 from .errors import HeadNotCompared
 from .report import HALF_SHARE, MOST_SHARE, Line
 from .words import word_of
@@ -112,6 +112,9 @@ class Head:
                 said = getattr(rules, name)
                 limit = TABLE[name].default if said is None else said
                 self.ask_that(name, limit, number(self.given, name))
+        if "cut_weight" in self.given:
+            given = Fraction(str(self.given["cut_weight"]))
+            self.ask_that("cut_weight", rules.cut_weight or Fraction(MOST_WEIGHT), given)
         if rules.regions is not None and self.has("regions", "region"):
             regions = self.table.regions(str(self.named["region"]))
             self.ask_that("the number of regions", rules.regions, len(set(regions)))

@@ -1,6 +1,6 @@
 """The text of a trace: where its lines come from, and what each of them says.
 
-Reading is strict: a text that the program cannot have written is refused, with the number of the
+Reading is strict: a text of impossible form or arithmetic is refused, with the number of the
 line. Lines are read one by one, so a text of any length takes no more memory than its longest line.
 """
 from __future__ import annotations

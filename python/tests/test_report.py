@@ -243,8 +243,8 @@ class Values(unittest.TestCase):
         self.assertEqual(
             list(frame.columns),
             [
-                "test", "walk", "ask", "score", "tail", "start", "moved", "visited", "in_tail",
-                "share", "bound", "rank", "of", "stopped_after", "start_place", "p",
+                "test", "walk", "second_walk", "ask", "score", "tail", "start", "moved", "visited",
+                "in_tail", "share", "bound", "rank", "of", "stopped_after", "start_place", "p",
             ],
         )
         self.assertEqual(list(frame["test"]), ["walk"] * 6 + ["ends"] * 3)

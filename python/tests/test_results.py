@@ -189,12 +189,14 @@ class Named(unittest.TestCase):
         self.assertEqual(
             list(frame.columns),
             [
-                "report", "test", "walk", "ask", "score", "tail", "start", "moved", "visited",
-                "in_tail", "share", "bound", "rank", "of", "stopped_after", "start_place", "p",
+                "report", "test", "walk", "second_walk", "ask", "score", "tail", "start", "moved",
+                "visited", "in_tail", "share", "bound", "rank", "of", "stopped_after",
+                "start_place", "p",
             ],
         )
         for name in (
-            "walk", "moved", "visited", "in_tail", "rank", "of", "stopped_after", "start_place",
+            "walk", "second_walk", "moved", "visited", "in_tail", "rank", "of", "stopped_after",
+            "start_place",
         ):
             self.assertEqual(str(frame[name].dtype), "Int64", name)
         walks = district_audit.Report.parse(
