@@ -3,7 +3,7 @@ program, and its reports as values.
 
 It needs Python alone; networkx, pandas, matplotlib and tqdm are used where they are installed.
 """
-from . import compactness, scores, trace_pictures
+from . import compactness, scores, trace_pictures, warnings
 from .calls import check, make, plans, run
 from .districts import District
 from .effect import Effect
@@ -54,6 +54,7 @@ from .study import audit_to_file, load_study
 from .trace_text import TraceHead, TraceRefused
 from .traces import Sample, StaleSample, Trace, read_trace, trace
 from .verifying import verify
+from .warnings import MapWarning
 from .words import key_of
 
 __version__ = "0.1.0"
@@ -75,6 +76,7 @@ __all__ = [
     "Interrupted",
     "Manifest",
     "ManifestRefused",
+    "MapWarning",
     "MemoryRefused",
     "MissingExtra",
     "NamedReports",
@@ -126,4 +128,5 @@ __all__ = [
     "trace",
     "trace_pictures",
     "verify",
+    "warnings",
 ]

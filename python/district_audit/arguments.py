@@ -45,14 +45,15 @@ class AsPrepared:
 AS_PREPARED = AsPrepared()
 # Columns of a prepared graph that a call goes without where it says None.
 LEFT_BY_NONE = ("region", "group", "group_of", "freeze", "length")
-# Rules that `prepare` only looks at, each with the column that it needs.
+# Rules that `prepare` is given, too, each with the column that it needs.
 RULES = {
-    "slack": "", "max_split": "region", "max_splits": "region", "max_split_regions": "region",
+    "slack": "", "max_cut": "", "max_split": "region", "max_splits": "region",
+    "max_split_regions": "region",
     "group_districts": "group", "group_share": "group", "max_length": "length",
 }
 ONE_ELECTION = "call it once for each election, with that election's first and second"
 OF_COLUMN = "Left out it is the column that `prepare` was given; None means none."
-OF_RULE = "A call must repeat what `prepare` was given, or say None for the default."
+OF_RULE = "Left out it is what `prepare` was given; None means the default."
 # The arguments in hundredths of a percent.
 OF_PERCENT = ("slack", "group_share")
 

@@ -12,6 +12,7 @@ from fractions import Fraction
 from . import checkpoints, custody
 from . import labels as naming
 from . import progress as bars
+from . import slips
 from .arguments import (
     AS_PREPARED,
     LEFT_BY_NONE,
@@ -28,7 +29,7 @@ from .arguments import (
     tested_elections,
     text_in,
 )
-from .districts import Plan, plan_of
+from .districts import Plan, plan_of, slips_in
 from .elections import ElectionReports, folder_of, name_election
 from .errors import (
     CheckpointRefused,
@@ -44,12 +45,13 @@ from .errors import (
     error_of,
 )
 from .graphs import Foreign
-from .preparing import Preparation, Prepared, prepare
+from .preparing import Preparation, Prepared, prepare_map
 from .program import Ended, PathLike, call, find_program
 from .report import Audited, PlanCheck, Report, Rules, join_batch
 from .results import PlanReports
 from .tables import Known, table_of
 from .values import test_labels_of
+from .warnings import MapWarning, SmallGroupShare, emit
 from .words import words_of
 
 if typing.TYPE_CHECKING:
@@ -85,6 +87,8 @@ class Given:
     """The path of the graph, if it was one whose bytes go to the program as they are."""
     custody: custody.Custody | None = None
     """The preparation of the graph."""
+    warnings: tuple[MapWarning, ...] = ()
+    """Likely mistakes in the map, and in the question about it."""
 
     @property
     def audited(self) -> Audited:
@@ -92,7 +96,8 @@ class Given:
         columns = {name: str(self.named[name]) for name in COLUMNS if self.named.get(name)}
         rules = self.rules.copy()
         rules.pop("assignment", None)
-        return Audited(hashlib.sha256(self.data).hexdigest(), columns, rules)
+        digest = hashlib.sha256(self.data).hexdigest()
+        return Audited(digest, columns, rules, warnings=self.warnings)
 
 
 def words_in(arguments: Words) -> dict[str, object]:
@@ -119,28 +124,56 @@ def prepare_call(command: str, graph: object, words: Words) -> Given:
         raise PrepareRefused(
             "district and assignment are both given: give only one of them"
         )
+    known: list[MapWarning] | None = None
     if isinstance(graph, Prepared):
-        test_rules(command, graph, words, named)
-        named = {**columns_left(graph, words), **named}
+        named = {**find_kept(command, graph, words, named), **named}
         if "assignment" in rules:
             named.pop("district", None)
-        graph = graph.data
-    test_words(command, {**named, "district": "assignment"} if "assignment" in rules else named)
-    if named.get("first") is not None and named.get("first") == named.get("second"):
-        raise PrepareRefused(f"both parties' votes are the column {named['first']}")
-    named = {name: value for name, value in named.items() if not is_default(name, value)}
-    if command == "trace":
-        shown = format_shown(named)
-        named = {**{name: named[name] for name in named if name not in shown}, **shown}
+        known, graph = graph.warnings, graph.data
+    named = tested_words(command, named, rules)
     if isinstance(graph, (bytes, bytearray, memoryview, str, os.PathLike)) and not rules:
         data = bytes_of_graph(graph)
         path = os.fspath(graph) if isinstance(graph, (str, os.PathLike)) else None
         test_labels_of(data, named)
+        found = find_slips(command, data, named) if known is None else of_call(known, named)
     else:
         prepared = prepare_graph(graph, named, rules)
-        data, made = prepared.data, getattr(prepared, "custody", None)
+        data, found, known, made = prepared.data, prepared.warnings, None, prepared.custody
         named.update(prepared.columns)
-    return Given(data, words_of(command, named), named, rules, path=path, custody=made)
+    found = found + slips.of_question(command, named)
+    if command != "read_trace":
+        emit([one for one in found if known is None or one not in known], 3)
+    return Given(data, words_of(command, named), named, rules, "", path, made, tuple(found))
+
+
+def tested_words(command: str, named: Words, rules: Preparation) -> dict[str, object]:
+    """Tests the words of a call, and returns those that do not say what holds without them."""
+    test_words(command, {**named, "district": "assignment"} if "assignment" in rules else named)
+    if named.get("first") is not None and named.get("first") == named.get("second"):
+        raise PrepareRefused(f"both parties' votes are the column {named['first']}")
+    named = {name: value for name, value in named.items() if not is_default(name, value)}
+    if command != "trace":
+        return named
+    shown = format_shown(named)
+    return {**{name: named[name] for name in named if name not in shown}, **shown}
+
+
+def find_kept(command: str, graph: Prepared, words: Words, named: Words) -> dict[str, object]:
+    """Returns the columns and the rules of a prepared graph that hold in a call."""
+    left = {} if command == "read_trace" else rules_left(graph, words, named)
+    return {**columns_left(graph, words), **left}
+
+
+def find_slips(command: str, data: bytes, named: Words) -> list[MapWarning]:
+    """Returns the likely mistakes in a graph that was not prepared."""
+    return [] if command == "read_trace" else slips_in(data, named)
+
+
+def of_call(known: list[MapWarning], named: Words) -> list[MapWarning]:
+    """Returns a prepared map's warnings, and that of a group's share that a call gives anew."""
+    share = slips.of_share(count_in(named, "group_share")) if named.get("group") else []
+    others = [one for one in known if not isinstance(one, SmallGroupShare)]
+    return others + share
 
 
 def columns_left(graph: Prepared, words: Words) -> dict[str, str]:
@@ -151,29 +184,18 @@ def columns_left(graph: Prepared, words: Words) -> dict[str, str]:
     return {name: column for name, column in graph.columns.items() if name not in none}
 
 
-def test_rules(
-    command: str,
-    graph: Prepared,
-    words: Words,
-    named: Words,
-) -> None:
-    """Refuses a call that would drop a rule which `prepare` was given.
+def rules_left(graph: Prepared, words: Words, named: Words) -> dict[str, int]:
+    """Returns the rules of a prepared graph for which a call gives no other value.
 
-    `read_trace` may leave out any rule, since it compares the trace's text with them.
+    A rule about a column does not hold where the call goes without the column.
     """
-    if command == "read_trace":
-        return
-    dropped = []
-    for name, value in graph.rules.items():
-        column = RULES[name]
-        is_without = column in words and not words[column]
-        if name not in words and name not in named and not is_without:
-            dropped.append(f"{name}={value}, or {name}=None for {TABLE[name].default}")
-    if dropped:
-        refuse(
-            ValueRefused, command, "graph", graph,
-            f"prepare was given rules that this call leaves out: pass {'; '.join(dropped)}",
-        )
+    return {
+        name: value
+        for name, value in graph.rules.items()
+        if name not in words
+        and name not in named
+        and not (RULES[name] in words and not words[RULES[name]])
+    }
 
 
 def is_default(name: str, value: object) -> bool:
@@ -196,25 +218,15 @@ def bytes_of_graph(graph: PathLike | bytes | bytearray | memoryview) -> bytes:
 
 def prepare_graph(graph: object, named: Words, rules: Preparation) -> Prepared:
     """Prepares a graph for a call, and warns of values that are others then."""
-    try:
-        population, first, second = (str(named[name]) for name in ("pop", "first", "second"))
-    except KeyError as name:
-        raise TypeError(f"the column {name} is missing") from None
-    prepared = prepare(
-        graph,
-        population=population,
-        first=first,
-        second=second,
-        district=str(named["district"]) if "district" in named else None,
-        region=text_in(named, "region"),
-        group=text_in(named, "group"),
-        group_of=text_in(named, "group_of"),
-        freeze=text_in(named, "freeze"),
-        length=text_in(named, "length"),
-        **rules,
+    for name in ("pop", "first", "second"):
+        if name not in named:
+            raise TypeError(f"the column {name!r} is missing")
+    columns = {name: text_in(named, name) for name in COLUMNS if name != "pop"}
+    limits = {name: count_in(named, name) for name in RULES}
+    prepared = prepare_map(
+        graph, {"population": str(named["pop"]), **columns, **limits, **rules}
     )
-    of_values = [str(change) for change in prepared.changes if change.is_of_values]
-    changed = of_values + prepared.warnings
+    changed = [str(change) for change in prepared.changes if change.is_of_values]
     if changed:
         warnings.warn(GraphChanged("\n".join(changed)), stacklevel=4)
     return prepared
@@ -290,7 +302,7 @@ def check(
     assignment: object = None,
     slack: int | AsPrepared | None = AS_PREPARED,
     tolerance: float | None = None,
-    max_cut: int = 400_000,
+    max_cut: int | AsPrepared | None = AS_PREPARED,
     cut_weight: Weight = 64,
     region: str | AsPrepared | None = AS_PREPARED,
     max_split: int | AsPrepared | None = AS_PREPARED,
@@ -397,7 +409,7 @@ def run(
     pairs: bool = False,
     slack: int | AsPrepared | None = AS_PREPARED,
     tolerance: float | None = None,
-    max_cut: int = 400_000,
+    max_cut: int | AsPrepared | None = AS_PREPARED,
     cut_weight: Weight = 64,
     region: str | AsPrepared | None = AS_PREPARED,
     max_split: int | AsPrepared | None = AS_PREPARED,
@@ -480,7 +492,22 @@ def run(
             reports.append((name, call_program(asked, place, progress, program, slots)))
         except WorkLeft as error:
             raise name_election(error, name, len(reports), len(named)) from None
-    return ElectionReports(join_batch("election", reports))
+    return ElectionReports(join_batch("election", share_warnings(reports)))
+
+
+def share_warnings(pairs: list[tuple[str, Report]]) -> list[tuple[str, Report]]:
+    """Returns the reports of one map, each with the warnings of all."""
+    found = tuple(dict.fromkeys(one for _, report in pairs for one in report.warnings))
+    return [
+        (
+            name,
+            dataclasses.replace(
+                report,
+                audited=report.audited and dataclasses.replace(report.audited, warnings=found),
+            ),
+        )
+        for name, report in pairs
+    ]
 
 
 @document
@@ -730,7 +757,7 @@ def plans(
     pairs: bool = False,
     slack: int | AsPrepared | None = AS_PREPARED,
     tolerance: float | None = None,
-    max_cut: int = 400_000,
+    max_cut: int | AsPrepared | None = AS_PREPARED,
     cut_weight: Weight = 64,
     region: str | AsPrepared | None = AS_PREPARED,
     max_split: int | AsPrepared | None = AS_PREPARED,

@@ -12,9 +12,9 @@ from . import checkpoints
 from . import labels as naming
 from . import progress as bars
 from .arguments import MOST_CUT_LENGTH
+from .preparing import MOST_CUT
 from .errors import MissingExtra, PrepareRefused, ProgramMissing, ReportRefused
-from .preparing import Prepared
-from .preparing import prepare as prepare_graph
+from .preparing import Prepared, prepare_map
 from .program import find_program, stop
 from .report import Report
 from .values import test_labels_of
@@ -33,6 +33,8 @@ IN_WORDS = (
     ("(join=[(A, B)] makes", "(--join A B makes"),
     ("(slack=", "(--slack "),
 )
+# Words of the command whose argument of `prepare` has another name.
+NAMES = {"pop": "population"}
 PREPARE = """Turns a file of GerryChain or networkx into one that the auditor accepts.
 
 It prints every change. FILE is JSON in networkx's adjacency layout, which GerryChain's
@@ -121,6 +123,7 @@ def prepare_words() -> argparse.ArgumentParser:
     parser.add_argument("--freeze")
     parser.add_argument("--length")
     parser.add_argument("--max-length", type=int, default=MOST_CUT_LENGTH)
+    parser.add_argument("--max-cut", type=int, default=MOST_CUT)
     ways = parser.add_mutually_exclusive_group()
     ways.add_argument("--fill-region", metavar="LABEL")
     ways.add_argument("--own-region", action="store_true")
@@ -136,7 +139,7 @@ def print_findings(prepared: Prepared, everything: bool) -> None:
     for change in prepared.changes:
         print_line(change.text(everything))
     for warning in prepared.warnings:
-        print_line("warning: " + warning)
+        print_line(f"warning: {warning}")
     for note in prepared.notes:
         print_line(note)
     for refusal in prepared.refusals:
@@ -147,15 +150,15 @@ def prepare(words: typing.Sequence[str] | None = None) -> int:
     """Runs the command district-audit-prepare; returns its exit status."""
     args = prepare_words().parse_args(words)
     try:
-        prepared = prepare_graph(
-            args.file, population=args.pop, first=args.first, second=args.second,
-            district=args.district, region=args.region, numbers=args.numbers, missing=args.missing,
-            join=args.join, keep=args.keep, fill_region=args.fill_region,
-            own_region=args.own_region, slack=args.slack, max_split=args.max_split,
-            max_splits=args.max_splits, max_split_regions=args.max_split_regions, group=args.group,
-            group_of=args.group_of, group_districts=args.group_districts,
-            group_share=args.group_share, freeze=args.freeze, length=args.length,
-            max_length=args.max_length, show_all=args.all,
+        named = dict(vars(args))
+        prepared = prepare_map(
+            named.pop("file"),
+            {
+                NAMES.get(name, name): value
+                for name, value in named.items()
+                if name not in ("out", "all")
+            }
+            | {"show_all": args.all},
         )
         print_findings(prepared, args.all)
         if args.out:

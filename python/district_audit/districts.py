@@ -17,6 +17,7 @@ from .graphs import Label, Row
 from .judging import Judged, parts_of
 from .lengths import Lengths, lengths_of
 from .preparing import Choices
+from .warnings import MapWarning
 
 
 @dataclasses.dataclass(frozen=True)
@@ -108,7 +109,36 @@ def plan_of(data: bytes, named: Words) -> Plan | None:
     table = table_of(data, text_in(named, "length"))
     if table is None or not table.rows:
         return None
-    choices = Choices(
+    choices = choices_of(named)
+    try:
+        judged = Judged(table.rows, table.neighbors, choices, table.lengths)
+        cut = judged.cut_edges
+        faults = list(judged.refusals)
+        if not any(row[choices.first] + row[choices.second] for row in table.rows.values()):
+            faults.append("no votes: both parties have none in any unit")
+        edges = sum(map(len, table.neighbors.values())) // 2
+        return Plan(
+            districts_of(judged, table), edges, cut, tuple(faults), judged.cut_length
+        )
+    except (KeyError, TypeError, ValueError):
+        return None
+
+
+def slips_in(data: bytes, named: Words) -> list[MapWarning]:
+    """Returns the likely mistakes in the program's graph; none where the program refuses it."""
+    table = table_of(data)
+    if table is None or not table.rows:
+        return []
+    choices = dataclasses.replace(choices_of(named), length=None, show_all=False)
+    try:
+        return Judged(table.rows, table.neighbors, choices).warnings
+    except (KeyError, TypeError, ValueError):
+        return []
+
+
+def choices_of(named: Words) -> Choices:
+    """Returns columns and limits, which are named by the program's words, as those of `prepare`."""
+    return Choices(
         str(named["pop"]),
         str(named["first"]),
         str(named["second"]),
@@ -125,31 +155,8 @@ def plan_of(data: bytes, named: Words) -> Plan | None:
         show_all=True,
         length=text_in(named, "length"),
         max_length=count_in(named, "max_length"),
+        max_cut=count_in(named, "max_cut"),
     )
-    try:
-        judged = Judged(table.rows, table.neighbors, choices, table.lengths)
-        cut = cut_edges_of(table, choices.district)
-        faults = list(judged.refusals)
-        if not any(row[choices.first] + row[choices.second] for row in table.rows.values()):
-            faults.append("no votes: both parties have none in any unit")
-        if cut > count_in(named, "max_cut"):
-            faults.append(f"{cut} cut edges, more than {named['max_cut']}")
-        edges = sum(map(len, table.neighbors.values())) // 2
-        return Plan(
-            districts_of(judged, table), edges, cut, tuple(faults), judged.cut_length
-        )
-    except (KeyError, TypeError, ValueError):
-        return None
-
-
-def cut_edges_of(table: Table, column: str) -> int:
-    """Returns the number of edges between two districts."""
-    both = sum(
-        table.rows[unit][column] != table.rows[other][column]
-        for unit, others in table.neighbors.items()
-        for other in others
-    )
-    return int(both) // 2
 
 
 def districts_of(judged: Judged, table: Table) -> tuple[District, ...]:

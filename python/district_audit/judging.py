@@ -7,9 +7,11 @@ from __future__ import annotations
 import functools
 import typing
 
+from . import slips
 from .decimals import percent_down
 from .graphs import SHOWN, Label, Row, as_json, sort_labels, list_ids
 from .report import HALF_SHARE
+from .warnings import AllUnitsFrozen, DistrictCannotChange, DistrictFrozen, MapWarning
 
 if typing.TYPE_CHECKING:
     from .lengths import Lengths
@@ -49,7 +51,7 @@ class Judged:
         self.rows, self.neighbours, self.choices = rows, neighbours, choices
         self.notes: list[str] = []
         self.refusals: list[str] = []
-        self.warnings: list[str] = []
+        self.warnings: list[MapWarning] = []
         self.cut_length: int | None = None
         self.place = {unit: i for i, unit in enumerate(rows)}
         self.members: dict[Label, list[Label]] = {}
@@ -64,6 +66,7 @@ class Judged:
         self.warn_of_parts()
         self.judge_districts()
         self.judge_sizes()
+        self.judge_cut()
         if choices.region:
             self.judge_regions(choices.region)
         if choices.group:
@@ -72,6 +75,14 @@ class Judged:
             self.judge_length(choices.length, lengths)
         if choices.freeze:
             self.judge_frozen(choices.freeze)
+        self.warnings += slips.slips_of(self)
+
+    def sums_of(self, column: str) -> dict[Label, int]:
+        """Returns the total of a column in each district."""
+        return {
+            label: sum(self.rows[unit][column] for unit in self.members[label])
+            for label in self.districts
+        }
 
     def name_district(self, district: Label) -> str:
         return f"district {as_json(district)}"
@@ -223,6 +234,21 @@ class Judged:
                 f" {self.choices.group_districts}"
             )
 
+    @property
+    def cut_edges(self) -> int:
+        """The number of edges between two districts."""
+        district = self.choices.district
+        both = sum(
+            self.rows[unit][district] != self.rows[other][district]
+            for unit, others in self.neighbours.items()
+            for other in others
+        )
+        return int(both) // 2
+
+    def judge_cut(self) -> None:
+        if self.cut_edges > self.choices.max_cut:
+            self.refusals.append(f"{self.cut_edges} cut edges, more than {self.choices.max_cut}")
+
     def judge_length(self, column: str, lengths: Lengths) -> None:
         """Adds notes and refusals on the total length of the edges between districts."""
         district = self.choices.district
@@ -246,7 +272,9 @@ class Judged:
         frozen = {unit for unit, row in self.rows.items() if row[column] > 0}
         self.notes.append(f"{len(frozen)} of {len(self.rows)} units are frozen by {column}")
         if frozen and len(frozen) == len(self.rows):
-            self.warnings.append(f"all units are frozen by {column}: no walk can change the plan")
+            self.warnings.append(
+                AllUnitsFrozen(f"all units are frozen by {column}: no walk can change the plan")
+            )
             return
         whole = [label for label in self.districts if frozen.issuperset(self.members[label])]
         closed = [
@@ -256,13 +284,17 @@ class Judged:
         ]
         if whole:
             self.warnings.append(
-                f"all units of these districts are frozen by {column}, so that no unit leaves them:"
-                f" {self.shown(whole)}"
+                DistrictFrozen(
+                    f"all units of these districts are frozen by {column}, so that no unit leaves"
+                    f" them: {self.shown(whole)}"
+                )
             )
         if closed:
             self.warnings.append(
-                "no walk can change these districts, since the units around them are frozen, too:"
-                f" {self.shown(closed)}"
+                DistrictCannotChange(
+                    "no walk can change these districts, since the units around them are frozen,"
+                    f" too: {self.shown(closed)}"
+                )
             )
 
 

@@ -13,6 +13,7 @@ from fractions import Fraction
 
 from .graphs import Foreign, is_missing
 from .report import TAILS, bound_of, round_up
+from .trace_rows import endpoints_of, refuse_no_walk, values_of
 
 
 @dataclasses.dataclass(frozen=True)
@@ -63,7 +64,7 @@ def count_tail(values: typing.Iterable[Foreign], tail: str) -> tuple[int, int]:
         raise ValueError(f"tail must be 'low' or 'high', not {tail!r}")
     if isinstance(values, (str, bytes, typing.Mapping)) or hasattr(values, "columns"):
         raise TypeError(f"values must be a sequence of numbers, not of type {type(values).__name__}"
-                        ": of a table, give one column")
+                        ": of a table, name the column")
     first: Foreign = None
     count = total = 0
     for place, value in enumerate(values):
@@ -82,20 +83,25 @@ def count_tail(values: typing.Iterable[Foreign], tail: str) -> tuple[int, int]:
     return count, total
 
 
-def outlier_test(values: typing.Iterable[Foreign], tail: str) -> OutlierTest:
+def outlier_test(values: Foreign, tail: str, score: Foreign = None) -> OutlierTest:
     """Applies the outlier theorem of Chikina, Frieze and Pegden to the values of one walk.
 
     Parameters
     ----------
     values
-        The score of each plan of one walk in order, the enacted plan's first: any values that
-        compare, as `int`, `Fraction` or `float`. They are read once and not stored.
+        A `Trace` of one walk, its frame, or a column of that. Or the score of each plan of one walk
+        in order, the enacted plan's first: any values that compare, as `int`, `Fraction` or
+        `float`. They are read once and not stored.
     tail
         "low" counts the plans whose score is at most the enacted plan's, "high" those whose score
         is at least that. Equal scores count against the finding.
+    score
+        The score of a trace, by its name or as a function of a sample; or the column of a frame.
 
     Returns an `OutlierTest`: the exact count c of q plans, and the square root of 2c/q, rounded up
-    at nine places. Raises ValueError for a missing value or fewer than two values.
+    at nine places. Raises ValueError for a missing value or fewer than two values, and of a trace
+    or its frame for samples that the theorem does not cover: those of several walks, of an endpoint
+    trajectory, without the walk's beginning or end, or with a further last plan.
 
     Theorem 1.1 of M. Chikina, A. Frieze, W. Pegden, "Assessing significance in a Markov chain
     without mixing", PNAS 114 (2017): let X0, X1, .. be a reversible Markov chain with a stationary
@@ -122,26 +128,29 @@ def outlier_test(values: typing.Iterable[Foreign], tail: str) -> OutlierTest:
     A `float` must be the same whenever the plan is the same. Floats that were rounded from exact
     values can only make equal what was not, which makes the count greater and never smaller.
     """
-    count, total = count_tail(values, tail)
+    found = values_of(values, score)
+    refuse_no_walk(found)
+    count, total = count_tail(found.values, tail)
     return OutlierTest(tail, count, total, bound_of(count, total))
 
 
-def rank_test(values: typing.Iterable[Foreign], tail: str) -> RankTest:
+def rank_test(values: Foreign, tail: str, score: Foreign = None) -> RankTest:
     """Applies the parallel test of Besag and Clifford to the values of endpoint plans.
 
     Parameters
     ----------
     values
-        The enacted plan's score, and then that of each endpoint plan: any values that compare. With
-        a trace of all endpoint trajectories (`ids="ends"`), the endpoints are the samples with
-        `is_last`, and the enacted plan is `trace.enacted`.
+        A `Trace` of all endpoint trajectories (`ids="ends"`), or its frame. Or the enacted plan's
+        score, and then that of each endpoint plan: any values that compare.
     tail
         "low" counts the endpoints whose score is at most the enacted plan's, "high" those whose
         score is at least that. Equal scores count against the finding.
+    score
+        The score of a trace, by its name or as a function of a sample; or the column of a frame.
 
     Returns a `RankTest`: the enacted plan's exact rank among all these plans, 1 for the most
     extreme, and rank/of, rounded up at nine places. Raises ValueError for a missing value or fewer
-    than two values.
+    than two values, and for a trace or frame that has a walk or lacks an endpoint.
 
     J. Besag, P. Clifford, "Generalized Monte Carlo significance tests", Biometrika 76 (1989): the
     hub lies some number of steps from the enacted plan, and each endpoint lies as many steps from
@@ -152,5 +161,6 @@ def rank_test(values: typing.Iterable[Foreign], tail: str) -> RankTest:
     endpoints must be used. The score must be the same function of plans whichever legal plan had
     been enacted, and no limit may come from the enacted plan.
     """
-    rank, total = count_tail(values, tail)
+    found = values_of(values, score, needs_enacted=True)
+    rank, total = count_tail(endpoints_of(found), tail)
     return RankTest(tail, rank, total, round_up(rank, total))

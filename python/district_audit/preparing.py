@@ -11,7 +11,7 @@ import numbers
 import typing
 from fractions import Fraction
 
-from . import judging, lengths
+from . import custody, judging, lengths, slips
 from .arguments import (
     OTHERS,
     RULES,
@@ -42,8 +42,10 @@ from .graphs import (
     list_ids,
 )
 from .values import find_alike, faults_in, kind_of, find_repeated, why_no_label
+from .warnings import MapWarning, emit
 
 MOST_BYTES, MOST_VALUE, MOST_CUT_LENGTH = 67_108_864, 1_000_000_000, TABLE["max_length"].most
+MOST_CUT = TABLE["max_cut"].most
 
 
 class Preparation(typing.TypedDict, total=False):
@@ -87,6 +89,7 @@ class Choices:
     freeze: str | None = None
     length: str | None = None
     max_length: int = MOST_CUT_LENGTH
+    max_cut: int = MOST_CUT
 
     @property
     def whole(self) -> str:
@@ -94,11 +97,16 @@ class Choices:
         return self.group_of or self.population
 
     @property
+    def votes(self) -> list[tuple[str, str]]:
+        """The columns of both parties' votes in each election."""
+        return list(dict.fromkeys(self.elections.values())) or [(self.first, self.second)]
+
+    @property
     def counted(self) -> list[str]:
         """The columns of numbers, each once."""
         group = (self.group, self.whole) if self.group else ()
-        votes = [column for both in self.elections.values() for column in both]
-        return list(dict.fromkeys((self.population, self.first, self.second, *votes, *group)))
+        votes = [column for both in self.votes for column in both]
+        return list(dict.fromkeys((self.population, *votes, *group)))
 
     @property
     def labelled(self) -> list[str]:
@@ -163,8 +171,8 @@ class Prepared:
     """The changes; each is a text under `str`."""
     notes: list[str]
     """Counts of units, edges, parts and regions."""
-    warnings: list[str]
-    """Likely mistakes."""
+    warnings: list[MapWarning]
+    """Likely mistakes, each of a class of its own; `str` of it is a line."""
     refusals: list[str]
     """For what the auditor would refuse the plan; empty where it accepts it."""
     units: list[Label]
@@ -181,17 +189,29 @@ class Prepared:
     elections: dict[str, tuple[str, str]] = dataclasses.field(default_factory=dict)
     """The columns of votes by the name of their election; empty where `elections` was left out."""
     rules: dict[str, int] = dataclasses.field(default_factory=dict)
-    """The slack and the limits that are not the default. A call that leaves one out is refused."""
+    """The slack and the limits that are not the default. They hold in each call that gives no
+    other.
+    """
+    custody: custody.Custody | None = None
+    """How `data` was made of the graph: files, arguments, changes and versions."""
 
     def __iter__(self) -> typing.Iterator[Foreign]:
         return iter((self.data, self.changes))
 
     def __repr__(self) -> str:
         state = f"{len(self.refusals)} refusals" if self.refusals else "the auditor accepts it"
+        kept = "; ".join(("", *self.kept))
         return (
             f"<Prepared: {len(self.units)} units, {len(self.districts)} districts,"
-            f" {len(self.changes)} changes, {len(self.warnings)} warnings; {state}>"
+            f" {len(self.changes)} changes, {len(self.warnings)} warnings; {state}{kept}>"
         )
+
+    @property
+    def kept(self) -> list[str]:
+        """The rules and the elections of each call that gives no others."""
+        rules = ", ".join(f"{name}={value}" for name, value in self.rules.items())
+        found = [f"rules {rules}"] if rules else []
+        return found + ([f"elections {', '.join(self.elections)}"] if self.elections else [])
 
     def _repr_html_(self) -> str:
         parts = [f"<p>{html.escape(repr(self)[1:-1])}</p>"]
@@ -204,6 +224,16 @@ class Prepared:
                 items = "".join(f"<li>{html.escape(str(line))}</li>" for line in lines)
                 parts.append(f"<p>{title}</p><ul>{items}</ul>")
         return "".join(parts)
+
+
+# The arguments of `prepare` that may be left out.
+DEFAULTS: dict[str, Foreign] = {
+    "first": None, "second": None, "elections": None, "district": None, "assignment": None,
+    "region": None, "group": None, "group_of": None, "numbers": "error", "missing": "error",
+    "join": (), "keep": (), "fill_region": None, "own_region": False, "slack": None,
+    "tolerance": None, "freeze": None, "length": None, "show_all": False,
+    **{name: TABLE[name].default for name in RULES if name != "slack"},
+}
 
 
 @document
@@ -235,6 +265,7 @@ def prepare(
     freeze: str | None = None,
     length: str | None = None,
     max_length: int = MOST_CUT_LENGTH,
+    max_cut: int = MOST_CUT,
     show_all: bool = False,
     **unknown: object,
 ) -> Prepared:
@@ -261,63 +292,60 @@ def prepare(
     MissingExtra
         An ImportError: the file can be read only by networkx, which is not installed.
     """
-    test_names("prepare", unknown, (*TABLE, *OTHERS))
-    for name, value, good in (
-        ("numbers", numbers, ("error", "nearest", "floor")),
-        ("missing", missing, ("error", "zero", "drop")),
+    given = dict(locals())
+    prepared = prepare_map(given.pop("graph"), given)
+    emit(prepared.warnings, 2)
+    return prepared
+
+
+def prepare_map(graph: object, given: typing.Mapping[str, Foreign]) -> Prepared:
+    """Prepares a graph by the arguments of `prepare`, and gives no warning to Python."""
+    named = {**DEFAULTS, **given}
+    test_names("prepare", named.pop("unknown", {}), (*TABLE, *OTHERS))
+    for name, good in (
+        ("numbers", ("error", "nearest", "floor")), ("missing", ("error", "zero", "drop")),
     ):
-        if value not in good:
-            raise PrepareRefused(f"{name} must be one of {', '.join(good)}, not {value!r}")
-    if (district is None) == (assignment is None):
+        if named[name] not in good:
+            raise PrepareRefused(f"{name} must be one of {', '.join(good)}, not {named[name]!r}")
+    test_columns(named)
+    said = plain_words("prepare", {name: named.pop(name) for name in ("slack", "tolerance")})
+    named["slack"] = said.get("slack", TABLE["slack"].default)
+    for name in RULES:
+        test_count("prepare", TABLE[name], named[name])
+    elections = named["elections"]
+    votes = votes_of(named.pop("first"), named.pop("second"), elections)
+    named["fill_region"] = test_choices(
+        named["population"], votes, named["district"], named["fill_region"], named["own_region"]
+    )
+    taken = {
+        *(named[name] for name in ("population", "region", "group", "group_of", "freeze")),
+        *(column for both in votes.values() for column in both),
+    }
+    named["district"] = named["district"] or free_name(taken)
+    named["first"], named["second"] = next(iter(votes.values()))
+    named["elections"] = {} if elections is None else votes
+    named["slack"] = count_in(said, "slack")
+    prepared = prepare_raw(raw_of(graph), Choices(**named))
+    arguments = {
+        name: value
+        for name, value in given.items()
+        if name in DEFAULTS and value is not DEFAULTS[name] or name == "population"
+    }
+    told = [(one.kind, str(one)) for one in prepared.warnings]
+    made = custody.record(graph, arguments, prepared.changes, told)
+    return dataclasses.replace(prepared, custody=made)
+
+
+def test_columns(named: typing.Mapping[str, object]) -> None:
+    """Refuses an argument that needs a column which is not named."""
+    if (named["district"] is None) == (named["assignment"] is None):
         raise PrepareRefused(
             "the districts are given twice or not at all: give either district or assignment"
         )
-    if group_of and not group:
+    if named["group_of"] and not named["group"]:
         raise PrepareRefused("group_of is given without group: name the column of the group")
-    if max_length != MOST_CUT_LENGTH and not length:
+    if named["max_length"] != MOST_CUT_LENGTH and not named["length"]:
         raise PrepareRefused("max_length is given without length: name the column of the lengths")
-    said = plain_words("prepare", {"slack": slack, "tolerance": tolerance})
-    for name, count in (
-        ("slack", said.get("slack", 500)), ("max_split", max_split), ("max_splits", max_splits),
-        ("max_split_regions", max_split_regions), ("group_districts", group_districts),
-        ("group_share", group_share), ("max_length", max_length),
-    ):
-        test_count("prepare", TABLE[name], count)
-    votes = votes_of(first, second, elections)
-    fill_region = test_choices(population, votes, district, fill_region, own_region)
-    taken = {
-        population, region, group, group_of, freeze,
-        *(column for both in votes.values() for column in both),
-    }
-    one, other = next(iter(votes.values()))
-    choices = Choices(
-        population,
-        one,
-        other,
-        district or free_name(taken),
-        region,
-        numbers,
-        missing,
-        assignment,
-        join,
-        keep,
-        fill_region,
-        own_region,
-        count_in(said, "slack"),
-        max_split,
-        max_splits,
-        max_split_regions,
-        group,
-        group_of,
-        group_districts,
-        show_all,
-        {} if elections is None else votes,
-        group_share,
-        freeze,
-        length,
-        max_length,
-    )
-    return prepare_raw(raw_of(graph), choices)
 
 
 def votes_of(
@@ -624,63 +652,6 @@ class Rows:
         return True
 
 
-# ---- what looks wrong
-
-
-def suspicions(
-    choices: Choices,
-    rows: dict[Label, Row],
-    before: dict[str, dict[Label, Fraction]],
-) -> list[str]:
-    """Returns warnings of columns that are not counts of heads, and of losses where fractions were
-    made whole.
-    """
-    found = []
-    broken = {
-        column
-        for column, values in before.items()
-        if any(value.denominator != 1 for value in values.values())
-    }
-    people = sum(row[choices.population] for row in rows.values())
-    both = [
-        (value, before[choices.second][unit])
-        for unit, value in before[choices.first].items()
-        if unit in before[choices.second]
-    ]
-    add_up = (
-        bool(broken & {choices.first, choices.second})
-        and bool(both)
-        and all(99 <= one + other <= 101 for one, other in both)
-    )
-    for column in choices.counted:
-        values = {unit: value for unit, value in before[column].items() if unit in rows}
-        whole, lost = sum(values.values()), sum(
-            abs(rows[unit][column] - value) for unit, value in values.items()
-        )
-        is_small = column in broken and all(value <= 100 for value in values.values())
-        if is_small and all(value <= 1 for value in values.values()):
-            found.append(
-                f"column {column} looks like shares and not like counts: all its values are from 0"
-                " to 1, and made whole they say nothing"
-            )
-        elif is_small and column != choices.population and not add_up and people > 1000 * len(rows):
-            found.append(
-                f"column {column} may have percentages and not counts: all its values are from 0 to"
-                f" 100, and a unit has {people // len(rows)} people on average"
-            )
-        elif lost * 100 > whole:
-            found.append(
-                f"column {column}: making its values whole changes them by"
-                f" {float(100 * lost / whole) if whole else 100:.3g} percent in all"
-            )
-    if add_up:
-        found.append(
-            f"columns {choices.first} and {choices.second} look like percentages and not like"
-            " counts: they add up to 100 in each unit"
-        )
-    return found
-
-
 # ---- edges
 
 
@@ -876,16 +847,17 @@ def prepare_raw(raw: Raw, choices: Choices) -> Prepared:
             if column
         }
     )
+    rules = {
+        name: int(getattr(choices, name))
+        for name in RULES
+        if int(getattr(choices, name)) != TABLE[name].default
+    }
     return Prepared(
         data, list(changes.by_kind.values()), judged.notes,
-        suspicions(choices, rows, taken.before) + suspicions_of_lengths(choices.length, long)
+        slips.of_rounding(judged, taken.before) + slips.of_lengths(choices.length, long)
         + judged.warnings,
         refusals, list(rows), judged.districts, judged.regions, columns, dict(choices.elections),
-        {
-            name: int(getattr(choices, name))
-            for name in RULES
-            if int(getattr(choices, name)) != TABLE[name].default
-        },
+        rules,
     )
 
 
@@ -910,18 +882,6 @@ def lengths_in(
             is_of_values=True,
         )
     return found
-
-
-def suspicions_of_lengths(column: str | None, found: lengths.Lengths | None) -> list[str]:
-    """Returns a warning if making lengths whole changes them by more than one percent."""
-    whole = Fraction(0) if found is None else sum(found.exact.values(), Fraction(0))
-    if found is None or found.lost * 100 <= whole:
-        return []
-    return [
-        f"lengths of edges in {column}: making them whole changes them by"
-        f" {float(100 * found.lost / whole):.3g} percent in all; multiply them first, as to"
-        " centimeters"
-    ]
 
 
 def data_of(

@@ -32,6 +32,7 @@ if typing.TYPE_CHECKING:
     from .custody import Call
     from .districts import District, Plan
     from .preparing import Preparation
+    from .warnings import MapWarning
 
     PathLike = typing.Union[str, "os.PathLike[str]"]
 
@@ -206,6 +207,8 @@ class Audited:
     """The arguments of `prepare`, except an assignment."""
     call: Call | None = None
     """The call that made the report, or what the manifest says of it."""
+    warnings: tuple[MapWarning, ...] = ()
+    """Likely mistakes in the map, and in the question about it."""
 
     def is_of(self, data: bytes) -> bool:
         """Returns whether these are the bytes that the program read."""
@@ -1354,6 +1357,18 @@ class Report:
             elif pairs:
                 found[ask] = round_up(2 * total, len(pairs) * plans)
         return found
+
+    @property
+    def warnings(self) -> tuple[MapWarning, ...]:
+        """Likely mistakes in the map that was audited, and in the question about it.
+
+        A report that was read from a file has only those that its own text shows.
+        """
+        if self.audited is not None:
+            return self.audited.warnings
+        from .slips import of_report
+
+        return tuple(of_report(self))
 
     @property
     def asks(self) -> tuple[str, ...]:

@@ -33,6 +33,7 @@ from .manifest import (
 from .preparing import Preparation
 from .report import Audited, Batch, Report
 from .results import NamedReports, PlanReports
+from .warnings import read as read_warning
 
 Pairs = typing.Sequence[tuple[str, Report]]
 # The words of the program whose values are columns, by the names of the package.
@@ -327,7 +328,8 @@ def join(report: Report, manifest: Manifest, entry: Entry, name: str) -> Report:
         for one in calls.PREPARING
         if one != "assignment" and one in given and not isinstance(given[one], dict)
     }
-    audited = Audited(entry.map_sha256, columns, typing.cast(Preparation, rules), call)
+    warned = tuple(read_warning(kind, text) for kind, text in manifest.warnings)
+    audited = Audited(entry.map_sha256, columns, typing.cast(Preparation, rules), call, warned)
     names = manifest.names
     batch = Batch(manifest.kind, names, names.index(name)) if manifest.kind != "report" else None
     return dataclasses.replace(report, audited=audited, batch=batch)

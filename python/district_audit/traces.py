@@ -22,6 +22,7 @@ from .graphs import Foreign
 from .program import PathLike, find_program
 from .trace_head import compare_head
 from .trace_plan import Plan, UnitTable, places_of
+from .trace_rows import NAME, Row, Samples
 from .trace_text import FileLines, Lines, ProgramLines, Shown, Text, Trajectory, plan_line
 
 if typing.TYPE_CHECKING:
@@ -376,10 +377,46 @@ class Trace(typing.Iterator[Sample]):
         """Walks the rest of the trace, and returns a pandas DataFrame with a row for each sample.
 
         Its columns are those of `rows`. Fractions are floats, or with exact=True Fractions, as
-        `outlier_test` compares them exactly. Raises MissingExtra if pandas is not installed.
+        `outlier_test` compares them exactly. Its `attrs` say which plans its rows are of, for the
+        tests. Raises MissingExtra if pandas is not installed.
         """
         pandas = extra("pandas")
-        return pandas.DataFrame(list(self.rows(scores, exact)))
+        thin, setting = self.trajectory.thin, self.head.setting
+        functions = functions_of(scores, self.elections, self.length)
+        enacted: dict[str, object] = {}
+        if setting.ends and (self.final_id is None or self.final_id >= setting.walks):
+            for name, function in functions.items():
+                enacted.update(cells(name, function(self.enacted), exact))
+        found = list(self.rows(functions, exact))
+        frame = pandas.DataFrame(found)
+        frame.attrs[NAME] = self.describe(
+            [(int(typing.cast(int, one["id"])), int(typing.cast(int, one["step"])))
+             for one in found], enacted, thin
+        )
+        return frame
+
+    def describe(self, rows: typing.Iterable[Row], enacted: typing.Mapping[str, object],
+                 thin: int = 0) -> Samples:
+        """Returns the run that rows of samples are of, for tests on them."""
+        one = self.head.setting
+        return Samples(tuple(rows), one.walks, one.steps, one.ends, one.hub_steps,
+                       thin or self.trajectory.thin, enacted)
+
+    def assignments(self) -> pandas.DataFrame:
+        """Walks the rest of the trace, and returns a pandas DataFrame of its plans.
+
+        It has a row for each sample, labeled by id and step, and a column for each unit, named by
+        its id, with the label of its district. It takes a value for each sample and unit, so
+        choose `thin` by the memory. Raises MissingExtra if pandas is not installed.
+        """
+        pandas = extra("pandas")
+        labels, rows, plans = self.table.labels, [], []
+        for sample in self:
+            rows.append((sample.id, sample.step))
+            plans.append([labels[district] for district in sample.plan.districts])
+        index = pandas.MultiIndex.from_tuples(rows, names=["id", "step"]) if rows else None
+        units = pandas.Index(self.table.ids, tupleize_cols=False)
+        return pandas.DataFrame(plans, index=index, columns=units)
 
 
 def functions_of(scores: Scores, elections: Elections, length: str = "") -> dict[str, Score]:
@@ -491,7 +528,7 @@ def trace(
     hub_steps: int = 1000,
     slack: int | AsPrepared | None = AS_PREPARED,
     tolerance: float | None = None,
-    max_cut: int = 400_000,
+    max_cut: int | AsPrepared | None = AS_PREPARED,
     cut_weight: int | float | str | Fraction = 64,
     region: str | AsPrepared | None = AS_PREPARED,
     max_split: int | AsPrepared | None = AS_PREPARED,

@@ -71,6 +71,8 @@ class FolderCase(unittest.TestCase):
     def setUp(self) -> None:
         # Walks of a few steps, as tests take them, change few units.
         warnings.simplefilter("ignore", district_audit.FrozenWalk)
+        # Their maps have a few people, who cast more votes than they are.
+        warnings.simplefilter("ignore", district_audit.MapWarning)
         room = tempfile.TemporaryDirectory()
         self.addCleanup(room.cleanup)
         self.folder = pathlib.Path(room.name)

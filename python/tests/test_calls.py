@@ -296,7 +296,7 @@ class Calls(common.ProgramCase):
             )
         self.assertIn("column a: missing values made 0: 1 unit", str(caught.warning))
         with warnings.catch_warnings():
-            warnings.simplefilter("error")
+            warnings.simplefilter("error", district_audit.GraphChanged)
             district_audit.check(
                 common.StandInGraph(common.example("cycle.json")), program=self.program,
                 missing="zero", **common.WORDS,
@@ -870,7 +870,7 @@ class Kept(common.ProgramCase):
                 "in 1 steps (1 of 1 walks fewer times than there are units, 4)", str(caught.warning)
             )
         with warnings.catch_warnings():
-            warnings.simplefilter("error")
+            warnings.simplefilter("error", district_audit.FrozenWalk)
             district_audit.run(
                 CYCLE, program=self.program, **anything({**common.WALK, "walks": 1, "steps": 1000}),
             )

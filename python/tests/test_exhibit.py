@@ -264,7 +264,8 @@ class ExhibitTests(FolderCase):
         options = exhibit.Options(graph=data, columns=columns)
         text = exhibit.page([(bad, report), (bad + "2", report)], options)
         page = self.check_alone(text)
-        self.assertNotIn("b", page.tags[page.tags.index("body"):page.tags.index("h2")])
+        # The one element b that the page has itself: it names the warnings.
+        self.assertEqual(page.tags[page.tags.index("body"):page.tags.index("h2")].count("b"), 1)
         self.assertEqual(page.text.count("Plan " + bad), 2)
         self.assertIn(shlex.quote(bad), page.text)
         self.assertIn(f"the first party (column {bad})", page.text)

@@ -47,6 +47,13 @@ def prepare_root(root: object, **more: common.Value) -> district_audit.Prepared:
     return district_audit.prepare(root, **{**COLUMNS, **more})
 
 
+def warning_of(*lengths: float) -> str:
+    """Returns the warning of the lengths of a ring's edges."""
+    found = [one for one in prepare_root(graph(*lengths)).warnings if one.kind == "LengthsRounded"]
+    (warning,) = found
+    return str(warning)
+
+
 def read_lengths(prepared: district_audit.Prepared) -> dict[tuple[int, int], object]:
     adjacency = json.loads(prepared.data)["adjacency"]
     return {(u, one["id"]): one["shared_perim"] for u, row in enumerate(adjacency) for one in row}
@@ -72,16 +79,14 @@ class Preparing(unittest.TestCase):
         (change,) = prepared.changes
         self.assertTrue(change.is_of_values)
         self.assertIn("3 of 4 made whole by `nearest`, halves the even one", str(change))
-        self.assertEqual(prepared.warnings, [])
+        self.assertNotIn("LengthsRounded", [warning.kind for warning in prepared.warnings])
 
     def test_great_loss_is_warned_of(self) -> None:
-        (warning,) = prepare_root(graph(0.4, 0.4, 0.4, 1)).warnings
-        self.assertIn("changes them by 54.5 percent in all", warning)
+        self.assertIn("changes them by 54.5 percent in all", warning_of(0.4, 0.4, 0.4, 1))
 
     def test_changes_that_cancel_out_are_warned_of(self) -> None:
         """The sum stays 4, and two of the four lengths change by 0.4."""
-        (warning,) = prepare_root(graph(0.6, 1.4, 1, 1)).warnings
-        self.assertIn("changes them by 20 percent in all", warning)
+        self.assertIn("changes them by 20 percent in all", warning_of(0.6, 1.4, 1, 1))
 
     def test_refusals_name_both_units(self) -> None:
         for lengths, said in (

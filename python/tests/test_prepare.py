@@ -42,6 +42,11 @@ def square(**changed: common.Value) -> common.Root:
     }
 
 
+def lines_of(prepared: Prepared) -> list[str]:
+    """Returns the lines of the warnings of a prepared map."""
+    return list(map(str, prepared.warnings))
+
+
 def prepare_root(root: object, **said: common.Value) -> Prepared:
     return prepare(json.dumps(root).encode(), **anything({**common.COLUMNS, "slack": 5000, **said}))
 
@@ -81,9 +86,11 @@ class Changes(unittest.TestCase):
         )
         self.assertIn("column DEM: missing values made 0: 1 unit: 42", changes)
         self.assertEqual(
-            (prepared.notes, prepared.refusals, prepared.warnings),
-            (["100 units, 180 edges, 5 districts, 10000 people"], [], []),
+            (prepared.notes, prepared.refusals),
+            (["100 units, 180 edges, 5 districts, 10000 people"], []),
         )
+        (line,) = lines_of(prepared)
+        self.assertIn("column TOTPOP: making its values whole changes the total of 3 of 5", line)
         self.assertEqual(
             prepare(rough, **ROUGH, numbers="floor", missing="drop").notes,
             ["99 units, 176 edges, 5 districts, 9900 people"],
@@ -139,25 +146,27 @@ class Changes(unittest.TestCase):
 
     def test_shares_and_percentages_are_warned_of(self) -> None:
         prepared = prepare_root(square(a=[0.753, 0.25, 0.5, 0.9]), numbers="nearest")
-        self.assertIn("column a looks like shares and not like counts", prepared.warnings[0])
+        self.assertIn("column a looks like shares and not like counts", str(prepared.warnings[0]))
         prepared = prepare_root(
             square(a=[75.3, 25.5, 50, 90], b=[24.7, 74.5, 50, 10]), numbers="nearest"
         )
-        self.assertIn("columns a and b look like percentages", prepared.warnings[-1])
+        self.assertIn("columns a and b look like percentages", "\n".join(lines_of(prepared)))
         prepared = prepare_root(square(a=[1.4, 2.4, 3.4, 4.4]), numbers="nearest")
         self.assertIn(
             "column a: making its values whole changes them by 13.8 percent in all",
-            prepared.warnings,
+            lines_of(prepared),
         )
         self.assertEqual(
-            prepare_root(square(a=[100.4, 200.4, 300, 400]), numbers="nearest").warnings, []
+            prepare_root(
+                square(pop=[900] * 4, a=[100.4, 200.4, 300, 400]), numbers="nearest"
+            ).warnings, [],
         )
         prepared = prepare_root(
             square(pop=[5000] * 4, a=[20.76, 75.6, 8.2, 11.43], b=[1000.2, 2000, 3000, 4000]),
             numbers="nearest",
         )
         self.assertEqual(
-            prepared.warnings,
+            lines_of(prepared),
             [
                 "column a may have percentages and not counts: all its values are from 0 to 100,"
                 " and a unit has 5000 people on average"
@@ -165,7 +174,7 @@ class Changes(unittest.TestCase):
         )
         prepared = prepare_root(square(pop=[100] * 4, a=[20.9, 75.1, 60, 51]), numbers="nearest")
         self.assertEqual(prepared.warnings, [])
-        self.assertEqual(prepare_root(square(a=[0, 1, 1, 0])).warnings, [])
+        self.assertEqual(prepare_root(square(pop=[9] * 4, a=[0, 1, 1, 0])).warnings, [])
 
     def test_parts_are_reported_and_joined(self) -> None:
         """Two islands, each a whole district, and one unit with no neighbour."""
@@ -241,8 +250,17 @@ class Changes(unittest.TestCase):
             prepare(common.EXAMPLES / "data" / "ny8.json", **said)
         self.assertEqual(len(caught.exception.faults), sum(map(len, broken.values())))
         prepared = prepare(common.EXAMPLES / "data" / "ny8.json", numbers="nearest", **said)
-        self.assertEqual((prepared.refusals, prepared.warnings), ([], []))
+        self.assertEqual(prepared.refusals, [])
+        self.assertEqual({warning.kind for warning in prepared.warnings}, {"DistrictRounded"})
         for column, units in broken.items():
+            moved: dict[str, float] = {}
+            for node in nodes:
+                change_of_node = round(node[column]) - node[column]
+                moved[node["PLAN8"]] = moved.get(node["PLAN8"], 0) + change_of_node
+            over = sorted(label for label, change in moved.items() if abs(change) > 1)
+            (line,) = (line for line in lines_of(prepared) if f"column {column}:" in line)
+            self.assertIn(f"total of {len(over)} of 8 districts", line)
+            self.assertTrue(line.endswith(": " + ", ".join(f'"{label}"' for label in over)), line)
             change = next(
                 change
                 for change in prepared.changes
@@ -413,7 +431,11 @@ class Changes(unittest.TestCase):
         self.assertEqual(prepared.units, ["s", "u", "v"])
         self.assertIn(
             "column g looks like shares and not like counts",
-            prepare_root(square(g=[0.5, 0.25, 0.5, 0.9]), group="g", numbers="nearest").warnings[0],
+            str(
+                prepare_root(
+                    square(g=[0.5, 0.25, 0.5, 0.9]), group="g", numbers="nearest"
+                ).warnings[0]
+            ),
         )
 
     def test_the_map_with_counties_and_a_group(self) -> None:

@@ -49,31 +49,38 @@ class Prepared(common.ProgramCase):
         if isinstance(made, district_audit.Trace):
             made.close()
 
-    def test_no_call_drops_a_rule_that_prepare_was_given(self) -> None:
-        rules = dict(slack=5000, max_split=2, max_splits=9, max_split_regions=4,
-                     group_districts=1, group_share=100, max_length=30)
+    def test_each_call_keeps_the_rules_that_prepare_was_given(self) -> None:
+        rules = dict(slack=5000, max_cut=9, max_split=2, max_splits=9, max_split_regions=4,
+                     group_districts=1, group_share=200, max_length=30)
         prepared = district_audit.prepare(ring(), **self.COLUMNS, **anything(rules))
         self.assertEqual(prepared.rules, rules)
+        kept = "rules " + ", ".join(f"{name}={value}" for name, value in rules.items())
+        self.assertEqual(prepared.kept, [kept])
+        self.assertIn(kept, repr(prepared))
         for call in self.calls():
-            with self.assertRaises(district_audit.ValueRefused) as caught:
-                call(prepared)
-            for name, value in rules.items():
-                self.assertIn(f"{name}={value}, or {name}=None for ", str(caught.exception))
-            with self.assertRaises(district_audit.ValueRefused) as caught:
-                call(prepared, **{name: rules[name] for name in rules if name != "max_splits"})
-            self.assertIn(
-                "prepare was given rules that this call leaves out: pass max_splits=9, or"
-                " max_splits=None for 995000", str(caught.exception)
-            )
-            for good in (rules, {**rules, "max_length": 40}, dict.fromkeys(rules)):
-                self.close(call(prepared, **anything(good)))
+            cases: list[tuple[common.Words, common.Words]] = [
+                ({}, {}),
+                ({"max_splits": 8, "max_length": 40}, {"max_splits": 8, "max_length": 40}),
+                ({"max_cut": None, "slack": 9999}, {"max_cut": None, "slack": 9999}),
+                ({"max_length": None}, {"max_length": None}),
+            ]
+            for more, others in cases:
+                made = call(prepared, **anything(more))
+                found = anything(made)
+                if isinstance(found, district_audit.PlanReports):
+                    found = found[0][1]
+                elif isinstance(found, district_audit.Trace):
+                    found = found.head
+                shown = {name: getattr(found.rules, name) for name in rules}
+                self.assertEqual(shown, {**rules, **others})
+                self.close(made)
 
     def test_a_tolerance_stands_for_the_slack(self) -> None:
         prepared = district_audit.prepare(ring(), **self.COLUMNS, tolerance=0.5)
         check = district_audit.check(prepared, tolerance=0.25, program=self.program)
         self.assertEqual(check.rules.slack, 2500)
-        with self.assertRaises(district_audit.ValueRefused):
-            district_audit.check(prepared, program=self.program)
+        check = district_audit.check(prepared, program=self.program)
+        self.assertEqual(check.rules.slack, 5000)
 
     def test_rules_that_prepare_was_not_given_are_not_asked_for(self) -> None:
         prepared = district_audit.prepare(ring(), **self.COLUMNS)
@@ -130,8 +137,6 @@ class Prepared(common.ProgramCase):
                  "group": "group-districts 0 of 0", "length": "cut-length 10"}
         for name in ("", *lines):
             words: common.Words = {} if not name else {name: None}
-            if name != "region":
-                words["max_splits"] = None
             text = str(district_audit.check(prepared, program=self.program, **words)).split("\n")
             for other, line in lines.items():
                 self.assertEqual(line in text, other != name, (name, line, text))
@@ -162,7 +167,8 @@ class Frozen(unittest.TestCase):
             (tuple(range(6)), ["all units are frozen by f: no walk can change the plan"]),
         ):
             prepared = self.prepare_frozen(*frozen)
-            self.assertEqual(prepared.warnings, warnings)
+            about = [str(one) for one in prepared.warnings if "frozen" in str(one)]
+            self.assertEqual(about, warnings)
             self.assertIn(f"{len(frozen)} of 6 units are frozen by f", prepared.notes)
 
 
