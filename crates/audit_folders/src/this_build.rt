@@ -9,5 +9,5 @@ use audit_words::Build;
 pub const THIS_BUILD: Build<'static> = Build {
     version: "0.1.0",
     commit: "unknown",
-    kit: "rattle-kit-13f logic dac8208d650f15bf",
+    kit: "unknown",
 };
