@@ -7,7 +7,7 @@ use Rattle.audit_statement.specs.Endings.{AddsLine}
 use Rattle.ckpt_store.specs.declared.finding.Finding.{Finding}
 use Rattle.audit_folders.specs.FolderLines.{name_of, of_each}
 use Rattle.report.specs.AddedText.{AddsText, HasAdded, LetsNext}
-use Rattle.report.specs.DueText.{LetsBytes}
+use Rattle.audit_statement.specs.DueText.{LetsBytes}
 use Rattle.report.proofs.Letting.{next_as, next_front, next_rest}
 
 -- the name of a folder other than the working folder

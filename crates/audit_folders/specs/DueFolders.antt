@@ -16,7 +16,7 @@ use Rattle.ckpt_store.specs.declared.slot_content.SlotContent.{SlotContent}
 use Rattle.audit_folders.specs.FolderLines.{observed_text, refusals}
 use Rattle.audit_folders.specs.Gatherings.{ending_of}
 use Rattle.audit_folders.specs.SlotLines.{slots_text}
-use Rattle.report.specs.DueText.{LetsBytes, LetsText}
+use Rattle.audit_statement.specs.DueText.{LetsBytes, LetsText}
 
 -- the sink permits the report on two slots, which are the known ones if the keeper is observable
 abbrev pub LetsShowing : LetsBytes → Option Job → Option Pair → Stream → Type 0

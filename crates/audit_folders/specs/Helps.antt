@@ -10,7 +10,7 @@ use Rattle.audit_words.specs.declared.question.Question.TheVariants.{Usage, Vers
 use Rattle.audit_words.specs.Answers.{WritesAnswer}
 use Rattle.audit_words.specs.Questions.{question_of_word, version_text}
 use Rattle.audit_words.specs.Usage.{on_lines}
-use Rattle.report.specs.DueText.{LetsBytes, LetsText}
+use Rattle.audit_statement.specs.DueText.{LetsBytes, LetsText}
 
 -- the question of the arguments
 abbrev pub folder_question : List (List ℕ) → Option Question

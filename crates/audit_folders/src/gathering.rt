@@ -11,7 +11,7 @@ ghost use Rattle.ckpt_store.specs.Whole.{LetsGathering};
 ghost use Rattle.audit_folders.specs.FolderLines.{folder_line, folder_refusal, of_each, own_refusal, refusals, observed_text};
 ghost use Rattle.audit_folders.specs.Gatherings.{EndsGathering, IsCutOff, IsNoted, IsWhole, Outputs, WritesFindings, WritesGathering, ending_of, failed_status, refused_status};
 ghost use Rattle.report.specs.AddedText.{AddsText, HasAdded, LetsNext};
-ghost use Rattle.report.specs.DueText.{LetsText};
+ghost use Rattle.audit_statement.specs.DueText.{LetsText};
 ghost use Rattle.audit_folders.specs.DueFolders.{LetsFindings, LetsGatherLine};
 
 use crate::lines::{add_folder_line, add_own_line};

@@ -4,7 +4,7 @@ ghost use Rattle.std.specs.Prelude.{◌≡◌, map, string_bytes};
 ghost use Rattle.audit_folders.specs.Helps as definition;
 ghost use Rattle.audit_words.specs.Answers.{WritesAnswer};
 ghost use Rattle.report.specs.AddedText.{HasAdded};
-ghost use Rattle.report.specs.DueText.{LetsText};
+ghost use Rattle.audit_statement.specs.DueText.{LetsText};
 ghost use Rattle.audit_statement.specs.Accepted.{no_columns};
 ghost use Rattle.audit_statement.specs.Note.{note as note_of, write_fault};
 

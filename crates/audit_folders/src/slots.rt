@@ -9,7 +9,7 @@ ghost use Rattle.audit_folders.specs.Gatherings.{IsCutOff, IsWhole, Outputs};
 ghost use Rattle.audit_folders.specs.Shown.{HasLoadedBoth, IsShownOf, shown_text};
 ghost use Rattle.audit_folders.specs.SlotLines.{EndsShowing, job_text};
 ghost use Rattle.report.specs.AddedText.{AddsText, HasAdded, LetsNext};
-ghost use Rattle.report.specs.DueText.{LetsText};
+ghost use Rattle.audit_statement.specs.DueText.{LetsText};
 ghost use Rattle.audit_folders.specs.DueFolders.{LetsShowing, LetsShowingLine};
 ghost use Rattle.audit_statement.specs.Accepted.{no_columns};
 ghost use Rattle.audit_statement.specs.Note.{note as note_of, write_fault};

@@ -4,7 +4,7 @@ ghost use Rattle.std.specs.Prelude.{◌≡◌};
 ghost use Rattle.audit_statement.specs.Due.{LetsDueSaves};
 ghost use Rattle.audit_statement.specs.Several.{names_plans as are_of_plans};
 ghost use Rattle.audit_statement.specs.Whole.{KeepsEachPromise};
-ghost use Rattle.report.specs.DueText.{LetsDueLine, LetsDueText};
+ghost use Rattle.audit_statement.specs.DueText.{LetsDueLine, LetsDueText};
 ghost use Rattle.audit_words.specs.DueAnswers.{LetsAnswerOrText, LetsAnyLine};
 ghost use Rattle.audit_words.specs.Answers.{AnswersOrAudits};
 ghost use Rattle.audit_statement.specs.World.{world};

@@ -7,7 +7,7 @@ ghost use Rattle.audit_statement.specs.Due.{LetsSavesOf};
 ghost use Rattle.audit_laws.specs.Calls.{Finishes};
 ghost use Rattle.audit_laws.specs.Runs.{IsRunJob};
 ghost use Rattle.audit_start.specs.ResumeState.{IsOpened};
-ghost use Rattle.report.specs.DueText.{LetsReport, LetsReportFrom};
+ghost use Rattle.audit_statement.specs.DueText.{LetsReport, LetsReportFrom};
 ghost use Rattle.plan_runs.specs.Resources.{IsJudgeSet};
 ghost use Rattle.plan_runs.specs.RunBuffers.{IsStartOf};
 

@@ -3,7 +3,7 @@
 ghost use Rattle.std.specs.Prelude.{◌≡◌, true};
 ghost use Rattle.audit_run.specs.Stages.{PlansRunTo};
 ghost use Rattle.audit_statement.specs.Several.{KeepsPlansPromise, names_plans};
-ghost use Rattle.report.specs.DueText.{LetsLineOfSeveral, LetsTextOfSeveral};
+ghost use Rattle.audit_statement.specs.DueText.{LetsLineOfSeveral, LetsTextOfSeveral};
 ghost use Rattle.audit_model.specs.State.{KeeperState};
 ghost use Rattle.audit_statement.specs.World.{world};
 ghost use Rattle.audit_words.specs.ArgumentBytes.{argument_bytes};

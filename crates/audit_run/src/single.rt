@@ -5,7 +5,7 @@ ghost use Rattle.audit_model.specs.declared.setting.Command.TheVariants.{Check};
 ghost use Rattle.audit_statement.specs.Endings.{is_walking};
 ghost use Rattle.audit_statement.specs.Promise.{KeepsItsPromise};
 ghost use Rattle.audit_statement.specs.Due.{LetsDueSaves, LetsSavesOf};
-ghost use Rattle.report.specs.DueText.{LetsLineOfOne, LetsText, LetsTextOf, LetsTextOfOne};
+ghost use Rattle.audit_statement.specs.DueText.{LetsLineOfOne, LetsText, LetsTextOf, LetsTextOfOne};
 ghost use Rattle.audit_statement.specs.Report as definition;
 ghost use Rattle.audit_laws.specs.Calls.{Finishes};
 ghost use Rattle.audit_laws.specs.Runs.{IsRunJob};

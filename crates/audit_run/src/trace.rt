@@ -6,7 +6,7 @@ ghost use Rattle.audit_model.specs.JobOf.{IsJob};
 ghost use Rattle.audit_model.specs.Limits.{most_trajectories};
 ghost use Rattle.audit_model.specs.State.{KeeperState};
 ghost use Rattle.audit_model.specs.declared.setting.Command.TheVariants.{Trace};
-ghost use Rattle.report.specs.DueText.{LetsText};
+ghost use Rattle.audit_statement.specs.DueText.{LetsText};
 ghost use Rattle.plan_runs.specs.Tracers.{TracesJob, text_of_range};
 ghost use Rattle.audit_statement.specs.Draw.{draw};
 ghost use Rattle.audit_statement.specs.Trace as definition;

@@ -4,7 +4,7 @@ use Rattle.std.proofs.KnownBytes.{Appends-nil}
 use Rattle.audit_model.specs.State.{Stream}
 use Rattle.audit_words.specs.Usage.{on_lines}
 use Rattle.report.specs.AddedText.{AddsText, HasAdded, LetsNext}
-use Rattle.report.specs.DueText.{LetsBytes}
+use Rattle.audit_statement.specs.DueText.{LetsBytes}
 use Rattle.report.proofs.Letting.{next_as, next_front, next_rest}
 
 module _ {before after : Stream} {going result : Bool} where

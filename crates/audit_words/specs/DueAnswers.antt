@@ -7,7 +7,7 @@ use Rattle.audit_statement.specs.World.{World}
 use Rattle.audit_words.specs.declared.build.Build.{Build}
 use Rattle.audit_words.specs.declared.question.Question.{Question}
 use Rattle.audit_words.specs.Questions.{answer_to, question_of}
-use Rattle.report.specs.DueText.{LetsBytes, LetsDueLine, LetsDueText, LetsText}
+use Rattle.audit_statement.specs.DueText.{LetsBytes, LetsDueLine, LetsDueText, LetsText}
 
 -- the sink permits the answer if the arguments ask for help or the version, and else the due text of an audit
 pub record LetsAnswerOrText (lets : LetsBytes) (build : Build) (words : List (List ℕ)) (before : World) : Type 0 where

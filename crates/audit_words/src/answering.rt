@@ -7,7 +7,7 @@ ghost use Rattle.audit_words.specs.Arguments as definition;
 ghost use Rattle.audit_words.specs.Questions.{answer_to, version_text};
 ghost use Rattle.audit_words.specs.Usage.{command_lines, on_lines};
 ghost use Rattle.report.specs.AddedText.{AddsText, HasAdded, LetsNext};
-ghost use Rattle.report.specs.DueText.{LetsText};
+ghost use Rattle.audit_statement.specs.DueText.{LetsText};
 ghost use Rattle.audit_statement.specs.Accepted.{no_columns};
 ghost use Rattle.audit_statement.specs.Note as terms;
 

@@ -6,7 +6,7 @@ use Rattle.audit_model.specs.Serially.{serial_observed}
 use Rattle.audit_model.specs.State.{Stream}
 use Rattle.audit_statement.specs.Draw.{draw}
 use Rattle.audit_statement.specs.Report.{full_report, report}
-use Rattle.report.specs.DueText.{LetsBytes, LetsReport, LetsText}
+use Rattle.audit_statement.specs.DueText.{LetsBytes, LetsReport, LetsText}
 use Rattle.report.specs.Outcomes.{reported}
 use Rattle.report.proofs.Letting.{lets_as}
 use Rattle.audit_laws.proofs.Running.{whole_leaves}

@@ -15,7 +15,7 @@ use Rattle.audit_statement.specs.Draw.{draw}
 use Rattle.audit_statement.specs.Report.{full_report, plan_text, plans_text, report, thread_report}
 use Rattle.report.specs.Outcomes.{reported}
 use Rattle.report.specs.AddedText.{WritesAllOf}
-use Rattle.report.specs.DueText.{LetsBytes, LetsText}
+use Rattle.audit_statement.specs.DueText.{LetsBytes, LetsText}
 use Rattle.report.proofs.Letting.{lets_as, lets_front, lets_rest}
 use Rattle.report.proofs.Appended.{appends_more, appends_nothing, part_after, part_of_more}
 use Rattle.audit_statement.specs.Endings.{full_of}

@@ -14,7 +14,7 @@ use Rattle.audit_statement.specs.Jobs.{Jobs}
 use Rattle.report.specs.declared.ended.Ended.{Ended}
 use Rattle.report.specs.declared.ended.Ended.TheVariants as ended
 use Rattle.audit_statement.specs.Endings.{AppendsPart}
-use Rattle.report.specs.DueText.{LetsBytes, LetsText}
+use Rattle.audit_statement.specs.DueText.{LetsBytes, LetsText}
 use Rattle.audit_laws.specs.Runs.{IsRunJob}
 use Rattle.plan_runs.specs.Resources.{IsJudgeSet, IsResourcesFor}
 use Rattle.plan_runs.specs.declared.plans.PlanWalk.{PlanWalk}

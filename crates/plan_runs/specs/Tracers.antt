@@ -16,7 +16,7 @@ use Rattle.plan_runs.specs.declared.tracing.TraceRange.{TraceRange}
 use Rattle.plan_runs.specs.declared.tracing.Tracer.{Tracer}
 use Rattle.plan_runs.specs.LineBuffers.{IsLineBuffer}
 use Rattle.report.specs.AddedText.{WritesAllOf}
-use Rattle.report.specs.DueText.{LetsBytes, LetsText}
+use Rattle.audit_statement.specs.DueText.{LetsBytes, LetsText}
 use Rattle.report.specs.declared.ended.Ended.{Ended}
 use Rattle.report.specs.declared.ended.Ended.TheVariants as ended
 

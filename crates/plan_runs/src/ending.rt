@@ -7,7 +7,7 @@ ghost use Rattle.audit_statement.specs.Draw.{draw};
 ghost use Rattle.audit_statement.specs.Report.{report};
 ghost use Rattle.report.specs.Outcomes.{reported};
 ghost use Rattle.audit_statement.specs.Endings.{AreInitialOutcomes, saves};
-ghost use Rattle.report.specs.DueText.{LetsText};
+ghost use Rattle.audit_statement.specs.DueText.{LetsText};
 ghost use Rattle.plan_runs.specs.Ending.{SavedBy, ended_as, ended_by, stopped_by};
 ghost use Rattle.plan_runs.specs.Found.{HasFound, IsReportable, listed_in, observed_in};
 ghost use Rattle.plan_runs.specs.Serially.{IsTester};

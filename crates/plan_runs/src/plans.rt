@@ -2,7 +2,7 @@
 
 ghost use Rattle.std.specs.Prelude.{◌≡◌, ◌++◌, ℕ, [], List, All, IfOk, map};
 ghost use Rattle.report.specs.AddedText.{WritesAllOf};
-ghost use Rattle.report.specs.DueText.{LetsText};
+ghost use Rattle.audit_statement.specs.DueText.{LetsText};
 ghost use Rattle.audit_statement.specs.Draw.{draw};
 ghost use Rattle.plan_csv.specs.Named.{jobs_of, pair_of};
 ghost use Rattle.audit_statement.specs.Report.{plan_text, plans_text, thread_report};

@@ -6,7 +6,7 @@ ghost use Rattle.audit_statement.specs.Endings.{AreInitialOutcomes, saves};
 ghost use Rattle.audit_statement.specs.Due.{LetsSavesOf};
 ghost use Rattle.audit_laws.specs.Calls.{Finishes};
 ghost use Rattle.audit_start.specs.ResumeState.{IsTargetFor};
-ghost use Rattle.report.specs.DueText.{LetsReport};
+ghost use Rattle.audit_statement.specs.DueText.{LetsReport};
 ghost use Rattle.plan_runs.specs.Resources.{IsJudgeSet};
 ghost use Rattle.plan_runs.specs.RunBuffers.{IsStartOf};
 ghost use Rattle.plan_runs.specs.Serially.{IsTester};

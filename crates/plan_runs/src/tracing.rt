@@ -12,7 +12,7 @@ ghost use Rattle.flip_kernel.specs.Judged.{IsJudgeFor};
 ghost use Rattle.plan_runs.specs.LineBuffers.{IsLineBuffer};
 ghost use Rattle.plan_runs.specs.Tracers.{IsCurrentAt, AreTraceBuffersFor, IsTracer, LetsLines, TracesJob, all_lines, end_line, lines_of_range, text_of_range};
 ghost use Rattle.report.specs.AddedText.{WritesAllOf};
-ghost use Rattle.report.specs.DueText.{LetsText};
+ghost use Rattle.audit_statement.specs.DueText.{LetsText};
 ghost use Rattle.walker.specs.Walked.{IsUnderWay};
 
 use crate::line_buffer::{LineBuffer, make_line_buffer, put_plan, start_trajectory};

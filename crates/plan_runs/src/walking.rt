@@ -4,7 +4,7 @@ ghost use Rattle.std.specs.Prelude.{◌≡◌, false, length};
 ghost use Rattle.audit_statement.specs.Endings.{AreInitialOutcomes, saves};
 ghost use Rattle.audit_laws.specs.Calls.{Finishes};
 ghost use Rattle.audit_model.specs.State.{KeeperState};
-ghost use Rattle.report.specs.DueText.{LetsReport};
+ghost use Rattle.audit_statement.specs.DueText.{LetsReport};
 ghost use Rattle.plan_runs.specs.Ending.{ended_as};
 ghost use Rattle.plan_runs.specs.Found.{HasFound};
 ghost use Rattle.plan_runs.specs.Resources.{AreWorkersFor, AreWorkersForAll, AreWorkersForStops, IsResourcesFor};

@@ -5,7 +5,7 @@ use Rattle.audit_io.specs.declared.source.Failed.{Failed}
 use Rattle.audit_model.specs.Faults.{Rose}
 use Rattle.audit_statement.specs.Endings.{AppendsPart}
 use Rattle.audit_model.specs.State.{Stream}
-use Rattle.report.specs.DueText.{LetsBytes, LetsText}
+use Rattle.audit_statement.specs.DueText.{LetsBytes, LetsText}
 
 -- the sink took the whole text, or a part if it failed
 abbrev pub HasAdded : Stream → Stream → List ℕ → Bool → Type 0

@@ -4,4 +4,3 @@ pub mod Outcomes
 pub mod Parts
 pub mod Pieces
 pub mod AddedText
-pub mod DueText

@@ -4,7 +4,7 @@
 ghost use Rattle.std.specs.Prelude.{◌≡◌, ◌∷◌, codes, decimal, map, []};
 ghost use Rattle.report.specs.Pieces.{piece_text};
 ghost use Rattle.report.specs.Ended.{ending_of, columns_kept};
-ghost use Rattle.report.specs.DueText.{LetsText};
+ghost use Rattle.audit_statement.specs.DueText.{LetsText};
 ghost use Rattle.audit_statement.specs.Endings.{AddsLine, WritesEnding};
 ghost use Rattle.audit_statement.specs.Status.{line_of, status_of};
 ghost use Rattle.audit_statement.specs.Note as terms;

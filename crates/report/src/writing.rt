@@ -1,7 +1,7 @@
 //! Writing a whole text to a sink.
 
 ghost use Rattle.report.specs.AddedText.{WritesAllOf};
-ghost use Rattle.report.specs.DueText.{LetsText};
+ghost use Rattle.audit_statement.specs.DueText.{LetsText};
 
 use audit_io::sink::Sink;
 use audit_io::source::Failed;

@@ -3,7 +3,7 @@
 ghost use Rattle.std.specs.Prelude.{◌≡◌, ◌∷◌, codes, []};
 ghost use Rattle.ckpt_store.specs.View.{slot_view};
 ghost use Rattle.hex.specs.Hex.{encode_lower};
-ghost use Rattle.report.specs.DueText.{LetsText};
+ghost use Rattle.audit_statement.specs.DueText.{LetsText};
 ghost use Rattle.audit_statement.specs.Endings.{AddsLine};
 ghost use Rattle.audit_statement.specs.Note as terms;
 

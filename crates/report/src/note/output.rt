@@ -4,7 +4,7 @@ ghost use Rattle.std.specs.Prelude.{◌≡◌, ◌++◌, ◌∷◌, List, ℕ, f
 ghost use Rattle.hex.specs.Hex.{encode_lower};
 ghost use Rattle.report.specs.Pieces.{piece_text};
 ghost use Rattle.report.specs.AddedText.{AddsText, HasAdded, LetsNext};
-ghost use Rattle.report.specs.DueText.{LetsText};
+ghost use Rattle.audit_statement.specs.DueText.{LetsText};
 ghost use Rattle.audit_statement.specs.Endings.{AddsLine};
 ghost use Rattle.audit_model.specs.State.{Stream};
 ghost use Rattle.audit_statement.specs.Note as terms;

@@ -2,7 +2,7 @@
 
 ghost use Rattle.std.specs.Prelude.{◌≡◌, ◌∷◌, codes, decimal, map, []};
 ghost use Rattle.report.specs.Pieces.{piece_text};
-ghost use Rattle.report.specs.DueText.{LetsText};
+ghost use Rattle.audit_statement.specs.DueText.{LetsText};
 ghost use Rattle.audit_statement.specs.Endings.{AddsLine};
 ghost use Rattle.audit_model.specs.declared.fault.PlanFault.TheVariants.{Disconnected, OutOfBounds, TooFewMajorities, TooLong, TooManySplit};
 ghost use Rattle.audit_statement.specs.Note as terms;

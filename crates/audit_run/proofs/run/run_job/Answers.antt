@@ -3,7 +3,7 @@ use Rattle.audit_start.specs.ResumeState.{IsOpened}
 use Rattle.audit_model.specs.State.{KeeperState}
 use Rattle.audit_statement.specs.Due.{LetsSavesOf}
 use Rattle.audit_run.proofs.Placing.{goes_on}
-use Rattle.report.specs.DueText.{LetsReportFrom}
+use Rattle.audit_statement.specs.DueText.{LetsReportFrom}
 use Rattle.audit_run.proofs.run.run_job.Goals as goal
 
 pub run_with_cut_limit-requires-clause-opened : goal.run_with_cut_limit-requires-clause-opened

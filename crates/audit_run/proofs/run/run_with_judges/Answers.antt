@@ -7,7 +7,7 @@ use Rattle.audit_statement.specs.Endings.{AreInitialOutcomes}
 use Rattle.plan_runs.specs.RunBuffers.{IsStartOf}
 use Rattle.audit_laws.specs.Calls.{Finishes}
 use Rattle.audit_run.proofs.Placing.{no_target_observed, starts_so, target_observed}
-use Rattle.report.specs.DueText.{LetsReport}
+use Rattle.audit_statement.specs.DueText.{LetsReport}
 use Rattle.audit_run.proofs.run.run_with_judges.Goals as goal
 
 pub run_without_saves-requires-clause-unsaved : goal.run_without_saves-requires-clause-unsaved

@@ -3,7 +3,7 @@ use Rattle.audit_model.specs.declared.outcome.Outcome.{Outcome}
 use Rattle.report.specs.declared.ended.Ended.{Ended}
 use Rattle.audit_statement.specs.Endings.{AreInitialOutcomes}
 use Rattle.audit_laws.specs.Calls.{Finishes}
-use Rattle.report.specs.DueText.{LetsReport}
+use Rattle.audit_statement.specs.DueText.{LetsReport}
 use Rattle.audit_run.proofs.run.run_without_saves.Goals as goal
 
 pub returns-in-Ok : goal.returns-in-Ok

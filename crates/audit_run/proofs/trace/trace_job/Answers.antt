@@ -2,7 +2,7 @@ use Rattle.std.proofs.Common.{◌<◌, ◌≤◌, sym, subst}
 use Rattle.plan_runs.specs.declared.tracing.TraceRange.{TraceRange}
 use Rattle.audit_run.proofs.Tracing.{good_range, traced_ends}
 use Rattle.plan_runs.specs.Tracers.{text_of_range}
-use Rattle.report.specs.DueText.{LetsText}
+use Rattle.audit_statement.specs.DueText.{LetsText}
 use Rattle.audit_run.proofs.trace.trace_job.Goals as goal
 
 pub trace_range-requires-clause-thin : goal.trace_range-requires-clause-thin

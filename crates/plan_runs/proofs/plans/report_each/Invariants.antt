@@ -2,7 +2,7 @@ use Rattle.std.proofs.Common.{◌≡◌, ℕ, List, Result, All, length, map}
 use Rattle.std.specs.Vec.Iter.{into_iter_items, into_iter_len}
 use Rattle.audit_io.specs.declared.source.Failed.{Failed}
 use Rattle.report.specs.AddedText.{WritesAllOf}
-use Rattle.report.specs.DueText.{LetsText}
+use Rattle.audit_statement.specs.DueText.{LetsText}
 use Rattle.plan_runs.specs.Plans.{IsWalkOf, walk_pair}
 use Rattle.audit_model.specs.State.{Stream}
 use Rattle.audit_statement.specs.Draw.{draw}
