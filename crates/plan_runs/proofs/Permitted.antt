@@ -1,5 +1,5 @@
 -- The texts of a run that a sink permits.
-use Rattle.std.proofs.Common.{◌≡◌, ◌∙◌, ℕ, ◌≤◌, List, ap, sym}
+use Rattle.std.proofs.Common.{◌∙◌, ◌≤◌, List, ap, sym}
 use Rattle.audit_model.specs.declared.outcome.Outcome.{Outcome}
 use Rattle.audit_model.specs.Job.{Job}
 use Rattle.audit_model.specs.Serially.{serial_observed}

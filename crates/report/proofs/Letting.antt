@@ -1,4 +1,4 @@
--- What a sink permits of a text, part by part.
+-- Premises on a sink that permits a text, and on its parts.
 use Rattle.std.proofs.Common.{◌≡◌, ◌∙◌, ℕ, ◌-◌, Bool, true, false, List, [], ◌++◌, length, take, drop, refl, sym, ap, subst, append_assoc, append-nil, take_all, arith}
 use Rattle.std.proofs.lemmas.List.{length-drop, take-append-drop}
 use Rattle.std.proofs.KnownBytes.{Appends-trans, Appends-nil}
