@@ -44,6 +44,10 @@ impl<'a, D: FolderCalls + Drop> FolderKeeper<'a, D> {
     pub fn new(disk: D, alloc: Global, folder: &'a str, locks: bool) -> FolderKeeper<'a, D>
         ensures folder { result.place.folder.now ≡ folder.now }
         ensures locks { result.place.locks ≡ locks }
+        ensures slots { (⟦<FolderKeeper<'a, D> as Keeper>⟧.state result).slots ≡ None }
+        ensures attempted { (⟦<FolderKeeper<'a, D> as Keeper>⟧.state result).attempted ≡ None }
+        ensures load_faults { (⟦<FolderKeeper<'a, D> as Keeper>⟧.state result).load_faults ≡ record { all = 0; taken = 0 } }
+        ensures save_faults { (⟦<FolderKeeper<'a, D> as Keeper>⟧.state result).save_faults ≡ 0 }
     {
         FolderKeeper {
             disk,
