@@ -13,8 +13,10 @@ from __future__ import annotations
 
 import os
 import re
+import subprocess
 import sys
-from typing import Optional
+import time
+from typing import Optional, Sequence
 
 from tests.oracle import model
 from tests.system import folder_model, power_cuts
@@ -37,6 +39,7 @@ from tests.system.folder_room import (
     case,
     make_damaged,
     folder_of,
+    mounted_case,
     run_cases,
     make_slot,
     pick,
@@ -468,7 +471,70 @@ def gather_saves_where_the_next_is_due(room: Room) -> None:
     )
 
 
+# ---- words and standard input
+
+
+@case
+def words_that_are_no_text(room: Room) -> None:
+    """Words that are no text are refused words, whichever program gets them."""
+    for tool in ("audit_slots", "audit_gather"):
+        place = os.fsencode(room.tools[tool])
+        done = subprocess.run([place, b"\xff"], capture_output=True, check=False)
+        end = (done.returncode, done.stdout, done.stderr)
+        room.expect(f"{tool} of a word that is no text", end, (1, b"", b"words: not text\n"))
+
+
+def call_with_late_graph(room: Room, tool: str, words: Sequence[str]) -> int:
+    """Returns the status of a call over a pipe that does not block and is empty at first."""
+    end, start = os.pipe()
+    os.set_blocking(end, False)
+    command = [room.tools[tool], *words]
+    with subprocess.Popen(
+        command, stdin=end, stdout=subprocess.PIPE, stderr=subprocess.PIPE, cwd=room.here
+    ) as program:
+        os.close(end)
+        time.sleep(0.3)
+        with os.fdopen(start, "wb") as graph:
+            graph.write(CYCLE)
+        program.communicate(timeout=60)
+    return program.returncode
+
+
+@case
+def graph_comes_late(room: Room) -> None:
+    """A graph that is not there yet is waited for."""
+    folders = {".": folder_of(pick(range(2))), "../p": folder_of(pick(range(4)))}
+    for tool in ("audit_slots", "audit_gather"):
+        room.place(folders, "folder")
+        room.expect(f"the status of {tool}", call_with_late_graph(room, tool, ["../p", *RUN]), 0)
+
+
 # ---- the lock, by the calls of the program
+
+# Mounts two file systems, whose top folders have one inode number, copies slots to them, and calls
+# a program in the first while the second is locked.
+TWO_SYSTEMS = """
+mount -t tmpfs none "$1" && mount -t tmpfs none "$2" || exit 77
+[ "$(stat -c %i "$1")" = "$(stat -c %i "$2")" ] || exit 78
+cp "$3"/*.ckpt "$1" && cp "$4"/*.ckpt "$2" && cd "$1" || exit 79
+shift 4
+exec "$@"
+"""
+
+
+@mounted_case
+def gather_tells_folders_of_two_systems_apart(room: Room) -> None:
+    """A folder with the working folder's inode number on another device is locked all the same."""
+    folders = {"../p": folder_of(pick(range(2))), "../q": folder_of(pick(range(4)))}
+    room.place({".": Folder(), **folders, "../one": Folder(), "../two": Folder()}, "folder")
+    places = [str(room.path(name)) for name in ("../one", "../two", "../p", "../q")]
+    two = places[1]
+    lock = ["flock", "--nonblock", two, room.tools["audit_gather"], two, *RUN]
+    words = ["unshare", "-m", "sh", "-c", TWO_SYSTEMS, "sh", *places, *lock]
+    done = room.call(words, CYCLE)
+    wanted = (10, b"", f"gather: folder {two}: a run holds it\n".encode())
+    room.expect("a gathering", (done.returncode, done.stdout, done.stderr), wanted)
+
 
 OPENED = re.compile(r'^\d+ +openat\([^,]*, "([^"]*)"[^)]*\) += (\d+)')
 LOCKED = re.compile(r"^\d+ +flock\((\d+), LOCK_EX\|LOCK_NB\) += 0")

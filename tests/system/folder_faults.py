@@ -198,9 +198,19 @@ def gather_lock_is_taken(room: Room) -> None:
 @traced_case
 def gather_without_locks(room: Room) -> None:
     """Folders on a file system without locks are read without them."""
-    for error in ("EOPNOTSUPP", "ENOLCK", "EINVAL"):
+    for error in ("EOPNOTSUPP", "ENOLCK", "ENOSYS"):
         for path in (".", "../p/."):
             gather_fails(room, path, "flock", f"error={error}", DONE)
+
+
+@traced_case
+def gather_lock_fails(room: Room) -> None:
+    """A lock that fails for another reason is a failed load, and nothing is read without it."""
+    for error in ("EINVAL", "EIO"):
+        gather_fails(room, "../p/.", "flock", f"error={error}", refuse_unread("../p"))
+        gather_fails(room, ".", "flock", f"error={error}", refuse(6, LOAD_FAULT))
+    for error in ("EACCES", "EMFILE"):
+        gather_fails(room, "../p/.", "openat", f"error={error}", refuse_unread("../p"))
 
 
 # ---- the save of a gathering

@@ -283,6 +283,7 @@ def shorten(value: object) -> str:
 Case = Callable[[Room], None]
 CASES: dict[str, Case] = {}
 TRACED: set[str] = set()
+MOUNTED: set[str] = set()
 
 
 def case(function: Case) -> Case:
@@ -295,6 +296,21 @@ def traced_case(function: Case) -> Case:
     """Adds a case that needs strace."""
     TRACED.add(function.__name__)
     return case(function)
+
+
+def mounted_case(function: Case) -> Case:
+    """Adds a case that mounts file systems in a namespace of its own."""
+    MOUNTED.add(function.__name__)
+    return case(function)
+
+
+def can_mount() -> bool:
+    """Returns True if this process may mount a file system where no other process sees it."""
+    if shutil.which("unshare") is None:
+        return False
+    with tempfile.TemporaryDirectory() as place:
+        words = ["unshare", "-m", "mount", "-t", "tmpfs", "none", place]
+        return subprocess.run(words, capture_output=True, check=False).returncode == 0
 
 
 def run_case(room: Room, name: str) -> bool:
@@ -317,6 +333,10 @@ def run_cases(script: str, folders: str, names: Sequence[str]) -> int:
         skipped = [name for name in chosen if name in TRACED]
         for name in skipped:
             print(f"skipped {name}: strace is not installed, or may not trace here")
+    if MOUNTED.intersection(chosen) and not can_mount():
+        for name in MOUNTED.intersection(chosen):
+            skipped.append(name)
+            print(f"skipped {name}: file systems cannot be mounted here")
     with tempfile.TemporaryDirectory() as top:
         room = Room(pathlib.Path(top), os.path.abspath(folders))
         ended = [run_case(room, name) for name in chosen if name not in skipped]

@@ -6,6 +6,8 @@ A planted error is a file crates/CRATE/planted/NAME.edit:
     only: board::is_short          the function that the prover must refuse
     old: TEXT                      a text that stands in the file exactly once
     new: TEXT                      the text in its place; more pairs may follow
+    without: proofs/board/is_short answers that the changed function has no use for (may be left out)
+    goal: GOAL                     the only goal of the function that stays open (may be left out)
 
 All errors of a crate are tried in one copy of it, in one call of the prover over the libraries that
 `rt ci` left in this checkout. The prover checks the named functions and those that they call in the
@@ -40,18 +42,22 @@ class Edit:
     name: str
     file: str
     only: str
+    without: tuple[str, ...]
+    goals: tuple[str, ...]
     pairs: tuple[tuple[str, str], ...]
 
 
 def edit_of(path: pathlib.Path) -> Edit:
     """Reads a file of a planted error."""
     rows = [line.split(": ", 1) for line in path.read_text().splitlines()]
-    texts: dict[str, list[str]] = {"file": [], "only": [], "old": [], "new": []}
+    kinds = ("file", "only", "without", "goal", "old", "new")
+    texts: dict[str, list[str]] = {kind: [] for kind in kinds}
     for kind, text in rows:
         texts[kind].append(text)
     [file], [only] = texts["file"], texts["only"]
     pairs = tuple(zip(texts["old"], texts["new"]))
-    return Edit(path.parent.parent.name, path.stem, file, only, pairs)
+    without, goals = tuple(texts["without"]), tuple(texts["goal"])
+    return Edit(path.parent.parent.name, path.stem, file, only, without, goals, pairs)
 
 
 def changed_crate(edits: list[Edit], room: pathlib.Path) -> pathlib.Path:
@@ -64,6 +70,8 @@ def changed_crate(edits: list[Edit], room: pathlib.Path) -> pathlib.Path:
         for old, new in edit.pairs:
             text = text.replace(old, new)
         file.write_text(text)
+        for answers in edit.without:
+            shutil.rmtree(folder / answers)
     return folder
 
 

@@ -326,10 +326,16 @@ class Injections:
                 f"the folder is never synced, and the system says why: {error}", self.fresh, ABSENT,
                 "fsync", self.room.slots, f"error={error}", DONE, save(self.fresh, ABSENT, {}),
             )
-        for error in ("EOPNOTSUPP", "ENOLCK", "EINVAL", "EIO"):
+        for error in ("EOPNOTSUPP", "ENOLCK", "ENOSYS"):
+            self.run(
+                f"there are no locks of folders: {error}", self.resumed, self.first, "flock",
+                self.room.slots, f"error={error}", DONE, save(self.resumed, self.first, {}),
+            )
+        for error in ("EINVAL", "EIO"):
             self.run(
                 f"the folder cannot be locked: {error}", self.resumed, self.first, "flock",
-                self.room.slots, f"error={error}", DONE, save(self.resumed, self.first, {}),
+                self.room.slots, f"error={error}", (6, "checkpoint load fault\n"),
+                list(self.first),
             )
 
     def hold_folder(self) -> None:

@@ -1,12 +1,14 @@
 -- Texts of folders, one after the other.
-use Rattle.std.proofs.Common.{◌≡◌, ◌⊎◌, ◌∙◌, ℕ, zero, suc, ◌+◌, ◌-◌, ◌<◌, ◌≤◌, Bool, true, false, List, [], ◌∷◌, ◌++◌, length, take, get_or, min, refl, sym, ap, append_assoc, append-nil, arith, subst, inl, inr}
+use Rattle.std.proofs.Common.{◌≡◌, ◌⊎◌, ◌∙◌, ℕ, zero, suc, ◌+◌, ◌-◌, ◌<◌, ◌≤◌, Bool, true, false, List, [], ◌∷◌, ◌++◌, length, take, drop, get_or, min, refl, sym, ap, append_assoc, append-nil, arith, subst, inl, inr}
 use Rattle.std.proofs.KnownBytes.{Appends-nil}
 use Rattle.std.proofs.lemmas.Bool.{cases_lt}
 use Rattle.audit_model.specs.State.{Stream}
 use Rattle.audit_statement.specs.Endings.{AddsLine}
 use Rattle.ckpt_store.specs.declared.finding.Finding.{Finding}
 use Rattle.audit_folders.specs.FolderLines.{name_of, of_each}
-use Rattle.report.specs.AddedText.{AddsText, HasAdded}
+use Rattle.report.specs.AddedText.{AddsText, HasAdded, LetsNext}
+use Rattle.audit_statement.specs.DueText.{LetsBytes}
+use Rattle.report.proofs.Letting.{next_as, next_front, next_rest}
 
 -- the name of a folder other than the working folder
 pub name_behind : (names : List (List ℕ)) (n : ℕ) → (n ≡ 0 → ⊥) → name_of names n ≡ get_or names (n - 1) []
@@ -78,6 +80,27 @@ module _ (say : List ℕ → Finding → List ℕ) where
   each_all (n ∷ names) (f ∷ found) zero (inr l) = absurd (omega (arith, l))
   each_all (n ∷ names) (f ∷ found) (suc i) (inl l) = ap (λ t. say n f ++ t) (each_all names found i (inl (omega (arith, l))))
   each_all (n ∷ names) (f ∷ found) (suc i) (inr l) = ap (λ t. say n f ++ t) (each_all names found i (inr (omega (arith, l))))
+
+  -- the texts before a place, the text there and those after it
+  each_split : (names : List (List ℕ)) (found : List Finding) (i : ℕ) (name : List ℕ) (what : Finding) → i < length names → i < length found
+      → of_each say names found
+      ≡ of_each say (take i names) (take i found) ++ (say (get_or names i name) (get_or found i what) ++ of_each say (drop (suc i) names) (drop (suc i) found))
+  each_split [] found i name what l m = absurd (omega (arith, l))
+  each_split (n ∷ names) [] i name what l m = absurd (omega (arith, m))
+  each_split (n ∷ names) (f ∷ found) zero name what l m = refl
+  each_split (n ∷ names) (f ∷ found) (suc i) name what l m =
+      ap (λ t. say n f ++ t) (each_split names found i name what (omega (arith, l)) (omega (arith, m)))
+      ∙ sym (append_assoc (say n f) (of_each say (take i names) (take i found)) (say (get_or names i name) (get_or found i what) ++ of_each say (drop (suc i) names) (drop (suc i) found)))
+
+  -- after the texts before a place, the text there comes next
+  pub next_each : {lets : LetsBytes} {s t : Stream} {going then : Bool} (names : List (List ℕ)) (found : List Finding) (i : ℕ) (seen : List ℕ) (what : Finding)
+      → seen ≡ get_or names i [] → i < length names → i < length found → LetsNext lets s going (of_each say names found)
+      → AddsText s t going (of_each say (take i names) (take i found)) then → LetsNext lets t then (say seen (get_or found i what))
+  next_each names found i seen what is l m permitted added =
+      let here = say (get_or names i []) (get_or found i what) in
+      let rest = of_each say (drop (suc i) names) (drop (suc i) found) in
+      next_as (next_front here rest (next_rest (of_each say (take i names) (take i found)) (here ++ rest) (next_as permitted (each_split names found i [] what l m)) added.adds))
+      (ap (λ n. say n (get_or found i what)) (sym is))
 
 -- a place past the lesser of two lengths is past one of them
 pub past : (a b count i : ℕ) {n : ℕ} → count ≡ min a b → n ≡ a → count ≤ i → (n ≤ i) ⊎ (b ≤ i)

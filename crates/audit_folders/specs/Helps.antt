@@ -1,6 +1,6 @@
 -- The arguments that ask a folder program for help or the version, the answers, and the effect of a call that answers.
 -- The grammar and the wording are this project's own: exactly `--help`, or exactly `--version`.
-use Rattle.std.specs.Prelude.{◌≡◌, ℕ, List, [], ◌∷◌, codes, Option, Some, None}
+use Rattle.std.specs.Prelude.{◌≡◌, ℕ, List, [], ◌∷◌, codes, ⊤, Option, Some, None}
 use Rattle.audit_model.specs.State.{Stream}
 use Rattle.audit_folders.specs.declared.help.FolderProgram.{FolderProgram}
 use Rattle.audit_folders.specs.declared.help.FolderProgram.TheVariants.{Slots, Gather}
@@ -10,6 +10,7 @@ use Rattle.audit_words.specs.declared.question.Question.TheVariants.{Usage, Vers
 use Rattle.audit_words.specs.Answers.{WritesAnswer}
 use Rattle.audit_words.specs.Questions.{question_of_word, version_text}
 use Rattle.audit_words.specs.Usage.{on_lines}
+use Rattle.audit_statement.specs.DueText.{LetsBytes, LetsText}
 
 -- the question of the arguments
 abbrev pub folder_question : List (List ℕ) → Option Question
@@ -71,3 +72,8 @@ abbrev pub AnswersWords : FolderProgram → Build → Option Question → Stream
 AnswersWords program build None before after note_before note_after status = (status ≡ None) × (after ≡ before) × (note_after ≡ note_before)
 AnswersWords program build (Some question) before after note_before note_after status =
     (s : ℕ) × (status ≡ Some s) × WritesAnswer (folder_answer program build question) before after note_before note_after s
+
+-- the sink permits the answer, if the arguments ask for help or the version
+abbrev pub LetsAnswer : LetsBytes → FolderProgram → Build → Option Question → Stream → Type 0
+LetsAnswer lets program build None out = ⊤
+LetsAnswer lets program build (Some question) out = LetsText lets out (folder_answer program build question)

@@ -3,3 +3,4 @@ pub mod Gatherings
 pub mod Helps
 pub mod Shown
 pub mod SlotLines
+pub mod DueFolders

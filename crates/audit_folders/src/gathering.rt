@@ -1,6 +1,6 @@
 //! Gathering folders, and the report on a gathering.
 
-ghost use Rattle.std.specs.Prelude.{◌≡◌, ◌++◌, ◌≤◌, List, ℕ, ◌||◌, length, map, not, string_bytes, true};
+ghost use Rattle.std.specs.Prelude.{◌≡◌, ◌++◌, ◌≤◌, List, ℕ, ◌||◌, length, false, map, not, string_bytes, true};
 ghost use Rattle.audit_model.specs.Limits.{most_trajectories};
 ghost use Rattle.audit_model.specs.Run.{total};
 ghost use Rattle.audit_statement.specs.Accepted.{no_columns};
@@ -10,7 +10,9 @@ ghost use Rattle.audit_statement.specs.Note as terms;
 ghost use Rattle.ckpt_store.specs.Whole.{LetsGathering};
 ghost use Rattle.audit_folders.specs.FolderLines.{folder_line, folder_refusal, of_each, own_refusal, refusals, observed_text};
 ghost use Rattle.audit_folders.specs.Gatherings.{EndsGathering, IsCutOff, IsNoted, IsWhole, Outputs, WritesFindings, WritesGathering, ending_of, failed_status, refused_status};
-ghost use Rattle.report.specs.AddedText.{AddsText, HasAdded};
+ghost use Rattle.report.specs.AddedText.{AddsText, HasAdded, LetsNext};
+ghost use Rattle.audit_statement.specs.DueText.{LetsText};
+ghost use Rattle.audit_folders.specs.DueFolders.{LetsFindings, LetsGatherLine};
 
 use crate::lines::{add_folder_line, add_own_line};
 use audit_io::keeper::Keeper;
@@ -52,6 +54,8 @@ pub fn gather_and_report<C: Keeper, F: Keeper, O: Sink, N: Sink>(
     requires few { total request.now.job.now ≤ most_trajectories }
     requires names { length request.now.names.now ≡ length folders.old }
     requires lets { LetsGathering C.lets request.now.job.now (job_digest request.now.job.now) request.now.saves (C.state keeper.old).slots (C.state keeper.old).attempted (map (λ k. F.state k) folders.old) }
+    requires text { LetsFindings O.lets request.now.job.now request.now.saves (map string_bytes request.now.names.now) (C.state keeper.old) (map (λ k. F.state k) folders.old) (O.state out.old) }
+    requires note { LetsGatherLine N.lets request.now.job.now request.now.saves (map string_bytes request.now.names.now) (C.state keeper.old) (map (λ k. F.state k) folders.old) (N.state note.old) }
     ensures { EndsGathering request.now.job.now request.now.saves (map string_bytes request.now.names.now) (C.state keeper.old) (C.state keeper.new) (map (λ k. F.state k) folders.old) (map (λ k. F.state k) folders.new)
         (record { out = O.state out.old; note = N.state note.old }) (record { out = O.state out.new; note = N.state note.new }) result }
 {
@@ -63,6 +67,7 @@ pub fn gather_and_report<C: Keeper, F: Keeper, O: Sink, N: Sink>(
 
 // Writes the diagnostic of a failed gathering and returns its status.
 fn write_failure<N: Sink>(why: GatherError, note: &mut N) -> u8
+    requires { LetsText N.lets (N.state note.old) (terms.note no_columns (ending_of why)) }
     ensures status { result ≡ failed_status why }
     ensures observed { AddsLine (N.state note.old) (N.state note.new) (terms.note no_columns (ending_of why)) }
 {
@@ -81,6 +86,9 @@ fn write_findings<O: Sink, N: Sink>(
     out: &mut O,
     note: &mut N,
 ) -> u8
+    requires text { (not request.now.saves || observed.now.saved) ≡ true → LetsText O.lets (O.state out.old) (observed_text (map string_bytes request.now.names.now) observed.now (total request.now.job.now)) }
+    requires unsaved { (not request.now.saves || observed.now.saved) ≡ false → LetsText N.lets (N.state note.old) (refusals (map string_bytes request.now.names.now) observed.now) }
+    requires note { LetsText N.lets (N.state note.old) (terms.note no_columns terms.write_fault) }
     ensures { WritesFindings (not request.now.saves || observed.now.saved) (map string_bytes request.now.names.now) (total request.now.job.now) observed.now
         (record { out = O.state out.old; note = N.state note.old }) (record { out = O.state out.new; note = N.state note.new }) result }
 {
@@ -101,6 +109,7 @@ fn write_observed<O: Sink>(
     observed: &GatherResult,
     out: &mut O,
 ) -> bool
+    requires { LetsText O.lets (O.state out.old) (observed_text (map string_bytes names.now) observed.now total) }
     ensures { HasAdded (O.state out.old) (O.state out.new) (observed_text (map string_bytes names.now) observed.now total) result }
 {
     let going = add_own_line(out, true, &[], &observed.own);
@@ -117,6 +126,7 @@ fn write_observed<O: Sink>(
 
 // Writes a line for each folder if `going` is true. Returns true if no write has failed.
 fn add_folders<O: Sink>(names: &[String], findings: &[Finding], going: bool, out: &mut O) -> bool
+    requires { LetsNext O.lets (O.state out.old) going (of_each (folder_line (map string_bytes names.now)) (map string_bytes names.now) findings.now) }
     ensures { AddsText (O.state out.old) (O.state out.new) going (of_each (folder_line (map string_bytes names.now)) (map string_bytes names.now) findings.now) result }
 {
     let mut going = going;
@@ -129,6 +139,7 @@ fn add_folders<O: Sink>(names: &[String], findings: &[Finding], going: bool, out
 }
 
 fn write_refusals<N: Sink>(names: &[String], observed: &GatherResult, note: &mut N)
+    requires { LetsText N.lets (N.state note.old) (refusals (map string_bytes names.now) observed.now) }
     ensures { AddsLine (N.state note.old) (N.state note.new) (refusals (map string_bytes names.now) observed.now) }
 {
     let going = add_own_refusal(&observed.own, note);
@@ -138,6 +149,7 @@ fn write_refusals<N: Sink>(names: &[String], observed: &GatherResult, note: &mut
 
 // Writes the reason why the working folder cannot take the union, if there is one. Returns true if no write failed.
 fn add_own_refusal<N: Sink>(own: &Finding, note: &mut N) -> bool
+    requires { LetsNext N.lets (N.state note.old) true (own_refusal own.now) }
     ensures { AddsText (N.state note.old) (N.state note.new) true (own_refusal own.now) result }
 {
     if own.is_start() {
@@ -148,6 +160,7 @@ fn add_own_refusal<N: Sink>(own: &Finding, note: &mut N) -> bool
 
 // Writes a line for each folder that cannot be gathered, if `going` is true. Returns true if no write has failed.
 fn add_refusals<N: Sink>(names: &[String], findings: &[Finding], going: bool, note: &mut N) -> bool
+    requires { LetsNext N.lets (N.state note.old) going (of_each (folder_refusal (map string_bytes names.now)) (map string_bytes names.now) findings.now) }
     ensures { AddsText (N.state note.old) (N.state note.new) going (of_each (folder_refusal (map string_bytes names.now)) (map string_bytes names.now) findings.now) result }
 {
     let mut going = going;
@@ -167,6 +180,7 @@ fn add_refusal<'x, N: Sink>(
     going: bool,
     note: &mut N,
 ) -> bool
+    requires { LetsNext N.lets (N.state note.old) going (folder_refusal (map string_bytes names.now) name.now finding.now) }
     ensures { AddsText (N.state note.old) (N.state note.new) going (folder_refusal (map string_bytes names.now) name.now finding.now) result }
 {
     if finding.is_added() {

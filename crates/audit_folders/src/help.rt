@@ -4,6 +4,9 @@ ghost use Rattle.std.specs.Prelude.{◌≡◌, map, string_bytes};
 ghost use Rattle.audit_folders.specs.Helps as definition;
 ghost use Rattle.audit_words.specs.Answers.{WritesAnswer};
 ghost use Rattle.report.specs.AddedText.{HasAdded};
+ghost use Rattle.audit_statement.specs.DueText.{LetsText};
+ghost use Rattle.audit_statement.specs.Accepted.{no_columns};
+ghost use Rattle.audit_statement.specs.Note.{note as note_of, write_fault};
 
 use audit_io::sink::Sink;
 use audit_words::{Build, Question, add_lines, add_version, question_of_word};
@@ -98,6 +101,7 @@ fn write_answer<O: Sink>(
     question: Question,
     out: &mut O,
 ) -> bool
+    requires { LetsText O.lets (O.state out.old) (definition.folder_answer program build.now question) }
     ensures { HasAdded (O.state out.old) (O.state out.new) (definition.folder_answer program build.now question) result }
 {
     match question {
@@ -117,6 +121,8 @@ fn answer_question<O: Sink, N: Sink>(
     out: &mut O,
     note: &mut N,
 ) -> u8
+    requires text { LetsText O.lets (O.state out.old) (definition.folder_answer program build.now question) }
+    requires note { LetsText N.lets (N.state note.old) (note_of no_columns write_fault) }
     ensures { WritesAnswer (definition.folder_answer program build.now question) (O.state out.old) (O.state out.new) (N.state note.old) (N.state note.new) result }
 {
     if write_answer(program, build, question, out) {
@@ -136,6 +142,8 @@ pub fn answer_words<O: Sink, N: Sink>(
     out: &mut O,
     note: &mut N,
 ) -> Option<u8>
+    requires text { definition.LetsAnswer O.lets program build.now (definition.folder_question (map string_bytes words.now)) (O.state out.old) }
+    requires note { LetsText N.lets (N.state note.old) (note_of no_columns write_fault) }
     ensures { definition.AnswersWords program build.now (definition.folder_question (map string_bytes words.now)) (O.state out.old) (O.state out.new) (N.state note.old) (N.state note.new) result }
 {
     match folder_question(words) {

@@ -3,6 +3,7 @@
 use crate::exit_code::exit_code_of;
 use crate::gather_command::gather_job;
 use crate::slots_command::show_folder;
+use audit_io::retry_on_would_block::RetryOnWouldBlock;
 use audit_io::std_adapters::ReadSource;
 use audit_model::fault::WordFault;
 use audit_model::text::Text;
@@ -30,7 +31,8 @@ fn run_task(rt: &HostRuntime, job: &Job, task: Task<'_>) -> ExitCode {
 
 // Makes the job of the arguments and of the bytes on standard input.
 fn read_job(rt: &HostRuntime, words: &[String]) -> Result<Job, Ended> {
-    prepare(rt.alloc(), words, &mut ReadSource::new(rt.stdin()))
+    let input = RetryOnWouldBlock::of_reader(rt.stdin(), rt);
+    prepare(rt.alloc(), words, &mut ReadSource::new(input))
 }
 
 fn run_read(rt: &HostRuntime, words: &[String], task: Task<'_>) -> ExitCode {

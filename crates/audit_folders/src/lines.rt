@@ -5,7 +5,7 @@ ghost use Rattle.ckpt_store.specs.declared.finding.Finding.TheVariants as what;
 ghost use Rattle.audit_statement.specs.Note.{as_line};
 ghost use Rattle.audit_folders.specs.FolderLines.{beside_text, folder_texts, name_of, own_texts};
 ghost use Rattle.report.specs.Pieces.{piece_text};
-ghost use Rattle.report.specs.AddedText.{AddsText};
+ghost use Rattle.report.specs.AddedText.{AddsText, LetsNext};
 
 use audit_io::sink::Sink;
 use ckpt_store::finding::Finding;
@@ -41,6 +41,7 @@ pub(crate) fn add_own_line<N: Sink>(
     first: &[Piece],
     finding: &Finding,
 ) -> bool
+    requires { LetsNext N.lets (N.state out.old) going (as_line (map piece_text first.now ++ own_texts finding.now)) }
     ensures { AddsText (N.state out.old) (N.state out.new) going (as_line (map piece_text first.now ++ own_texts finding.now)) result }
 {
     match finding {
@@ -130,6 +131,7 @@ pub(crate) fn add_folder_line<'x, N: Sink>(
     name: &'x str,
     finding: &Finding,
 ) -> bool
+    requires { LetsNext N.lets (N.state out.old) going (as_line (map piece_text first.now ++ folder_texts (map string_bytes names.now) name.now finding.now)) }
     ensures { AddsText (N.state out.old) (N.state out.new) going (as_line (map piece_text first.now ++ folder_texts (map string_bytes names.now) name.now finding.now)) result }
 {
     match finding {

@@ -4,7 +4,7 @@ ghost use Rattle.std.specs.Prelude.{◌≡◌, ◌++◌, ◌∷◌, [], List, �
 ghost use Rattle.audit_statement.specs.Note.{as_line};
 ghost use Rattle.ckpt_store.specs.declared.slot_content.SlotContent.TheVariants as what;
 ghost use Rattle.audit_folders.specs.SlotLines.{newest_texts, progress_texts, slot_line};
-ghost use Rattle.report.specs.AddedText.{AddsText};
+ghost use Rattle.report.specs.AddedText.{AddsText, LetsNext};
 
 use audit_io::sink::Sink;
 use ckpt_format::decode::Checkpoint;
@@ -16,6 +16,7 @@ use report::piece::Piece::{Digest, Number, Text};
 // Writes the line of a slot that holds a checkpoint, if `going` is true. Returns true if no write
 // has failed.
 fn add_whole_line<N: Sink>(out: &mut N, going: bool, slot: u8, checkpoint: &Checkpoint) -> bool
+    requires { LetsNext N.lets (N.state out.old) going (slot_line slot (what.Whole checkpoint.now)) }
     ensures { AddsText (N.state out.old) (N.state out.new) going (slot_line slot (what.Whole checkpoint.now)) result }
 {
     let number = Number(u64::from(slot));
@@ -47,6 +48,7 @@ pub(crate) fn add_slot_line<N: Sink>(
     slot: u8,
     content: &SlotContent,
 ) -> bool
+    requires { LetsNext N.lets (N.state out.old) going (slot_line slot content.now) }
     ensures { AddsText (N.state out.old) (N.state out.new) going (slot_line slot content.now) result }
 {
     match content {
@@ -66,6 +68,7 @@ pub(crate) fn add_slot_line<N: Sink>(
 /// Writes the line that names the newest slot, if `going` is true. Returns true if no write has
 /// failed.
 pub(crate) fn add_newest_line<N: Sink>(out: &mut N, going: bool, newest: Option<u8>) -> bool
+    requires { LetsNext N.lets (N.state out.old) going (as_line (newest_texts newest)) }
     ensures { AddsText (N.state out.old) (N.state out.new) going (as_line (newest_texts newest)) result }
 {
     match newest {
@@ -84,6 +87,7 @@ pub(crate) fn add_progress_line<N: Sink>(
     progress: Progress,
     total: u32,
 ) -> bool
+    requires { LetsNext N.lets (N.state out.old) going (as_line (progress_texts progress total)) }
     ensures { AddsText (N.state out.old) (N.state out.new) going (as_line (progress_texts progress total)) result }
 {
     match progress {

@@ -8,7 +8,11 @@ ghost use Rattle.ckpt_store.specs.Progress as definition;
 ghost use Rattle.audit_folders.specs.Gatherings.{IsCutOff, IsWhole, Outputs};
 ghost use Rattle.audit_folders.specs.Shown.{HasLoadedBoth, IsShownOf, shown_text};
 ghost use Rattle.audit_folders.specs.SlotLines.{EndsShowing, job_text};
-ghost use Rattle.report.specs.AddedText.{AddsText, HasAdded};
+ghost use Rattle.report.specs.AddedText.{AddsText, HasAdded, LetsNext};
+ghost use Rattle.audit_statement.specs.DueText.{LetsText};
+ghost use Rattle.audit_folders.specs.DueFolders.{LetsShowing, LetsShowingLine};
+ghost use Rattle.audit_statement.specs.Accepted.{no_columns};
+ghost use Rattle.audit_statement.specs.Note.{note as note_of, write_fault};
 
 use crate::slot_lines::{add_newest_line, add_progress_line, add_slot_line};
 use audit_io::keeper::Keeper;
@@ -49,6 +53,8 @@ pub fn write_slots<C: Keeper, O: Sink, N: Sink>(
     out: &mut O,
     note: &mut N,
 ) -> u8
+    requires text { LetsShowing O.lets (option_map (λ j. j.now) job) (C.state keeper.old).slots (O.state out.old) }
+    requires note { LetsShowingLine N.lets (N.state note.old) }
     ensures { EndsShowing (option_map (λ j. j.now) job.entry) (C.state keeper.old) (C.state keeper.new)
         (record { out = O.state out.old; note = N.state note.old }) (record { out = O.state out.new; note = N.state note.new }) result }
 {
@@ -101,6 +107,8 @@ fn report_on(alloc: Global, job: Option<&Job>, both: &Both) -> Result<SlotsRepor
 
 // Writes the report and returns the status.
 fn show<O: Sink, N: Sink>(shown: &SlotsReport, out: &mut O, note: &mut N) -> u8
+    requires text { LetsText O.lets (O.state out.old) (shown_text shown.now) }
+    requires note { LetsText N.lets (N.state note.old) (note_of no_columns write_fault) }
     ensures { IsWhole (record { out = O.state out.old; note = N.state note.old }) (record { out = O.state out.new; note = N.state note.new }) (shown_text shown.now) result
         ⊎ IsCutOff (record { out = O.state out.old; note = N.state note.old }) (record { out = O.state out.new; note = N.state note.new }) (shown_text shown.now) result }
 {
@@ -112,6 +120,7 @@ fn show<O: Sink, N: Sink>(shown: &SlotsReport, out: &mut O, note: &mut N) -> u8
 
 // Writes the lines. Returns true if no write failed.
 fn write_shown<O: Sink>(shown: &SlotsReport, out: &mut O) -> bool
+    requires { LetsText O.lets (O.state out.old) (shown_text shown.now) }
     ensures { HasAdded (O.state out.old) (O.state out.new) (shown_text shown.now) result }
 {
     let going = add_slot_line(out, true, 0, &shown.first);
@@ -123,6 +132,7 @@ fn write_shown<O: Sink>(shown: &SlotsReport, out: &mut O) -> bool
 
 // Writes the progress of the job, if there is a job.
 fn add_progress<O: Sink>(out: &mut O, going: bool, shown: &SlotsReport) -> bool
+    requires { LetsNext O.lets (O.state out.old) going (job_text shown.now.progress shown.now.total) }
     ensures { AddsText (O.state out.old) (O.state out.new) going (job_text shown.now.progress shown.now.total) result }
 {
     match shown.progress {

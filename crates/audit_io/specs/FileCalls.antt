@@ -1,21 +1,25 @@
 -- The calls on files that store a file, in their order, and which of them may fail.
 -- This project's.
-use Rattle.std.specs.Prelude.{◌≡◌, ◌⊎◌, ℕ, ◌-◌, Bool, true, false, ◌&&◌, not, List, [], ◌∷◌, ◌++◌, codes, Option, Some, None, option_map, Result, Ok, Err}
-use Rattle.std.specs.IoError.{error_kind}
+use Rattle.std.specs.Prelude.{◌≡◌, ◌⊎◌, ℕ, ◌-◌, Bool, true, false, ◌&&◌, not, List, [], ◌∷◌, ◌++◌, codes, Option, Some, None, is_some, option_map, pos, Result, Ok, Err}
+use Rattle.std.specs.IoError.{error_kind, raw_os_error}
+use Rattle.std.specs.declared.fs.TryLockError.{TryLockError}
+use Rattle.std.specs.declared.fs.TryLockError.TheVariants as attempt
 use Rattle.std_io.specs.declared.io.error.Error.{Error}
 use Rattle.std_io.specs.declared.io.kind.ErrorKind.{ErrorKind}
 use Rattle.std_io.specs.declared.io.kind.ErrorKind.TheVariants.{AlreadyExists, InvalidInput, NotFound, Unsupported}
 use Rattle.audit_io.specs.declared.file_calls.FileEntry.{FileEntry}
+use Rattle.audit_io.specs.declared.folder_lock.LockError.{LockError}
 use Rattle.audit_io.specs.Files.{file_name}
 
 -- a call on files: to look at what stands in the place of a name, and what was found there; to look there, also if it
--- is a link to nothing; to lock a folder, and whether another run holds it; to open a file of this name to read it; to wait until that file is stored; to make a file of this
--- name where there is none; to open the one that is there, and empty it; to write all these bytes to the file that was
--- made or emptied last; and to wait until that file is stored
+-- is a link to nothing; to lock a folder, and whether this gave a lock, or which error; to open a file of this name to
+-- read it; to wait until that file is stored; to make a file of this name where there is none; to open the one that is
+-- there, and empty it; to write all these bytes to the file that was made or emptied last; and to wait until that file
+-- is stored
 pub data What : Type 0 where
   looked : List ℕ → Option FileEntry → What
   looked_at_link : List ℕ → What
-  locked : List ℕ → Bool → What
+  locked : List ℕ → Result Bool LockError → What
   opened : List ℕ → What
   stored : List ℕ → What
   made : List ℕ → What
@@ -37,6 +41,17 @@ error_of (Err e) = Some (error_kind e)
 abbrev pub answered : {A : Type 0} → Result A Error → Option A
 answered (Ok a) = Some a
 answered (Err e) = None
+
+-- the attempt to lock a folder gave a lock, or found that the system has none, or failed
+abbrev pub lock_answer : {A : Type 0} → Result (Option A) LockError → Result Bool LockError
+lock_answer (Ok lock) = Ok (is_some lock)
+lock_answer (Err why) = Err why
+
+-- the error says that the system has no such lock: it is of this kind, as EOPNOTSUPP and ENOSYS are, or has the number
+-- of ENOLCK
+abbrev pub MeansNoLocks : TryLockError → Type 0
+MeansNoLocks attempt.WouldBlock = ⊥
+MeansNoLocks (attempt.Error e) = (error_kind e ≡ Unsupported) ⊎ (raw_os_error e ≡ Some (pos 37))
 
 -- the calls with more at the end, where they are known
 abbrev pub called_all : Option (List Call) → List Call → Option (List Call)

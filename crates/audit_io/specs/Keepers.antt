@@ -7,6 +7,8 @@ use Rattle.std_io.specs.declared.io.kind.ErrorKind.{ErrorKind}
 use Rattle.std_io.specs.declared.io.kind.ErrorKind.TheVariants.{NotFound, OutOfMemory}
 use Rattle.audit_io.specs.declared.keeper.LoadError.{LoadError}
 use Rattle.audit_io.specs.declared.keeper.LoadError.TheVariants as load
+use Rattle.audit_io.specs.declared.folder_lock.LockError.{LockError}
+use Rattle.audit_io.specs.declared.folder_lock.LockError.TheVariants as lock
 use Rattle.audit_io.specs.declared.file_calls.FileEntry.{FileEntry}
 use Rattle.audit_io.specs.Files.{LoadsFile, file_name}
 use Rattle.audit_io.specs.FileCalls.{Call, answered, called, error_of, here, locked, looked}
@@ -23,21 +25,28 @@ abbrev pub LoadsOpened : {F : Type 0} → (F → Option (List ℕ)) → ℕ → 
 LoadsOpened bytes limit room result (Ok file) = LoadsFile (bytes file) limit room result
 LoadsOpened bytes limit room result (Err e) = LoadsError (error_kind e) result
 
--- the calls since take the lock of the working folder, unless it is taken
-pub data HasTakenFolder (before after : Option (List Call)) (is_own : Bool) (ok : Bool) : Type 0 where
-  folder_own : is_own ≡ true → after ≡ before → ok ≡ true → HasTakenFolder before after is_own ok
-  folder_asked : is_own ≡ false → after ≡ called before (locked here (not ok)) None → HasTakenFolder before after is_own ok
+-- the error of a load whose folder could not be locked
+abbrev pub load_error_of : LockError → LoadError
+load_error_of lock.Taken = load.Taken
+load_error_of lock.Failed = load.Failed
 
--- the calls since are those of a load: nothing is looked at or opened before the lock is taken, or if another run holds it
-pub data HasLoadedSlot {F : Type 0} (before after : Option (List Call)) (is_own : Bool) (slot : ℕ) (bytes : F → Option (List ℕ)) (limit : ℕ) (room : List ℕ) (result : Result Bool LoadError) : Type 0 where
-  load_taken : HasTakenFolder before after is_own false → result ≡ Err load.Taken → HasLoadedSlot before after is_own slot bytes limit room result
-  load_done : (between : Option (List Call)) (opened : Result F Error) → HasTakenFolder before between is_own true → HasOpenedSlot between after slot (error_of opened) → LoadsOpened bytes limit room result opened
-      → HasLoadedSlot before after is_own slot bytes limit room result
+-- The calls since take the lock of the working folder, unless this was done before. `had` and `has` say whether the
+-- keeper holds a lock before and after: exactly if the call gave one.
+pub data HasTakenFolder (before after : Option (List Call)) (is_own had has : Bool) (result : Result (Unit {0}) LockError) : Type 0 where
+  folder_own : is_own ≡ true → after ≡ before → has ≡ had → result ≡ Ok tt → HasTakenFolder before after is_own had has result
+  folder_locked : is_own ≡ false → after ≡ called before (locked here (Ok has)) None → result ≡ Ok tt → HasTakenFolder before after is_own had has result
+  folder_refused : (why : LockError) → is_own ≡ false → after ≡ called before (locked here (Err why)) None → has ≡ had → result ≡ Err why → HasTakenFolder before after is_own had has result
 
--- the calls since are those of a save: nothing is looked at or written before the lock is taken, or if another run holds it
-pub data HasKept (before after : Option (List Call)) (is_own was now names : Bool) (slot : ℕ) (bytes : List ℕ) (ok : Bool) : Type 0 where
-  keep_taken : HasTakenFolder before after is_own false → now ≡ was → ok ≡ false → HasKept before after is_own was now names slot bytes ok
-  keep_done : (between : Option (List Call)) → HasTakenFolder before between is_own true → HasSaved between after was now names slot bytes ok → HasKept before after is_own was now names slot bytes ok
+-- the calls since are those of a load: nothing is looked at or opened before the lock is taken, or if it cannot be taken
+pub data HasLoadedSlot {F : Type 0} (before after : Option (List Call)) (is_own had has : Bool) (slot : ℕ) (bytes : F → Option (List ℕ)) (limit : ℕ) (room : List ℕ) (result : Result Bool LoadError) : Type 0 where
+  load_unlocked : (why : LockError) → HasTakenFolder before after is_own had has (Err why) → result ≡ Err (load_error_of why) → HasLoadedSlot before after is_own had has slot bytes limit room result
+  load_done : (between : Option (List Call)) (opened : Result F Error) → HasTakenFolder before between is_own had has (Ok tt) → HasOpenedSlot between after slot (error_of opened) → LoadsOpened bytes limit room result opened
+      → HasLoadedSlot before after is_own had has slot bytes limit room result
+
+-- the calls since are those of a save: nothing is looked at or written before the lock is taken, or if it cannot be taken
+pub data HasKept (before after : Option (List Call)) (is_own had has was now names : Bool) (slot : ℕ) (bytes : List ℕ) (ok : Bool) : Type 0 where
+  keep_unlocked : (why : LockError) → HasTakenFolder before after is_own had has (Err why) → now ≡ was → ok ≡ false → HasKept before after is_own had has was now names slot bytes ok
+  keep_done : (between : Option (List Call)) → HasTakenFolder before between is_own had has (Ok tt) → HasSaved between after was now names slot bytes ok → HasKept before after is_own had has was now names slot bytes ok
 
 -- ---- the slots of another folder
 
@@ -57,11 +66,11 @@ pub data HasReadSlot {F : Type 0} (before after : Option (List Call)) (folder : 
   read_memory : after ≡ before → result ≡ Err load.Memory → HasReadSlot before after folder slot bytes limit room result
   read_opened : (answer : Result F Error) → HasOpened before after (within folder (file_name slot)) (error_of answer) → LoadsOpened bytes limit room result answer → HasReadSlot before after folder slot bytes limit room result
 
--- the calls since lock a folder and then read a slot, unless another run holds it, or there is no memory for its name
+-- the calls since lock a folder and then read a slot, unless it cannot be locked, or there is no memory for its name
 pub data HasReadLocked {F : Type 0} (before after : Option (List Call)) (folder : List ℕ) (slot : ℕ) (bytes : F → Option (List ℕ)) (limit : ℕ) (room : List ℕ) (result : Result Bool LoadError) : Type 0 where
   lock_memory : after ≡ before → result ≡ Err load.Memory → HasReadLocked before after folder slot bytes limit room result
-  lock_taken : after ≡ called before (locked (within folder here) true) None → result ≡ Err load.Taken → HasReadLocked before after folder slot bytes limit room result
-  lock_free : HasReadSlot (called before (locked (within folder here) false) None) after folder slot bytes limit room result → HasReadLocked before after folder slot bytes limit room result
+  lock_failed : (why : LockError) → after ≡ called before (locked (within folder here) (Err why)) None → result ≡ Err (load_error_of why) → HasReadLocked before after folder slot bytes limit room result
+  lock_asked : (found : Bool) → HasReadSlot (called before (locked (within folder here) (Ok found)) None) after folder slot bytes limit room result → HasReadLocked before after folder slot bytes limit room result
 
 -- The calls since read a slot of a folder. Where locks are asked for, that of any folder but the working one is taken
 -- first.

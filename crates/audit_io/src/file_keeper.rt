@@ -1,16 +1,16 @@
 //! The checkpoint store of a run: two files in the working folder.
 
-ghost use Rattle.std.specs.Prelude.{◌≡◌, ◌⊎◌, ◌↔◌, ◌<◌, false, true, [], None, Ok, Err, IsOk, IsErrAnd, OnOk, is_ok};
+ghost use Rattle.std.specs.Prelude.{◌≡◌, ◌⊎◌, ◌↔◌, ◌<◌, false, true, [], None, Ok, Err, IsOk, IsErrAnd, OnOk, is_none, is_ok, is_some};
 ghost use Rattle.std.specs.IoError.{error_kind};
 ghost use Rattle.std.specs.Io.KnownBytes.{Appends};
 ghost use Rattle.audit_model.specs.Faults.{HasCause};
 ghost use Rattle.audit_model.specs.Pair.{HoldsBytes};
 ghost use Rattle.audit_io.specs.Files.{ReadsWithin};
-ghost use Rattle.audit_io.specs.Keepers.{HasKept, HasLoadedSlot, HasTakenFolder, LoadsOpened};
+ghost use Rattle.audit_io.specs.Keepers.{HasKept, HasLoadedSlot, HasTakenFolder, LoadsOpened, load_error_of};
 ghost use Rattle.audit_io.specs.Loads.{HasLoadCause, LoadsWithin};
 
 use crate::folder_calls::FolderCalls;
-use crate::folder_lock::Taken;
+use crate::folder_lock::LockError;
 use crate::keeper::{Keeper, LoadError};
 use crate::load_count::LoadCount;
 use crate::looks::open_slot;
@@ -31,7 +31,7 @@ const PIECE: usize = 4096;
 /// is trust and not proof, the contents of the slots are not observable.
 ///
 /// The first call takes the lock of the working folder, if the system has such locks. The keeper holds the lock until
-/// it is dropped. If another process holds the lock, the call fails and touches no file.
+/// it is dropped. If another process holds the lock, or the attempt to lock fails, the call fails and touches no file.
 ///
 /// A slot must be a plain file or a link to one, and the two slots must be different files. If a slot is a folder, a
 /// pipe, a device, a dangling link or a link to the other slot, the call fails without opening it.
@@ -66,6 +66,10 @@ impl<D: FolderCalls + Drop> FileKeeper<D> {
         ensures attempted { (⟦<FileKeeper<D> as Keeper>⟧.state result).attempted ≡ None }
         ensures load_faults { (⟦<FileKeeper<D> as Keeper>⟧.state result).load_faults ≡ record { all = 0; taken = 0 } }
         ensures save_faults { (⟦<FileKeeper<D> as Keeper>⟧.state result).save_faults ≡ 0 }
+        ensures folder { result.folder.is_own ≡ false }
+        ensures lock { is_none result.folder.lock ≡ true }
+        ensures newest { result.known.newest ≡ false }
+        ensures names { result.known.names ≡ false }
     {
         FileKeeper {
             disk,
@@ -94,7 +98,7 @@ impl<D: FolderCalls + Drop> Keeper for FileKeeper<D> {
     /// - `Failed`: any other error.
     fn load(&mut self, slot: u8, limit: u64, room: &mut Bytes) -> Result<bool, LoadError>
         requires { slot < 2 }
-        ensures done { HasLoadedSlot (D.calls self.old.disk) (D.calls self.new.disk) self.old.folder.is_own slot D.Opened.remaining limit room.new.items result }
+        ensures done { HasLoadedSlot (D.calls self.old.disk) (D.calls self.new.disk) self.old.folder.is_own (is_some self.old.folder.lock) (is_some self.new.folder.lock) slot D.Opened.remaining limit room.new.items result }
         ensures within { LoadsWithin limit room.new.items result }
         ensures cause { HasLoadCause self.old.load_faults self.new.load_faults result }
         ensures saves { self.new.save_faults ≡ self.old.save_faults }
@@ -109,7 +113,7 @@ impl<D: FolderCalls + Drop> Keeper for FileKeeper<D> {
     fn save(&mut self, slot: u8, bytes: &[u8]) -> Result<(), Failed>
         requires slot { slot < 2 }
         ensures saved { OnOk result (HoldsBytes None slot bytes.now) }
-        ensures done { HasKept (D.calls self.old.disk) (D.calls self.new.disk) self.old.folder.is_own self.old.known.newest self.new.known.newest self.old.known.names slot bytes.now (is_ok result) }
+        ensures done { HasKept (D.calls self.old.disk) (D.calls self.new.disk) self.old.folder.is_own (is_some self.old.folder.lock) (is_some self.new.folder.lock) self.old.known.newest self.new.known.newest self.old.known.names slot bytes.now (is_ok result) }
         ensures cause { HasCause self.old.save_faults self.new.save_faults result }
         ensures loads { self.new.load_faults ≡ self.old.load_faults }
         ensures folder { self.old.folder.is_own ≡ true → self.new.folder.is_own ≡ true }
@@ -130,8 +134,8 @@ impl<D: FolderCalls + Drop> Keeper for FileKeeper<D> {
 }
 
 // Takes the lock of the working folder, unless the keeper has it already.
-fn take_folder<D: FolderCalls>(disk: &mut D, folder: &mut Folder<D::Lock>) -> Result<(), Taken>
-    ensures done { HasTakenFolder (D.calls disk.old) (D.calls disk.new) folder.old.is_own (is_ok result) }
+fn take_folder<D: FolderCalls>(disk: &mut D, folder: &mut Folder<D::Lock>) -> Result<(), LockError>
+    ensures done { HasTakenFolder (D.calls disk.old) (D.calls disk.new) folder.old.is_own (is_some folder.old.lock) (is_some folder.new.lock) result }
     ensures own { is_ok result ≡ true → folder.new.is_own ≡ true }
     ensures taken { folder.old.is_own ≡ true → folder.new.is_own ≡ true }
 {
@@ -144,7 +148,7 @@ fn take_folder<D: FolderCalls>(disk: &mut D, folder: &mut Folder<D::Lock>) -> Re
             folder.lock = lock;
             Ok(())
         }
-        Err(taken) => Err(taken),
+        Err(why) => Err(why),
     }
 }
 
@@ -157,13 +161,13 @@ fn load_by<D: FolderCalls>(
     room: &mut Bytes,
 ) -> Result<bool, LoadError>
     requires { slot < 2 }
-    ensures done { HasLoadedSlot (D.calls disk.old) (D.calls disk.new) folder.old.is_own slot D.Opened.remaining limit room.new.items result }
+    ensures done { HasLoadedSlot (D.calls disk.old) (D.calls disk.new) folder.old.is_own (is_some folder.old.lock) (is_some folder.new.lock) slot D.Opened.remaining limit room.new.items result }
     ensures within { LoadsWithin limit room.new.items result }
     ensures folder { folder.old.is_own ≡ true → folder.new.is_own ≡ true }
 {
     match take_folder(disk, folder) {
         Ok(()) => load_opened(open_slot(disk, slot), limit, room),
-        Err(Taken) => refuse(room),
+        Err(why) => refuse(why, room),
     }
 }
 
@@ -176,22 +180,22 @@ fn keep<D: FolderCalls>(
     known: &mut Known,
 ) -> bool
     requires { slot < 2 }
-    ensures done { HasKept (D.calls disk.old) (D.calls disk.new) folder.old.is_own known.old.newest known.new.newest known.old.names slot bytes.now result }
+    ensures done { HasKept (D.calls disk.old) (D.calls disk.new) folder.old.is_own (is_some folder.old.lock) (is_some folder.new.lock) known.old.newest known.new.newest known.old.names slot bytes.now result }
     ensures folder { folder.old.is_own ≡ true → folder.new.is_own ≡ true }
 {
     match take_folder(disk, folder) {
         Ok(()) => save_slot(disk, slot, bytes, known).is_ok(),
-        Err(Taken) => false,
+        Err(_) => false,
     }
 }
 
-// Clears the buffer and returns `Taken`.
-fn refuse(room: &mut Bytes) -> Result<bool, LoadError>
+// Clears the buffer and returns the error of the lock.
+fn refuse(why: LockError, room: &mut Bytes) -> Result<bool, LoadError>
     ensures room { room.new.items ≡ [] }
-    ensures taken { result ≡ Err LoadError.Taken }
+    ensures why { result ≡ Err (load_error_of why) }
 {
     room.clear();
-    Err(LoadError::Taken)
+    Err(why.load_error())
 }
 
 // Maps an out-of-memory error of the system to `Memory`, and any other error to `Failed`.

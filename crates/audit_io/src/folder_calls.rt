@@ -1,10 +1,10 @@
 //! The call that locks a folder.
 
-ghost use Rattle.std.specs.Prelude.{◌≡◌, None, is_err};
-ghost use Rattle.audit_io.specs.FileCalls.{called, locked};
+ghost use Rattle.std.specs.Prelude.{◌≡◌, None};
+ghost use Rattle.audit_io.specs.FileCalls.{called, lock_answer, locked};
 
 use crate::file_calls::{FileCalls, SystemCalls};
-use crate::folder_lock::{Taken, lock_folder};
+use crate::folder_lock::{LockError, lock_folder};
 use std::fs::File;
 use std::rt::Files;
 
@@ -19,14 +19,15 @@ pub trait FolderCalls: FileCalls {
     /// # Errors
     ///
     /// - `Taken`: another process holds the lock.
-    fn lock(&mut self, folder: &str) -> Result<Option<Self::Lock>, Taken>
-        ensures { Self.calls self.new ≡ called (Self.calls self.old) (locked folder.now (is_err result)) None };
+    /// - `Failed`: the attempt failed for another reason.
+    fn lock(&mut self, folder: &str) -> Result<Option<Self::Lock>, LockError>
+        ensures { Self.calls self.new ≡ called (Self.calls self.old) (locked folder.now (lock_answer result)) None };
 }
 
 impl<R: Files<File = File>> FolderCalls for SystemCalls<'_, R> {
     type Lock = File;
 
-    fn lock(&mut self, folder: &str) -> Result<Option<File>, Taken> {
+    fn lock(&mut self, folder: &str) -> Result<Option<File>, LockError> {
         lock_folder(self.files, folder)
     }
 }

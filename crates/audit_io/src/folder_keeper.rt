@@ -7,7 +7,6 @@ ghost use Rattle.audit_io.specs.Loads.{HasLoadCause, LoadsWithin};
 use crate::file_calls::FileCalls;
 use crate::file_keeper::load_opened;
 use crate::folder_calls::FolderCalls;
-use crate::folder_lock::Taken;
 use crate::keeper::{Keeper, LoadError};
 use crate::load_count::LoadCount;
 use crate::looks::{are_same, name_of, open_plain};
@@ -41,10 +40,14 @@ pub struct FolderPlace<'a> {
 
 impl<'a, D: FolderCalls + Drop> FolderKeeper<'a, D> {
     /// Makes a keeper of the folder with this path. With `locks`, each load takes the folder's lock, except in the
-    /// working folder. If another process holds the lock, the load fails.
+    /// working folder. If another process holds the lock, or the attempt to lock fails, the load fails.
     pub fn new(disk: D, alloc: Global, folder: &'a str, locks: bool) -> FolderKeeper<'a, D>
         ensures folder { result.place.folder.now ≡ folder.now }
         ensures locks { result.place.locks ≡ locks }
+        ensures slots { (⟦<FolderKeeper<'a, D> as Keeper>⟧.state result).slots ≡ None }
+        ensures attempted { (⟦<FolderKeeper<'a, D> as Keeper>⟧.state result).attempted ≡ None }
+        ensures load_faults { (⟦<FolderKeeper<'a, D> as Keeper>⟧.state result).load_faults ≡ record { all = 0; taken = 0 } }
+        ensures save_faults { (⟦<FolderKeeper<'a, D> as Keeper>⟧.state result).save_faults ≡ 0 }
     {
         FolderKeeper {
             disk,
@@ -136,7 +139,7 @@ fn read_locked<D: FolderCalls>(
     match path_of(place.alloc, place.folder, ".") {
         Ok(path) => match disk.lock(path.as_str()) {
             Ok(_lock) => read_slot(disk, place, slot, limit, room),
-            Err(Taken) => refuse(LoadError::Taken, room),
+            Err(why) => refuse(why.load_error(), room),
         },
         Err(_) => refuse(LoadError::Memory, room),
     }

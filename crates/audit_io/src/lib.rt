@@ -31,7 +31,7 @@ pub use file_calls::{FileCalls, FileEntry, SystemCalls};
 pub use file_keeper::FileKeeper;
 pub use folder_calls::FolderCalls;
 pub use folder_keeper::FolderKeeper;
-pub use folder_lock::{Taken, lock_folder};
+pub use folder_lock::{LockError, lock_folder};
 pub use gate::{FreeGate, Gate};
 pub use keeper::{Keeper, LoadError};
 pub use load_count::LoadCount;

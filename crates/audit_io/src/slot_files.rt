@@ -3,7 +3,7 @@
 //! A file is *stored* once the system has written its bytes and its length to the device, as `fsync` does. A new file
 //! survives a power cut only if its folder is stored, too.
 
-ghost use Rattle.std.specs.Prelude.{◌≡◌, ◌<◌, ◌++◌, ◌&&◌, not, true, OnOk, is_ok};
+ghost use Rattle.std.specs.Prelude.{◌≡◌, ◌<◌, ◌++◌, ◌&&◌, not, false, true, OnOk, is_ok};
 ghost use Rattle.audit_io.specs.FileCalls.{HasDone, HasFolderAfter, HasMade, HasSavedFile, HasSavedSlot, HasStoredOther, error_of, folder_steps, names_steps, no_folder_error, writing_steps};
 ghost use Rattle.audit_io.specs.Looks.{HasSaved, KnowsStored};
 
@@ -23,7 +23,10 @@ pub struct Known {
 
 impl Known {
     /// Makes a record in which nothing is known to be stored.
-    pub fn new() -> Known {
+    pub fn new() -> Known
+        ensures newest { result.newest ≡ false }
+        ensures names { result.names ≡ false }
+    {
         Known {
             newest: false,
             names: false,

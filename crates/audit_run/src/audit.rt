@@ -4,6 +4,8 @@ ghost use Rattle.std.specs.Prelude.{◌≡◌};
 ghost use Rattle.audit_statement.specs.Due.{LetsDueSaves};
 ghost use Rattle.audit_statement.specs.Several.{names_plans as are_of_plans};
 ghost use Rattle.audit_statement.specs.Whole.{KeepsEachPromise};
+ghost use Rattle.audit_statement.specs.DueText.{LetsDueLine, LetsDueText};
+ghost use Rattle.audit_words.specs.DueAnswers.{LetsAnswerOrText, LetsAnyLine};
 ghost use Rattle.audit_words.specs.Answers.{AnswersOrAudits};
 ghost use Rattle.audit_statement.specs.World.{world};
 ghost use Rattle.audit_words.specs.ArgumentBytes.{argument_bytes};
@@ -46,6 +48,8 @@ fn audit_asked<
     keeper: C,
 ) -> (u8, C)
     requires lets { LetsDueSaves C.lets (argument_bytes words.now) (world (S.state graph.old) (K.state out.old) (C.state keeper)) }
+    requires text { LetsDueText K.lets (argument_bytes words.now) (world (S.state graph.old) (K.state out.old) (C.state keeper)) }
+    requires note { LetsDueLine N.lets (argument_bytes words.now) (world (S.state graph.old) (K.state out.old) (C.state keeper)) (N.state note.old) }
     ensures { let before = world (S.state graph.old) (K.state out.old) (C.state keeper) in
         let after = world (S.state graph.new) (K.state out.new) (C.state result.1) in
         KeepsEachPromise (argument_bytes words.now) before after (N.state note.old) (N.state note.new) result.0 }
@@ -96,6 +100,8 @@ pub fn audit<
     keeper: C,
 ) -> (u8, C)
     requires lets { LetsDueSaves C.lets (argument_bytes words.now) (world (S.state graph.old) (K.state out.old) (C.state keeper)) }
+    requires text { LetsAnswerOrText K.lets build.now (argument_bytes words.now) (world (S.state graph.old) (K.state out.old) (C.state keeper)) }
+    requires note { LetsAnyLine N.lets (argument_bytes words.now) (world (S.state graph.old) (K.state out.old) (C.state keeper)) (N.state note.old) }
     ensures { let before = world (S.state graph.old) (K.state out.old) (C.state keeper) in
         let after = world (S.state graph.new) (K.state out.new) (C.state result.1) in
         AnswersOrAudits build.now (argument_bytes words.now) before after (N.state note.old) (N.state note.new) result.0 }

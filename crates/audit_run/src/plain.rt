@@ -5,6 +5,7 @@ ghost use Rattle.audit_statement.specs.World.{world};
 ghost use Rattle.audit_words.specs.ArgumentBytes.{argument_bytes};
 ghost use Rattle.audit_statement.specs.Audited.{AuditsPlainly};
 ghost use Rattle.audit_statement.specs.PlainlyEnded.{EndsPlainly};
+ghost use Rattle.audit_words.specs.DueAnswers.{LetsAnswerOrText, LetsAnyLine};
 ghost use Rattle.audit_words.specs.Answers.{AnswersOrAudits};
 ghost use Rattle.std.specs.Prelude.{◌≢◌, ◌∷◌, [], codes};
 
@@ -41,6 +42,8 @@ pub fn audit_plainly<
     keeper: C,
 ) -> (u8, C)
     requires lets { LetsDueSaves C.lets (argument_bytes words.now) (world (S.state graph.old) (K.state out.old) (C.state keeper)) }
+    requires text { LetsAnswerOrText K.lets build.now (argument_bytes words.now) (world (S.state graph.old) (K.state out.old) (C.state keeper)) }
+    requires note { LetsAnyLine N.lets (argument_bytes words.now) (world (S.state graph.old) (K.state out.old) (C.state keeper)) (N.state note.old) }
     ensures plain { argument_bytes words.now ≢ codes "run" ∷ codes "--help" ∷ [] → AuditsPlainly (argument_bytes words.now) (S.state graph.old).bytes (K.state out.old).bytes (K.state out.new).bytes result.0 }
     ensures ends { let before = world (S.state graph.old) (K.state out.old) (C.state keeper) in
         let after = world (S.state graph.new) (K.state out.new) (C.state result.1) in

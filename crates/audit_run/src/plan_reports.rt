@@ -5,7 +5,7 @@ ghost use Rattle.std.specs.Prelude.{◌≡◌, ◌<◌, ℕ, [], List, length, A
 ghost use Rattle.plan_csv.specs.declared.named.Named.{Named as NamedOf};
 ghost use Rattle.plan_csv.specs.Named.{jobs_of};
 ghost use Rattle.audit_run.specs.Alike.{MayRunTogether};
-ghost use Rattle.plan_runs.specs.Plans.{ReportsPlans};
+ghost use Rattle.plan_runs.specs.Plans.{LetsPlans, ReportsPlans};
 
 use crate::judge_sets::{cut_judge_sets, ruled_judge_sets};
 use audit_io::gate::Gate;
@@ -36,6 +36,7 @@ fn report_cut<R: Threads + Sync, K: Sink, G: Gate + Sync>(
     requires no_regions { All (λ n. n.job.regions ≡ []) plans.items }
     requires no_group { All (λ n. n.job.setting.group_districts ≡ 0) plans.items }
     requires no_frozen { All (λ n. n.job.frozen ≡ []) plans.items }
+    requires text { LetsPlans K.lets (K.state out.old) (λ key. All (λ n. n.job.setting.key ≡ key) plans.items) (jobs_of plans.items) }
     ensures { (key : List ℕ) → All (λ n. n.job.setting.key ≡ key) plans.items → ReportsPlans key (jobs_of plans.items) (K.state out.old) (K.state out.new) result }
 {
     let first = first_of(plans.as_slice());
@@ -60,7 +61,8 @@ fn report_ruled<R: Threads + Sync, K: Sink, G: Gate + Sync>(
     plans: Vec<Named>,
     out: &mut K,
 ) -> Ended
-    requires { MayRunTogether plans.items }
+    requires plans { MayRunTogether plans.items }
+    requires text { LetsPlans K.lets (K.state out.old) (λ key. All (λ n. n.job.setting.key ≡ key) plans.items) (jobs_of plans.items) }
     ensures { (key : List ℕ) → All (λ n. n.job.setting.key ≡ key) plans.items → ReportsPlans key (jobs_of plans.items) (K.state out.old) (K.state out.new) result }
 {
     let first = first_of(plans.as_slice());
@@ -87,7 +89,8 @@ pub fn report_all<R: Threads + Sync, K: Sink, G: Gate + Sync>(
     plans: Vec<Named>,
     out: &mut K,
 ) -> Ended
-    requires { MayRunTogether plans.items }
+    requires plans { MayRunTogether plans.items }
+    requires text { LetsPlans K.lets (K.state out.old) (λ key. All (λ n. n.job.setting.key ≡ key) plans.items) (jobs_of plans.items) }
     ensures { (key : List ℕ) → All (λ n. n.job.setting.key ≡ key) plans.items → ReportsPlans key (jobs_of plans.items) (K.state out.old) (K.state out.new) result }
 {
     let rules = first_of(plans.as_slice()).rules();

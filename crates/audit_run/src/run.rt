@@ -7,6 +7,7 @@ ghost use Rattle.audit_statement.specs.Due.{LetsSavesOf};
 ghost use Rattle.audit_laws.specs.Calls.{Finishes};
 ghost use Rattle.audit_laws.specs.Runs.{IsRunJob};
 ghost use Rattle.audit_start.specs.ResumeState.{IsOpened};
+ghost use Rattle.audit_statement.specs.DueText.{LetsReport, LetsReportFrom};
 ghost use Rattle.plan_runs.specs.Resources.{IsJudgeSet};
 ghost use Rattle.plan_runs.specs.RunBuffers.{IsStartOf};
 
@@ -38,6 +39,7 @@ fn run_without_saves<R: Threads + Sync, K: Sink, J: Judge + Send, G: Gate + Sync
     requires start { IsStartOf job.now outcomes.now }
     requires unsaved { saves job.now.setting ≡ false }
     requires judges { IsJudgeSet J.judging job.now judges }
+    requires text { LetsReport K.lets job.now (K.state out.old) outcomes.now }
     ensures { (k : KeeperState) → AreInitialOutcomes job.now k.slots outcomes.now → Finishes job.now (K.state out.old) (K.state out.new) k k result }
 {
     match make_resources(rt.alloc, job, outcomes, judges) {
@@ -64,6 +66,7 @@ fn run_with_judges<
     requires opened { IsOpened job.now (C.state keeper).slots resume_state }
     requires judges { IsJudgeSet J.judging job.now judges }
     requires lets { LetsSavesOf C.lets job.now (C.state keeper) }
+    requires text { LetsReportFrom K.lets job.now (K.state out.old) (C.state keeper).slots }
     ensures { Finishes job.now (K.state out.old) (K.state out.new)
         (C.state keeper) (C.state result.1) result.0 }
 {
@@ -101,6 +104,7 @@ fn run_with_cut_limit<R: Threads + Wait + Sync, K: Sink, C: Keeper + Send, G: Ga
     requires no_group { job.now.setting.group_districts ≡ 0 }
     requires no_frozen { job.now.frozen ≡ [] }
     requires lets { LetsSavesOf C.lets job.now (C.state keeper) }
+    requires text { LetsReportFrom K.lets job.now (K.state out.old) (C.state keeper).slots }
     ensures { Finishes job.now (K.state out.old) (K.state out.new)
         (C.state keeper) (C.state result.1) result.0 }
 {
@@ -128,6 +132,7 @@ fn run_with_all_rules<R: Threads + Wait + Sync, K: Sink, C: Keeper + Send, G: Ga
 ) -> (Ended, C)
     requires opened { IsOpened job.now (C.state keeper).slots resume_state }
     requires lets { LetsSavesOf C.lets job.now (C.state keeper) }
+    requires text { LetsReportFrom K.lets job.now (K.state out.old) (C.state keeper).slots }
     ensures { Finishes job.now (K.state out.old) (K.state out.new)
         (C.state keeper) (C.state result.1) result.0 }
 {
@@ -159,6 +164,7 @@ pub fn run_job<R: Threads + Wait + Sync, K: Sink, C: Keeper + Send, G: Gate + Sy
 ) -> (Ended, C)
     requires run { IsRunJob job.now }
     requires lets { LetsSavesOf C.lets job.now (C.state keeper) }
+    requires text { LetsReportFrom K.lets job.now (K.state out.old) (C.state keeper).slots }
     ensures { Finishes job.now (K.state out.old) (K.state out.new)
         (C.state keeper) (C.state result.1) result.0 }
 {

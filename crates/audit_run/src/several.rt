@@ -3,6 +3,7 @@
 ghost use Rattle.std.specs.Prelude.{◌≡◌, true};
 ghost use Rattle.audit_run.specs.Stages.{PlansRunTo};
 ghost use Rattle.audit_statement.specs.Several.{KeepsPlansPromise, names_plans};
+ghost use Rattle.audit_statement.specs.DueText.{LetsLineOfSeveral, LetsTextOfSeveral};
 ghost use Rattle.audit_model.specs.State.{KeeperState};
 ghost use Rattle.audit_statement.specs.World.{world};
 ghost use Rattle.audit_words.specs.ArgumentBytes.{argument_bytes};
@@ -24,7 +25,8 @@ fn run_plans<R: Threads + Sync, S: Source, K: Sink, G: Gate + Sync>(
     graph: &mut S,
     out: &mut K,
 ) -> Ended
-    requires { names_plans (argument_bytes words.now) ≡ true }
+    requires plans { names_plans (argument_bytes words.now) ≡ true }
+    requires text { LetsTextOfSeveral K.lets (argument_bytes words.now) (S.state graph.old) (K.state out.old) }
     ensures { (keeper : KeeperState) → PlansRunTo (argument_bytes words.now)
         (world (S.state graph.old) (K.state out.old) keeper)
         (world (S.state graph.new) (K.state out.new) keeper) result }
@@ -52,7 +54,9 @@ pub fn audit_plans<R: Threads + Sync, S: Source, K: Sink, N: Sink, G: Gate + Syn
     out: &mut K,
     note: &mut N,
 ) -> u8
-    requires { names_plans (argument_bytes words.now) ≡ true }
+    requires plans { names_plans (argument_bytes words.now) ≡ true }
+    requires text { LetsTextOfSeveral K.lets (argument_bytes words.now) (S.state graph.old) (K.state out.old) }
+    requires note { LetsLineOfSeveral N.lets (argument_bytes words.now) (S.state graph.old) (K.state out.old) (N.state note.old) }
     ensures { (keeper : KeeperState) → KeepsPlansPromise (argument_bytes words.now)
         (world (S.state graph.old) (K.state out.old) keeper)
         (world (S.state graph.new) (K.state out.new) keeper)

@@ -5,6 +5,8 @@ ghost use Rattle.audit_model.specs.declared.setting.Command.TheVariants.{Check};
 ghost use Rattle.audit_statement.specs.Endings.{is_walking};
 ghost use Rattle.audit_statement.specs.Promise.{KeepsItsPromise};
 ghost use Rattle.audit_statement.specs.Due.{LetsDueSaves, LetsSavesOf};
+ghost use Rattle.audit_statement.specs.DueText.{LetsLineOfOne, LetsText, LetsTextOf, LetsTextOfOne};
+ghost use Rattle.audit_statement.specs.Report as definition;
 ghost use Rattle.audit_laws.specs.Calls.{Finishes};
 ghost use Rattle.audit_laws.specs.Runs.{IsRunJob};
 ghost use Rattle.audit_model.specs.State.{KeeperState};
@@ -32,7 +34,8 @@ use std::sync::Wait;
 use std::thread::Threads;
 
 fn write_check<K: Sink>(alloc: Global, job: &Job, out: &mut K) -> Ended
-    requires { job.now.setting.command ≡ Check }
+    requires check { job.now.setting.command ≡ Check }
+    requires text { LetsText K.lets (K.state out.old) (definition.check_text job.now) }
     ensures { (keeper : KeeperState) → Finishes job.now (K.state out.old) (K.state out.new) keeper keeper result }
 {
     let mut text = Bytes::new(alloc);
@@ -54,6 +57,7 @@ fn run_command<R: Threads + Wait + Sync, K: Sink, C: Keeper + Send, G: Gate + Sy
 ) -> (Ended, C)
     requires run { IsTrue (is_walking job.now.setting.command) → IsRunJob job.now }
     requires lets { LetsSavesOf C.lets job.now (C.state keeper) }
+    requires text { LetsTextOf K.lets job.now (K.state out.old) (C.state keeper).slots }
     ensures { Finishes job.now (K.state out.old) (K.state out.new)
         (C.state keeper) (C.state result.1) result.0 }
 {
@@ -94,6 +98,8 @@ pub fn audit_single<
     keeper: C,
 ) -> (u8, C)
     requires lets { LetsDueSaves C.lets (argument_bytes words.now) (world (S.state graph.old) (K.state out.old) (C.state keeper)) }
+    requires text { LetsTextOfOne K.lets (argument_bytes words.now) (world (S.state graph.old) (K.state out.old) (C.state keeper)) }
+    requires note { LetsLineOfOne N.lets (argument_bytes words.now) (world (S.state graph.old) (K.state out.old) (C.state keeper)) (N.state note.old) }
     ensures { let before = world (S.state graph.old) (K.state out.old) (C.state keeper) in
         let after = world (S.state graph.new) (K.state out.new) (C.state result.1) in
         KeepsItsPromise (argument_bytes words.now) before after (N.state note.old) (N.state note.new) result.0 }

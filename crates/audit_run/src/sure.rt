@@ -2,6 +2,7 @@
 
 ghost use Rattle.audit_statement.specs.Sure.{EachEndsSurely, sure_world};
 ghost use Rattle.audit_words.specs.ArgumentBytes.{argument_bytes};
+ghost use Rattle.audit_words.specs.DueAnswers.{LetsAnyLine};
 ghost use Rattle.audit_words.specs.Answers.{AnswersOrAudits};
 
 use crate::audit::audit;
@@ -33,6 +34,7 @@ pub fn audit_surely<R: Threads + Wait + Sync, N: Sink, G: Gate + Sync>(
     note: &mut N,
     keeper: SureKeeper,
 ) -> (u8, SureKeeper)
+    requires note { LetsAnyLine N.lets (argument_bytes words.now) (sure_world graph.old keeper) (N.state note.old) }
     ensures complete { EachEndsSurely (argument_bytes words.now) (sure_world graph.old keeper) result.0 }
     ensures kept { AnswersOrAudits build.now (argument_bytes words.now) (sure_world graph.old keeper) (sure_world graph.new result.1)
         (N.state note.old) (N.state note.new) result.0 }

@@ -6,7 +6,10 @@ ghost use Rattle.audit_model.specs.JobOf.{IsJob};
 ghost use Rattle.audit_model.specs.Limits.{most_trajectories};
 ghost use Rattle.audit_model.specs.State.{KeeperState};
 ghost use Rattle.audit_model.specs.declared.setting.Command.TheVariants.{Trace};
-ghost use Rattle.plan_runs.specs.Tracers.{TracesJob};
+ghost use Rattle.audit_statement.specs.DueText.{LetsText};
+ghost use Rattle.plan_runs.specs.Tracers.{TracesJob, text_of_range};
+ghost use Rattle.audit_statement.specs.Draw.{draw};
+ghost use Rattle.audit_statement.specs.Trace as definition;
 
 use audit_io::sink::Sink;
 use audit_model::outcome::SumsView;
@@ -38,6 +41,7 @@ fn trace_cut<K: Sink>(alloc: Global, job: &Job, range: TraceRange, out: &mut K) 
     requires no_regions { job.now.regions ≡ [] }
     requires no_group { job.now.setting.group_districts ≡ 0 }
     requires no_frozen { job.now.frozen ≡ [] }
+    requires text { LetsText K.lets (K.state out.old) (text_of_range job.now range) }
     ensures { TracesJob job.now range (K.state out.old) (K.state out.new) result }
 {
     let rules = job.rules();
@@ -53,6 +57,7 @@ fn trace_ruled<K: Sink>(alloc: Global, job: &Job, range: TraceRange, out: &mut K
     requires thin { 0 < range.thin }
     requires order { range.first ≤ range.last }
     requires few { range.last < most_trajectories }
+    requires text { LetsText K.lets (K.state out.old) (text_of_range job.now range) }
     ensures { TracesJob job.now range (K.state out.old) (K.state out.new) result }
 {
     let rules = job.rules();
@@ -76,6 +81,7 @@ fn trace_range<K: Sink>(alloc: Global, job: &Job, range: TraceRange, out: &mut K
     requires thin { 0 < range.thin }
     requires order { range.first ≤ range.last }
     requires few { range.last < most_trajectories }
+    requires text { LetsText K.lets (K.state out.old) (text_of_range job.now range) }
     ensures { TracesJob job.now range (K.state out.old) (K.state out.new) result }
 {
     if job.rules().regions.len() == 0
@@ -90,7 +96,8 @@ fn trace_range<K: Sink>(alloc: Global, job: &Job, range: TraceRange, out: &mut K
 
 /// Allocates all memory of a trace, then walks the range that the arguments name and writes its plans while walking.
 pub fn trace_job<K: Sink>(alloc: Global, job: &Job, out: &mut K) -> Ended
-    requires { job.now.setting.command ≡ Trace }
+    requires trace { job.now.setting.command ≡ Trace }
+    requires text { LetsText K.lets (K.state out.old) (definition.trace_text job.now (draw job.now.setting.key) job.now.setting.first_id job.now.setting.last_id job.now.setting.thin) }
     ensures { (keeper : KeeperState) → Finishes job.now (K.state out.old) (K.state out.new) keeper keeper result }
 {
     trace_range(alloc, job, range_of(job), out)

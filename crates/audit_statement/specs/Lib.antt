@@ -6,6 +6,7 @@ pub mod Chain
 pub mod Checkpoint
 pub mod Draw
 pub mod Due
+pub mod DueText
 pub mod Early
 pub mod Endings
 pub mod Given

@@ -1,4 +1,5 @@
 pub mod Answers
+pub mod DueAnswers
 pub mod Arguments
 pub mod Judged
 pub mod Laws

@@ -6,7 +6,10 @@ ghost use Rattle.audit_words.specs.Answers.{WritesAnswer};
 ghost use Rattle.audit_words.specs.Arguments as definition;
 ghost use Rattle.audit_words.specs.Questions.{answer_to, version_text};
 ghost use Rattle.audit_words.specs.Usage.{command_lines, on_lines};
-ghost use Rattle.report.specs.AddedText.{AddsText, HasAdded};
+ghost use Rattle.report.specs.AddedText.{AddsText, HasAdded, LetsNext};
+ghost use Rattle.audit_statement.specs.DueText.{LetsText};
+ghost use Rattle.audit_statement.specs.Accepted.{no_columns};
+ghost use Rattle.audit_statement.specs.Note as terms;
 
 use crate::arguments::argument_text;
 use crate::build::Build;
@@ -23,6 +26,7 @@ use report::piece::Piece::Text;
 /// Writes the lines if `going` is true, which means that no earlier write failed. Returns true if
 /// no write has failed.
 pub fn add_lines<O: Sink>(out: &mut O, going: bool, lines: &[&str]) -> bool
+    requires { LetsNext O.lets (O.state out.old) going (on_lines (map (λ l. l.now) lines.now)) }
     ensures { AddsText (O.state out.old) (O.state out.new) going (on_lines (map (λ l. l.now) lines.now)) result }
 {
     let mut going = going;
@@ -34,6 +38,7 @@ pub fn add_lines<O: Sink>(out: &mut O, going: bool, lines: &[&str]) -> bool
 
 // Writes a line for each argument if `going` is true. Returns true if no write has failed.
 fn add_arguments<O: Sink>(out: &mut O, going: bool, names: &[Name]) -> bool
+    requires { LetsNext O.lets (O.state out.old) going (on_lines (map definition.argument_text names.now)) }
     ensures { AddsText (O.state out.old) (O.state out.new) going (on_lines (map definition.argument_text names.now)) result }
 {
     let mut going = going;
@@ -45,6 +50,7 @@ fn add_arguments<O: Sink>(out: &mut O, going: bool, names: &[Name]) -> bool
 
 // Writes the usage of a command. Returns true if no write failed.
 fn add_command<O: Sink>(out: &mut O, command: Command) -> bool
+    requires { LetsText O.lets (O.state out.old) (on_lines (command_lines command)) }
     ensures { HasAdded (O.state out.old) (O.state out.new) (on_lines (command_lines command)) result }
 {
     let going = add_lines(out, true, head_of(command));
@@ -54,6 +60,7 @@ fn add_command<O: Sink>(out: &mut O, command: Command) -> bool
 
 /// Writes the version of a program. Returns true if no write failed.
 pub fn add_version<'x, O: Sink>(out: &mut O, program: &'x str, build: &Build<'x>) -> bool
+    requires { LetsText O.lets (O.state out.old) (version_text program.now build.now) }
     ensures { HasAdded (O.state out.old) (O.state out.new) (version_text program.now build.now) result }
 {
     let going = add_line(
@@ -68,6 +75,7 @@ pub fn add_version<'x, O: Sink>(out: &mut O, program: &'x str, build: &Build<'x>
 
 // Writes the answer to a question. Returns true if no write failed.
 fn write_answer<O: Sink>(out: &mut O, build: &Build<'_>, question: Question) -> bool
+    requires { LetsText O.lets (O.state out.old) (answer_to build.now question) }
     ensures { HasAdded (O.state out.old) (O.state out.new) (answer_to build.now question) result }
 {
     match question {
@@ -85,6 +93,8 @@ pub fn answer<O: Sink, N: Sink>(
     out: &mut O,
     note: &mut N,
 ) -> u8
+    requires text { LetsText O.lets (O.state out.old) (answer_to build.now question) }
+    requires note { LetsText N.lets (N.state note.old) (terms.note no_columns terms.write_fault) }
     ensures { WritesAnswer (answer_to build.now question) (O.state out.old) (O.state out.new) (N.state note.old) (N.state note.new) result }
 {
     if write_answer(out, build, question) {

@@ -1,5 +1,6 @@
 pub mod CurrentLine
 pub mod EarlyStops
+pub mod Permitted
 pub mod Plain
 pub mod Splitting
 pub mod Strides

@@ -15,6 +15,8 @@ use Rattle.audit_statement.specs.Draw.{draw}
 use Rattle.audit_statement.specs.Report.{full_report, plan_text, plans_text, report, thread_report}
 use Rattle.report.specs.Outcomes.{reported}
 use Rattle.report.specs.AddedText.{WritesAllOf}
+use Rattle.audit_statement.specs.DueText.{LetsBytes, LetsText}
+use Rattle.report.proofs.Letting.{lets_as, lets_front, lets_rest}
 use Rattle.report.proofs.Appended.{appends_more, appends_nothing, part_after, part_of_more}
 use Rattle.audit_statement.specs.Endings.{full_of}
 use Rattle.audit_laws.specs.Runs.{AreAll}
@@ -67,6 +69,23 @@ plans_break draws a b left rest plan failed other is p =
 pub plans_end : (draws : Draws) (a : Stream) (left : List (List ℕ × Job)) → left ≡ [] → WritesAllOf a a (plans_text draws left) (Ok tt)
 plans_end draws a left is =
     subst (λ (text : List ℕ). WritesAllOf a a text (Ok tt)) (sym (ap (plans_text draws) is ∙ texts_none draws)) (appends_nothing a.bytes, refl)
+
+-- ---- the reports that a sink permits
+
+module _ {lets : LetsBytes} (key own : List ℕ) (same : own ≡ key) where
+  -- the report of the first plan
+  pub plan_permitted : (a : Stream) (left rest : List (List ℕ × Job)) (plan : List ℕ × Job) → left ≡ plan ∷ rest → LetsText lets a (plans_text (draw key) left)
+      → LetsText lets a (plan_text (draw own) plan)
+  plan_permitted a left rest plan is due =
+      lets_as (lets_front (plan_text (draw key) plan) (plans_text (draw key) rest) (lets_as due (ap (plans_text (draw key)) is ∙ texts_first (draw key) plan rest)))
+      (ap (λ (k : List ℕ). plan_text (draw k) plan) (sym same))
+
+  -- the reports of the others, once the first was written
+  pub plans_permitted : (a b : Stream) (left rest : List (List ℕ × Job)) (plan : List ℕ × Job) → left ≡ plan ∷ rest → LetsText lets a (plans_text (draw key) left)
+      → WritesAllOf a b (plan_text (draw own) plan) (Ok tt) → LetsText lets b (plans_text (draw key) rest)
+  plans_permitted a b left rest plan is due wrote =
+      let taken = subst (λ (k : List ℕ). WritesAllOf a b (plan_text (draw k) plan) (Ok tt)) same wrote in
+      lets_rest (plan_text (draw key) plan) (plans_text (draw key) rest) (lets_as due (ap (plans_text (draw key)) is ∙ texts_first (draw key) plan rest)) taken.0 taken.1
 
 -- ---- the report of one plan
 

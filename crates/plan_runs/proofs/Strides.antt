@@ -100,6 +100,17 @@ module _ (job : Job) (draws : Draws) (id thin : ℕ) where
       (wrote_then before here after (first_lines job draws id thin (place + 1)) (line_at job draws id (plan_after job draws id step) next) r so_far
       (subst (λ (q : List ℕ). WritesAllOf here after (line_at job draws id q next) r) is line))
 
+  -- all lines are those so far, the next one and the rest
+  pub lines_split : (place step next all : ℕ) → step ≡ shown thin (own_steps job id) place → next ≡ shown thin (own_steps job id) (place + 1) → place + 1 + 1 ≤ all
+      → (rest : List ℕ) × (first_lines job draws id thin all ≡ first_lines job draws id thin (place + 1) ++ (line_at job draws id (plan_after job draws id step) next ++ rest))
+  lines_split place step next all here there few =
+      let front = lines_front (place + 1 + 1) (all - (place + 1 + 1)) in (
+        front.0,
+        ap (first_lines job draws id thin) (let at : all ≡ (place + 1 + 1) + (all - (place + 1 + 1)) = omega arith in at) ∙ front.1
+            ∙ ap (λ (t : List ℕ). t ++ front.0) (sym (lines_more place step next here there))
+            ∙ append_assoc (first_lines job draws id thin (place + 1)) (line_at job draws id (plan_after job draws id step) next) front.0,
+      )
+
   -- a trajectory's lines are the line that starts it and those of its plans
   pub trajectory_parts : trajectory_lines job draws thin id ≡ trace_id_line job id thin ++ first_lines job draws id thin (count_shown thin (own_steps job id))
   unfolding trajectory_lines
@@ -128,6 +139,17 @@ module _ (job : Job) (draws : Draws) (thin first : ℕ) where
         before.0 ++ trajectory_lines job draws thin (first + (n + more)),
         ap (range_lines job draws thin first) at ∙ ap (λ (t : List ℕ). t ++ trajectory_lines job draws thin (first + (n + more))) before.1
             ∙ append_assoc (range_lines job draws thin first n) before.0 (trajectory_lines job draws thin (first + (n + more))),
+      )
+
+  -- all lines are those of the first trajectories, of the next one and of the rest
+  pub range_split : (count all : ℕ) → count + 1 ≤ all
+      → (rest : List ℕ) × (range_lines job draws thin first all ≡ range_lines job draws thin first count ++ (trajectory_lines job draws thin (first + count) ++ rest))
+  range_split count all few =
+      let front = range_front (count + 1) (all - (count + 1)) in (
+        front.0,
+        ap (range_lines job draws thin first) (let at : all ≡ (count + 1) + (all - (count + 1)) = omega arith in at) ∙ front.1
+            ∙ ap (λ (t : List ℕ). t ++ front.0) (range_more count)
+            ∙ append_assoc (range_lines job draws thin first count) (trajectory_lines job draws thin (first + count)) front.0,
       )
 
   -- if the first trajectories are cut off, all are

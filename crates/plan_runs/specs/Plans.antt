@@ -14,6 +14,7 @@ use Rattle.audit_statement.specs.Jobs.{Jobs}
 use Rattle.report.specs.declared.ended.Ended.{Ended}
 use Rattle.report.specs.declared.ended.Ended.TheVariants as ended
 use Rattle.audit_statement.specs.Endings.{AppendsPart}
+use Rattle.audit_statement.specs.DueText.{LetsBytes, LetsText}
 use Rattle.audit_laws.specs.Runs.{IsRunJob}
 use Rattle.plan_runs.specs.Resources.{IsJudgeSet, IsResourcesFor}
 use Rattle.plan_runs.specs.declared.plans.PlanWalk.{PlanWalk}
@@ -55,3 +56,9 @@ ReportsPlans key jobs before after ended.Done = Appends before.bytes after.bytes
 ReportsPlans key jobs before after ended.WriteFault = AppendsPart before.bytes after.bytes (plans_text (draw key) jobs) × Rose before.faults after.faults
 ReportsPlans key jobs before after ended.NoMemory = after ≡ before
 ReportsPlans key jobs before after _ = ⊥
+
+-- the sink permits the reports of these jobs by the draws of their common key
+pub record LetsPlans (lets : LetsBytes) (out : Stream) (HaveKey : List ℕ → Type 0) (jobs : Jobs) : Type 0 where
+  pub key : List ℕ
+  pub have_key : HaveKey key
+  pub permitted : LetsText lets out (plans_text (draw key) jobs)

@@ -1,5 +1,5 @@
 -- The memory that a trace allocates before its first write, and the ways a trace can end.
-use Rattle.std.specs.Prelude.{◌≡◌, ℕ, List, [], ◌∷◌, codes, length}
+use Rattle.std.specs.Prelude.{◌≡◌, ℕ, List, [], ◌∷◌, Ok, codes, length}
 use Rattle.std.specs.Io.KnownBytes.{Appends}
 use Rattle.audit_model.specs.Faults.{Rose}
 use Rattle.audit_model.specs.State.{Stream}
@@ -15,6 +15,8 @@ use Rattle.plan_runs.specs.declared.tracing.Traced.{Traced}
 use Rattle.plan_runs.specs.declared.tracing.TraceRange.{TraceRange}
 use Rattle.plan_runs.specs.declared.tracing.Tracer.{Tracer}
 use Rattle.plan_runs.specs.LineBuffers.{IsLineBuffer}
+use Rattle.report.specs.AddedText.{WritesAllOf}
+use Rattle.audit_statement.specs.DueText.{LetsBytes, LetsText}
 use Rattle.report.specs.declared.ended.Ended.{Ended}
 use Rattle.report.specs.declared.ended.Ended.TheVariants as ended
 
@@ -56,3 +58,9 @@ TracesJob job range before after ended.Done = Appends before.bytes after.bytes (
 TracesJob job range before after ended.WriteFault = AppendsPart before.bytes after.bytes (text_of_range job range) × Rose before.faults after.faults
 TracesJob job range before after ended.NoMemory = after ≡ before
 TracesJob job range before after _ = ⊥
+
+-- the sink permits the lines of a trajectory, of which it took the first
+pub record LetsLines (lets : LetsBytes) (now : Stream) (job : Job) (traced : Traced) : Type 0 where
+  pub start : Stream
+  pub taken : WritesAllOf start now (first_lines job (draw job.setting.key) traced.id traced.thin 1) (Ok tt)
+  pub permitted : LetsText lets start (all_lines job traced)

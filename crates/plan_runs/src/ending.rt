@@ -7,6 +7,7 @@ ghost use Rattle.audit_statement.specs.Draw.{draw};
 ghost use Rattle.audit_statement.specs.Report.{report};
 ghost use Rattle.report.specs.Outcomes.{reported};
 ghost use Rattle.audit_statement.specs.Endings.{AreInitialOutcomes, saves};
+ghost use Rattle.audit_statement.specs.DueText.{LetsText};
 ghost use Rattle.plan_runs.specs.Ending.{SavedBy, ended_as, ended_by, stopped_by};
 ghost use Rattle.plan_runs.specs.Found.{HasFound, IsReportable, listed_in, observed_in};
 ghost use Rattle.plan_runs.specs.Serially.{IsTester};
@@ -117,6 +118,7 @@ pub fn end_run<K: Sink, J: Judge>(
 ) -> Finished
     requires reportable { IsReportable job.now found }
     requires tester { IsTester job.now tester }
+    requires text { reported job.now ≤ found.listed → LetsText K.lets (K.state out.old) (report job.now (listed_in found) (observed_in found) (serial_observed job.now (draw job.now.setting.key))) }
     ensures { (initial_outcomes : List model.Outcome) (before after : KeeperState) → AreInitialOutcomes job.now before.slots initial_outcomes → HasFound job.now initial_outcomes found
         → SavedBy (saves job.now.setting) job.now initial_outcomes before after saved
         → Finishes job.now (K.state out.old) (K.state out.new) before after (ended_as result) }

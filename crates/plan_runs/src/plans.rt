@@ -2,11 +2,12 @@
 
 ghost use Rattle.std.specs.Prelude.{◌≡◌, ◌++◌, ℕ, [], List, All, IfOk, map};
 ghost use Rattle.report.specs.AddedText.{WritesAllOf};
+ghost use Rattle.audit_statement.specs.DueText.{LetsText};
 ghost use Rattle.audit_statement.specs.Draw.{draw};
 ghost use Rattle.plan_csv.specs.Named.{jobs_of, pair_of};
 ghost use Rattle.audit_statement.specs.Report.{plan_text, plans_text, thread_report};
 ghost use Rattle.plan_runs.specs.Resources.{IsJudgeSet, IsResourcesFor};
-ghost use Rattle.plan_runs.specs.Plans.{AreJudgeSets, AreWalksFor, IsWalkOf, ReportsPlans, RunsAlone, plan_title, walk_pair};
+ghost use Rattle.plan_runs.specs.Plans.{AreJudgeSets, AreWalksFor, IsWalkOf, LetsPlans, ReportsPlans, RunsAlone, plan_title, walk_pair};
 
 use crate::ending::text_of;
 use crate::resources::{Resources, make_resources};
@@ -68,6 +69,7 @@ fn make_walks<J: Judge>(
 }
 
 fn write_title<K: Sink>(out: &mut K, name: &str) -> Result<(), Failed>
+    requires { LetsText K.lets (K.state out.old) (plan_title name.now) }
     ensures { WritesAllOf (K.state out.old) (K.state out.new) (plan_title name.now) result }
 {
     match write_all(out, b"plan ") {
@@ -100,6 +102,7 @@ fn walk_plan<R: Threads + Sync, J: Judge + Send, G: Gate + Sync>(
 }
 
 fn write_plan<K: Sink>(out: &mut K, name: &str, text: &[u8]) -> Result<(), Failed>
+    requires { LetsText K.lets (K.state out.old) (plan_title name.now ++ text.now) }
     ensures { WritesAllOf (K.state out.old) (K.state out.new) (plan_title name.now ++ text.now) result }
 {
     match write_title(out, name) {
@@ -114,7 +117,8 @@ fn report_plan<R: Threads + Sync, K: Sink, J: Judge + Send, G: Gate + Sync>(
     walk: PlanWalk<J>,
     out: &mut K,
 ) -> Result<(), Failed>
-    requires { IsWalkOf walk }
+    requires walk { IsWalkOf walk }
+    requires text { LetsText K.lets (K.state out.old) (plan_text (draw walk.plan.job.setting.key) (walk_pair walk)) }
     ensures { WritesAllOf (K.state out.old) (K.state out.new) (plan_text (draw walk.plan.job.setting.key) (walk_pair walk)) result }
 {
     let PlanWalk { plan, resources } = walk;
@@ -130,7 +134,8 @@ fn report_each<R: Threads + Sync, K: Sink, J: Judge + Send, G: Gate + Sync>(
     walks: Vec<PlanWalk<J>>,
     out: &mut K,
 ) -> Result<(), Failed>
-    requires { All (IsWalkOf) walks.items }
+    requires walks { All (IsWalkOf) walks.items }
+    requires text { LetsPlans K.lets (K.state out.old) (λ key. All (λ w. w.plan.job.setting.key ≡ key) walks.items) (map walk_pair walks.items) }
     ensures { (key : List ℕ) → All (λ w. w.plan.job.setting.key ≡ key) walks.items
         → WritesAllOf (K.state out.old) (K.state out.new) (plans_text (draw key) (map walk_pair walks.items)) result }
 {
@@ -153,6 +158,7 @@ pub fn report_plans<R: Threads + Sync, K: Sink, J: Judge + Send, G: Gate + Sync>
 ) -> Ended
     requires plans { All (λ n. RunsAlone n.job) plans.items }
     requires judges { AreJudgeSets J.judging plans.items judges.items }
+    requires text { LetsPlans K.lets (K.state out.old) (λ key. All (λ n. n.job.setting.key ≡ key) plans.items) (jobs_of plans.items) }
     ensures { (key : List ℕ) → All (λ n. n.job.setting.key ≡ key) plans.items → ReportsPlans key (jobs_of plans.items) (K.state out.old) (K.state out.new) result }
 {
     match make_walks(rt.alloc, plans, judges) {

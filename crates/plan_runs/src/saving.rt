@@ -6,6 +6,7 @@ ghost use Rattle.audit_statement.specs.Endings.{AreInitialOutcomes, saves};
 ghost use Rattle.audit_statement.specs.Due.{LetsSavesOf};
 ghost use Rattle.audit_laws.specs.Calls.{Finishes};
 ghost use Rattle.audit_start.specs.ResumeState.{IsTargetFor};
+ghost use Rattle.audit_statement.specs.DueText.{LetsReport};
 ghost use Rattle.plan_runs.specs.Resources.{IsJudgeSet};
 ghost use Rattle.plan_runs.specs.RunBuffers.{IsStartOf};
 ghost use Rattle.plan_runs.specs.Serially.{IsTester};
@@ -131,6 +132,7 @@ pub fn run_saved<
     requires opened { AreInitialOutcomes job.now (C.state resources.state.keeper).slots resources.state.book.outcomes }
     requires resources { IsSavedResourcesFor job.now resources }
     requires lets { LetsSavesOf C.lets job.now (C.state resources.state.keeper) }
+    requires text { LetsReport K.lets job.now (K.state out.old) resources.state.book.outcomes }
     ensures { Finishes job.now (K.state out.old) (K.state out.new)
         (C.state resources.state.keeper) (C.state result.1) result.0 }
 {

@@ -5,12 +5,14 @@ ghost use Rattle.audit_model.specs.Limits.{most_trajectories};
 ghost use Rattle.audit_model.specs.Rounded.{quotient_up};
 ghost use Rattle.audit_model.specs.State.{Stream};
 ghost use Rattle.audit_model.specs.Trajectory.{hub as hub_of};
+ghost use Rattle.audit_statement.specs.Along.{ask_values};
 ghost use Rattle.audit_statement.specs.Draw.{draw};
 ghost use Rattle.audit_statement.specs.Trace as definition;
 ghost use Rattle.flip_kernel.specs.Judged.{IsJudgeFor};
 ghost use Rattle.plan_runs.specs.LineBuffers.{IsLineBuffer};
-ghost use Rattle.plan_runs.specs.Tracers.{IsCurrentAt, AreTraceBuffersFor, IsTracer, TracesJob, all_lines, end_line, lines_of_range};
+ghost use Rattle.plan_runs.specs.Tracers.{IsCurrentAt, AreTraceBuffersFor, IsTracer, LetsLines, TracesJob, all_lines, end_line, lines_of_range, text_of_range};
 ghost use Rattle.report.specs.AddedText.{WritesAllOf};
+ghost use Rattle.audit_statement.specs.DueText.{LetsText};
 ghost use Rattle.walker.specs.Walked.{IsUnderWay};
 
 use crate::line_buffer::{LineBuffer, make_line_buffer, put_plan, start_trajectory};
@@ -106,6 +108,7 @@ fn write_line<J: Judge, K: Sink>(
 ) -> Result<(), Failed>
     requires made { walker.old.job ≡ job.now }
     requires line_buffer { IsLineBuffer job.now line_buffer.old }
+    requires text { LetsText K.lets (K.state out.old) (definition.plan_line step moved (ask_values job.now walker.old.plan) line_buffer.old.before walker.old.plan) }
     ensures line_buffer { IsLineBuffer job.now line_buffer.new }
     ensures before { line_buffer.new.before ≡ walker.old.plan }
     ensures same { walker.new ≡ walker.old }
@@ -137,6 +140,7 @@ fn write_strides<J: Judge, K: Sink>(
     requires line_buffer { IsLineBuffer job.now tracer.old.line_buffer }
     requires way { IsUnderWay job.now traced.id 0 tracer.old.walker way.old }
     requires before { tracer.old.line_buffer.before ≡ tracer.old.walker.plan }
+    requires text { LetsLines K.lets (K.state out.old) job.now traced }
     ensures tracer { IsTracer job.now tracer.new }
     ensures written { (before : Stream) → WritesAllOf before (K.state out.old) (definition.first_lines job.now (draw job.now.setting.key) traced.id traced.thin 1) (Ok tt)
         → WritesAllOf before (K.state out.new) (all_lines job.now traced) result }
@@ -176,6 +180,7 @@ fn write_lines<J: Judge, K: Sink>(
     requires line_buffer { IsLineBuffer job.now tracer.old.line_buffer }
     requires way { IsUnderWay job.now traced.id 0 tracer.old.walker way.old }
     requires before { tracer.old.line_buffer.before ≡ job.now.start }
+    requires text { LetsText K.lets (K.state out.old) (all_lines job.now traced) }
     ensures tracer { IsTracer job.now tracer.new }
     ensures written { WritesAllOf (K.state out.old) (K.state out.new) (all_lines job.now traced) result }
 {
@@ -202,6 +207,7 @@ fn write_trajectory<J: Judge, K: Sink>(
     requires thin { 0 < traced.thin }
     requires tracer { IsTracer job.now tracer.old }
     requires hub { job.now.setting.walks ≤ traced.id → hub.now ≡ hub_of job.now (draw job.now.setting.key) }
+    requires text { LetsText K.lets (K.state out.old) (definition.trajectory_lines job.now (draw job.now.setting.key) traced.thin traced.id) }
     ensures tracer { IsTracer job.now tracer.new }
     ensures written { WritesAllOf (K.state out.old) (K.state out.new) (definition.trajectory_lines job.now (draw job.now.setting.key) traced.thin traced.id) result }
 {
@@ -226,6 +232,7 @@ fn write_range<J: Judge, K: Sink>(
     requires few { range.last < most_trajectories }
     requires tracer { IsTracer job.now tracer.old }
     requires hub { job.now.setting.walks ≤ range.last → hub.now ≡ hub_of job.now (draw job.now.setting.key) }
+    requires text { LetsText K.lets (K.state out.old) (lines_of_range job.now range (range.last + 1 - range.first)) }
     ensures { WritesAllOf (K.state out.old) (K.state out.new) (lines_of_range job.now range (range.last + 1 - range.first)) result }
 {
     for place in 0..range.last + 1 - range.first {
@@ -264,6 +271,7 @@ fn write_body<J: Judge, K: Sink>(
     requires order { range.first ≤ range.last }
     requires few { range.last < most_trajectories }
     requires buffers { AreTraceBuffersFor job.now buffers.old }
+    requires text { LetsText K.lets (K.state out.old) (lines_of_range job.now range (range.last + 1 - range.first) ++ end_line) }
     ensures { WritesAllOf (K.state out.old) (K.state out.new) (lines_of_range job.now range (range.last + 1 - range.first) ++ end_line) result }
 {
     find_hub(
@@ -289,6 +297,7 @@ fn write_trace<J: Judge, K: Sink>(
     requires order { range.first ≤ range.last }
     requires few { range.last < most_trajectories }
     requires buffers { AreTraceBuffersFor job.now buffers.old }
+    requires text { LetsText K.lets (K.state out.old) (definition.trace_text job.now (draw job.now.setting.key) range.first range.last range.thin) }
     ensures { WritesAllOf (K.state out.old) (K.state out.new) (definition.trace_text job.now (draw job.now.setting.key) range.first range.last range.thin) result }
 {
     match write_all(out, buffers.head.as_slice()) {
@@ -310,6 +319,7 @@ pub fn trace<J: Judge, K: Sink>(
     requires thin { 0 < range.thin }
     requires order { range.first ≤ range.last }
     requires few { range.last < most_trajectories }
+    requires text { LetsText K.lets (K.state out.old) (text_of_range job.now range) }
     ensures { TracesJob job.now range (K.state out.old) (K.state out.new) result }
 {
     match make_buffers(alloc, job, judge) {

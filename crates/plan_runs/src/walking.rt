@@ -4,6 +4,7 @@ ghost use Rattle.std.specs.Prelude.{◌≡◌, false, length};
 ghost use Rattle.audit_statement.specs.Endings.{AreInitialOutcomes, saves};
 ghost use Rattle.audit_laws.specs.Calls.{Finishes};
 ghost use Rattle.audit_model.specs.State.{KeeperState};
+ghost use Rattle.audit_statement.specs.DueText.{LetsReport};
 ghost use Rattle.plan_runs.specs.Ending.{ended_as};
 ghost use Rattle.plan_runs.specs.Found.{HasFound};
 ghost use Rattle.plan_runs.specs.Resources.{AreWorkersFor, AreWorkersForAll, AreWorkersForStops, IsResourcesFor};
@@ -99,6 +100,7 @@ pub fn run_unsaved<R: Threads + Sync, K: Sink, J: Judge + Send, G: Gate + Sync>(
 ) -> Finished
     requires unsaved { saves job.now.setting ≡ false }
     requires resources { IsResourcesFor job.now resources }
+    requires text { LetsReport K.lets job.now (K.state out.old) resources.buffers.book.outcomes }
     ensures { (k : KeeperState) → AreInitialOutcomes job.now k.slots resources.buffers.book.outcomes → Finishes job.now (K.state out.old) (K.state out.new) k k (ended_as result) }
 {
     let Resources {

@@ -3,6 +3,7 @@ pub mod Appended
 pub mod Changes
 pub mod Escapes
 pub mod Heads
+pub mod Letting
 pub mod Limits
 pub mod Longest
 pub mod Pieces

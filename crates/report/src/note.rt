@@ -4,8 +4,9 @@
 ghost use Rattle.std.specs.Prelude.{◌≡◌, ◌∷◌, codes, decimal, map, []};
 ghost use Rattle.report.specs.Pieces.{piece_text};
 ghost use Rattle.report.specs.Ended.{ending_of, columns_kept};
+ghost use Rattle.audit_statement.specs.DueText.{LetsText};
 ghost use Rattle.audit_statement.specs.Endings.{AddsLine, WritesEnding};
-ghost use Rattle.audit_statement.specs.Status.{status_of};
+ghost use Rattle.audit_statement.specs.Status.{line_of, status_of};
 ghost use Rattle.audit_statement.specs.Note as terms;
 
 mod arguments;
@@ -31,6 +32,7 @@ pub use output::add_line;
 
 /// Writes the diagnostic and returns the exit status.
 pub fn write_diagnostic<N: Sink>(why: &Ended, note: &mut N) -> u8
+    requires { LetsText N.lets (N.state note.old) (line_of (columns_kept why.now) (ending_of why.now)) }
     ensures status { result ≡ status_of (ending_of why.now) }
     ensures observed { WritesEnding (columns_kept why.now) (N.state note.old) (N.state note.new) (ending_of why.now) }
 {
@@ -39,6 +41,7 @@ pub fn write_diagnostic<N: Sink>(why: &Ended, note: &mut N) -> u8
 }
 
 fn write_reason<N: Sink>(why: &Ended, note: &mut N)
+    requires { LetsText N.lets (N.state note.old) (line_of (columns_kept why.now) (ending_of why.now)) }
     ensures { WritesEnding (columns_kept why.now) (N.state note.old) (N.state note.new) (ending_of why.now) }
 {
     match why {
@@ -65,6 +68,7 @@ fn write_reason<N: Sink>(why: &Ended, note: &mut N)
 }
 
 fn write_stopped<N: Sink>(note: &mut N, done: u32, total: u32)
+    requires { LetsText N.lets (N.state note.old) (terms.as_line (codes "stopped: " ∷ decimal done ∷ codes " of " ∷ decimal total ∷ codes " done" ∷ [])) }
     ensures { AddsLine (N.state note.old) (N.state note.new) (terms.as_line (codes "stopped: " ∷ decimal done ∷ codes " of " ∷ decimal total ∷ codes " done" ∷ [])) }
 {
     write_fault(
@@ -76,6 +80,7 @@ fn write_stopped<N: Sink>(note: &mut N, done: u32, total: u32)
 
 // Writes the subject of a fault and the line about it.
 fn write_fault<N: Sink>(note: &mut N, subject: &str, line: Line)
+    requires { LetsText N.lets (N.state note.old) (terms.as_line (subject.now ∷ map piece_text line)) }
     ensures { AddsLine (N.state note.old) (N.state note.new) (terms.as_line (subject.now ∷ map piece_text line.entry)) }
 {
     write_note(note, &[Text(subject)], &line);

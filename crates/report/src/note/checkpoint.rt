@@ -3,6 +3,7 @@
 ghost use Rattle.std.specs.Prelude.{◌≡◌, ◌∷◌, codes, []};
 ghost use Rattle.ckpt_store.specs.View.{slot_view};
 ghost use Rattle.hex.specs.Hex.{encode_lower};
+ghost use Rattle.audit_statement.specs.DueText.{LetsText};
 ghost use Rattle.audit_statement.specs.Endings.{AddsLine};
 ghost use Rattle.audit_statement.specs.Note as terms;
 
@@ -14,6 +15,7 @@ use ckpt_store::slots::{Slot, Slots};
 
 /// Writes the diagnostic of two slots if neither is valid and at least one is not empty.
 pub(crate) fn write_damaged<N: Sink>(note: &mut N, slots: &Slots)
+    requires { LetsText N.lets (N.state note.old) (terms.as_line (codes "checkpoint: slot 0 " ∷ terms.slot_name (slot_view slots.now.zero) ∷ codes ", slot 1 " ∷ terms.slot_name (slot_view slots.now.one) ∷ [])) }
     ensures { AddsLine (N.state note.old) (N.state note.new) (terms.as_line (codes "checkpoint: slot 0 " ∷ terms.slot_name (slot_view slots.now.zero) ∷ codes ", slot 1 " ∷ terms.slot_name (slot_view slots.now.one) ∷ [])) }
 {
     write_note(
@@ -30,6 +32,7 @@ pub(crate) fn write_damaged<N: Sink>(note: &mut N, slots: &Slots)
 /// Writes the diagnostic if the newest slot belongs to another job. `found` is the digest of that
 /// job, `wanted` that of this one.
 pub(crate) fn write_other_job<'x, N: Sink>(note: &mut N, found: &'x [u8; 32], wanted: &'x [u8; 32])
+    requires { LetsText N.lets (N.state note.old) (terms.as_line (codes "checkpoint: other job " ∷ encode_lower found.now ∷ codes ", this job " ∷ encode_lower wanted.now ∷ [])) }
     ensures { AddsLine (N.state note.old) (N.state note.new) (terms.as_line (codes "checkpoint: other job " ∷ encode_lower found.now ∷ codes ", this job " ∷ encode_lower wanted.now ∷ [])) }
 {
     write_note(

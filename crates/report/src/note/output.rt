@@ -3,7 +3,8 @@
 ghost use Rattle.std.specs.Prelude.{◌≡◌, ◌++◌, ◌∷◌, List, ℕ, flat_map, map, []};
 ghost use Rattle.hex.specs.Hex.{encode_lower};
 ghost use Rattle.report.specs.Pieces.{piece_text};
-ghost use Rattle.report.specs.AddedText.{AddsText, HasAdded};
+ghost use Rattle.report.specs.AddedText.{AddsText, HasAdded, LetsNext};
+ghost use Rattle.audit_statement.specs.DueText.{LetsText};
 ghost use Rattle.audit_statement.specs.Endings.{AddsLine};
 ghost use Rattle.audit_model.specs.State.{Stream};
 ghost use Rattle.audit_statement.specs.Note as terms;
@@ -18,6 +19,7 @@ use itoa::Buffer;
 /// Writes these pieces as one line. Writes nothing if `going` is false, which means that an earlier
 /// write failed. Returns true if no write has failed.
 pub fn add_line<N: Sink>(note: &mut N, going: bool, first: &[Piece], pieces: &[Piece]) -> bool
+    requires { LetsNext N.lets (N.state note.old) going (terms.as_line (map piece_text first.now ++ map piece_text pieces.now)) }
     ensures { AddsText (N.state note.old) (N.state note.new) going (terms.as_line (map piece_text first.now ++ map piece_text pieces.now)) result }
 {
     let going = add_pieces(note, going, first);
@@ -27,6 +29,7 @@ pub fn add_line<N: Sink>(note: &mut N, going: bool, first: &[Piece], pieces: &[P
 
 /// Writes these pieces as one line.
 pub(crate) fn write_note<N: Sink>(note: &mut N, first: &[Piece], pieces: &[Piece])
+    requires { LetsText N.lets (N.state note.old) (terms.as_line (map piece_text first.now ++ map piece_text pieces.now)) }
     ensures { AddsLine (N.state note.old) (N.state note.new) (terms.as_line (map piece_text first.now ++ map piece_text pieces.now)) }
 {
     // The line is the last output, so nothing depends on the result.
@@ -35,6 +38,7 @@ pub(crate) fn write_note<N: Sink>(note: &mut N, first: &[Piece], pieces: &[Piece
 
 /// Writes this text as a line.
 pub(crate) fn write_text<N: Sink>(note: &mut N, text: &str)
+    requires { LetsText N.lets (N.state note.old) (terms.as_line (text.now ∷ [])) }
     ensures { AddsLine (N.state note.old) (N.state note.new) (terms.as_line (text.now ∷ [])) }
 {
     write_note(note, &[Text(text)], &[]);
@@ -42,6 +46,7 @@ pub(crate) fn write_text<N: Sink>(note: &mut N, text: &str)
 
 // Writes these pieces of a line, if `going` is true. Returns false after a failure.
 fn add_pieces<N: Sink>(note: &mut N, going: bool, pieces: &[Piece]) -> bool
+    requires { LetsNext N.lets (N.state note.old) going (flat_map piece_text pieces.now) }
     ensures { (start : Stream) (text_so_far : List ℕ) → HasAdded start (N.state note.old) text_so_far going
         → HasAdded start (N.state note.new) (text_so_far ++ flat_map piece_text pieces.now) result }
 {
@@ -54,6 +59,7 @@ fn add_pieces<N: Sink>(note: &mut N, going: bool, pieces: &[Piece]) -> bool
 
 // Writes this piece of a line, if `going` is true. Returns false after a failure.
 fn add_piece<N: Sink>(note: &mut N, going: bool, piece: &Piece) -> bool
+    requires { LetsNext N.lets (N.state note.old) going (piece_text piece.now) }
     ensures { (start : Stream) (text_so_far : List ℕ) → HasAdded start (N.state note.old) text_so_far going
         → HasAdded start (N.state note.new) (text_so_far ++ piece_text piece.now) result }
 {
@@ -69,6 +75,7 @@ fn add_piece<N: Sink>(note: &mut N, going: bool, piece: &Piece) -> bool
 
 // Writes these bytes of a line, if `going` is true. Returns false after a failure.
 fn add<N: Sink>(note: &mut N, going: bool, piece: &[u8]) -> bool
+    requires { LetsNext N.lets (N.state note.old) going piece.now }
     ensures { (start : Stream) (text_so_far : List ℕ) → HasAdded start (N.state note.old) text_so_far going
         → HasAdded start (N.state note.new) (text_so_far ++ piece.now) result }
 {

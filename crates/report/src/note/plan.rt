@@ -2,6 +2,7 @@
 
 ghost use Rattle.std.specs.Prelude.{◌≡◌, ◌∷◌, codes, decimal, map, []};
 ghost use Rattle.report.specs.Pieces.{piece_text};
+ghost use Rattle.audit_statement.specs.DueText.{LetsText};
 ghost use Rattle.audit_statement.specs.Endings.{AddsLine};
 ghost use Rattle.audit_model.specs.declared.fault.PlanFault.TheVariants.{Disconnected, OutOfBounds, TooFewMajorities, TooLong, TooManySplit};
 ghost use Rattle.audit_statement.specs.Note as terms;
@@ -15,6 +16,7 @@ use audit_model::text;
 
 /// Writes the diagnostic of a refused plan of a table, with the plan's name.
 pub(crate) fn write_named<N: Sink>(note: &mut N, name: &text::Text, fault: &PlanFault)
+    requires { LetsText N.lets (N.state note.old) (terms.as_line (codes "plan " ∷ name.now ∷ codes ": " ∷ terms.plan_note fault.now)) }
     ensures { AddsLine (N.state note.old) (N.state note.new) (terms.as_line (codes "plan " ∷ name.now ∷ codes ": " ∷ terms.plan_note fault.now)) }
 {
     let name = name.as_str();

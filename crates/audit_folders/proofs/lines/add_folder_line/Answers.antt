@@ -1,4 +1,5 @@
 use Rattle.audit_folders.proofs.Texts.{adds_as}
+use Rattle.report.proofs.Letting.{next_as}
 use Rattle.audit_folders.proofs.lines.add_folder_line.Goals as goal
 
 pub returns-in-Added : goal.returns-in-Added
@@ -21,3 +22,24 @@ returns-in-Taken g c = adds_as c.add_line-in-Taken.ensures (rw (c.in-Taken.is, c
 
 pub returns-in-Differs : goal.returns-in-Differs
 returns-in-Differs g c = adds_as c.add_line-in-Differs.ensures (rw (c.in-Differs.is, c.differing_pieces-line.ensures, c.name_of.ensures))
+
+pub add_line-requires : goal.add_line-requires
+add_line-requires g c = next_as c.requires (rw (c.in-Added.is, c.added_pieces-line.ensures))
+
+pub add_line-requires-in-Nothing : goal.add_line-requires-in-Nothing
+add_line-requires-in-Nothing g c = next_as c.requires (rw (c.in-Nothing.is, c.named_pieces-line.ensures))
+
+pub add_line-requires-in-OtherJob : goal.add_line-requires-in-OtherJob
+add_line-requires-in-OtherJob g c = next_as c.requires (rw (c.in-OtherJob.is, c.named_pieces-line-in-OtherJob.ensures))
+
+pub add_line-requires-in-Damaged : goal.add_line-requires-in-Damaged
+add_line-requires-in-Damaged g c = next_as c.requires (rw (c.in-Damaged.is, c.named_pieces-line-in-Damaged.ensures))
+
+pub add_line-requires-in-Unread : goal.add_line-requires-in-Unread
+add_line-requires-in-Unread g c = next_as c.requires (rw (c.in-Unread.is, c.named_pieces-line-in-Unread.ensures))
+
+pub add_line-requires-in-Taken : goal.add_line-requires-in-Taken
+add_line-requires-in-Taken g c = next_as c.requires (rw (c.in-Taken.is, c.named_pieces-line-in-Taken.ensures))
+
+pub add_line-requires-in-Differs : goal.add_line-requires-in-Differs
+add_line-requires-in-Differs g c = next_as c.requires (rw (c.in-Differs.is, c.differing_pieces-line.ensures, c.name_of.ensures))

@@ -2,8 +2,8 @@ use Rattle.std.proofs.Common.{◌∙◌, sym}
 use Rattle.std.proofs.lemmas.Bool.{false≢true}
 use Rattle.audit_run.proofs.audit.audit_asked.Goals as goal
 
-pub audit_plans-status-requires-after_bounds : goal.audit_plans-status-requires-after_bounds
-audit_plans-status-requires-after_bounds g c κs within = sym c.names_plans.ensures ∙ c.if-names_plans.true
+pub audit_plans-status-requires-clause-plans : goal.audit_plans-status-requires-clause-plans
+audit_plans-status-requires-clause-plans g c κs within = sym c.names_plans.ensures ∙ c.if-names_plans.true
 
 pub returns-then-names_plans : goal.returns-then-names_plans
 returns-then-names_plans g c = record {
@@ -16,3 +16,15 @@ returns g c = record {
   one = λ single. c.audit_single.ensures;
   several = λ many. absurd (false≢true (sym c.if-names_plans.false ∙ c.names_plans.ensures ∙ many));
 }
+
+pub audit_plans-status-requires-clause-text : goal.audit_plans-status-requires-clause-text
+audit_plans-status-requires-clause-text g c κs within = c.requires.text.several (sym c.names_plans.ensures ∙ c.if-names_plans.true)
+
+pub audit_plans-status-requires-clause-note : goal.audit_plans-status-requires-clause-note
+audit_plans-status-requires-clause-note g c κs within = c.requires.note.several (sym c.names_plans.ensures ∙ c.if-names_plans.true)
+
+pub audit_single-requires-clause-text : goal.audit_single-requires-clause-text
+audit_single-requires-clause-text g c κs within = c.requires.text.one (sym c.names_plans.ensures ∙ c.if-names_plans.false)
+
+pub audit_single-requires-clause-note : goal.audit_single-requires-clause-note
+audit_single-requires-clause-note g c κs within = c.requires.note.one (sym c.names_plans.ensures ∙ c.if-names_plans.false)

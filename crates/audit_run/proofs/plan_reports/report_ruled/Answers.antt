@@ -12,11 +12,11 @@ use Rattle.audit_run.proofs.Pairing.{paired_with}
 use Rattle.audit_run.proofs.plan_reports.report_ruled.Goals as goal
 
 pub first_of-first-requires : goal.first_of-first-requires
-first_of-first-requires g c = omega (arith, ap length c.as_slice.ensures.value, c.requires.shared.some)
+first_of-first-requires g c = omega (arith, ap length c.as_slice.ensures.value, c.requires.plans.shared.some)
 
 pub overflow_add-workers : goal.overflow_add-workers
 overflow_add-workers g c =
-    let of = run_setting c.first_of-first.ensures.0.job (of_first (λ (n : Named). RunsAlone n.job) c.args.plans.items c.first_of-first.ensures.0 (rw c.as_slice.ensures.value at c.first_of-first.ensures.1) c.requires.shared.some c.requires.alone).run in
+    let of = run_setting c.first_of-first.ensures.0.job (of_first (λ (n : Named). RunsAlone n.job) c.args.plans.items c.first_of-first.ensures.0 (rw c.as_slice.ensures.value at c.first_of-first.ensures.1) c.requires.plans.shared.some c.requires.plans.alone).run in
     let workers = ap (λ (s : Setting). s.workers) (c.setting.ensures.value ∙ ap (λ (j : Job). j.setting) c.first_of-first.ensures.2) in
     omega (arith, workers, of.few_workers)
 
@@ -26,7 +26,7 @@ ruled_judge_sets-requires-clause-plans g c =
     let split = ap (λ (r : Rules). r.max_split) c.rules-rules.ensures.value ∙ ap (λ (j : Job). j.setting.max_split) c.first_of-first.ensures.2 in
     let workers = ap (λ (s : Setting). s.workers) c.setting.ensures.value ∙ ap (λ (j : Job). j.setting.workers) c.first_of-first.ensures.2 in
     rw c.as_slice-2.ensures.value (λ k d inside.
-    let like = (all_like c.args.plans.items c.first_of-first.ensures.0 (rw c.as_slice.ensures.value at c.first_of-first.ensures.1) c.requires) k d inside in
+    let like = (all_like c.args.plans.items c.first_of-first.ensures.0 (rw c.as_slice.ensures.value at c.first_of-first.ensures.1) c.requires.plans) k d inside in
     record {
       sound = like.sound;
       cut_is = ap (λ (s : Setting). s.max_cut) like.set ∙ sym cut;
@@ -61,10 +61,10 @@ report_plans-requires-clause-judges g c κs within =
             taken = takes_plans n.job _ _ each.sound.within is.rules_are is.districts_are;
           };
       count_is = judge_set.count_is ∙ ap (λ n. n + 1) (workers ∙ sym (ap (λ (s : Setting). s.workers) same));
-    }) c.args.plans.items c.in-Ok.judge_sets.items (all_like c.args.plans.items c.first_of-first.ensures.0 (rw c.as_slice.ensures.value at c.first_of-first.ensures.1) c.requires) (rw c.as_slice-2.ensures.value at c.in-Ok.ensures)
+    }) c.args.plans.items c.in-Ok.judge_sets.items (all_like c.args.plans.items c.first_of-first.ensures.0 (rw c.as_slice.ensures.value at c.first_of-first.ensures.1) c.requires.plans) (rw c.as_slice-2.ensures.value at c.in-Ok.ensures)
 
 pub returns-in-Err : goal.returns-in-Err
 returns-in-Err g c = λ key all. refl
 
 pub report_plans-requires-clause-plans : goal.report_plans-requires-clause-plans
-report_plans-requires-clause-plans g c κs within = c.requires.alone
+report_plans-requires-clause-plans g c κs within = c.requires.plans.alone

@@ -3,6 +3,7 @@ use Rattle.audit_start.specs.ResumeState.{IsOpened}
 use Rattle.audit_model.specs.State.{KeeperState}
 use Rattle.audit_statement.specs.Due.{LetsSavesOf}
 use Rattle.audit_run.proofs.Placing.{goes_on}
+use Rattle.audit_statement.specs.DueText.{LetsReportFrom}
 use Rattle.audit_run.proofs.run.run_job.Goals as goal
 
 pub run_with_cut_limit-requires-clause-opened : goal.run_with_cut_limit-requires-clause-opened
@@ -24,3 +25,11 @@ returns-then-len-eq0-2 g c = goes_on c.args.job.now _ _ _ _ _ _ c.in-Ok.ensures.
 
 pub returns-else-len-eq0 : goal.returns-else-len-eq0
 returns-else-len-eq0 g c = goes_on c.args.job.now _ _ _ _ _ _ c.in-Ok.ensures.same c.run_with_all_rules.ensures
+
+pub run_with_cut_limit-requires-clause-text : goal.run_with_cut_limit-requires-clause-text
+run_with_cut_limit-requires-clause-text g c κs within =
+    subst (λ (k : KeeperState). LetsReportFrom g.K.Sink.lets c.args.job.now (g.K.Sink.state c.args.out.now) k.slots) (sym c.in-Ok.ensures.same) c.requires.text
+
+pub run_with_all_rules-requires-clause-text : goal.run_with_all_rules-requires-clause-text
+run_with_all_rules-requires-clause-text g c κs within =
+    subst (λ (k : KeeperState). LetsReportFrom g.K.Sink.lets c.args.job.now (g.K.Sink.state c.args.out.now) k.slots) (sym c.in-Ok.ensures.same) c.requires.text

@@ -7,6 +7,7 @@ use Rattle.audit_statement.specs.Endings.{AreInitialOutcomes}
 use Rattle.plan_runs.specs.RunBuffers.{IsStartOf}
 use Rattle.audit_laws.specs.Calls.{Finishes}
 use Rattle.audit_run.proofs.Placing.{no_target_observed, starts_so, target_observed}
+use Rattle.audit_statement.specs.DueText.{LetsReport}
 use Rattle.audit_run.proofs.run.run_with_judges.Goals as goal
 
 pub run_without_saves-requires-clause-unsaved : goal.run_without_saves-requires-clause-unsaved
@@ -50,3 +51,12 @@ returns-in-Ok g c =
     let after = g.K.Sink.state c.run_saved.new.out in
     let end = c.run_saved.result in
     subst (λ (x : g.row.C.Denot). Finishes c.args.job.now before after (g.C.Keeper.state x) (g.C.Keeper.state end.1) end.0) c.in-Ok.ensures.keeper c.run_saved.ensures
+
+pub run_without_saves-requires-clause-text : goal.run_without_saves-requires-clause-text
+run_without_saves-requires-clause-text g c κs within =
+    subst (λ (os : List Outcome). LetsReport g.K.Sink.lets c.args.job.now (g.K.Sink.state c.args.out.now) os) (sym c.as_slice.ensures) (c.requires.text _ c.requires.opened.opened)
+
+pub run_saved-requires-clause-text : goal.run_saved-requires-clause-text
+run_saved-requires-clause-text g c κs within =
+    subst (λ (os : List Outcome). LetsReport g.K.Sink.lets c.args.job.now (g.K.Sink.state c.args.out.now) os) (sym (c.in-Ok.ensures.outcomes ∙ c.as_slice-in-Some.ensures))
+    (c.requires.text _ c.requires.opened.opened)

@@ -3,6 +3,7 @@ use Rattle.audit_model.specs.declared.outcome.Outcome.{Outcome}
 use Rattle.report.specs.declared.ended.Ended.{Ended}
 use Rattle.audit_statement.specs.Endings.{AreInitialOutcomes}
 use Rattle.audit_laws.specs.Calls.{Finishes}
+use Rattle.audit_statement.specs.DueText.{LetsReport}
 use Rattle.audit_run.proofs.run.run_without_saves.Goals as goal
 
 pub returns-in-Ok : goal.returns-in-Ok
@@ -15,3 +16,7 @@ returns-in-Ok g c = λ k opened.
 
 pub run_unsaved-requires-clause-resources : goal.run_unsaved-requires-clause-resources
 run_unsaved-requires-clause-resources g c κs within = c.in-Ok.ensures.resources
+
+pub run_unsaved-requires-clause-text : goal.run_unsaved-requires-clause-text
+run_unsaved-requires-clause-text g c κs within =
+    subst (λ (os : List Outcome). LetsReport g.K.Sink.lets c.args.job.now (g.K.Sink.state c.args.out.now) os) (sym c.in-Ok.ensures.outcomes) c.requires.text

@@ -3,11 +3,11 @@ use Rattle.audit_run.proofs.Preparing.{reported_run}
 use Rattle.audit_run.proofs.Words.{run_alone, same_key}
 use Rattle.audit_run.proofs.several.run_plans.Goals as goal
 
-pub report_all-requires-after_bounds : goal.report_all-requires-after_bounds
-report_all-requires-after_bounds g c κs within = record {
+pub report_all-requires-clause-plans : goal.report_all-requires-clause-plans
+report_all-requires-clause-plans g c κs within = record {
   setting = c.in-Ok.ensures.setting;
   shared = c.in-Ok.ensures.shared;
-  alone = run_alone accepted_jobs_are_runs _ _ _ c.in-Ok.plans.items c.requires c.in-Ok.ensures;
+  alone = run_alone accepted_jobs_are_runs _ _ _ c.in-Ok.plans.items c.requires.plans c.in-Ok.ensures;
 }
 
 pub returns-in-Ok : goal.returns-in-Ok
@@ -17,3 +17,12 @@ returns-in-Ok g c = λ keeper.
 
 pub returns-in-Err : goal.returns-in-Err
 returns-in-Err g c = λ keeper. c.in-Err.ensures (g.K.Sink.state c.args.out.now) keeper
+
+pub report_all-requires-clause-text : goal.report_all-requires-clause-text
+report_all-requires-clause-text g c κs within =
+    let prepared = c.in-Ok.ensures.prepared in
+    record {
+      key = c.in-Ok.ensures.setting.key;
+      have_key = same_key _ _ _ c.in-Ok.plans.items c.in-Ok.ensures;
+      permitted = c.requires.text c.in-Ok.ensures.setting prepared.bytes _ prepared.input prepared.judged_so;
+    }

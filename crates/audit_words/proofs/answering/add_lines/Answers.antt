@@ -1,5 +1,5 @@
 use Rattle.std.proofs.Common.{Bor, List, ℕ, [], arith, refl}
-use Rattle.audit_words.proofs.Lines.{adds_as, adds_both, adds_none, lines_all, lines_next}
+use Rattle.audit_words.proofs.Lines.{adds_as, adds_both, adds_none, lines_all, lines_next, next_line}
 use Rattle.audit_words.proofs.answering.add_lines.Goals as goal
 
 pub loop-line-init : goal.loop-line-init
@@ -13,3 +13,8 @@ loop-line-preserved g c =
 
 pub returns : goal.returns
 returns g c = adds_as c.loop-line.invariant (lines_all (λ (t : Bor (List ℕ)). t.now) c.args.lines.now c.loop-line.line-index (omega arith))
+
+pub add_line-going-requires : goal.add_line-going-requires
+add_line-going-requires g c =
+    let blank : Bor (List ℕ) = record { ref_ptr = (0, 0); now = [] } in
+    next_line (λ (t : Bor (List ℕ)). t.now) c.args.lines.now c.loop-line.line-index blank _ (omega arith) refl c.requires c.loop-line.invariant

@@ -7,6 +7,7 @@ use Rattle.plan_runs.specs.Ending.{ended_as, stopped_by}
 use Rattle.plan_runs.specs.Found.{listed_in}
 use Rattle.plan_runs.proofs.Finished.{short_ends, written_ends}
 use Rattle.plan_runs.proofs.Reporting.{length-listed}
+use Rattle.report.proofs.Letting.{lets_as}
 use Rattle.plan_runs.proofs.ending.end_run.Goals as goal
 
 pub text_of-text-requires-clause-whole : goal.text_of-text-requires-clause-whole
@@ -34,3 +35,7 @@ returns g c = λ initial_outcomes before after opened has saved.
     subst (λ (how : Finished). Finishes job out later before after (ended_as how)) (sym c.end.ensures)
     (written_ends job c.requires.reportable.run initial_outcomes all.outcomes all.all out later before after opened c.as_slice.result.now c.write_all-written.result c.args.saved
     all.whole text c.write_all-written.ensures saved)
+
+pub write_all-written-requires : goal.write_all-written-requires
+write_all-written-requires g c =
+    lets_as (c.requires.text (omega (arith, c.if-found-due.false, c.count_reported-due.ensures))) (sym (c.as_slice.ensures ∙ c.text_of-text.ensures))

@@ -2,6 +2,7 @@ use Rattle.std.proofs.Common.{◌≡◌, ℕ, List, Result, All, length, map}
 use Rattle.std.specs.Vec.Iter.{into_iter_items, into_iter_len}
 use Rattle.audit_io.specs.declared.source.Failed.{Failed}
 use Rattle.report.specs.AddedText.{WritesAllOf}
+use Rattle.audit_statement.specs.DueText.{LetsText}
 use Rattle.plan_runs.specs.Plans.{IsWalkOf, walk_pair}
 use Rattle.audit_model.specs.State.{Stream}
 use Rattle.audit_statement.specs.Draw.{draw}
@@ -15,5 +16,8 @@ invariant-loop-walk g l = record {
   rest : (key : List ℕ) → All (λ w. w.plan.job.setting.key ≡ key) l.fn.walks.items → (later : Stream) (r : Result (Unit {0}) Failed)
       → WritesAllOf (g.K.Sink.state l.out) later (plans_text (draw key) (map walk_pair (into_iter_items l.walk-iterator))) r
       → WritesAllOf (g.K.Sink.state l.fn.out) later (plans_text (draw key) (map walk_pair l.fn.walks.items)) r;
+  permitted : (key : List ℕ) → All (λ w. w.plan.job.setting.key ≡ key) l.fn.walks.items
+      → LetsText g.K.Sink.lets (g.K.Sink.state l.fn.out) (plans_text (draw key) (map walk_pair l.fn.walks.items))
+      → LetsText g.K.Sink.lets (g.K.Sink.state l.out) (plans_text (draw key) (map walk_pair (into_iter_items l.walk-iterator)));
   counted : into_iter_len l.walk-iterator ≡ length (into_iter_items l.walk-iterator);
 }

@@ -13,6 +13,7 @@ use Rattle.plan_runs.specs.Saving.{target_of}
 use Rattle.plan_runs.proofs.Reporting.{all_found}
 use Rattle.plan_runs.proofs.Desked.{all_outcomes, saves_last}
 use Rattle.plan_runs.proofs.Placing.{first_place_for, place_observed_for, placed_known, saved_plain, saves_every}
+use Rattle.plan_runs.proofs.Permitted.{report_permitted}
 use Rattle.plan_runs.proofs.saving.run_saved.Goals as goal
 
 pub run_over-requires-clause-found : goal.run_over-requires-clause-found
@@ -91,3 +92,13 @@ returns-in-Err g c =
     (g.C.Keeper.state c.args.resources.state.keeper)
     (g.C.Keeper.state c.into_outcomes-keeper-in-Err.result.0)
     (ap (λ x. (g.C.Keeper.state x).slots) same) (ap (λ x. (g.C.Keeper.state x).attempted) same) (ap (λ x. (g.C.Keeper.state x).save_faults) same) (ap (λ x. (g.C.Keeper.state x).load_faults) same)
+
+pub end_run-finished-requires-clause-text : goal.end_run-finished-requires-clause-text
+end_run-finished-requires-clause-text g c =
+    let job = c.args.job.now in
+    let buffers = c.requires.resources.buffers in
+    let all = all_outcomes _ _ _ _ c.in-Ok.ensures.ran buffers.ids by_id-mapped buffers.start.run buffers.start.fit buffers.todo.within buffers.todo.absent in
+    let found = c.all-found.ensures in
+    let has = all_found job buffers.start.run (saved_plain job buffers.start.run c.requires.saved) c.args.resources.state.book.outcomes c.all-found.result (rw (found.sorted, c.into_outcomes-keeper.ensures.sorted) all) (rw found.sorted found.listed)
+    found.observed (rw found.text buffers.blank) (rw found.text buffers.report_room) in
+    report_permitted job c.args.resources.state.book.outcomes c.all-found.result (g.K.Sink.state c.args.out.now) c.requires.text has
