@@ -30,3 +30,6 @@ pub mod Running
 pub mod Searching
 pub mod Stopped
 pub mod Times
+pub mod Blocks
+pub mod Digits
+pub mod Weighing

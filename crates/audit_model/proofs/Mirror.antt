@@ -1,16 +1,17 @@
 -- The mirrored draw leads back, and the chain is reversible.
 use Rattle.std.proofs.Common.{◌≡◌, ℕ, suc, zero, ◌+◌, ◌-◌, ◌*◌, ◌/◌, ◌%◌, ◌^◌, ◌<◌, ◌≤◌, Bool, true, false, cond, List, set, Option, Some, None, refl, sym, ap, ◌∙◌, subst, inl, inr, arith}
-use Rattle.std.specs.Prelude.{◌⊎◌, nat_lt, slice_index, bytes_eq}
+use Rattle.std.specs.Prelude.{◌⊎◌, ◌&&◌, ◌||◌, nat_lt, slice_index, bytes_eq}
 use Rattle.std.proofs.Math.Nat.{mul_comm}
-use Rattle.std.proofs.lemmas.Bool.{cases_Bool, cases_eq, cond-true, cond-false, ltb-true, lt-ltb, both_ways}
+use Rattle.std.proofs.lemmas.Bool.{cases_Bool, cases_eq, cond-true, cond-false, ltb-true, lt-ltb, both_ways, and_parts, and_from, eq-eqb}
 use Rattle.std.proofs.lemmas.List.{set-set, set-get_or, get_or-set_same}
 use Rattle.std.proofs.lemmas.Nat.{div-add-mod', mul-add-lt, div-mul-add, mod-mul-add, div_below, mod_below}
 use Rattle.std.proofs.lemmas.Slice.Eq.{bytes_eq-Decides}
 use Rattle.audit_model.specs.Proposal.{counted_draws, proposal}
 use Rattle.audit_model.specs.Job.{Job}
-use Rattle.audit_model.specs.Plan.{IsLegal, is_legal}
+use Rattle.audit_model.specs.Plan.{IsLegal, cut_edges, is_legal}
 use Rattle.audit_model.specs.Step.{changed, next, ways, turned_back, mirrored}
 use Rattle.audit_model.specs.Trajectory.{visit}
+use Rattle.audit_model.specs.Weight.{factors, is_taken, largest_change, passes}
 use Rattle.audit_model.proofs.Below.{count_below_into}
 use Rattle.audit_model.proofs.Legal.{legal_passes, passes_legal}
 use Rattle.audit_model.proofs.Numbers.{place_below}
@@ -23,9 +24,17 @@ block : (draw size : ℕ) → draw - draw % size ≡ draw / size * size
 block draw size = omega (arith, div-add-mod' draw size)
 
 -- another place of a whole block is in it
-same_block_below : (draw size blocks place : ℕ) → 0 < size → draw < blocks * size → place < size → draw / size * size + place < blocks * size
+pub same_block_below : (draw size blocks place : ℕ) → 0 < size → draw < blocks * size → place < size → draw / size * size + place < blocks * size
 same_block_below draw size blocks place pos l p =
     subst (λ m. draw / size * size + place < m) (mul_comm size blocks) (mul-add-lt (draw / size) size place blocks (div_below draw size blocks pos l) p)
+
+-- ---- the weight
+
+-- with a weight of 64, every draw takes every change
+pub even_takes : (job : Job) (from to : List ℕ) (draw : ℕ) → job.setting.cut_weight ≡ 256 → is_taken job from to draw ≡ true
+unfolding is_taken
+even_takes job from to draw even = ap (λ b. b || passes (factors job.setting.cut_weight (cut_edges job.graph from) (cut_edges job.graph to - cut_edges job.graph from)) (job.graph.units * job.districts) (largest_change (job.graph.units * job.districts)) draw
+    (cut_edges job.graph to - cut_edges job.graph from) (cut_edges job.graph from - cut_edges job.graph to)) (eq-eqb job.setting.cut_weight 256 even)
 
 -- ---- the proposal of a draw
 
@@ -34,41 +43,45 @@ proposal_none : (units districts draw : ℕ) → nat_lt draw (counted_draws unit
 proposal_none units districts draw h = cond-false _ _ _ h
 
 -- a draw that counts proposes the pair of its remainder
-proposal_some : (units districts draw : ℕ) → draw < counted_draws units districts
+pub proposal_some : (units districts draw : ℕ) → draw < counted_draws units districts
     → proposal units districts draw ≡ Some (draw % (units * districts) / districts, draw % (units * districts) % districts)
 proposal_some units districts draw h = cond-true _ _ _ (lt-ltb draw (counted_draws units districts) h)
 
 module _ (job : Job) where
-  size : ℕ
+  unfoldable pub size : ℕ
   size = job.graph.units * job.districts
 
-  unit_of : ℕ → ℕ
+  unfoldable pub unit_of : ℕ → ℕ
   unit_of draw = draw % (job.graph.units * job.districts) / job.districts
 
-  district_of : ℕ → ℕ
+  unfoldable pub district_of : ℕ → ℕ
   district_of draw = draw % (job.graph.units * job.districts) % job.districts
 
-  next_at : (plan : List ℕ) (draw : ℕ) (o : Option (ℕ × ℕ)) → proposal job.graph.units job.districts draw ≡ o
-      → next job plan draw ≡ cond (is_legal job (changed plan o)) (changed plan o) plan
+  pub next_at : (plan : List ℕ) (draw : ℕ) (o : Option (ℕ × ℕ)) → proposal job.graph.units job.districts draw ≡ o
+      → next job plan draw ≡ cond (is_taken job plan (changed plan o) draw && is_legal job (changed plan o)) (changed plan o) plan
   unfolding next
-  next_at plan draw o h = ap (λ p. cond (is_legal job (changed plan p)) (changed plan p) plan) h
+  next_at plan draw o h = ap (λ p. cond (is_taken job plan (changed plan p) draw && is_legal job (changed plan p)) (changed plan p) plan) h
 
   -- a draw that changes the plan
-  record Move (plan : List ℕ) (draw : ℕ) : Type 0 where
-    counted : draw < counted_draws job.graph.units job.districts
-    legal : is_legal job (set plan (unit_of draw) (district_of draw)) ≡ true
-    after : next job plan draw ≡ set plan (unit_of draw) (district_of draw)
+  pub record Move (plan : List ℕ) (draw : ℕ) : Type 0 where
+    pub counted : draw < counted_draws job.graph.units job.districts
+    pub taken : is_taken job plan (set plan (unit_of draw) (district_of draw)) draw ≡ true
+    pub legal : is_legal job (set plan (unit_of draw) (district_of draw)) ≡ true
+    pub after : next job plan draw ≡ set plan (unit_of draw) (district_of draw)
 
-  cases_next : (plan : List ℕ) (draw : ℕ) → (next job plan draw ≡ plan) ⊎ Move plan draw
+  pub cases_next : (plan : List ℕ) (draw : ℕ) → (next job plan draw ≡ plan) ⊎ Move plan draw
   unfolding unit_of district_of
   cases_next plan draw = elim (cases_Bool (nat_lt draw (counted_draws job.graph.units job.districts))) [
-    | inr rejected ↦ inl (next_at plan draw None (proposal_none _ _ draw rejected) ∙ both_same (is_legal job plan))
+    | inr rejected ↦ inl (next_at plan draw None (proposal_none _ _ draw rejected) ∙ both_same (is_taken job plan plan draw && is_legal job plan))
     | inl counted ↦
         let below = ltb-true draw (counted_draws job.graph.units job.districts) counted in
         let at = next_at plan draw (Some (unit_of draw, district_of draw)) (proposal_some _ _ draw below) in
-        elim (cases_Bool (is_legal job (set plan (unit_of draw) (district_of draw)))) [
+        let to : List ℕ = set plan (unit_of draw) (district_of draw) in
+        elim (cases_Bool (is_taken job plan to draw && is_legal job to)) [
           | inr rejected ↦ inl (at ∙ cond-false _ _ _ rejected)
-          | inl legal ↦ inr (record { counted = below; legal = legal; after = at ∙ cond-true _ _ _ legal })
+          | inl passes ↦
+              let both = and_parts (is_taken job plan to draw) (is_legal job to) passes in
+              inr (record { counted = below; taken = both.0; legal = both.1; after = at ∙ cond-true _ _ _ passes })
         ]
   ]
     where
@@ -84,7 +97,7 @@ module _ (job : Job) where
   ]
 
 -- the second factor of a positive product is positive
-second_above_zero : (a b : ℕ) → 0 < a * b → 0 < b
+pub second_above_zero : (a b : ℕ) → 0 < a * b → 0 < b
 second_above_zero a b h = elim (cases_eq b 0) [
   | inl e ↦ let none : a * b ≡ a * 0 = ap (λ m. a * m) e in absurd (omega (arith, none))
   | inr off ↦ omega (arith, off)
@@ -95,13 +108,13 @@ module _ (job : Job) (plan : List ℕ) (draw : ℕ) (legal : IsLegal job plan) (
   blocks = 2 ^ 64 / size job
 
   -- the place in the block that leads back
-  back_place : ℕ
+  unfoldable pub back_place : ℕ
   back_place = unit_of job draw * job.districts + slice_index plan (unit_of job draw)
 
-  back : ℕ
+  unfoldable pub back : ℕ
   back = draw / size job * size job + back_place
 
-  size_above_zero : 0 < size job
+  pub size_above_zero : 0 < size job
   unfolding size
   size_above_zero = second_above_zero (2 ^ 64 / size job) (size job) (omega (arith, move.counted))
 
@@ -116,7 +129,7 @@ module _ (job : Job) (plan : List ℕ) (draw : ℕ) (legal : IsLegal job plan) (
   old_below : slice_index plan (unit_of job draw) < job.districts
   old_below = legal.in_range (unit_of job draw) unit_below
 
-  back_place_below : back_place < size job
+  pub back_place_below : back_place < size job
   unfolding back_place size
   back_place_below = place_below (unit_of job draw) (slice_index plan (unit_of job draw)) job.graph.units job.districts unit_below old_below
 
@@ -128,7 +141,7 @@ module _ (job : Job) (plan : List ℕ) (draw : ℕ) (legal : IsLegal job plan) (
   unfolding back
   back_rest = mod-mul-add (draw / size job) (size job) back_place back_place_below
 
-  back_block : back / size job ≡ draw / size job
+  pub back_block : back / size job ≡ draw / size job
   unfolding back
   back_block = div-mul-add (draw / size job) (size job) back_place back_place_below
 
@@ -148,16 +161,18 @@ module _ (job : Job) (plan : List ℕ) (draw : ℕ) (legal : IsLegal job plan) (
       ∙ set-set plan (unit_of job draw) (district_of job draw) (slice_index plan (unit_of job draw))
       ∙ set-get_or plan (unit_of job draw) 0
 
-  back_leads_back : next job (set plan (unit_of job draw) (district_of job draw)) back ≡ plan
+  back_leads_back : is_taken job (set plan (unit_of job draw) (district_of job draw)) plan back ≡ true
+      → next job (set plan (unit_of job draw) (district_of job draw)) back ≡ plan
   unfolding unit_of district_of
-  back_leads_back =
+  back_leads_back taken =
       next_at job (set plan (unit_of job draw) (district_of job draw)) back (Some (unit_of job back, district_of job back))
       (proposal_some job.graph.units job.districts back back_counted)
-      ∙ cond-true _ _ _ (ap (λ p. is_legal job p) undone ∙ legal_passes job plan legal)
+      ∙ cond-true _ _ _ (ap (λ p. is_taken job (set plan (unit_of job draw) (district_of job draw)) p back && is_legal job p) undone
+      ∙ and_from (is_taken job (set plan (unit_of job draw) (district_of job draw)) plan back) (is_legal job plan) taken (legal_passes job plan legal))
       ∙ undone
 
   -- if the step changes the plan, the mirrored draw is the one that leads back
-  mirrored_is_back : bytes_eq (next job plan draw) plan ≡ false → mirrored job plan draw ≡ back
+  pub mirrored_is_back : bytes_eq (next job plan draw) plan ≡ false → mirrored job plan draw ≡ back
   unfolding mirrored back back_place size unit_of
   mirrored_is_back changes =
       cond-false _ _ _ changes
@@ -186,8 +201,9 @@ mirrored_moves : (job : Job) (plan : List ℕ) (draw : ℕ) → bytes_eq (next j
 unfolding mirrored
 mirrored_moves job plan draw changes = cond-false _ _ _ changes
 
-module _ (job : Job) (plan : List ℕ) (draw : ℕ) (legal : IsLegal job plan) where
-  -- the mirrored draw leads back
+module _ (job : Job) (plan : List ℕ) (draw : ℕ) (legal : IsLegal job plan)
+    (returns : bytes_eq (next job plan draw) plan ≡ false → is_taken job (next job plan draw) plan (mirrored job plan draw) ≡ true) where
+  -- the mirrored draw leads back if it takes the change back
   pub next-mirrored : next job (next job plan draw) (mirrored job plan draw) ≡ plan
   next-mirrored = elim (cases_Bool (bytes_eq (next job plan draw) plan)) [
     | inl stays ↦
@@ -199,6 +215,8 @@ module _ (job : Job) (plan : List ℕ) (draw : ℕ) (legal : IsLegal job plan) w
           ap (λ w. next job (next job plan draw) w) (mirrored_is_back job plan draw legal move changes)
           ∙ ap (λ p. next job p (back job plan draw legal move)) move.after
           ∙ back_leads_back job plan draw legal move
+          (subst (λ p. is_taken job p plan (back job plan draw legal move) ≡ true) move.after
+          (subst (λ w. is_taken job (next job plan draw) plan w ≡ true) (mirrored_is_back job plan draw legal move changes) (returns changes)))
     ]
   ]
 
@@ -230,6 +248,7 @@ module _ (job : Job) (plan : List ℕ) (draw : ℕ) (legal : IsLegal job plan) w
     ]
   ]
 
+module _ (job : Job) (plan : List ℕ) (draw : ℕ) (legal : IsLegal job plan) where
   -- both draws are in one block
   pub mirrored_block : mirrored job plan draw / (job.graph.units * job.districts) ≡ draw / (job.graph.units * job.districts)
   unfolding size
@@ -254,14 +273,14 @@ module _ (job : Job) (plan : List ℕ) (draw : ℕ) (legal : IsLegal job plan) w
   ]
 
 -- at most as many ways lead to a plan as back
-ways_le : (job : Job) (from to : List ℕ) → IsLegal job from → IsLegal job to → ways job from to ≤ ways job to from
+ways_le : (job : Job) (from to : List ℕ) → job.setting.cut_weight ≡ 256 → IsLegal job from → IsLegal job to → ways job from to ≤ ways job to from
 unfolding ways
-ways_le job from to legal_from legal_to =
+ways_le job from to even legal_from legal_to =
     count_below_into (2 ^ 64) (2 ^ 64) (λ draw. bytes_eq (next job from draw) to) (λ draw. bytes_eq (next job to draw) from) (mirrored job from)
     (λ draw l h. (
       mirrored_below job from draw legal_from l,
       (bytes_eq-Decides (next job to (mirrored job from draw)) from).1
-          (ap (λ p. next job p (mirrored job from draw)) (sym (leads draw h)) ∙ next-mirrored job from draw legal_from),
+          (ap (λ p. next job p (mirrored job from draw)) (sym (leads draw h)) ∙ next-mirrored job from draw legal_from (λ _. even_takes job (next job from draw) from (mirrored job from draw) even)),
     ))
     (λ j k lj lk hj hk e. sym (again j hj) ∙ ap (λ w. mirrored job to w) e ∙ again k hk)
   where
@@ -269,11 +288,11 @@ ways_le job from to legal_from legal_to =
     leads draw h = (bytes_eq-Decides (next job from draw) to).0 h
 
     again : (draw : ℕ) → bytes_eq (next job from draw) to ≡ true → mirrored job to (mirrored job from draw) ≡ draw
-    again draw h = ap (λ p. mirrored job p (mirrored job from draw)) (sym (leads draw h)) ∙ mirrored-mirrored job from draw legal_from
+    again draw h = ap (λ p. mirrored job p (mirrored job from draw)) (sym (leads draw h)) ∙ mirrored-mirrored job from draw legal_from (λ _. even_takes job (next job from draw) from (mirrored job from draw) even)
 
 -- equally many draws lead from one legal plan to another as back
-pub ways_symmetric : (job : Job) (from to : List ℕ) → IsLegal job from → IsLegal job to → ways job from to ≡ ways job to from
-ways_symmetric job from to legal_from legal_to = omega (arith, ways_le job from to legal_from legal_to, ways_le job to from legal_to legal_from)
+pub ways_symmetric : (job : Job) (from to : List ℕ) → job.setting.cut_weight ≡ 256 → IsLegal job from → IsLegal job to → ways job from to ≡ ways job to from
+ways_symmetric job from to even legal_from legal_to = omega (arith, ways_le job from to even legal_from legal_to, ways_le job to from even legal_to legal_from)
 
 -- each plan visited from a legal plan is legal
 pub visit_stays_legal : (job : Job) (draws : ℕ → ℕ) (plan : List ℕ) (i : ℕ) → IsLegal job plan → IsLegal job (visit job draws plan i)

@@ -36,4 +36,5 @@ pub mod Test
 pub mod Times
 pub mod Observed
 pub mod Trajectory
+pub mod Weight
 pub mod Attempts

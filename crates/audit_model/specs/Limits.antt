@@ -127,6 +127,8 @@ pub record IsSetting (s : Setting) : Type 0 where
   pub few_group_districts : s.group_districts ≤ most_districts
   pub few_shares : s.group_share ≤ 10000
   pub short : s.max_length ≤ most_length
+  pub some_weight : 4 ≤ s.cut_weight
+  pub most_weight : s.cut_weight ≤ 256
   pub part : HasPart s
   pub command : IsSettingOf s.command s
 

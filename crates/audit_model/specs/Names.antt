@@ -1,7 +1,7 @@
 -- The spelling of options.
 use Rattle.std.specs.Prelude.{ℕ, List, codes}
 use Rattle.audit_model.specs.declared.fault.Name.{Name}
-use Rattle.audit_model.specs.declared.fault.Name.TheVariants.{Pop, First, Second, District, Size, Slack, Key, Walks, Steps, Ends, HubSteps, Ask, Workers, Budget, Save, Resume, MaxCut, Shift, Stop, Serial, Region, MaxSplit, Parts, Part, MaxSplits, MaxSplitRegions, Group, GroupOf, GroupDistricts, Source, Ids, Thin, GroupShare, Freeze, Length, MaxLength}
+use Rattle.audit_model.specs.declared.fault.Name.TheVariants.{Pop, First, Second, District, Size, Slack, Key, Walks, Steps, Ends, HubSteps, Ask, Workers, Budget, Save, Resume, MaxCut, Shift, Stop, Serial, Region, MaxSplit, Parts, Part, MaxSplits, MaxSplitRegions, Group, GroupOf, GroupDistricts, Source, Ids, Thin, GroupShare, Freeze, Length, MaxLength, Pairs, CutWeight, Blind}
 
 -- the spelling of an option
 abbrev pub name_text : Name → List ℕ
@@ -41,3 +41,6 @@ name_text GroupShare = codes "--group-share"
 name_text Freeze = codes "--freeze"
 name_text Length = codes "--length"
 name_text MaxLength = codes "--max-length"
+name_text Pairs = codes "--pairs"
+name_text CutWeight = codes "--cut-weight"
+name_text Blind = codes "--blind"

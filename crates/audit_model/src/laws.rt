@@ -1,6 +1,6 @@
 //! Laws of the definitions. Each law is the contract of a function with an empty body.
 
-ghost use Rattle.std.specs.Prelude.{◌||◌, ◌≡◌, None, true, false, [], slice_index, length, take, IsFalse, ℕ, ◌+◌, ◌-◌, ◌*◌, ◌/◌, ◌%◌, ◌&&◌, ◌^◌, ◌<◌, ◌≤◌, nat_le, Bool, List, ◌++◌, ℤ, ◌↔◌, IsTrue};
+ghost use Rattle.std.specs.Prelude.{◌||◌, ◌≡◌, None, true, false, cond, [], slice_index, length, take, IsFalse, ℕ, ◌+◌, ◌-◌, ◌*◌, ◌/◌, ◌%◌, ◌&&◌, ◌^◌, ◌<◌, ◌≤◌, nat_le, Bool, List, ◌++◌, ℤ, ◌↔◌, IsTrue};
 ghost use Rattle.audit_model.specs.Apart.{AllApart};
 ghost use Rattle.audit_model.specs.Graph.{Graph, IsIn, count_edges, has};
 ghost use Rattle.audit_model.specs.Job.{Job, rules, total_population};
@@ -16,9 +16,11 @@ ghost use Rattle.audit_model.specs.Path.{HasPath, IsConnected, is_connected, rea
 ghost use Rattle.audit_model.specs.District.{in_district};
 ghost use Rattle.audit_model.specs.Plan.{cut_edges, IsBalanced, IsLegal, is_legal, least_population, greatest_population};
 ghost use Rattle.audit_model.specs.declared.outcome.Outcome.{Outcome};
+ghost use Rattle.audit_model.specs.Proposal.{proposal};
 ghost use Rattle.audit_model.specs.Run.{total, has_id, is_in_part, pending_ids, part_ids, run_ids, full, fits, taken_up, IsConsistent, IsRight};
-ghost use Rattle.audit_model.specs.Step.{next, ways, mirrored};
+ghost use Rattle.audit_model.specs.Step.{CanReturn, changed, next, ways, mirrored};
 ghost use Rattle.audit_model.specs.declared.setting.Tail.{Tail};
+ghost use Rattle.audit_model.specs.Weight.{factors, largest_change, weight};
 ghost use Rattle.audit_model.specs.Stopping.{count_in_tail, stop};
 ghost use Rattle.audit_model.specs.Test.{bound, p_value};
 ghost use Rattle.audit_model.specs.Trajectory.{Draws, without_histogram, outcome_with, sequence, visit, whole};
@@ -50,21 +52,50 @@ pub fn next_stays_legal()
 {}
 
 /// Shows that the mirrored draw leads from the next plan back to the plan, and that mirroring the mirrored draw gives
-/// the first draw. Divided by the number of pairs (units times districts), both draws give the same integer quotient.
-/// The mirrored draw has at most 64 bits.
+/// the first draw. With a weight, this holds of steps that take no cut edges away. Divided by the number of pairs (units
+/// times districts), both draws give the same integer quotient. The mirrored draw has at most 64 bits.
 pub fn mirrored_leads_back()
-    ensures back { (job : Job) (plan : List ℕ) (draw : ℕ) → IsLegal job plan →
+    ensures back { (job : Job) (plan : List ℕ) (draw : ℕ) → IsLegal job plan → CanReturn job plan draw →
         next job (next job plan draw) (mirrored job plan draw) ≡ plan }
-    ensures again { (job : Job) (plan : List ℕ) (draw : ℕ) → IsLegal job plan →
+    ensures again { (job : Job) (plan : List ℕ) (draw : ℕ) → IsLegal job plan → CanReturn job plan draw →
         mirrored job (next job plan draw) (mirrored job plan draw) ≡ draw }
     ensures block { (job : Job) (plan : List ℕ) (draw : ℕ) → IsLegal job plan →
         mirrored job plan draw / (job.graph.units * job.districts) ≡ draw / (job.graph.units * job.districts) }
     ensures bound { (job : Job) (plan : List ℕ) (draw : ℕ) → IsLegal job plan → draw < 2 ^ 64 → mirrored job plan draw < 2 ^ 64 }
 {}
 
-/// Shows that the chain is reversible: for any two legal plans, the same number of draws leads from each to the other.
+/// Shows that without a weight the next plan is the proposed one if it is legal, else the old one.
+pub fn no_weight_refuses_nothing()
+    ensures { (job : Job) (plan : List ℕ) (draw : ℕ) → job.setting.cut_weight ≡ 256 →
+        next job plan draw ≡ (let proposed = changed plan (proposal job.graph.units job.districts draw) in
+        cond (is_legal job proposed) proposed plan) }
+{}
+
+/// Shows that the largest change is the greatest m for which draws suffice: below it, and not above it, m + 1 digits in
+/// base 64 fit beside each pair.
+pub fn largest_change_is_greatest()
+    ensures { (pairs m : ℕ) → 0 < pairs → 0 < m → (m ≤ largest_change pairs) ↔ (pairs * 64 ^ (m + 1) ≤ 2 ^ 64) }
+{}
+
+/// Shows that the chain without a weight is reversible: for any two legal plans, the same number of draws leads from
+/// each to the other.
 pub fn ways_are_symmetric()
-    ensures { (job : Job) (from to : List ℕ) → IsLegal job from → IsLegal job to → ways job from to ≡ ways job to from }
+    ensures { (job : Job) (from to : List ℕ) → job.setting.cut_weight ≡ 256 → IsLegal job from → IsLegal job to →
+        ways job from to ≡ ways job to from }
+{}
+
+/// Shows that the chain with a weight is reversible to it: for any two legal plans, the weight of one, times the number
+/// of draws that lead from it to the other, is the same for both. The ratio of the ways is that of the factors of the cut
+/// edges that are added. No draw makes too large a change.
+pub fn ways_follow_the_weight()
+    ensures ratio { (job : Job) (from to : List ℕ) (d : ℕ) → job.setting.cut_weight ≤ 256 → IsLegal job from → IsLegal job to →
+        cut_edges job.graph to ≡ cut_edges job.graph from + d →
+        ways job from to * 64 ^ d ≡ ways job to from * factors job.setting.cut_weight (cut_edges job.graph from) d }
+    ensures far { (job : Job) (from to : List ℕ) (d : ℕ) → job.setting.cut_weight < 256 → IsLegal job from → IsLegal job to →
+        cut_edges job.graph to ≡ cut_edges job.graph from + d → largest_change (job.graph.units * job.districts) < d →
+        (ways job from to ≡ 0) × (ways job to from ≡ 0) }
+    ensures balance { (job : Job) (from to : List ℕ) → job.setting.cut_weight ≤ 256 → IsLegal job from → IsLegal job to →
+        weight job from * ways job from to ≡ weight job to * ways job to from }
 {}
 
 /// Shows that the printed bound and p-value are rounded up: each is the least number of billionths that is not below
