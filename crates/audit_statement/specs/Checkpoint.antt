@@ -204,9 +204,17 @@ digest_name has_some true false = codes "district-job 3"
 digest_name true false false = codes "district-job 2"
 digest_name false false false = codes "district-job 1"
 
+-- the first digested bytes of a job without a weight
+abbrev pub even_bytes : Bool → Rules → List ℕ
+even_bytes has rules = cond has (codes "district-job 5") (digest_name (has_rules rules) (has_further_rules rules) (has_newer_rules rules))
+
+-- the cut edges have a weight, in units of 1 / 256
+abbrev pub has_weight : ℕ → Bool
+has_weight weight = nat_lt weight 256
+
 -- the first digested bytes
-abbrev pub first_bytes : Bool → Rules → List ℕ
-first_bytes has rules = cond has (codes "district-job 5") (digest_name (has_rules rules) (has_further_rules rules) (has_newer_rules rules))
+abbrev pub first_bytes : Bool → Bool → Rules → List ℕ
+first_bytes weighted has rules = cond weighted (codes "district-job 6") (even_bytes has rules)
 
 -- the limit on districts per region, and each unit's region, if there are regions
 abbrev pub region_bytes : ℕ → List ℕ → List ℕ
@@ -247,10 +255,14 @@ abbrev pub length_bytes : ℕ → List ℕ → List ℕ
 length_bytes max_length lengths =
     cond (has_lengths lengths) (codes "length" ++ to_be_bytes w64 max_length ++ flat_map (to_be_bytes w32) lengths) []
 
+-- the weight on cut edges, if there is one
+abbrev pub weight_bytes : ℕ → List ℕ
+weight_bytes weight = cond (has_weight weight) (to_be_bytes w32 weight) []
+
 -- all that a job's outcomes depend on, except for asking for histograms
 abbrev pub job_bytes : Job → List ℕ
 job_bytes job =
-    first_bytes (has_lengths job.counts.lengths) (rules job)
+    first_bytes (has_weight job.setting.cut_weight) (has_lengths job.counts.lengths) (rules job)
     ++ to_be_bytes w32 job.graph.units ++ to_be_bytes w32 (count_edges job.graph (λ u v. true)) ++ to_be_bytes w32 job.districts
     ++ edge_bytes job.graph
     ++ flat_map (unit_bytes job) (map_below job.graph.units (λ u. u))
@@ -261,6 +273,7 @@ job_bytes job =
     ++ flat_map (λ ask. to_be_bytes w32 (score_code ask.score) ++ to_be_bytes w32 (tail_code ask.tail)) job.setting.asks
     ++ rule_bytes (has_rules (rules job)) job.graph.units (rules job)
     ++ length_bytes job.setting.max_length job.counts.lengths
+    ++ weight_bytes job.setting.cut_weight
 
 -- the digest of a job
 unfoldable pub job_digest : Job → List ℕ

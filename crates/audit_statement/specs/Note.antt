@@ -50,6 +50,7 @@ word_note (word.Twice name) = name_text name ∷ codes " is given twice" ∷ []
 word_note (word.NoValue name) = codes "no value for " ∷ name_text name ∷ []
 word_note (word.MissingName name) = name_text name ∷ codes " is missing" ∷ []
 word_note (word.BadValue name) = codes "bad value for " ∷ name_text name ∷ []
+word_note word.PairsNeedTwoWalks = codes "pairs need two walks" ∷ []
 word_note word.Memory = codes "memory" ∷ []
 
 -- the name of a part of the JSON

@@ -16,12 +16,13 @@ abbrev pub IsNotGiven : List (List ℕ) → List ℕ → Type 0
 IsNotGiven words name = (other : List ℕ) → given_or words name other ≡ other
 
 -- The arguments give none of the optional features: saves, resuming, early stopping, the serial test, histograms,
--- regions, a limit on cut edges, a group, frozen units, lengths of edges, the origin. A run that saves nothing walks all its
--- trajectories, so parts need no mention.
+-- regions, a limit on cut edges, a group, frozen units, lengths of edges, the origin, pairs of walks, a weight on cut
+-- edges, a text without scores. A run that saves nothing walks all its trajectories, so parts need no mention.
 abbrev pub ArePlain : List (List ℕ) → Type 0
 ArePlain words = All (IsNotGiven words) (
     codes "--save" ∷ codes "--resume" ∷ codes "--stop" ∷ codes "--serial" ∷ codes "--shift" ∷ codes "--region" ∷ codes "--max-cut"
-    ∷ codes "--group" ∷ codes "--source" ∷ codes "--freeze" ∷ codes "--length" ∷ [])
+    ∷ codes "--group" ∷ codes "--source" ∷ codes "--freeze" ∷ codes "--length"
+    ∷ codes "--pairs" ∷ codes "--cut-weight" ∷ codes "--blind" ∷ [])
 
 -- the text is the digits of the number; `decimal` keeps the last 64 digits only
 abbrev pub IsSpelled : List ℕ → ℕ → Type 0

@@ -1,6 +1,6 @@
 -- The report, the check text, and their lines, as lists of bytes. This project's formats. A text is one list of lines;
 -- the code appends to a preallocated buffer.
-use Rattle.std.specs.Prelude.{ℕ, zero, suc, ◌+◌, ◌-◌, ◌/◌, ◌%◌, ◌^◌, ◌==◌, Bool, true, false, ◌||◌, cond, nat_lt, List, [], ◌∷◌, ◌++◌, length, map, replicate, slice_index, codes, decimal, flat_map, filter, zip, Option, Some, None, ℤ, unsigned_abs}
+use Rattle.std.specs.Prelude.{ℕ, zero, suc, ◌+◌, ◌-◌, ◌*◌, ◌/◌, ◌%◌, ◌^◌, ◌==◌, Bool, true, false, ◌||◌, cond, nat_lt, List, [], ◌∷◌, ◌++◌, length, map, replicate, slice_index, codes, decimal, flat_map, filter, zip, Option, Some, None, ℤ, unsigned_abs}
 use Rattle.std.specs.Fmt.{signed_decimal}
 use Rattle.hex.specs.Hex.{encode_lower}
 use Rattle.json.specs.Print.{quoted}
@@ -18,7 +18,9 @@ use Rattle.audit_model.specs.Serially.{serial_observed}
 use Rattle.audit_model.specs.Stopping.{placed_asks, stops_of}
 use Rattle.audit_model.specs.Test.{bound, p_value}
 use Rattle.audit_model.specs.Trajectory.{Draws, plan_value, rank, sequence, tally, value_at}
+use Rattle.audit_model.specs.Weight.{largest_change}
 use Rattle.audit_statement.specs.Names.{score_name, tail_name}
+use Rattle.audit_statement.specs.Words.{quarters}
 use Rattle.audit_model.specs.Limits.{most_edges, most_length, most_regions, most_splits}
 
 -- the words with single spaces between them, and a line feed at the end
@@ -97,16 +99,28 @@ length_lines job =
     cut_length_line (cut_length job.graph job.counts.lengths job.start) job.setting.columns.length
     ++ length_line job.setting.max_length
 
--- the rules, if there are some
-abbrev pub rule_lines : Job → List ℕ
-rule_lines job =
+-- the rules other than those on lengths, if there are some
+abbrev pub common_rule_lines : Job → List ℕ
+common_rule_lines job =
     cut_line job
     ++ split_line job.setting.max_split job.regions
     ++ splits_line job.setting.max_splits job.setting.max_split_regions job.regions
     ++ group_line job.setting.group_districts (majorities job.setting.group_share job.group job.start) job.group.members
     ++ share_line job.setting.group_share job.group.members
     ++ frozen_line job.frozen
-    ++ length_lines job
+
+-- the rules, if there are some
+abbrev pub rule_lines : Job → List ℕ
+rule_lines job = common_rule_lines job ++ length_lines job
+
+-- the weight on cut edges and the largest change of cut edges in one step, if there is a weight
+abbrev pub weight_by : ℕ → ℕ → List ℕ
+weight_by weight pieces =
+    cond (nat_lt weight 256) (line (codes "cut-weight" ∷ quarters weight ∷ codes "of" ∷ codes "64" ∷ codes "pieces" ∷ decimal pieces ∷ [])) []
+
+-- the weight of a job
+abbrev pub weight_line : Job → List ℕ
+weight_line job = weight_by job.setting.cut_weight (largest_change (job.graph.units * job.districts))
 
 -- the numbers of trajectories and of their steps
 abbrev pub setting_line : Job → List ℕ
@@ -143,6 +157,31 @@ walk_lines job outcomes =
 abbrev pub ends_lines : ℕ → Job → List Outcome → List ℕ
 ends_lines zero job outcomes = []
 ends_lines (suc ends) job outcomes = flat_map (ends_line job outcomes) (placed_asks job)
+
+-- ---- pairs of walks: Chikina, Frieze, Mattingly and Pegden 2020
+
+-- two outcomes in turn; an odd last one is in no pair
+abbrev pub by_twos : List Outcome → List (Outcome × Outcome)
+by_twos [] = []
+by_twos (first ∷ []) = []
+by_twos (first ∷ second ∷ rest) = (first, second) ∷ by_twos rest
+
+-- the number of plans in the tail among those of two walks from one plan, which counts once
+abbrev pub pair_count : Outcome × Outcome → ℕ → ℕ
+pair_count pair place = unsigned_abs (value_at pair.0 place) + unsigned_abs (value_at pair.1 place) - 1
+
+-- the line of a pair of walks for the ask at this place; the bound is the count by the number of plans of one walk
+abbrev pub pair_line : Job → Outcome × Outcome → ℕ × Ask → List ℕ
+pair_line job pair ask = line (
+    (codes "pair" ∷ decimal pair.0.id ∷ decimal pair.1.id ∷ []) ++ ask_words job ask.1
+    ++ codes "count" ∷ decimal (pair_count pair ask.0) ∷ codes "of" ∷ decimal (2 * (job.setting.steps + 1) - 1)
+    ∷ codes "bound" ∷ billionths (p_value (pair_count pair ask.0) (job.setting.steps + 1)) ∷ [])
+
+-- a line for each pair of walks and each ask, if they are asked for
+abbrev pub pair_lines : Bool → Job → List Outcome → List ℕ
+pair_lines true job outcomes =
+    flat_map (λ pair. flat_map (pair_line job pair) (placed_asks job)) (by_twos (filter (λ o. nat_lt o.id job.setting.walks) outcomes))
+pair_lines false job outcomes = []
 
 -- ---- optional lines
 
@@ -223,22 +262,53 @@ origin_lines job (Some origin) =
 
 -- ---- whole texts
 
--- the report on these outcomes, the stops of the asks' tests and the serial test
-unfoldable pub report : Job → List Outcome → List (List ℕ) → Option (ℕ × List ℕ) → List ℕ
-report job outcomes stops serial =
+-- the report with all findings
+abbrev pub open_report : Job → List Outcome → List (List ℕ) → Option (ℕ × List ℕ) → List ℕ
+open_report job outcomes stops serial =
     title_line job.setting.shift
     ++ origin_lines job job.origin
     ++ line (codes "key" ∷ encode_lower job.setting.key ∷ [])
     ++ graph_line job
     ++ population_line job
     ++ rule_lines job
+    ++ weight_line job
     ++ setting_line job
     ++ stop_line job.setting.stop
     ++ walk_lines job outcomes
+    ++ pair_lines job.setting.pairs job outcomes
     ++ shift_line job.setting.shift outcomes
     ++ test_lines job.setting.stop job outcomes stops
     ++ serial_lines job serial
     ++ line (codes "end" ∷ [])
+
+-- the number of moves of a walk
+abbrev pub moved_line : Outcome → List ℕ
+moved_line found = line (codes "walk" ∷ decimal found.id ∷ codes "moved" ∷ decimal found.moved ∷ [])
+
+-- the report of a blind run: the moves of each walk, and nothing of any score; so without the start plan's cut length
+abbrev pub blind_report : Job → List Outcome → List ℕ
+blind_report job outcomes =
+    line (codes "walk-pilot 1" ∷ [])
+    ++ origin_lines job job.origin
+    ++ line (codes "key" ∷ encode_lower job.setting.key ∷ [])
+    ++ graph_line job
+    ++ population_line job
+    ++ common_rule_lines job
+    ++ length_line job.setting.max_length
+    ++ weight_line job
+    ++ setting_line job
+    ++ stop_line job.setting.stop
+    ++ flat_map moved_line (filter (λ o. nat_lt o.id job.setting.walks) outcomes)
+    ++ line (codes "end" ∷ [])
+
+-- the blind report or the one with all findings
+abbrev pub report_by : Bool → Job → List Outcome → List (List ℕ) → Option (ℕ × List ℕ) → List ℕ
+report_by true job outcomes stops serial = blind_report job outcomes
+report_by false job outcomes stops serial = open_report job outcomes stops serial
+
+-- the report on these outcomes, the stops of the asks' tests and the serial test
+unfoldable pub report : Job → List Outcome → List (List ℕ) → Option (ℕ × List ℕ) → List ℕ
+report job outcomes stops serial = report_by job.setting.blind job outcomes stops serial
 
 -- the report on all outcomes, with their stops and the serial test
 abbrev pub full_report : Job → Draws → List Outcome → List ℕ
@@ -256,6 +326,7 @@ check_text job =
     ++ graph_line job
     ++ population_line job
     ++ rule_lines job
+    ++ weight_line job
     ++ line (codes "end" ∷ [])
 
 -- the report of a plan under its name

@@ -26,10 +26,6 @@ use Rattle.audit_statement.specs.Promise.{KeepsItsPromise}
 use Rattle.audit_model.specs.State.{Stream}
 use Rattle.audit_statement.specs.World.{World}
 
--- the job with other requests for a histogram, the serial test and the origin
-abbrev pub asking : Job → Bool → Bool → Option Origin → Job
-asking job shift serial origin = record job { setting = record job.setting { shift = shift; serial = serial }; origin = origin }
-
 -- The parts of a setting that may differ between runs of one job, and the origin.
 pub record RunOptions : Type 0 where
   pub command : Command
@@ -45,6 +41,8 @@ pub record RunOptions : Type 0 where
   pub first_id : ℕ
   pub last_id : ℕ
   pub thin : ℕ
+  pub pairs : Bool
+  pub blind : Bool
   pub origin : Option Origin
 
 -- the job in another run
@@ -64,13 +62,22 @@ rerun job options = record job {
     first_id = options.first_id;
     last_id = options.last_id;
     thin = options.thin;
+    pairs = options.pairs;
+    blind = options.blind;
   };
   origin = options.origin;
 }
 
+-- the job with another run's requests: for pairs of walks, a blind report, a histogram, the serial test and the origin
+abbrev pub asking : Job → RunOptions → Job
+asking job options = record job {
+  setting = record job.setting { shift = options.shift; serial = options.serial; pairs = options.pairs; blind = options.blind };
+  origin = options.origin;
+}
+
 -- Both jobs have one digest, the same outcomes with histograms, the same plausible outcomes, serial test, consistent
--- slots and stops. If both ask for histograms or neither does, they have the same outcomes and, with equal origins, the
--- same report.
+-- slots and stops. If both ask for histograms or neither does, they have the same outcomes and, with equal origins and
+-- equal requests for pairs and for a blind report, the same report.
 pub record FindTheSame (job other : Job) : Type 0 where
   pub same_digest : job_digest other ≡ job_digest job
   pub same_whole : (draws : Draws) (id : ℕ) → whole other draws id ≡ whole job draws id
@@ -80,7 +87,8 @@ pub record FindTheSame (job other : Job) : Type 0 where
   pub same_outcome : other.setting.shift ≡ job.setting.shift → (draws : Draws) (id : ℕ) → outcome other draws id ≡ outcome job draws id
   pub same_sequence : other.setting.shift ≡ job.setting.shift → (draws : Draws) → sequence other draws ≡ sequence job draws
   pub same_stops : (outcomes : List Outcome) → stops_of other outcomes ≡ stops_of job outcomes
-  pub same_report : other.setting.shift ≡ job.setting.shift → other.origin ≡ job.origin → (outcomes : List Outcome) (stops : List (List ℕ)) (serial : Option (ℕ × List ℕ))
+  pub same_report : other.setting.shift ≡ job.setting.shift → other.origin ≡ job.origin → other.setting.pairs ≡ job.setting.pairs
+      → other.setting.blind ≡ job.setting.blind → (outcomes : List Outcome) (stops : List (List ℕ)) (serial : Option (ℕ × List ℕ))
       → report other outcomes stops serial ≡ report job outcomes stops serial
 
 -- the options of a run do not change what its job finds
@@ -159,10 +167,10 @@ abbrev pub IsChain : Job → Pair → List Event → Type 0
 IsChain job p [] = ⊤
 IsChain job p (e ∷ events) = IsEvent job p e × IsChain job (slots_after e) events
 
--- The run wrote the report of one thread, with a histogram, the serial test and the origin exactly as it asked. Its
--- command, workers, budget, parts, saves and initial outcomes change nothing, nor do other runs of the chain.
+-- The run wrote the report of one thread: with pairs of walks, a histogram, the serial test and the origin exactly as it
+-- asked, or a blind one. Its command, workers, budget, parts, saves and initial outcomes change nothing, nor do other runs of the chain.
 abbrev pub WroteOneThreads : Job → Link → Type 0
-WroteOneThreads job l = Appends l.before.out.bytes l.after.out.bytes (thread_report (asking job l.options.shift l.options.serial l.options.origin) (draw job.setting.key))
+WroteOneThreads job l = Appends l.before.out.bytes l.after.out.bytes (thread_report (asking job l.options) (draw job.setting.key))
 
 -- it did so with status 0, and with status 9 after a failed save if no work was left
 pub record WroteWhereDue (job : Job) (l : Link) : Type 0 where

@@ -11,7 +11,7 @@ use Rattle.audit_model.specs.Rounded.{quotient_up}
 use Rattle.audit_model.specs.Stopping.{placed_asks}
 use Rattle.audit_model.specs.Trajectory.{Draws}
 use Rattle.audit_statement.specs.Along.{ask_values, moves_after, own_steps, plan_after}
-use Rattle.audit_statement.specs.Report.{ask_words, graph_line, line, origin_lines, population_line, rule_lines, setting_line}
+use Rattle.audit_statement.specs.Report.{ask_words, graph_line, line, origin_lines, population_line, rule_lines, setting_line, weight_line}
 
 -- ---- the line of a plan
 
@@ -91,6 +91,7 @@ trace_head job =
     ++ graph_line job
     ++ population_line job
     ++ rule_lines job
+    ++ weight_line job
     ++ setting_line job
     ++ flat_map (ask_line job) (placed_asks job)
 

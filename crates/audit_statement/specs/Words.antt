@@ -1,14 +1,14 @@
 -- The setting that the arguments give, or their first fault. This project's grammar. The definition looks at the whole
 -- list; the code reads from left to right.
-use Rattle.std.specs.Prelude.{ℕ, ◌+◌, ◌-◌, ◌*◌, ◌==◌, ◌&&◌, ◌||◌, Bool, true, false, not, cond, nat_le, nat_lt, List, [], ◌∷◌, ◌++◌, length, find, fold, replicate, codes, decimal, bytes_eq, Option, Some, None, is_some, is_none, unwrap_or, option_map, option_and_then, Result, Ok, Err}
+use Rattle.std.specs.Prelude.{ℕ, zero, suc, ◌+◌, ◌-◌, ◌*◌, ◌/◌, ◌%◌, ◌==◌, ◌&&◌, ◌||◌, Bool, true, false, not, cond, nat_le, nat_lt, List, [], ◌∷◌, ◌++◌, length, find, fold, replicate, codes, decimal, bytes_eq, Option, Some, None, is_some, is_none, unwrap_or, option_map, option_and_then, Result, Ok, Err}
 use Rattle.std.specs.Result.{result_ok}
 use Rattle.std.specs.List.{list_any, slice_index_or, before_first, after_first}
 use Rattle.std.specs.Option.{option_or}
 use Rattle.hex.specs.Hex.{decode_sized}
 use Rattle.audit_model.specs.declared.fault.Name.{Name}
-use Rattle.audit_model.specs.declared.fault.Name.TheVariants.{Pop, First, Second, District, Size, Slack, Key, Walks, Steps, Ends, HubSteps, Ask, Workers, Budget, Save, Resume, MaxCut, Shift, Stop, Serial, Region, MaxSplit, Parts, Part, MaxSplits, MaxSplitRegions, Group, GroupOf, GroupDistricts, Source, Ids, Thin, GroupShare, Freeze, Length, MaxLength}
+use Rattle.audit_model.specs.declared.fault.Name.TheVariants.{Pop, First, Second, District, Size, Slack, Key, Walks, Steps, Ends, HubSteps, Ask, Workers, Budget, Save, Resume, MaxCut, Shift, Stop, Serial, Region, MaxSplit, Parts, Part, MaxSplits, MaxSplitRegions, Group, GroupOf, GroupDistricts, Source, Ids, Thin, GroupShare, Freeze, Length, MaxLength, Pairs, CutWeight, Blind}
 use Rattle.audit_model.specs.declared.fault.WordFault.{WordFault}
-use Rattle.audit_model.specs.declared.fault.WordFault.TheVariants.{NoCommand, UnknownCommand, UnknownName, Twice, NoValue, MissingName, BadValue}
+use Rattle.audit_model.specs.declared.fault.WordFault.TheVariants.{NoCommand, UnknownCommand, UnknownName, Twice, NoValue, MissingName, BadValue, PairsNeedTwoWalks}
 use Rattle.audit_model.specs.declared.setting.Ask.{Ask as AskOf}
 use Rattle.audit_model.specs.declared.setting.Columns.{Columns}
 use Rattle.audit_model.specs.declared.setting.Command.{Command}
@@ -17,7 +17,7 @@ use Rattle.audit_model.specs.declared.setting.Score.TheVariants.{Seats, MeanMedi
 use Rattle.audit_model.specs.declared.setting.Setting.{Setting}
 use Rattle.audit_model.specs.declared.setting.Tail.TheVariants.{Low, High}
 use Rattle.audit_model.specs.Below.{any_below}
-use Rattle.audit_model.specs.First.{first_some, first_some_below}
+use Rattle.audit_model.specs.First.{first_below, first_some, first_some_below}
 use Rattle.audit_model.specs.Graph.{has}
 use Rattle.audit_model.specs.Names.{name_text}
 use Rattle.audit_model.specs.Power.{is_power_of_two}
@@ -30,17 +30,19 @@ use Rattle.audit_model.specs.Limits.{most_trajectories, most_districts, most_reg
 abbrev pub names_of : Command → List Name
 names_of Check =
     Pop ∷ First ∷ Second ∷ District ∷ Slack ∷ MaxCut ∷ Region ∷ MaxSplit
-    ∷ MaxSplits ∷ MaxSplitRegions ∷ Group ∷ GroupOf ∷ GroupDistricts ∷ Source ∷ GroupShare ∷ Freeze ∷ Length ∷ MaxLength ∷ []
+    ∷ MaxSplits ∷ MaxSplitRegions ∷ Group ∷ GroupOf ∷ GroupDistricts ∷ Source ∷ GroupShare ∷ Freeze ∷ Length ∷ MaxLength ∷ CutWeight ∷ []
 names_of Run =
     Pop ∷ First ∷ Second ∷ District ∷ Slack ∷ Key ∷ Walks ∷ Steps ∷ Ends ∷ HubSteps ∷ Ask ∷ Workers ∷ Budget ∷ Save ∷ Resume ∷ MaxCut ∷ Shift ∷ Stop ∷ Serial ∷ Region ∷ MaxSplit ∷ Parts ∷ Part
-    ∷ MaxSplits ∷ MaxSplitRegions ∷ Group ∷ GroupOf ∷ GroupDistricts ∷ Source ∷ GroupShare ∷ Freeze ∷ Length ∷ MaxLength ∷ []
-names_of Make = Size ∷ Slack ∷ Key ∷ Walks ∷ Steps ∷ Ends ∷ HubSteps ∷ Ask ∷ Workers ∷ Budget ∷ Save ∷ Resume ∷ MaxCut ∷ Shift ∷ Stop ∷ Serial ∷ Parts ∷ Part ∷ []
+    ∷ MaxSplits ∷ MaxSplitRegions ∷ Group ∷ GroupOf ∷ GroupDistricts ∷ Source ∷ GroupShare ∷ Freeze ∷ Length ∷ MaxLength ∷ Pairs ∷ CutWeight ∷ Blind ∷ []
+names_of Make =
+    Size ∷ Slack ∷ Key ∷ Walks ∷ Steps ∷ Ends ∷ HubSteps ∷ Ask ∷ Workers ∷ Budget ∷ Save ∷ Resume ∷ MaxCut ∷ Shift ∷ Stop ∷ Serial ∷ Parts ∷ Part
+    ∷ Pairs ∷ CutWeight ∷ Blind ∷ []
 names_of Plans =
     Pop ∷ First ∷ Second ∷ District ∷ Slack ∷ Key ∷ Walks ∷ Steps ∷ Ends ∷ HubSteps ∷ Ask ∷ Workers ∷ MaxCut ∷ Shift ∷ Stop ∷ Serial ∷ Region ∷ MaxSplit
-    ∷ MaxSplits ∷ MaxSplitRegions ∷ Group ∷ GroupOf ∷ GroupDistricts ∷ Source ∷ GroupShare ∷ Freeze ∷ Length ∷ MaxLength ∷ []
+    ∷ MaxSplits ∷ MaxSplitRegions ∷ Group ∷ GroupOf ∷ GroupDistricts ∷ Source ∷ GroupShare ∷ Freeze ∷ Length ∷ MaxLength ∷ Pairs ∷ CutWeight ∷ []
 names_of Trace =
     Pop ∷ First ∷ Second ∷ District ∷ Slack ∷ Key ∷ Walks ∷ Steps ∷ Ends ∷ HubSteps ∷ Ask ∷ MaxCut ∷ Region ∷ MaxSplit
-    ∷ MaxSplits ∷ MaxSplitRegions ∷ Group ∷ GroupOf ∷ GroupDistricts ∷ Source ∷ Ids ∷ Thin ∷ GroupShare ∷ Freeze ∷ Length ∷ MaxLength ∷ []
+    ∷ MaxSplits ∷ MaxSplitRegions ∷ Group ∷ GroupOf ∷ GroupDistricts ∷ Source ∷ Ids ∷ Thin ∷ GroupShare ∷ Freeze ∷ Length ∷ MaxLength ∷ CutWeight ∷ []
 
 -- the default of an option, if it may be left out
 abbrev pub default_of : Name → Option (List ℕ)
@@ -80,6 +82,9 @@ default_of GroupShare = Some (codes "5000")
 default_of Freeze = Some []
 default_of Length = Some []
 default_of MaxLength = Some (codes "1717986918000000")
+default_of Pairs = Some (codes "no")
+default_of CutWeight = Some (codes "64")
+default_of Blind = Some (codes "no")
 
 -- ---- values
 
@@ -94,6 +99,21 @@ number_of text = cond (bytes_eq (decimal (digits_value text)) text) (Some (digit
 -- the text is a number within these bounds
 abbrev pub is_number : ℕ → ℕ → List ℕ → Bool
 is_number low high text = unwrap_or (option_map (λ n. nat_le low n && nat_le n high) (number_of text)) false
+
+-- the digits behind the point of a number of quarters, if it is no whole number
+abbrev pub quarter_digits : ℕ → List ℕ
+quarter_digits zero = []
+quarter_digits (suc zero) = codes ".25"
+quarter_digits (suc (suc zero)) = codes ".5"
+quarter_digits (suc (suc (suc n))) = codes ".75"
+
+-- a number of quarters as it is printed: a whole number, and what is left of it behind a point
+abbrev pub quarters : ℕ → List ℕ
+quarters q = decimal (q / 4) ++ quarter_digits (q % 4)
+
+-- the quarters, from 4 to 256, that a text spells as a weight on cut edges
+abbrev pub weight_of : List ℕ → Option ℕ
+weight_of text = first_below 257 (λ q. nat_le 4 q && bytes_eq (quarters q) text)
 
 -- the text of the first id of a range: what stands before the first dash, or the whole text
 abbrev pub first_of_range : List ℕ → List ℕ
@@ -292,6 +312,14 @@ module _ (command : Command) (words : List NameAndValue) where
   abbrev pub saves_parts : Bool
   saves_parts = (number_named Parts == 1) || nat_le 1 (number_named Save)
 
+  -- a run whose text has no score neither saves nor resumes
+  abbrev pub is_blind_alone : Bool
+  is_blind_alone = not (is_yes Blind) || ((number_named Save == 0) && not (is_yes Resume))
+
+  -- lines of pairs need two walks
+  abbrev pub has_pairs : Bool
+  has_pairs = not (is_yes Pairs) || nat_le 2 (number_named Walks)
+
   -- the first id of the range that a trace shows
   abbrev pub first_id : ℕ
   first_id = unwrap_or (number_of (first_of_range (text_of Ids))) 0
@@ -344,6 +372,9 @@ module _ (command : Command) (words : List NameAndValue) where
   is_good Freeze = true
   is_good Length = true
   is_good MaxLength = is_number 0 most_length (text_of MaxLength) && has_length
+  is_good Pairs = is_yes_or_no Pairs
+  is_good CutWeight = is_some (weight_of (text_of CutWeight))
+  is_good Blind = is_yes_or_no Blind && is_blind_alone
 
   -- the first fault, in their order
   abbrev pub fault_of : Option WordFault
@@ -351,6 +382,7 @@ module _ (command : Command) (words : List NameAndValue) where
       first_some_below (length words) pair_fault
       ∷ option_map MissingName (find (λ name. is_none (given_or_default name)) (names_of command))
       ∷ option_map BadValue (find (λ name. not (is_good name)) (names_of command))
+      ∷ cond has_pairs None (Some PairsNeedTwoWalks)
       ∷ [])
 
   -- the columns that are named
@@ -400,6 +432,9 @@ module _ (command : Command) (words : List NameAndValue) where
     last_id = 0;
     thin = 1;
     max_length = number_named MaxLength;
+    cut_weight = unwrap_or (weight_of (text_of CutWeight)) 256;
+    pairs = is_yes Pairs;
+    blind = is_yes Blind;
   }
 
 -- the setting, with the values that a command fixes
@@ -436,6 +471,9 @@ setting_for Check words = record {
   last_id = 0;
   thin = 1;
   max_length = number_named Check words MaxLength;
+  cut_weight = unwrap_or (weight_of (text_of Check words CutWeight)) 256;
+  pairs = false;
+  blind = false;
 }
 setting_for Run words = as_run Run words
 setting_for Make words = record (as_run Make words) {
