@@ -69,3 +69,15 @@ pub fn p_value(rank: u64, of: u64) -> u64
 {
     (rank * BILLION + of - 1) / of
 }
+
+/// Returns the p-value bound `count / of` of a start plan, in billionths, if `count` plans of two walks from it are in
+/// the tail (Chikina, Frieze, Mattingly and Pegden). It is rounded up, so that it is never below the fraction. `of` is
+/// the number of plans that each walk visits. The start plan is one of the `count` plans, and counts once.
+pub fn pair_bound(count: u64, of: u64) -> u64
+    requires count { (1 ≤ count) × (count < 2 * of) }
+    requires few { of ≤ 1000000001 }
+    ensures value { result ≡ test.p_value count of }
+    ensures least { IsLeast (λ z. nat_le (count * 10 ^ 9) (z * of)) result }
+{
+    (count * BILLION + of - 1) / of
+}
