@@ -113,6 +113,7 @@ module _ (words : List (List ℕ)) (before after : World) (done : IsDone words b
             ∙ no_frozen_read bytes setting.columns judged_so.parsed plain.no_frozen judged_so.read_so;
         none_long = ap (λ (j : Job). j.counts.lengths) (sym judged_so.made)
             ∙ no_lengths_read bytes setting.columns judged_so.parsed plain.no_lengths judged_so.read_so;
+        no_weight = ap (λ (s : Setting). s.cut_weight) set ∙ plain.no_weight;
       }
 
   asks : AsksPlainly job
@@ -125,6 +126,9 @@ module _ (words : List (List ℕ)) (before after : World) (done : IsDone words b
         ∙ no_group_read bytes setting.columns judged_so.parsed plain.no_group judged_so.read_so;
     no_lengths = ap (λ (s : Setting). s.columns.length) set ∙ plain.no_lengths;
     any_length = ap (λ (s : Setting). s.max_length) set ∙ plain.any_length;
+    no_weight = ap (λ (s : Setting). s.cut_weight) set ∙ plain.no_weight;
+    no_pairs = ap (λ (s : Setting). s.pairs) set ∙ plain.no_pairs;
+    not_blind = ap (λ (s : Setting). s.blind) set ∙ plain.not_blind;
     no_origin = ap (λ (j : Job). j.origin) (sym judged_so.made);
     few_asks = (run_asks job.setting.command job.setting (ap (λ (s : Setting). s.command) set ∙ plain.run) done.prepared.sound.within.setting.command).few_asks;
   }

@@ -23,24 +23,27 @@ use Rattle.audit_model.specs.Serially.{serial_by}
 use Rattle.audit_model.specs.Step.{changed, next}
 use Rattle.audit_model.specs.Stopping.{placed_asks, stops_of}
 use Rattle.audit_model.specs.Test.{bound, p_value}
+use Rattle.audit_model.specs.Weight.{largest_change}
 use Rattle.audit_model.specs.Trajectory.{Draws, visit, four_values, in_tail, moves, outcome, outcome_by, plan_value, rank, sequence, value_at, visits_in_tail, walk_outcome}
 use Rattle.audit_model.proofs.Below.{count_below_same}
 use Rattle.audit_model.proofs.Bools.{same_bool}
 use Rattle.audit_model.proofs.Legal.{legal_passes, passes_legal}
 use Rattle.audit_model.proofs.Meeting.{default_meets}
+use Rattle.audit_model.proofs.Weighing.{even_next}
 use Rattle.audit_laws.proofs.Lengthless.{cut_length_none}
-use Rattle.audit_statement.specs.Report.{ask_words, billionths, cut_length_line, ends_line, ends_lines, frozen_line, graph_line, group_line, length_line, length_lines, line, origin_lines, population_line, report, rule_lines, serial_lines, setting_line, share_line, shift_line, split_line, splits_line, stop_line, test_lines, thread_report, title_line, walk_line, walk_lines}
+use Rattle.audit_statement.specs.Report.{ask_words, billionths, cut_length_line, ends_line, ends_lines, frozen_line, graph_line, group_line, length_line, length_lines, line, origin_lines, pair_lines, population_line, report, report_by, rule_lines, serial_lines, setting_line, share_line, shift_line, split_line, splits_line, start_length_line, stop_line, test_lines, thread_report, title_by, title_line, walk_line, walk_lines, weight_by, weight_line}
 use Rattle.audit_statement.specs.Valid.{IsValid}
 use Rattle.audit_statement.specs.Plain.{Decides, after_step, plan_after, each_below, is_extreme, end, start_rank, outlier_line, parallel_line, plain_report}
 
 -- a job without rules beyond legality: all edges may be cut, there are no regions, no majorities are required, no unit
--- is frozen, and edges have no lengths
+-- is frozen, edges have no lengths, and cut edges have no weight
 pub record HasNoRules (job : Job) : Type 0 where
   pub enough : count_edges job.graph (λ u v. true) ≤ job.setting.max_cut
   pub none : job.regions ≡ []
   pub none_due : job.setting.group_districts ≡ 0
   pub none_frozen : job.frozen ≡ []
   pub none_long : job.counts.lengths ≡ []
+  pub no_weight : job.setting.cut_weight ≡ 256
 
 -- ---- valid plans are legal
 
@@ -86,7 +89,8 @@ module _ (job : Job) (free : HasNoRules job) (valid : List ℕ → Bool) (decide
   next_is : (plan : List ℕ) (draw : ℕ) → next job plan draw ≡ after_step job valid plan draw
   unfolding next after_step
   next_is plan draw =
-      ap (λ (test : List ℕ → Bool).
+      even_next job plan draw free.no_weight
+      ∙ ap (λ (test : List ℕ → Bool).
       cond (test (changed plan (proposal job.graph.units job.districts draw))) (changed plan (proposal job.graph.units job.districts draw)) plan)
       (fun_ext answers)
       ∙ step_by valid plan (nat_lt draw (counted_draws job.graph.units job.districts))
@@ -215,6 +219,9 @@ pub record AsksPlainly (job : Job) : Type 0 where
   pub no_group : job.group.members ≡ []
   pub no_lengths : job.setting.columns.length ≡ []
   pub any_length : job.setting.max_length ≡ most_length
+  pub no_weight : job.setting.cut_weight ≡ 256
+  pub no_pairs : job.setting.pairs ≡ false
+  pub not_blind : job.setting.blind ≡ false
   pub no_origin : job.origin ≡ None
   pub few_asks : length job.setting.asks ≤ 4
 
@@ -246,17 +253,19 @@ abbrev end_is_extreme : Visits → Job → Draws → Ask → ℕ → Bool
 end_is_extreme v job draws ask n = in_tail ask.tail (plan_value job (end_by v job draws n) ask.score) (plan_value job job.start ask.score)
 
 -- the report on the job's outcomes, by its optional parts
-abbrev report_by : Job → Draws → Bool → List ℕ → List ℕ → ℕ → List ℕ → List (List ℕ) → Bool → List ℕ
-report_by job draws shift origin rules stop walks stops serial =
-    title_line shift
+abbrev parts_by : Job → Draws → List ℕ → List ℕ → List ℕ → List ℕ → ℕ → List ℕ → List ℕ → Bool → List (List ℕ) → Bool → List ℕ
+parts_by job draws title origin rules weight stop walks two shift stops serial =
+    title
     ++ origin
     ++ line (codes "key" ∷ encode_lower job.setting.key ∷ [])
     ++ graph_line job
     ++ population_line job
     ++ rules
+    ++ weight
     ++ setting_line job
     ++ stop_line stop
     ++ walks
+    ++ two
     ++ shift_line shift (sequence job draws)
     ++ test_lines stop job (sequence job draws) stops
     ++ serial_lines job (serial_by serial job draws)
@@ -344,6 +353,7 @@ module _ (job : Job) (free : HasNoRules job) (plain : AsksPlainly job) (valid : 
       ∙ ap (λ (regions : List ℕ). region_line regions ++ all_line regions ++ majority_line job.group.members ++ part_line job.group.members ++ frozen_line job.frozen ++ length_lines job) free.none
       ∙ ap (λ (members : List ℕ). majority_line members ++ part_line members ++ frozen_line job.frozen ++ length_lines job) plain.no_group
       ∙ ap (λ (frozen : List ℕ). frozen_line frozen ++ length_lines job) free.none_frozen
+      ∙ ap (λ (b : Bool). start_length_line b (cut_length job.graph job.counts.lengths job.start) job.setting.columns.length ++ length_line job.setting.max_length) plain.not_blind
       ∙ ap (λ (column : List ℕ). cut_length_line (cut_length job.graph job.counts.lengths job.start) column ++ length_line job.setting.max_length) plain.no_lengths
       ∙ ap (λ (most : ℕ). length_line most) plain.any_length
     where
@@ -362,14 +372,22 @@ module _ (job : Job) (free : HasNoRules job) (plain : AsksPlainly job) (valid : 
   origin_lines_are : origin_lines job job.origin ≡ []
   origin_lines_are = ap (origin_lines job) plain.no_origin
 
+  weight_line_is : weight_line job ≡ []
+  weight_line_is = ap (λ (weight : ℕ). weight_by weight (largest_change (job.graph.units * job.districts))) plain.no_weight
+
+  title_is : title_by job.setting.blind job.setting.shift ≡ line (codes "district-audit 1" ∷ [])
+  title_is = ap (λ (b : Bool). title_by b job.setting.shift) plain.not_blind ∙ ap (λ (b : Bool). title_line b) plain.no_shift
+
   emptied : (walks : List ℕ) (stops : List (List ℕ))
-      → report_by job draws false [] [] 0 walks stops false ≡ plain_by job walks (ends_lines job.setting.ends job (sequence job draws))
+      → parts_by job draws (line (codes "district-audit 1" ∷ [])) [] [] [] 0 walks [] false stops false ≡ plain_by job walks (ends_lines job.setting.ends job (sequence job draws))
   emptied walks stops =
       let head = line (codes "district-audit 1" ∷ []) ++ line (codes "key" ∷ encode_lower job.setting.key ∷ []) ++ graph_line job ++ population_line job in
       let ends = ends_lines job.setting.ends job (sequence job draws) in
       let last = line (codes "end" ∷ []) in
-      ap (λ (xs : List ℕ). xs ++ setting_line job ++ [] ++ walks ++ [] ++ ends ++ [] ++ last) (append-nil head)
-      ∙ ap (λ (xs : List ℕ). xs ++ walks ++ [] ++ ends ++ [] ++ last) (append-nil (head ++ setting_line job))
+      ap (λ (xs : List ℕ). xs ++ [] ++ setting_line job ++ [] ++ walks ++ [] ++ [] ++ ends ++ [] ++ last) (append-nil head)
+      ∙ ap (λ (xs : List ℕ). xs ++ setting_line job ++ [] ++ walks ++ [] ++ [] ++ ends ++ [] ++ last) (append-nil head)
+      ∙ ap (λ (xs : List ℕ). xs ++ walks ++ [] ++ [] ++ ends ++ [] ++ last) (append-nil (head ++ setting_line job))
+      ∙ ap (λ (xs : List ℕ). xs ++ [] ++ ends ++ [] ++ last) (append-nil (head ++ setting_line job ++ walks))
       ∙ ap (λ (xs : List ℕ). xs ++ ends ++ [] ++ last) (append-nil (head ++ setting_line job ++ walks))
       ∙ ap (λ (xs : List ℕ). xs ++ last) (append-nil (head ++ setting_line job ++ walks ++ ends))
 
@@ -377,11 +395,24 @@ module _ (job : Job) (free : HasNoRules job) (plain : AsksPlainly job) (valid : 
   unfolding thread_report report plain_report
   plain_report_is =
       let outcomes = sequence job draws in
-      ap (λ (b : Bool). report_by job draws b (origin_lines job job.origin) (rule_lines job) job.setting.stop (walk_lines job outcomes) (stops_of job outcomes) job.setting.serial) plain.no_shift
-      ∙ ap (λ (origin : List ℕ). report_by job draws false origin (rule_lines job) job.setting.stop (walk_lines job outcomes) (stops_of job outcomes) job.setting.serial) origin_lines_are
-      ∙ ap (λ (rules : List ℕ). report_by job draws false [] rules job.setting.stop (walk_lines job outcomes) (stops_of job outcomes) job.setting.serial) rule_lines_are
-      ∙ ap (λ (n : ℕ). report_by job draws false [] [] n (walk_lines job outcomes) (stops_of job outcomes) job.setting.serial) plain.no_stop
-      ∙ ap (λ (b : Bool). report_by job draws false [] [] 0 (walk_lines job outcomes) (stops_of job outcomes) b) plain.no_serial
-      ∙ ap (λ (walks : List ℕ). report_by job draws false [] [] 0 walks (stops_of job outcomes) false) walk_lines_are
-      ∙ emptied (each_below job.setting.walks (λ n. flat_map (outlier_line job valid draws n) job.setting.asks)) (stops_of job outcomes)
-      ∙ ap (plain_by job (each_below job.setting.walks (λ n. flat_map (outlier_line job valid draws n) job.setting.asks))) (ends_lines_are job.setting.ends)
+      let title = title_by job.setting.blind job.setting.shift in
+      let first = line (codes "district-audit 1" ∷ []) in
+      let origin = origin_lines job job.origin in
+      let rules = rule_lines job in
+      let weight = weight_line job in
+      let walks = walk_lines job outcomes in
+      let two = pair_lines job.setting.pairs job outcomes in
+      let stops = stops_of job outcomes in
+      let each = each_below job.setting.walks (λ n. flat_map (outlier_line job valid draws n) job.setting.asks) in
+      ap (λ (b : Bool). report_by b job outcomes stops (serial_by job.setting.serial job draws)) plain.not_blind
+      ∙ ap (λ (t : List ℕ). parts_by job draws t origin rules weight job.setting.stop walks two job.setting.shift stops job.setting.serial) title_is
+      ∙ ap (λ (b : Bool). parts_by job draws first origin rules weight job.setting.stop walks two b stops job.setting.serial) plain.no_shift
+      ∙ ap (λ (t : List ℕ). parts_by job draws first t rules weight job.setting.stop walks two false stops job.setting.serial) origin_lines_are
+      ∙ ap (λ (t : List ℕ). parts_by job draws first [] t weight job.setting.stop walks two false stops job.setting.serial) rule_lines_are
+      ∙ ap (λ (t : List ℕ). parts_by job draws first [] [] t job.setting.stop walks two false stops job.setting.serial) weight_line_is
+      ∙ ap (λ (n : ℕ). parts_by job draws first [] [] [] n walks two false stops job.setting.serial) plain.no_stop
+      ∙ ap (λ (b : Bool). parts_by job draws first [] [] [] 0 walks two false stops b) plain.no_serial
+      ∙ ap (λ (b : Bool). parts_by job draws first [] [] [] 0 walks (pair_lines b job outcomes) false stops false) plain.no_pairs
+      ∙ ap (λ (t : List ℕ). parts_by job draws first [] [] [] 0 t [] false stops false) walk_lines_are
+      ∙ emptied each stops
+      ∙ ap (plain_by job each) (ends_lines_are job.setting.ends)

@@ -21,6 +21,7 @@ use Rattle.audit_model.specs.Run.{IsConsistent, histogram_fits, fits, steps_of, 
 use Rattle.audit_model.specs.Serially.{place_and_ranks, serial_by, serial_of, serial_place, serial_rank}
 use Rattle.audit_model.specs.Step.{next}
 use Rattle.audit_model.specs.Stopping.{stops_by, stops_of}
+use Rattle.audit_model.specs.Weight.{is_taken}
 use Rattle.audit_model.specs.Trajectory.{Draws, without_histogram, bin_of, four_values, in_tail, empty_histogram, outcome, outcome_by, outcome_with, plan_seats, plan_value, sequence, value_at, visit, whole}
 use Rattle.audit_statement.specs.Checkpoint.{checkpoint_fault, job_digest, stated_count}
 use Rattle.audit_statement.specs.Slots.{IsConsistentSlot, Slot, absent, broken, checkpoint_limit, other, ours, outcome_in, slot_of, slot_of_bytes, slot_of_checkpoint, slot_of_digest, slot_of_ours, IsNotOurs}
@@ -28,7 +29,7 @@ use Rattle.audit_statement.specs.Histories.{AreCarriedOut, stopped_in}
 use Rattle.ckpt_store.specs.Laws.{ConsistentSlotsOpenRight, RightIsConsistent, SavesLeaveConsistentSlots, StopsLeaveConsistentSlots}
 use Rattle.audit_statement.specs.Draw.{draw}
 use Rattle.hex.specs.Hex.{encode_lower}
-use Rattle.audit_statement.specs.Report.{ends_lines, graph_line, line, origin_lines, population_line, report, rule_lines, serial_lines, setting_line, shift_line, stop_line, test_lines, thread_report, title_line, walk_lines}
+use Rattle.audit_statement.specs.Report.{ends_lines, graph_line, line, moved_lines, origin_lines, pair_lines, population_line, report, report_by, rule_lines, serial_lines, setting_line, shift_line, stop_line, test_lines, thread_report, title_by, walk_lines, weight_line}
 use Rattle.audit_statement.specs.Chain.{AreConsistentOf, ResumesFromConsistent, AttemptsOver}
 use Rattle.audit_model.specs.Observed.{IfBothObserved, IfObserved}
 use Rattle.audit_statement.specs.Endings.{WritesReport}
@@ -113,7 +114,7 @@ module _ (job : Job) (options : RunOptions) where
   again = rerun job options
 
   next_same : (plan : List ℕ) (d : ℕ) → next again plan d ≡ next job plan d
-  unfolding next is_legal
+  unfolding next is_legal is_taken
   next_same plan d = refl
 
   visit_at : (draws : ℕ → ℕ) (plan : List ℕ) (i : ℕ) → visit again draws plan i ≡ visit job draws plan i
@@ -159,31 +160,69 @@ module _ (job : Job) (options : RunOptions) where
   origin_same None = refl
   origin_same (Some origin) = refl
 
-  report_same : options.shift ≡ job.setting.shift → options.origin ≡ job.origin → (outcomes : List Outcome) (stops : List (List ℕ)) (serial : Option (ℕ × List ℕ))
-      → report again outcomes stops serial ≡ report job outcomes stops serial
-  unfolding report
-  report_same same from outcomes stops serial =
-      ap (λ (tests : List ℕ). with_lines options.shift (origin_lines again options.origin) tests (serial_lines again serial)) (tests_same job.setting.stop outcomes stops)
-      ∙ ap (λ (rest : List ℕ). with_lines options.shift (origin_lines again options.origin) (test_lines job.setting.stop job outcomes stops) rest) (serial_same serial)
-      ∙ ap (λ (b : Bool). with_lines b (origin_lines again options.origin) (test_lines job.setting.stop job outcomes stops) (serial_lines job serial)) same
-      ∙ ap (λ (head : List ℕ). with_lines job.setting.shift head (test_lines job.setting.stop job outcomes stops) (serial_lines job serial))
-      (origin_same options.origin ∙ ap (origin_lines job) from)
+  -- the job with this run's requests for the text
+  abbrev asked : Job
+  asked = record job {
+    setting = record job.setting { shift = options.shift; pairs = options.pairs; blind = options.blind };
+    origin = options.origin;
+  }
+
+  asked_origin : (origin : Option Origin) → origin_lines again origin ≡ origin_lines asked origin
+  asked_origin None = refl
+  asked_origin (Some origin) = refl
+
+  asked_ends : (ends : ℕ) (outcomes : List Outcome) → ends_lines ends again outcomes ≡ ends_lines ends asked outcomes
+  asked_ends zero outcomes = refl
+  asked_ends (suc ends) outcomes = refl
+
+  asked_tests : (enough : ℕ) (outcomes : List Outcome) (stops : List (List ℕ)) → test_lines enough again outcomes stops ≡ test_lines enough asked outcomes stops
+  asked_tests zero outcomes stops = asked_ends job.setting.ends outcomes
+  asked_tests (suc h) outcomes stops = refl
+
+  asked_serial : (serial : Option (ℕ × List ℕ)) → serial_lines again serial ≡ serial_lines asked serial
+  asked_serial None = refl
+  asked_serial (Some found) = refl
+
+  asked_pairs : (b : Bool) (outcomes : List Outcome) → pair_lines b again outcomes ≡ pair_lines b asked outcomes
+  asked_pairs true outcomes = refl
+  asked_pairs false outcomes = refl
+
+  -- the head of the text behind its title, with these lines of the origin
+  abbrev behind : List ℕ → List ℕ
+  behind head =
+      title_by options.blind options.shift
+      ++ head
+      ++ line (codes "key" ∷ encode_lower job.setting.key ∷ [])
+      ++ graph_line asked
+      ++ population_line asked
+      ++ rule_lines asked
+      ++ weight_line asked
+      ++ setting_line asked
+      ++ stop_line job.setting.stop
+
+  asked_by : (b : Bool) (outcomes : List Outcome) (stops : List (List ℕ)) (serial : Option (ℕ × List ℕ)) → report_by b again outcomes stops serial ≡ report_by b asked outcomes stops serial
+  asked_by true outcomes stops serial = ap (λ (head : List ℕ). behind head ++ moved_lines asked outcomes ++ line (codes "end" ∷ [])) (asked_origin options.origin)
+  asked_by false outcomes stops serial =
+      ap (λ (head : List ℕ). found_by head (pair_lines options.pairs again outcomes) (test_lines job.setting.stop again outcomes stops) (serial_lines again serial)) (asked_origin options.origin)
+      ∙ ap (λ (two : List ℕ). found_by (origin_lines asked options.origin) two (test_lines job.setting.stop again outcomes stops) (serial_lines again serial)) (asked_pairs options.pairs outcomes)
+      ∙ ap (λ (tests : List ℕ). found_by (origin_lines asked options.origin) (pair_lines options.pairs asked outcomes) tests (serial_lines again serial)) (asked_tests job.setting.stop outcomes stops)
+      ∙ ap (λ (rest : List ℕ). found_by (origin_lines asked options.origin) (pair_lines options.pairs asked outcomes) (test_lines job.setting.stop asked outcomes stops) rest) (asked_serial serial)
     where
-      with_lines : Bool → List ℕ → List ℕ → List ℕ → List ℕ
-      with_lines binned head tests rest =
-          title_line binned
-          ++ head
-          ++ line (codes "key" ∷ encode_lower job.setting.key ∷ [])
-          ++ graph_line job
-          ++ population_line job
-          ++ rule_lines job
-          ++ setting_line job
-          ++ stop_line job.setting.stop
-          ++ walk_lines job outcomes
-          ++ shift_line binned outcomes
-          ++ tests
-          ++ rest
-          ++ line (codes "end" ∷ [])
+      abbrev found_by : List ℕ → List ℕ → List ℕ → List ℕ → List ℕ
+      found_by head two tests rest = behind head ++ walk_lines asked outcomes ++ two ++ shift_line options.shift outcomes ++ tests ++ rest ++ line (codes "end" ∷ [])
+
+  report_same : options.shift ≡ job.setting.shift → options.origin ≡ job.origin → options.pairs ≡ job.setting.pairs → options.blind ≡ job.setting.blind
+      → (outcomes : List Outcome) (stops : List (List ℕ)) (serial : Option (ℕ × List ℕ)) → report again outcomes stops serial ≡ report job outcomes stops serial
+  unfolding report
+  report_same same from two blind outcomes stops serial =
+      asked_by options.blind outcomes stops serial
+      ∙ ap (λ (b : Bool). report (requesting b options.pairs options.blind options.origin) outcomes stops serial) same
+      ∙ ap (λ (o : Option Origin). report (requesting job.setting.shift options.pairs options.blind o) outcomes stops serial) from
+      ∙ ap (λ (b : Bool). report (requesting job.setting.shift b options.blind job.origin) outcomes stops serial) two
+      ∙ ap (λ (b : Bool). report (requesting job.setting.shift job.setting.pairs b job.origin) outcomes stops serial) blind
+    where
+      abbrev requesting : Bool → Bool → Bool → Option Origin → Job
+      requesting shift pairs blind origin = record job { setting = record job.setting { shift = shift; pairs = pairs; blind = blind }; origin = origin }
 
   rank_same : (draws : Draws) (place : ℕ) (ask : Ask) → serial_rank again draws place ask ≡ serial_rank job draws place ask
   rank_same draws place ask = ap (λ (v : Visits). rank_by v job draws place ask) visit_same
@@ -207,12 +246,12 @@ module _ (job : Job) (options : RunOptions) where
   stops_same outcomes = stops_by_same job.setting.stop outcomes
 
   -- the whole report, with the lines of the serial test exactly if this run requests them
-  thread_report_is : options.shift ≡ job.setting.shift → options.origin ≡ job.origin → (draws : Draws)
+  thread_report_is : options.shift ≡ job.setting.shift → options.origin ≡ job.origin → options.pairs ≡ job.setting.pairs → options.blind ≡ job.setting.blind → (draws : Draws)
       → thread_report again draws ≡ report job (sequence job draws) (stops_of job (sequence job draws)) (serial_by options.serial job draws)
   unfolding thread_report
-  thread_report_is same from draws =
+  thread_report_is same from two blind draws =
       ap (λ (stops : List (List ℕ)). report again (sequence again draws) stops (serial_by options.serial again draws)) (stops_same (sequence again draws))
-      ∙ report_same same from (sequence again draws) (stops_of job (sequence again draws)) (serial_by options.serial again draws)
+      ∙ report_same same from two blind (sequence again draws) (stops_of job (sequence again draws)) (serial_by options.serial again draws)
       ∙ ap (λ (os : List Outcome). report job os (stops_of job os) (serial_by options.serial again draws)) (sequence_same same draws)
       ∙ ap (λ (found : Option (ℕ × List ℕ)). report job (sequence job draws) (stops_of job (sequence job draws)) found) (observed_same options.serial draws)
 
@@ -287,39 +326,45 @@ reruns_are_alike job options = record {
   same_report = report_same job options;
 }
 
--- the job's own options, with these choices of histogram, serial test and origin
-abbrev own : Job → Bool → Bool → Option Origin → RunOptions
-own job shift serial origin = record {
+-- the job's own options
+abbrev own : Job → RunOptions
+own job = record {
   command = job.setting.command;
   workers = job.setting.workers;
   budget = job.setting.budget;
   save_every = job.setting.save_every;
   resume = job.setting.resume;
-  shift = shift;
-  serial = serial;
+  shift = job.setting.shift;
+  serial = job.setting.serial;
   parts = job.setting.parts;
   part = job.setting.part;
   source = job.setting.source;
   first_id = job.setting.first_id;
   last_id = job.setting.last_id;
   thin = job.setting.thin;
-  origin = origin;
+  pairs = job.setting.pairs;
+  blind = job.setting.blind;
+  origin = job.origin;
 }
 
+-- the job's own options, with another run's requests
+abbrev requests : Job → RunOptions → RunOptions
+requests job options = record (own job) { shift = options.shift; serial = options.serial; pairs = options.pairs; blind = options.blind; origin = options.origin }
+
 -- the options of a run do not change the report
-thread_report_same : (job : Job) (options : RunOptions) → options.shift ≡ job.setting.shift → options.origin ≡ job.origin → (draws : Draws)
-    → thread_report (rerun job options) draws ≡ thread_report (asking job options.shift options.serial options.origin) draws
-thread_report_same job options same from draws =
-    thread_report_is job options same from draws ∙ sym (thread_report_is job (own job options.shift options.serial options.origin) same from draws)
+thread_report_same : (job : Job) (options : RunOptions) → options.shift ≡ job.setting.shift → options.origin ≡ job.origin → options.pairs ≡ job.setting.pairs
+    → options.blind ≡ job.setting.blind → (draws : Draws) → thread_report (rerun job options) draws ≡ thread_report (asking job options) draws
+thread_report_same job options same from two blind draws =
+    thread_report_is job options same from two blind draws ∙ sym (thread_report_is job (requests job options) same from two blind draws)
 
 -- ---- chains
 
 -- the job is a rerun of its rerun
 back_from : (job : Job) (options : RunOptions) → FindTheSame (rerun job options) job
-back_from job options = reruns_are_alike (rerun job options) (own job job.setting.shift job.setting.serial job.origin)
+back_from job options = reruns_are_alike (rerun job options) (own job)
 
 back_again : (job : Job) (l : Link) → FindTheSame (job_in job l) job
-back_again job l = reruns_are_alike (job_in job l) (own job job.setting.shift job.setting.serial job.origin)
+back_again job l = reruns_are_alike (job_in job l) (own job)
 
 -- all attempts as they ended
 stopped_after : (attempts : List Try) → stopped_in (length attempts) attempts ≡ attempts
@@ -373,7 +418,7 @@ module _ (law : SavesLeaveConsistentSlots) (job : Job) (p : Pair) (l : Link) (co
   asked_alike : IsLink job p l → WritesOneThreads (job_in job l) l.before l.after → WroteOneThreads job l
   asked_alike link wrote =
       subst (λ (text : List ℕ). Appends l.before.out.bytes l.after.out.bytes text)
-      (thread_report_same (asking job l.options.shift l.options.serial l.options.origin) l.options refl refl (draw job.setting.key))
+      (thread_report_same (asking job l.options) l.options refl refl refl refl (draw job.setting.key))
       wrote
 
   link_wrote : IsLink job p l → HasWritten job (ran l)

@@ -8,14 +8,14 @@ use Rattle.std.proofs.lemmas.Bool.{and_parts, eqb-true, leb-true, ltb-true, or_c
 use Rattle.std.proofs.lemmas.Slice.Eq.{bytes_eq-Decides}
 use Rattle.hex.specs.Hex.{decode_sized}
 use Rattle.audit_model.specs.declared.fault.Name.{Name}
-use Rattle.audit_model.specs.declared.fault.Name.TheVariants.{Pop, First, Second, District, Slack, Key, Walks, Steps, Ends, HubSteps, Ask, Save, Resume, MaxCut, Shift, Stop, Serial, Region, Parts, Part, Group, GroupDistricts, Source, Freeze, Length, MaxLength}
+use Rattle.audit_model.specs.declared.fault.Name.TheVariants.{Pop, First, Second, District, Slack, Key, Walks, Steps, Ends, HubSteps, Ask, Save, Resume, MaxCut, Shift, Stop, Serial, Region, Parts, Part, Group, GroupDistricts, Source, Freeze, Length, MaxLength, Pairs, CutWeight, Blind}
 use Rattle.audit_model.specs.declared.fault.WordFault.{WordFault}
 use Rattle.audit_model.specs.declared.setting.Ask.{Ask as AskOf}
 use Rattle.audit_model.specs.declared.setting.Command.TheVariants.{Run}
 use Rattle.audit_model.specs.declared.setting.Setting.{Setting}
 use Rattle.audit_model.specs.Limits.{most_edges, most_length}
 use Rattle.audit_model.specs.Names.{name_text}
-use Rattle.audit_statement.specs.Words.{NameAndValue, all_asks, as_run, ask_of, ask_text, asks_of, default_of, digits_value, fault_of, has_length, has_majority_group, is_empty, is_number, number_named, number_of, pairs, parts_between, saves_parts, setting_of, setting_or, text_of, with_ask}
+use Rattle.audit_statement.specs.Words.{NameAndValue, all_asks, as_run, ask_of, ask_text, asks_of, default_of, digits_value, fault_of, has_length, has_majority_group, is_empty, is_number, number_named, number_of, pairs, parts_between, saves_parts, setting_of, setting_or, text_of, with_ask, weight_of}
 use Rattle.audit_laws.proofs.Words.{good}
 use Rattle.audit_statement.specs.PlainArguments.{ArePlain, SettingMatches, IsNotGiven, IsSpelled, given_or}
 
@@ -116,6 +116,9 @@ pub record IsPlain (setting : Setting) : Type 0 where
   pub no_frozen : setting.columns.frozen ≡ []
   pub no_lengths : setting.columns.length ≡ []
   pub any_length : setting.max_length ≡ most_length
+  pub no_pairs : setting.pairs ≡ false
+  pub no_weight : setting.cut_weight ≡ 256
+  pub not_blind : setting.blind ≡ false
   pub no_source : setting.source ≡ false
 
 -- ---- the whole setting
@@ -209,4 +212,7 @@ silent_is_plain rest faultless h = record {
   no_lengths = silent_text rest Length (h 10 [] (omega arith));
   any_length = any_length rest faultless (silent_text rest Length (h 10 [] (omega arith)));
   no_source = ap (λ (t : List ℕ). bytes_eq t (codes "yes")) (silent_text rest Source (h 8 [] (omega arith)));
+  no_pairs = ap (λ (t : List ℕ). bytes_eq t (codes "yes")) (silent_text rest Pairs (h 11 [] (omega arith)));
+  no_weight = ap (λ (t : List ℕ). unwrap_or (weight_of t) 256) (silent_text rest CutWeight (h 12 [] (omega arith)));
+  not_blind = ap (λ (t : List ℕ). bytes_eq t (codes "yes")) (silent_text rest Blind (h 13 [] (omega arith)));
 }

@@ -46,6 +46,9 @@ run_of slack walks steps ends hub_steps asks = record {
   last_id = 0;
   thin = 1;
   max_length = 1717986918000000;
+  cut_weight = 256;
+  pairs = false;
+  blind = false;
 }
 
 -- no group

@@ -93,25 +93,27 @@ cut_length_line there (c ∷ column) = line (codes "cut-length" ∷ decimal ther
 abbrev pub length_line : ℕ → List ℕ
 length_line most = cond (nat_lt most most_length) (line (codes "max-length" ∷ decimal most ∷ [])) []
 
+-- the line of the start plan's length, which is a score: a blind report has none
+abbrev pub start_length_line : Bool → ℕ → List ℕ → List ℕ
+start_length_line true there column = []
+start_length_line false there column = cut_length_line there column
+
 -- the lines of the lengths of edges
 abbrev pub length_lines : Job → List ℕ
 length_lines job =
-    cut_length_line (cut_length job.graph job.counts.lengths job.start) job.setting.columns.length
+    start_length_line job.setting.blind (cut_length job.graph job.counts.lengths job.start) job.setting.columns.length
     ++ length_line job.setting.max_length
 
--- the rules other than those on lengths, if there are some
-abbrev pub common_rule_lines : Job → List ℕ
-common_rule_lines job =
+-- the rules, if there are some
+abbrev pub rule_lines : Job → List ℕ
+rule_lines job =
     cut_line job
     ++ split_line job.setting.max_split job.regions
     ++ splits_line job.setting.max_splits job.setting.max_split_regions job.regions
     ++ group_line job.setting.group_districts (majorities job.setting.group_share job.group job.start) job.group.members
     ++ share_line job.setting.group_share job.group.members
     ++ frozen_line job.frozen
-
--- the rules, if there are some
-abbrev pub rule_lines : Job → List ℕ
-rule_lines job = common_rule_lines job ++ length_lines job
+    ++ length_lines job
 
 -- the weight on cut edges and the largest change of cut edges in one step, if there is a weight
 abbrev pub weight_by : ℕ → ℕ → List ℕ
@@ -195,6 +197,11 @@ abbrev pub title_line : Bool → List ℕ
 title_line true = line (codes "district-audit 2" ∷ [])
 title_line false = line (codes "district-audit 1" ∷ [])
 
+-- the title of a report, or of a blind one
+abbrev pub title_by : Bool → Bool → List ℕ
+title_by true shift = line (codes "walk-pilot 1" ∷ [])
+title_by false shift = title_line shift
+
 -- the summed histogram, if it is asked for
 abbrev pub shift_line : Bool → List Outcome → List ℕ
 shift_line true outcomes = line (codes "shift" ∷ map decimal (tally outcomes))
@@ -262,10 +269,10 @@ origin_lines job (Some origin) =
 
 -- ---- whole texts
 
--- the report with all findings
-abbrev pub open_report : Job → List Outcome → List (List ℕ) → Option (ℕ × List ℕ) → List ℕ
-open_report job outcomes stops serial =
-    title_line job.setting.shift
+-- the lines before the findings
+abbrev pub head_lines : Job → List ℕ
+head_lines job =
+    title_by job.setting.blind job.setting.shift
     ++ origin_lines job job.origin
     ++ line (codes "key" ∷ encode_lower job.setting.key ∷ [])
     ++ graph_line job
@@ -274,6 +281,11 @@ open_report job outcomes stops serial =
     ++ weight_line job
     ++ setting_line job
     ++ stop_line job.setting.stop
+
+-- the report with all findings
+abbrev pub open_report : Job → List Outcome → List (List ℕ) → Option (ℕ × List ℕ) → List ℕ
+open_report job outcomes stops serial =
+    head_lines job
     ++ walk_lines job outcomes
     ++ pair_lines job.setting.pairs job outcomes
     ++ shift_line job.setting.shift outcomes
@@ -285,23 +297,15 @@ open_report job outcomes stops serial =
 abbrev pub moved_line : Outcome → List ℕ
 moved_line found = line (codes "walk" ∷ decimal found.id ∷ codes "moved" ∷ decimal found.moved ∷ [])
 
--- the report of a blind run: the moves of each walk, and nothing of any score; so without the start plan's cut length
-abbrev pub blind_report : Job → List Outcome → List ℕ
-blind_report job outcomes =
-    line (codes "walk-pilot 1" ∷ [])
-    ++ origin_lines job job.origin
-    ++ line (codes "key" ∷ encode_lower job.setting.key ∷ [])
-    ++ graph_line job
-    ++ population_line job
-    ++ common_rule_lines job
-    ++ length_line job.setting.max_length
-    ++ weight_line job
-    ++ setting_line job
-    ++ stop_line job.setting.stop
-    ++ flat_map moved_line (filter (λ o. nat_lt o.id job.setting.walks) outcomes)
-    ++ line (codes "end" ∷ [])
+-- a line with the moves of each walk
+abbrev pub moved_lines : Job → List Outcome → List ℕ
+moved_lines job outcomes = flat_map moved_line (filter (λ o. nat_lt o.id job.setting.walks) outcomes)
 
--- the blind report or the one with all findings
+-- the report of a blind run, which has nothing of any score
+abbrev pub blind_report : Job → List Outcome → List ℕ
+blind_report job outcomes = head_lines job ++ moved_lines job outcomes ++ line (codes "end" ∷ [])
+
+-- the report with all findings, or a blind one
 abbrev pub report_by : Bool → Job → List Outcome → List (List ℕ) → Option (ℕ × List ℕ) → List ℕ
 report_by true job outcomes stops serial = blind_report job outcomes
 report_by false job outcomes stops serial = open_report job outcomes stops serial

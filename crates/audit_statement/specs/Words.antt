@@ -314,11 +314,11 @@ module _ (command : Command) (words : List NameAndValue) where
 
   -- a run whose text has no score neither saves nor resumes
   abbrev pub is_blind_alone : Bool
-  is_blind_alone = not (is_yes Blind) || ((number_named Save == 0) && not (is_yes Resume))
+  is_blind_alone = not (is_yes Blind) || (is_number 0 0 (text_of Save) && not (is_yes Resume))
 
   -- lines of pairs need two walks
   abbrev pub has_pairs : Bool
-  has_pairs = not (is_yes Pairs) || nat_le 2 (number_named Walks)
+  has_pairs = not (is_yes Pairs) || is_number 2 most_trajectories (text_of Walks)
 
   -- the first id of the range that a trace shows
   abbrev pub first_id : ℕ

@@ -1,17 +1,18 @@
 -- The setting of valid values is within the limits.
-use Rattle.std.proofs.Common.{◌≡◌, ◌≢◌, ◌∙◌, ℕ, ◌+◌, ◌≤◌, true, List, [], length, ap, arith, refl, subst, sym, Result, Ok, Err, inl, inr}
+use Rattle.std.proofs.Common.{◌≡◌, ◌≢◌, ◌∙◌, ℕ, ◌+◌, ◌<◌, ◌≤◌, true, List, [], length, ap, arith, Option, Some, None, refl, subst, sym, Result, Ok, Err, inl, inr}
 use Rattle.std.proofs.lemmas.Bool.{and_parts, false≢true, leb-true, ltb-true, eqb-true, or_cases}
-use Rattle.std.specs.Prelude.{◌==◌, nat_le, nat_lt, is_some, unwrap_or}
+use Rattle.std.specs.Prelude.{◌==◌, ◌&&◌, bytes_eq, nat_le, nat_lt, is_some, unwrap_or}
 use Rattle.std.specs.List.{AllPairs}
 use Rattle.std.specs.Result.{result_ok}
 use Rattle.hex.specs.Hex.{decode_sized}
 use Rattle.hex.proofs.HexLemmas.{decode_sized-ok, decode_sized-twice, decode_of-ok}
 use Rattle.audit_model.specs.Limits.{HasPart, IsSetting, IsSettingOf, IsRunSetting}
-use Rattle.audit_model.specs.declared.fault.Name.TheVariants.{Slack, Key, Walks, Steps, Ends, HubSteps, Ask, Workers, MaxCut, Parts, Part, Save, Thin}
+use Rattle.audit_model.specs.declared.fault.Name.TheVariants.{Slack, Key, Walks, Steps, Ends, HubSteps, Ask, Workers, MaxCut, Parts, Part, Save, Thin, CutWeight}
 use Rattle.audit_model.specs.declared.setting.Ask.{Ask as AskOf}
 use Rattle.audit_model.specs.declared.setting.Command.{Command}
 use Rattle.audit_model.specs.declared.setting.Command.TheVariants.{Check, Run, Make, Plans, Trace}
-use Rattle.audit_statement.specs.Words.{NameAndValue, are_asks, as_run, asks_of, has_asked_length, has_walks, is_number, number_named, parts_between, saves_parts, setting_for, text_of}
+use Rattle.audit_statement.specs.Words.{NameAndValue, are_asks, as_run, asks_of, has_asked_length, has_walks, is_number, number_named, parts_between, quarters, saves_parts, setting_for, text_of, weight_of}
+use Rattle.audit_model.proofs.First.{first_below_some}
 use Rattle.audit_words.specs.Judged.{AreGood, AreReadable}
 use Rattle.audit_words.proofs.Asking.{length-asks_of, AllPairs-asks_of}
 use Rattle.audit_words.proofs.ValidValues.{AreBounded, AreBounded-good, asks_of-some, number-bounds}
@@ -108,6 +109,17 @@ HasPart-good command words good =
       ];
     }
 
+-- the weight of a text is from 4 to 256 quarters
+weight-bounds : (text : List ℕ) → (4 ≤ unwrap_or (weight_of text) 256) × (unwrap_or (weight_of text) 256 ≤ 256)
+weight-bounds text = by (weight_of text) refl
+  where
+    by : (found : Option ℕ) → weight_of text ≡ found → (4 ≤ unwrap_or found 256) × (unwrap_or found 256 ≤ 256)
+    by None is = (omega arith, omega arith)
+    by (Some q) is =
+        let passes = first_below_some 257 (λ n. nat_le 4 n && bytes_eq (quarters n) text) q is in
+        let both = and_parts (nat_le 4 q) (bytes_eq (quarters q) text) passes.1 in
+        (leb-true 4 q both.0, omega (arith, passes.0))
+
 -- valid arguments give a command a setting within all limits
 IsSetting-run : (command : Command) (words : List NameAndValue) → AreGood words → AreBounded words → IsSettingOf command (as_run command words) → IsSetting (as_run command words)
 IsSetting-run command words good limits is = record {
@@ -121,6 +133,8 @@ IsSetting-run command words good limits is = record {
   few_group_districts = limits.group_districts;
   few_shares = limits.group_share;
   short = limits.max_length;
+  some_weight = (weight-bounds (text_of Check words CutWeight)).0;
+  most_weight = (weight-bounds (text_of Check words CutWeight)).1;
   part = HasPart-good command words good;
   command = is;
 }
@@ -138,6 +152,8 @@ IsSetting-good Check words good = record {
   few_group_districts = (AreBounded-good words good.2).group_districts;
   few_shares = (AreBounded-good words good.2).group_share;
   short = (AreBounded-good words good.2).max_length;
+  some_weight = (weight-bounds (text_of Check words CutWeight)).0;
+  most_weight = (weight-bounds (text_of Check words CutWeight)).1;
   part = record { some = omega arith; few = omega arith; one_of = omega arith; saves = λ several. absurd (omega (arith, several)) };
   command = record {
     no_walks = refl;
@@ -161,6 +177,8 @@ IsSetting-good Make words good = record {
   few_group_districts = omega arith;
   few_shares = omega arith;
   short = omega arith;
+  some_weight = (weight-bounds (text_of Check words CutWeight)).0;
+  most_weight = (weight-bounds (text_of Check words CutWeight)).1;
   part = HasPart-made words (HasPart-good Make words good.0);
   command = IsRunSetting-made words (IsRunSetting-good Make words good.0);
 }
@@ -182,6 +200,8 @@ IsSetting-good Trace words good =
       few_group_districts = bounds.group_districts;
       few_shares = bounds.group_share;
       short = bounds.max_length;
+      some_weight = (weight-bounds (text_of Check words CutWeight)).0;
+      most_weight = (weight-bounds (text_of Check words CutWeight)).1;
       part = record { some = part.some; few = part.few; one_of = part.one_of; saves = part.saves };
       command = record {
         run = record {

@@ -4,22 +4,26 @@ use Rattle.audit_model.specs.First.{first_some}
 use Rattle.audit_model.specs.declared.fault.WordFault.{WordFault}
 use Rattle.audit_model.specs.declared.fault.WordFault.TheVariants.{NoCommand, UnknownCommand}
 use Rattle.audit_model.specs.declared.setting.Command.{Command}
-use Rattle.audit_words.specs.Judged.{fault_of_pairs, fault_of_names, fault_of_values}
+use Rattle.audit_words.specs.Judged.{fault_of_pairs, fault_of_names, fault_of_values, fault_of_walks}
 use Rattle.audit_words.specs.ArgumentBytes.{argument_bytes}
 use Rattle.audit_statement.specs.Words.{NameAndValue, pairs, command_of, fault_of, of_command, setting_for, setting_or, setting_of}
 
--- the first of three options has a value
-first_of : {A : Type 0} (a b c : Option A) (x : A) → a ≡ Some x → first_some (a ∷ b ∷ c ∷ []) ≡ Some x
-first_of a b c x h = rw h refl
+-- the first of four options has a value
+first_of : {A : Type 0} (a b c d : Option A) (x : A) → a ≡ Some x → first_some (a ∷ b ∷ c ∷ d ∷ []) ≡ Some x
+first_of a b c d x h = rw h refl
 
--- if the first of three options is empty, the second is the first with a value
-second_of : {A : Type 0} (a b c : Option A) (x : A) → a ≡ None → b ≡ Some x → first_some (a ∷ b ∷ c ∷ []) ≡ Some x
-second_of a b c x none h = rw (none, h) refl
+-- if the first of four options is empty, the second is the first with a value
+second_of : {A : Type 0} (a b c d : Option A) (x : A) → a ≡ None → b ≡ Some x → first_some (a ∷ b ∷ c ∷ d ∷ []) ≡ Some x
+second_of a b c d x none h = rw (none, h) refl
 
--- if the first two of three options are empty, the answer is the third
-third_of : {A : Type 0} (a b c : Option A) (o : Option A) → a ≡ None → b ≡ None → c ≡ o → first_some (a ∷ b ∷ c ∷ []) ≡ o
-third_of a b c None none nor h = rw (none, nor, h) refl
-third_of a b c (Some x) none nor h = rw (none, nor, h) refl
+-- if the first two of four options are empty, the third is the first with a value
+third_of : {A : Type 0} (a b c d : Option A) (x : A) → a ≡ None → b ≡ None → c ≡ Some x → first_some (a ∷ b ∷ c ∷ d ∷ []) ≡ Some x
+third_of a b c d x none nor h = rw (none, nor, h) refl
+
+-- if the first three of four options are empty, the answer is the fourth
+fourth_of : {A : Type 0} (a b c d : Option A) (o : Option A) → a ≡ None → b ≡ None → c ≡ None → d ≡ o → first_some (a ∷ b ∷ c ∷ d ∷ []) ≡ o
+fourth_of a b c d None none nor neither h = rw (none, nor, neither, h) refl
+fourth_of a b c d (Some x) none nor neither h = rw (none, nor, neither, h) refl
 
 -- without words there are no bytes
 pub argument_bytes-empty : {A : Type 0} (words : List (String A)) → length words ≡ 0 → argument_bytes words ≡ []
@@ -44,15 +48,19 @@ setting_of-command words word rest command h e = ap setting_of h ∙ ap (of_comm
 
 module _ (command : Command) (words : List NameAndValue) where
   pub refused_by_pairs : (fault : WordFault) → fault_of_pairs command words ≡ Some fault → setting_or command words (fault_of command words) ≡ Err fault
-  refused_by_pairs fault h = ap (setting_or command words) (first_of (fault_of_pairs command words) (fault_of_names command words) (fault_of_values command words) fault h)
+  refused_by_pairs fault h = ap (setting_or command words) (first_of (fault_of_pairs command words) (fault_of_names command words) (fault_of_values command words) (fault_of_walks words) fault h)
 
   pub refused_by_names : (fault : WordFault) → fault_of_pairs command words ≡ None → fault_of_names command words ≡ Some fault → setting_or command words (fault_of command words) ≡ Err fault
-  refused_by_names fault none h = ap (setting_or command words) (second_of (fault_of_pairs command words) (fault_of_names command words) (fault_of_values command words) fault none h)
+  refused_by_names fault none h = ap (setting_or command words) (second_of (fault_of_pairs command words) (fault_of_names command words) (fault_of_values command words) (fault_of_walks words) fault none h)
 
   pub refused_by_values : (fault : WordFault) → fault_of_pairs command words ≡ None → fault_of_names command words ≡ None → fault_of_values command words ≡ Some fault
       → setting_or command words (fault_of command words) ≡ Err fault
-  refused_by_values fault none nor h = ap (setting_or command words) (third_of (fault_of_pairs command words) (fault_of_names command words) (fault_of_values command words) (Some fault) none nor h)
+  refused_by_values fault none nor h = ap (setting_or command words) (third_of (fault_of_pairs command words) (fault_of_names command words) (fault_of_values command words) (fault_of_walks words) fault none nor h)
 
-  pub taken : fault_of_pairs command words ≡ None → fault_of_names command words ≡ None → fault_of_values command words ≡ None
+  pub refused_by_walks : (fault : WordFault) → fault_of_pairs command words ≡ None → fault_of_names command words ≡ None → fault_of_values command words ≡ None
+      → fault_of_walks words ≡ Some fault → setting_or command words (fault_of command words) ≡ Err fault
+  refused_by_walks fault none nor neither h = ap (setting_or command words) (fourth_of (fault_of_pairs command words) (fault_of_names command words) (fault_of_values command words) (fault_of_walks words) (Some fault) none nor neither h)
+
+  pub taken : fault_of_pairs command words ≡ None → fault_of_names command words ≡ None → fault_of_values command words ≡ None → fault_of_walks words ≡ None
       → setting_or command words (fault_of command words) ≡ Ok (setting_for command words)
-  taken none nor neither = ap (setting_or command words) (third_of (fault_of_pairs command words) (fault_of_names command words) (fault_of_values command words) None none nor neither)
+  taken none nor neither enough = ap (setting_or command words) (fourth_of (fault_of_pairs command words) (fault_of_names command words) (fault_of_values command words) (fault_of_walks words) None none nor neither enough)

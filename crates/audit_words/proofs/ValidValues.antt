@@ -4,7 +4,7 @@ use Rattle.std.proofs.lemmas.Bool.{and_parts, false≢true, leb-true}
 use Rattle.std.specs.Prelude.{◌&&◌, nat_le, is_some, unwrap_or}
 use Rattle.std.specs.List.{filter_map}
 use Rattle.audit_model.specs.declared.fault.Name.{Name}
-use Rattle.audit_model.specs.declared.fault.Name.TheVariants.{Pop, Size, Slack, Key, Walks, Steps, Ends, HubSteps, Ask, Workers, Budget, Save, Resume, MaxCut, Shift, Stop, Serial, Region, MaxSplit, Parts, Part, MaxSplits, MaxSplitRegions, Group, GroupOf, GroupDistricts, Source, GroupShare, Freeze, Length, MaxLength}
+use Rattle.audit_model.specs.declared.fault.Name.TheVariants.{Pop, Size, Slack, Key, Walks, Steps, Ends, HubSteps, Ask, Workers, Budget, Save, Resume, MaxCut, Shift, Stop, Serial, Region, MaxSplit, Parts, Part, MaxSplits, MaxSplitRegions, Group, GroupOf, GroupDistricts, Source, GroupShare, Freeze, Length, MaxLength, Pairs, CutWeight, Blind}
 use Rattle.audit_model.specs.declared.fault.WordFault.TheVariants.{BadValue}
 use Rattle.audit_model.specs.declared.setting.Ask.{Ask as AskOf}
 use Rattle.audit_model.specs.declared.setting.Command.TheVariants.{Check, Run, Make, Plans, Trace}
@@ -113,7 +113,11 @@ AreGood-values words more h parts part =
 
 -- the further names of a run on a graph that is read
 abbrev names_behind : List Name
-names_behind = Region ∷ MaxSplit ∷ Parts ∷ Part ∷ MaxSplits ∷ MaxSplitRegions ∷ Group ∷ GroupOf ∷ GroupDistricts ∷ Source ∷ GroupShare ∷ Freeze ∷ Length ∷ MaxLength ∷ []
+names_behind = Region ∷ MaxSplit ∷ Parts ∷ Part ∷ MaxSplits ∷ MaxSplitRegions ∷ Group ∷ GroupOf ∷ GroupDistricts ∷ Source ∷ GroupShare ∷ Freeze ∷ Length ∷ MaxLength ∷ Pairs ∷ CutWeight ∷ Blind ∷ []
+
+-- the further names of a run on a grid
+abbrev names_behind_made : List Name
+names_behind_made = Parts ∷ Part ∷ Pairs ∷ CutWeight ∷ Blind ∷ []
 
 -- if no value of a spelled command is invalid, those of its setting are valid
 pub AreReadable-good : (word : List ℕ) (command : Command) (words : List NameAndValue) → Some command ≡ command_of word → fault_of_pairs command words ≡ None → fault_of_values command words ≡ None
@@ -145,8 +149,8 @@ AreReadable-good word Run words spells faultless h =
     )
 AreReadable-good word Make words spells faultless h =
     let size = find-last (is_good Make words) Size (drop 1 (names_of Make)) h in
-    let good = find-all (is_good Check words) (names_before (Parts ∷ Part ∷ [])) size.1 in
-    (AreGood-values words (Parts ∷ Part ∷ []) size.1 (good 15 (omega arith)) (good 16 (omega arith)), size.0)
+    let good = find-all (is_good Check words) (names_before names_behind_made) size.1 in
+    (AreGood-values words names_behind_made size.1 (good 15 (omega arith)) (good 16 (omega arith)), size.0)
 AreReadable-good word Plans words spells faultless h =
     let good = find-all (is_good Plans words) (names_of Plans) h in (
       record {

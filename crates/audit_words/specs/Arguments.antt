@@ -2,7 +2,7 @@
 -- The wording is this project's own. Names, defaults and limits are those by which arguments are parsed.
 use Rattle.std.specs.Prelude.{ℕ, ◌-◌, List, [], ◌∷◌, ◌++◌, length, replicate, codes, decimal, Option, Some, None}
 use Rattle.audit_model.specs.declared.fault.Name.{Name}
-use Rattle.audit_model.specs.declared.fault.Name.TheVariants.{Pop, First, Second, District, Size, Slack, Key, Walks, Steps, Ends, HubSteps, Ask, Workers, Budget, Save, Resume, MaxCut, Shift, Stop, Serial, Region, MaxSplit, Parts, Part, MaxSplits, MaxSplitRegions, Group, GroupOf, GroupDistricts, Source, Ids, Thin, GroupShare, Freeze, Length, MaxLength}
+use Rattle.audit_model.specs.declared.fault.Name.TheVariants.{Pop, First, Second, District, Size, Slack, Key, Walks, Steps, Ends, HubSteps, Ask, Workers, Budget, Save, Resume, MaxCut, Shift, Stop, Serial, Region, MaxSplit, Parts, Part, MaxSplits, MaxSplitRegions, Group, GroupOf, GroupDistricts, Source, Ids, Thin, GroupShare, Freeze, Length, MaxLength, Pairs, CutWeight, Blind}
 use Rattle.audit_model.specs.Limits.{most_trajectories, most_districts, most_regions, most_splits, most_steps, most_workers, most_edges, most_length}
 use Rattle.audit_model.specs.Names.{name_text}
 use Rattle.audit_statement.specs.Words.{default_of}
@@ -15,6 +15,7 @@ pub data Kind : Type 0 where
   digits : Kind
   tests : Kind
   ids : Kind
+  quarters : Kind
 
 -- the kind of value that an argument takes
 abbrev pub kind_of : Name → Kind
@@ -54,6 +55,9 @@ kind_of GroupShare = between 0 10000
 kind_of Freeze = column
 kind_of Length = column
 kind_of MaxLength = between 0 most_length
+kind_of Pairs = answer
+kind_of CutWeight = quarters
+kind_of Blind = answer
 
 -- the purpose of each argument
 abbrev pub purpose_of : Name → List ℕ
@@ -93,6 +97,9 @@ purpose_of GroupShare = codes "share above which it is, in 1/100 percent"
 purpose_of Freeze = codes "the column of units that stay where they are"
 purpose_of Length = codes "the column of the edges' lengths"
 purpose_of MaxLength = codes "most total length of cut edges"
+purpose_of Pairs = codes "report the test by pairs of walks too"
+purpose_of CutWeight = codes "weight of a cut edge, in 1/64; also .25, .5, .75; 64: none"
+purpose_of Blind = codes "report the moves of each walk, and no score"
 
 -- the text for the values of a kind
 abbrev pub values_text : Kind → List ℕ
@@ -102,6 +109,7 @@ values_text answer = codes "yes or no"
 values_text digits = codes "64 hex digits"
 values_text tests = codes "SCORE:TAIL,.."
 values_text ids = codes "ID or ID-ID"
+values_text quarters = codes "1 to 64"
 
 -- the text for a default value; an argument without a default is required
 abbrev pub default_text : Option (List ℕ) → List ℕ

@@ -1,13 +1,13 @@
 -- The faults of a command's arguments, and the values that the validity of another depends on.
-use Rattle.std.specs.Prelude.{◌≡◌, true, not, is_none, find, List, length, Option, option_map}
+use Rattle.std.specs.Prelude.{◌≡◌, true, not, cond, is_none, find, List, length, Option, Some, None, option_map}
 use Rattle.audit_model.specs.First.{first_some_below}
 use Rattle.audit_model.specs.declared.fault.Name.{Name}
 use Rattle.audit_model.specs.declared.fault.Name.TheVariants.{Size, Slack, Key, Walks, Steps, Ends, HubSteps, Ask, Workers, Budget, Save, Resume, MaxCut, Shift, Stop, Serial, MaxSplit, Parts, Part, MaxSplits, MaxSplitRegions, GroupDistricts, GroupShare, Ids, Thin, MaxLength}
 use Rattle.audit_model.specs.declared.fault.WordFault.{WordFault}
-use Rattle.audit_model.specs.declared.fault.WordFault.TheVariants.{MissingName, BadValue}
+use Rattle.audit_model.specs.declared.fault.WordFault.TheVariants.{MissingName, BadValue, PairsNeedTwoWalks}
 use Rattle.audit_model.specs.declared.setting.Command.{Command}
 use Rattle.audit_model.specs.declared.setting.Command.TheVariants.{Check, Run, Make, Plans, Trace}
-use Rattle.audit_statement.specs.Words.{NameAndValue, pair_fault, given_or_default, is_good, names_of}
+use Rattle.audit_statement.specs.Words.{NameAndValue, pair_fault, given_or_default, has_pairs, is_good, names_of}
 
 -- the fault of the first pair that has one
 abbrev pub fault_of_pairs : Command → List NameAndValue → Option WordFault
@@ -20,6 +20,10 @@ fault_of_names command words = option_map MissingName (find (λ name. is_none (g
 -- the first name with an invalid value
 abbrev pub fault_of_values : Command → List NameAndValue → Option WordFault
 fault_of_values command words = option_map BadValue (find (λ name. not (is_good command words name)) (names_of command))
+
+-- pairs of fewer than two walks
+abbrev pub fault_of_walks : List NameAndValue → Option WordFault
+fault_of_walks words = cond (has_pairs Check words) None (Some PairsNeedTwoWalks)
 
 -- The values that the validity of this name depends on are valid. After an invalid one, the name is not tested.
 abbrev pub DependenciesAreValid : List NameAndValue → Name → Type 0

@@ -116,5 +116,14 @@ pub fn argument_text(name: Name) -> &'static str
         Name::MaxLength => {
             "  --max-length        0 to 1717986918000000 default 1717986918000000 most total length of cut edges"
         }
+        Name::Pairs => {
+            "  --pairs             yes or no       default no     report the test by pairs of walks too"
+        }
+        Name::CutWeight => {
+            "  --cut-weight        1 to 64         default 64     weight of a cut edge, in 1/64; also .25, .5, .75; 64: none"
+        }
+        Name::Blind => {
+            "  --blind             yes or no       default no     report the moves of each walk, and no score"
+        }
     }
 }

@@ -12,7 +12,7 @@ ghost use Rattle.audit_statement.specs.Words as definition;
 use crate::asks::{are_asks, asks_for_length};
 use crate::pairs::text_of;
 use crate::values::{
-    is_answer, is_length, is_number, is_one_line, key_of, length_in, number_in, range_of,
+    is_answer, is_length, is_number, is_one_line, key_of, length_in, number_in, range_of, weight_of,
 };
 use audit_model::fault::Name;
 use audit_model::setting::Command;
@@ -84,6 +84,13 @@ pub fn length_at(words: &[String]) -> u64
     length_in(text_of(words, Name::MaxLength))
 }
 
+/// Returns the weight on a cut edge in quarters, or 256 if the value is no weight.
+pub fn weight_at(words: &[String]) -> u32
+    ensures { result ≡ unwrap_or (definition.weight_of (definition.text_of command.Check (pairs_in words.now) name.CutWeight)) 256 }
+{
+    weight_of(text_of(words, Name::CutWeight)).unwrap_or(256)
+}
+
 /// Returns true if the length of cut edges is not limited, or if the column of lengths is named.
 fn has_length(words: &[String], most: u64) -> bool
     ensures { result ≡ ((most == 1717986918000000) || not (definition.is_empty command.Check (pairs_in words.now) name.Length)) }
@@ -122,6 +129,21 @@ fn is_range(text: &str, walks: u32, ends: u32) -> bool
     is_number(0, 100_000, first)
         && is_number(0, 100_000, last)
         && are_ids(number_in(first), number_in(last), walks, ends)
+}
+
+/// Returns true if the report is not blind, or if the run neither saves nor resumes.
+fn is_blind_alone(words: &[String]) -> bool
+    ensures { result ≡ definition.is_blind_alone command.Check (pairs_in words.now) }
+{
+    text_of(words, Name::Blind) != "yes"
+        || (is_number(0, 0, text_of(words, Name::Save)) && text_of(words, Name::Resume) != "yes")
+}
+
+/// Returns true if pairs of walks are not asked for, or if there are two walks.
+pub fn has_pairs(words: &[String]) -> bool
+    ensures { result ≡ definition.has_pairs command.Check (pairs_in words.now) }
+{
+    text_of(words, Name::Pairs) != "yes" || is_number(2, 100_000, text_of(words, Name::Walks))
 }
 
 /// Returns true if the number of endpoint trajectories is valid.
@@ -220,7 +242,7 @@ pub fn is_good(command: Command, words: &[String], name: Name) -> bool
         Name::Ask => are_asks(text) && has_asked_length(words),
         Name::Workers => is_number(1, 32, text),
         Name::Budget => is_budget(words),
-        Name::Resume | Name::Shift | Name::Source => is_answer(text),
+        Name::Resume | Name::Shift | Name::Source | Name::Pairs => is_answer(text),
         Name::MaxCut => is_number(0, 400_000, text),
         Name::Stop => is_stop(words),
         Name::Serial => is_serial(words),
@@ -242,5 +264,7 @@ pub fn is_good(command: Command, words: &[String], name: Name) -> bool
             is_number(0, 10_000, text) && is_set_for(words, name, 5_000, Name::Group)
         }
         Name::MaxLength => is_length(text) && has_length(words, length_at(words)),
+        Name::CutWeight => weight_of(text).is_some(),
+        Name::Blind => is_answer(text) && is_blind_alone(words),
     }
 }

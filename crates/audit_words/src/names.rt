@@ -6,7 +6,7 @@ ghost use Rattle.audit_statement.specs.Words as definition;
 use audit_model::fault::Name;
 use audit_model::setting::Command;
 
-const OF_CHECK: [Name; 18] = [
+const OF_CHECK: [Name; 19] = [
     Name::Pop,
     Name::First,
     Name::Second,
@@ -25,9 +25,10 @@ const OF_CHECK: [Name; 18] = [
     Name::Freeze,
     Name::Length,
     Name::MaxLength,
+    Name::CutWeight,
 ];
 
-const OF_RUN: [Name; 33] = [
+const OF_RUN: [Name; 36] = [
     Name::Pop,
     Name::First,
     Name::Second,
@@ -61,9 +62,12 @@ const OF_RUN: [Name; 33] = [
     Name::Freeze,
     Name::Length,
     Name::MaxLength,
+    Name::Pairs,
+    Name::CutWeight,
+    Name::Blind,
 ];
 
-const OF_MAKE: [Name; 18] = [
+const OF_MAKE: [Name; 21] = [
     Name::Size,
     Name::Slack,
     Name::Key,
@@ -82,9 +86,12 @@ const OF_MAKE: [Name; 18] = [
     Name::Serial,
     Name::Parts,
     Name::Part,
+    Name::Pairs,
+    Name::CutWeight,
+    Name::Blind,
 ];
 
-const OF_PLANS: [Name; 28] = [
+const OF_PLANS: [Name; 30] = [
     Name::Pop,
     Name::First,
     Name::Second,
@@ -113,9 +120,11 @@ const OF_PLANS: [Name; 28] = [
     Name::Freeze,
     Name::Length,
     Name::MaxLength,
+    Name::Pairs,
+    Name::CutWeight,
 ];
 
-const OF_TRACE: [Name; 26] = [
+const OF_TRACE: [Name; 27] = [
     Name::Pop,
     Name::First,
     Name::Second,
@@ -142,6 +151,7 @@ const OF_TRACE: [Name; 26] = [
     Name::Freeze,
     Name::Length,
     Name::MaxLength,
+    Name::CutWeight,
 ];
 
 /// Returns the default value of an argument, or `None` if it is required.
@@ -156,6 +166,8 @@ pub fn default_of(name: Name) -> Option<&'static str>
         Name::Ends | Name::Save | Name::Stop => Some("0"),
         Name::Part | Name::GroupDistricts | Name::Ids => Some("0"),
         Name::Resume | Name::Shift | Name::Serial | Name::Source => Some("no"),
+        Name::Pairs | Name::Blind => Some("no"),
+        Name::CutWeight => Some("64"),
         Name::MaxCut => Some("400000"),
         Name::Region | Name::Group | Name::GroupOf | Name::Freeze | Name::Length => Some(""),
         Name::MaxSplit => Some("200"),

@@ -9,7 +9,7 @@ ghost use Rattle.audit_words.specs.ArgumentBytes.{pairs_in};
 ghost use Rattle.audit_statement.specs.Words as definition;
 
 use crate::asks::asks_of;
-use crate::fields::{length_at, number_at};
+use crate::fields::{length_at, number_at, weight_at};
 use crate::pairs::text_of;
 use crate::values::{key_of, number_in, range_of};
 use audit_model::fault::Name;
@@ -226,6 +226,9 @@ fn check_setting(alloc: Global, words: &[String]) -> Result<Setting, Memory>
             last_id: 0,
             thin: 1,
             max_length: limits.max_length,
+            cut_weight: weight_at(words),
+            pairs: false,
+            blind: false,
         }),
         Err(fault) => Err(fault),
     }
@@ -279,6 +282,9 @@ fn run_setting(command: Command, words: &[String], ground: GraphFields, asks: As
         last_id: 0,
         thin: 1,
         max_length: ground.limits.max_length,
+        cut_weight: weight_at(words),
+        pairs: text_of(words, Name::Pairs) == "yes",
+        blind: text_of(words, Name::Blind) == "yes",
     }
 }
 

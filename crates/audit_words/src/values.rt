@@ -8,6 +8,7 @@ ghost use Rattle.audit_statement.specs.Words as definition;
 use audit_model::setting::Command;
 use hex::FromHex;
 use itoa::Buffer;
+use report::quarter_digits;
 
 /// Returns the number if the text spells a number from `low` to `high`, without leading zeros.
 pub fn number_within(low: u32, high: u32, text: &str) -> Option<u32>
@@ -61,6 +62,30 @@ pub fn length_in(text: &str) -> u64
     ensures { unwrap_or (definition.number_of text.now) 0 < 2 ^ 64 → result ≡ unwrap_or (definition.number_of text.now) 0 }
 {
     length_within(u64::MAX, text).unwrap_or(0)
+}
+
+/// Returns the weight on a cut edge that the text spells, in quarters, if it is from 1 to 64.
+pub fn weight_of(text: &str) -> Option<u32>
+    ensures { result ≡ definition.weight_of text.now }
+{
+    for quarters in 4..257 {
+        if is_spelled(text, quarters) {
+            return Some(quarters);
+        }
+    }
+    None
+}
+
+/// Returns true if the text is the number of quarters as it is printed.
+fn is_spelled(text: &str, quarters: u32) -> bool
+    ensures { result ≡ bytes_eq (definition.quarters quarters) text.now }
+{
+    let mut printed = Buffer::new();
+    let whole = printed.format(quarters / 4).as_bytes();
+    match text.as_bytes().strip_prefix(whole) {
+        Some(rest) => rest == quarter_digits(quarters % 4).as_bytes(),
+        None => false,
+    }
 }
 
 /// Splits a range `A-B` into its two texts. A text without a dash is both ends.

@@ -3,12 +3,12 @@
 ghost use Rattle.std.specs.Prelude.{◌≡◌, ◌⊎◌, ◌<◌, length, None, Ok, Err, IfOk, MatchResult};
 ghost use Rattle.audit_model.specs.Limits.{IsSetting};
 ghost use Rattle.audit_model.specs.declared.fault.WordFault.TheVariants as fault;
-ghost use Rattle.audit_words.specs.Judged.{fault_of_pairs, fault_of_names, fault_of_values};
+ghost use Rattle.audit_words.specs.Judged.{fault_of_pairs, fault_of_names, fault_of_values, fault_of_walks};
 ghost use Rattle.audit_words.specs.ArgumentBytes.{argument_bytes, pairs_in, MatchesFault};
 ghost use Rattle.audit_statement.specs.Words as definition;
 ghost use Rattle.audit_statement.specs.Words.{setting_of};
 
-use crate::fields::is_good;
+use crate::fields::{has_pairs, is_good};
 use crate::names::{command_of, name_of, names_of};
 use crate::pairs::{count, is_repeated, name_at, value_at, value_of};
 use crate::settings::{copy_text, setting_for};
@@ -22,8 +22,8 @@ use std::alloc::Global;
 /// # Errors
 ///
 /// The first of these faults, tested in this order: no word, an unknown command, the first faulty pair, the first
-/// missing name and the first name with an invalid value. Names are tested in the order of `names_of`. `Memory` may
-/// come at any point.
+/// missing name, the first name with an invalid value, and pairs of fewer than two walks. Names are tested in the order
+/// of `names_of`. `Memory` may come at any point.
 pub fn read(alloc: Global, words: &[String]) -> Result<Setting, WordFault>
     ensures exact { MatchResult result (λ setting. setting_of (argument_bytes words.now) ≡ Ok setting) (λ f. (f ≡ fault.Memory) ⊎ (setting_of (argument_bytes words.now) ≡ Err f)) }
     ensures within { IfOk result (λ setting. IsSetting setting) }
@@ -37,6 +37,7 @@ pub fn read(alloc: Global, words: &[String]) -> Result<Setting, WordFault>
     judge_pairs(alloc, command, rest)?;
     judge_missing(command, rest)?;
     judge_values(command, rest)?;
+    judge_walks(rest)?;
     match setting_for(alloc, command, rest) {
         Ok(setting) => Ok(setting),
         Err(Memory) => Err(WordFault::Memory),
@@ -118,6 +119,16 @@ fn judge_values(command: Command, words: &[String]) -> Result<(), WordFault>
         if !is_good(command, words, *name) {
             return Err(WordFault::BadValue(*name));
         }
+    }
+    Ok(())
+}
+
+/// Refuses pairs of fewer than two walks.
+fn judge_walks(words: &[String]) -> Result<(), WordFault>
+    ensures { MatchesFault result (fault_of_walks (pairs_in words.now)) }
+{
+    if !has_pairs(words) {
+        return Err(WordFault::PairsNeedTwoWalks);
     }
     Ok(())
 }

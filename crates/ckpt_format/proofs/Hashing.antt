@@ -8,7 +8,7 @@ use Rattle.sha2.specs.declared.Sha256.{Sha256}
 use Rattle.audit_model.specs.Below.{map_below}
 use Rattle.audit_model.specs.Job.{Job, rules}
 use Rattle.audit_model.specs.Graph.{count_edges}
-use Rattle.audit_statement.specs.Checkpoint.{first_bytes, has_lengths, has_rules, job_bytes, edge_bytes, length_bytes, rule_bytes, unit_bytes}
+use Rattle.audit_statement.specs.Checkpoint.{first_bytes, has_lengths, has_rules, has_weight, job_bytes, edge_bytes, length_bytes, rule_bytes, unit_bytes, weight_bytes}
 use Rattle.ckpt_format.specs.Hashed.{Hashes, ask_bytes, counts_bytes, setting_bytes}
 
 -- nothing was hashed
@@ -43,22 +43,22 @@ hashes_next f n a b c first second =
     hashes_same a c _ _ next (hashes_then a b c (flat_map f (map_below n (λ u. u))) (f n) first second)
 
 -- the parts of a job's digest, with those of the counts and of the setting grouped or one by one
-grouped : (f x y z e u s k w t n h q a r l : List ℕ)
-    → f ++ (x ++ y ++ z) ++ e ++ u ++ (s ++ k ++ w ++ t ++ n ++ h ++ q ++ a) ++ r ++ l ≡ f ++ x ++ y ++ z ++ e ++ u ++ s ++ k ++ w ++ t ++ n ++ h ++ q ++ a ++ r ++ l
-grouped f x y z e u s k w t n h q a r l = simp append_assoc
+grouped : (f x y z e u s k w t n h q a r l v : List ℕ)
+    → f ++ (x ++ y ++ z) ++ e ++ u ++ (s ++ k ++ w ++ t ++ n ++ h ++ q ++ a) ++ r ++ l ++ v ≡ f ++ x ++ y ++ z ++ e ++ u ++ s ++ k ++ w ++ t ++ n ++ h ++ q ++ a ++ r ++ l ++ v
+grouped f x y z e u s k w t n h q a r l v = simp append_assoc
 
 -- a hasher that took in all parts gives the job's digest
-pub digest_of_parts : (job : Job) (start named counts edges units asked ruled end : Sha256) → Holds256 start []
-    → Hashes start named (first_bytes (has_lengths job.counts.lengths) (rules job))
+pub digest_of_parts : (job : Job) (start named counts edges units asked ruled long end : Sha256) → Holds256 start []
+    → Hashes start named (first_bytes (has_weight job.setting.cut_weight) (has_lengths job.counts.lengths) (rules job))
     → Hashes named counts (counts_bytes job.graph.units (count_edges job.graph (λ u v. true)) job.districts)
     → Hashes counts edges (edge_bytes job.graph) → Hashes edges units (flat_map (unit_bytes job) (map_below job.graph.units (λ u. u)))
     → Hashes units asked (setting_bytes job.setting) → Hashes asked ruled (rule_bytes (has_rules (rules job)) job.graph.units (rules job))
-    → Hashes ruled end (length_bytes job.setting.max_length job.counts.lengths) → Holds256 end (job_bytes job)
-digest_of_parts job start named counts edges units asked ruled end empty name a b c d e f =
-    let whole = hashes_then _ _ _ _ _ (hashes_then _ _ _ _ _ (hashes_then _ _ _ _ _ (hashes_then _ _ _ _ _ (hashes_then _ _ _ _ _ (hashes_then _ _ _ _ _ name a) b) c) d) e) f in
+    → Hashes ruled long (length_bytes job.setting.max_length job.counts.lengths) → Hashes long end (weight_bytes job.setting.cut_weight) → Holds256 end (job_bytes job)
+digest_of_parts job start named counts edges units asked ruled long end empty name a b c d e f g =
+    let whole = hashes_then _ _ _ _ _ (hashes_then _ _ _ _ _ (hashes_then _ _ _ _ _ (hashes_then _ _ _ _ _ (hashes_then _ _ _ _ _ (hashes_then _ _ _ _ _ (hashes_then _ _ _ _ _ name a) b) c) d) e) f) g in
     let s = job.setting in
     let n = to_be_bytes w32 in
     subst (Holds256 end)
-    (grouped (first_bytes (has_lengths job.counts.lengths) (rules job)) (n job.graph.units) (n (count_edges job.graph (λ u v. true))) (n job.districts) (edge_bytes job.graph)
+    (grouped (first_bytes (has_weight s.cut_weight) (has_lengths job.counts.lengths) (rules job)) (n job.graph.units) (n (count_edges job.graph (λ u v. true))) (n job.districts) (edge_bytes job.graph)
     (flat_map (unit_bytes job) (map_below job.graph.units (λ u. u))) (n s.slack) s.key (n s.walks) (n s.steps) (n s.ends) (n s.hub_steps) (n (length s.asks)) (flat_map ask_bytes s.asks) (rule_bytes (has_rules (rules job)) job.graph.units (rules job))
-    (length_bytes s.max_length job.counts.lengths)) (whole.taken [] empty)
+    (length_bytes s.max_length job.counts.lengths) (weight_bytes s.cut_weight)) (whole.taken [] empty)

@@ -1,6 +1,6 @@
 //! The digest of a job.
 //!
-//! The hashed bytes have one of five forms, each with its own name at the front. A later form was added with each group
+//! The hashed bytes have one of six forms, each with its own name at the front. A later form was added with each group
 //! of features, so that jobs without these features keep their digests.
 
 ghost use Rattle.std.specs.Prelude.{◌≡◌, ◌<◌, ◌≤◌, flat_map, length, slice_index, true};
@@ -10,7 +10,7 @@ ghost use Rattle.audit_model.specs.Graph.{IsGraph, count_edges};
 ghost use Rattle.audit_model.specs.JobOf.{IsJob};
 ghost use Rattle.audit_model.specs.Limits.{IsGroup};
 ghost use Rattle.audit_statement.specs.Checkpoint as definition;
-ghost use Rattle.audit_statement.specs.Checkpoint.{digest_name, edge_bytes, first_bytes, frozen_bytes, group_bytes, has_frozen, has_further_rules, has_group, has_lengths, has_newer_rules, has_rules, has_share, length_bytes, limits_splits, member_bytes, region_bytes, rule_bytes, share_bytes, split_bytes, unit_bytes, score_code, tail_code};
+ghost use Rattle.audit_statement.specs.Checkpoint.{digest_name, edge_bytes, even_bytes, first_bytes, frozen_bytes, group_bytes, has_frozen, has_further_rules, has_group, has_lengths, has_newer_rules, has_rules, has_share, has_weight, length_bytes, limits_splits, member_bytes, region_bytes, rule_bytes, share_bytes, split_bytes, unit_bytes, score_code, tail_code, weight_bytes};
 ghost use Rattle.ckpt_format.specs.Hashed.{Hashes, ask_bytes, counts_bytes, edges_from, setting_bytes};
 
 use audit_model::lists::NumList;
@@ -27,19 +27,31 @@ pub fn job_digest(job: &Job) -> [u8; 32]
     let mut hasher = Sha256::new();
     let rules = job.rules();
     let lengths = job.counts().lengths.as_slice();
-    hash_first(&mut hasher, lengths, rules);
+    hash_first(&mut hasher, job.setting().cut_weight, lengths, rules);
     hash_counts(&mut hasher, job);
     hash_edges(&mut hasher, job.graph());
     hash_units(&mut hasher, job);
     hash_setting(&mut hasher, job.setting());
     hash_rules(&mut hasher, has_rules(rules), job.units(), rules);
     hash_lengths(&mut hasher, job.setting().max_length, lengths);
+    hash_weight(&mut hasher, job.setting().cut_weight);
     hasher.finalize()
 }
 
-/// Hashes the name of the form: the fifth if edges have lengths, else the one that the rules need.
-fn hash_first(hasher: &mut Sha256, lengths: &[u32], rules: &Rules)
-    ensures { Hashes hasher.old hasher.new (first_bytes (has_lengths lengths.now) rules.now) }
+/// Hashes the name of the form: the sixth if cut edges have a weight, else the one that lengths and rules need.
+fn hash_first(hasher: &mut Sha256, weight: u32, lengths: &[u32], rules: &Rules)
+    ensures { Hashes hasher.old hasher.new (first_bytes (has_weight weight) (has_lengths lengths.now) rules.now) }
+{
+    if weight < 256 {
+        hash_tag(hasher, "district-job 6");
+    } else {
+        hash_even(hasher, lengths, rules);
+    }
+}
+
+/// Hashes the name of the form without a weight: the fifth if edges have lengths, else the one that the rules need.
+fn hash_even(hasher: &mut Sha256, lengths: &[u32], rules: &Rules)
+    ensures { Hashes hasher.old hasher.new (even_bytes (has_lengths lengths.now) rules.now) }
 {
     if has_lengths(lengths) {
         hash_tag(hasher, "district-job 5");
@@ -280,6 +292,15 @@ fn hash_lengths(hasher: &mut Sha256, max_length: u64, lengths: &[u32])
         hash_tag(hasher, "length");
         hash_u64(hasher, max_length);
         hash_numbers(hasher, lengths);
+    }
+}
+
+/// Hashes the weight on cut edges, if there is one.
+fn hash_weight(hasher: &mut Sha256, weight: u32)
+    ensures { Hashes hasher.old hasher.new (weight_bytes weight) }
+{
+    if weight < 256 {
+        hash_u32(hasher, weight);
     }
 }
 

@@ -1,5 +1,6 @@
 -- The limits of a job that its report needs, whatever its command.
-use Rattle.std.proofs.Common.{ℕ, ◌+◌, ◌*◌, ◌^◌, ◌≤◌, List, length, sum, ap, arith}
+use Rattle.std.proofs.Common.{ℕ, ◌+◌, ◌*◌, ◌^◌, ◌≤◌, List, length, sum, ap, subst, arith}
+use Rattle.std.proofs.Math.Nat.{mul-le-mul_left, mul-one}
 use Rattle.std.proofs.lemmas.List.Sums.{sum_by-le}
 use Rattle.audit_model.specs.declared.setting.Command.{Command}
 use Rattle.audit_model.specs.declared.setting.Command.TheVariants.{Check, Run, Make, Plans, Trace}
@@ -14,14 +15,15 @@ pub record IsSmall (s : Setting) : Type 0 where
   pub few_steps : s.steps ≤ 10 ^ 9
   pub few_hub_steps : s.hub_steps ≤ 10 ^ 9
   pub few_asks : length s.asks ≤ 4
+  pub asked : s.walks ≤ s.walks * length s.asks
 
 -- a run's setting has small numbers
 of_run : (s : Setting) → IsRunSetting s → IsSmall s
-of_run s h = record { few = h.few; few_steps = h.few_steps; few_hub_steps = h.few_hub_steps; few_asks = h.few_asks }
+of_run s h = record { few = h.few; few_steps = h.few_steps; few_hub_steps = h.few_hub_steps; few_asks = h.few_asks; asked = subst (λ n. n ≤ s.walks * length s.asks) (mul-one s.walks) (mul-le-mul_left s.walks h.some_asks) }
 
 -- the setting of any command has small numbers
 of_command : (c : Command) (s : Setting) → IsSettingOf c s → IsSmall s
-of_command Check s h = record { few = omega arith; few_steps = omega arith; few_hub_steps = omega arith; few_asks = omega (arith, ap length h.no_asks) }
+of_command Check s h = record { few = omega arith; few_steps = omega arith; few_hub_steps = omega arith; few_asks = omega (arith, ap length h.no_asks); asked = omega (arith, h.no_walks) }
 of_command Run s h = of_run s h
 of_command Make s h = of_run s h
 of_command Plans s h = of_run s h

@@ -1,12 +1,12 @@
 -- The greatest length of a report.
-use Rattle.std.proofs.Common.{◌≡◌, ℕ, zero, suc, ◌+◌, ◌-◌, ◌*◌, ◌^◌, ◌<◌, ◌≤◌, true, List, [], ◌∷◌, ◌++◌, length, flat_map, filter, refl, ap, sym, ◌∙◌, subst, arith, length-append, codes, decimal, get_or, take, zero-add, ℤ, pos, negsuc, unsigned_abs}
+use Rattle.std.proofs.Common.{◌≡◌, ℕ, zero, suc, ◌+◌, ◌-◌, ◌*◌, ◌/◌, ◌%◌, ◌^◌, ◌<◌, ◌≤◌, inl, inr, true, List, [], ◌∷◌, ◌++◌, length, flat_map, filter, refl, ap, sym, ◌∙◌, subst, arith, length-append, codes, decimal, get_or, take, zero-add, ℤ, pos, negsuc, unsigned_abs}
 use Rattle.std.specs.Prelude.{◌==◌, ◌||◌, nat_lt, nat_le, slice_index, sum_by, zip, Bool, false, Option, Some, None}
 use Rattle.std.specs.Fmt.{signed_decimal}
 use Rattle.std.specs.List.{All}
 use Rattle.std.specs.Option.{IfSome, SomeIff}
 use Rattle.std.proofs.Math.Facts.{leb_yes}
 use Rattle.std.proofs.Math.Nat.{div-le_self}
-use Rattle.std.proofs.lemmas.Bool.{cond_both, le-leb, lt-ltb}
+use Rattle.std.proofs.lemmas.Bool.{cases_Bool, cond_both, le-leb, lt-ltb}
 use Rattle.std.proofs.lemmas.Fmt.{length-decimal-le}
 use Rattle.std.proofs.lemmas.List.{length-take-le, get_or-take}
 use Rattle.std.proofs.lemmas.List.FromFn.{length-enumerate_from, get_or-enumerate_from}
@@ -37,9 +37,13 @@ use Rattle.audit_model.specs.Trajectory.{in_tail, plan_value, rank, value_at}
 use Rattle.audit_model.proofs.Least.{bound_is_least, quotient_up_is_least}
 use Rattle.audit_statement.specs.Names.{score_name, tail_name}
 use Rattle.audit_model.specs.Stopping.{placed_asks}
-use Rattle.audit_statement.specs.Report.{line, fraction, billionths, graph_line, population_line, columns_line, cut_length_line, cut_line, frozen_line, frozen_words, group_line, group_words, length_line, length_lines, length_words, origin_lines, region_words, share_line, split_line, splits_line, rule_lines, setting_line, walk_line, walk_lines, ends_line, ends_lines, stop_line, title_line, shift_line, stopped_line, test_lines, serial_line, serial_lines, report}
+use Rattle.audit_statement.specs.Report.{line, fraction, billionths, graph_line, population_line, columns_line, blind_report, by_twos, cut_length_line, cut_line, frozen_line, frozen_words, group_line, group_words, length_line, length_lines, length_words, moved_line, moved_lines, origin_lines, pair_count, pair_line, pair_lines, region_words, share_line, split_line, splits_line, rule_lines, setting_line, walk_line, walk_lines, ends_line, ends_lines, start_length_line, stop_line, title_by, weight_line, shift_line, stopped_line, test_lines, serial_line, serial_lines, report}
 use Rattle.report.specs.Outcomes.{AreOutcomesOf, AreStops, AreStopsBy, AreStopsOf, HasCounts, IsCount, IsRank, IsSerialBy, IsSerialOf, IsStopOf}
-use Rattle.report.specs.Parts.{head, key_line, lines_of, names_length, source_line}
+use Rattle.report.specs.Parts.{head, key_line, lines_of, lines_of_pair, names_length, report_by_parts, source_line}
+use Rattle.report.proofs.Pieces.{get_or-by_twos, length-by_twos}
+use Rattle.report.proofs.Wholly.{report_is_blind, report_is_whole}
+use Rattle.audit_statement.specs.Words.{quarter_digits, quarters}
+use Rattle.audit_model.specs.Weight.{largest_change}
 use Rattle.report.proofs.Escapes.{length-quoted}
 use Rattle.report.proofs.Limits.{small, votes}
 use Rattle.report.proofs.Sorted.{fit_at, id_at, walks_first, walks_within, ends_last, ends_sound}
@@ -202,6 +206,75 @@ walk_lines-le job os h all_of =
     let same : length (walk_lines job os) ≡ length (flat_map (lines_of job) firsts) = ap (λ xs. length (flat_map (lines_of job) xs)) (walks_first job os all_of) in
     subst (λ (n : ℕ). length (walk_lines job os) ≤ n * (length job.setting.asks * 200)) width (omega (arith, same, many))
 
+-- the line of a pair of walks is at most 200 bytes long
+pair_line-le : (job : Job) (first second : Outcome) (place : ℕ) (ask : Ask) → IsJob job → IsShort job first → IsShort job second → place < length job.setting.asks
+    → length (pair_line job (first, second) (place, ask)) ≤ 200
+pair_line-le job first second place ask h one two l =
+    let all = job.setting.steps + 1 in
+    let limits = small job h in
+    let n = pair_count (first, second) place in
+    let whole = length-line (codes "pair") (
+    decimal first.id ∷ decimal second.id ∷ score_name ask.score ∷ tail_name ask.tail ∷ codes "start"
+    ∷ start_fraction job ask.score
+    ∷ codes "count" ∷ decimal n ∷ codes "of" ∷ decimal (2 * all - 1) ∷ codes "bound" ∷ billionths (p_value n all) ∷ []) in
+    let id = length-decimal-le 5 first.id (omega arith) (omega (arith, one.id)) (omega (arith, one.id)) in
+    let other = length-decimal-le 5 second.id (omega arith) (omega (arith, two.id)) (omega (arith, two.id)) in
+    let score = length-score ask.score in
+    let tail = length-tail ask.tail in
+    let start = length-start job ask.score h in
+    let most = count-le job.setting.steps (value_at first place) (one.counts place l) in
+    let more = count-le job.setting.steps (value_at second place) (two.counts place l) in
+    let counted = length-decimal-le 10 n (omega arith) (omega (arith, most, more, limits.few_steps)) (omega (arith, most, more, limits.few_steps)) in
+    let of = length-decimal-le 10 (2 * all - 1) (omega arith) (omega (arith, limits.few_steps)) (omega (arith, limits.few_steps)) in
+    let billionth = length-billionths (p_value n all) (pair-lt n all (omega arith) (omega (arith, most, more))) in
+    omega (arith, whole, id, other, score, tail, start, counted, of, billionth)
+  where
+    pair-lt : (n all : ℕ) → 1 ≤ all → n ≤ 2 * all → p_value n all < 10 ^ 18
+    pair-lt n all some within =
+        let least = (quotient_up_is_least (n * 10 ^ 9) all (omega (arith, some))).least (2 * 10 ^ 9) (le-leb (n * 10 ^ 9) (2 * 10 ^ 9 * all) (omega (arith, within))) in
+        omega (arith, least)
+
+-- the lines of a pair have at most 200 bytes for each ask
+lines_of_pair-le : (job : Job) (first second : Outcome) → IsJob job → IsShort job first → IsShort job second → length (lines_of_pair job (first, second)) ≤ length job.setting.asks * 200
+lines_of_pair-le job first second h one two =
+    let many = length-flat_map-le (pair_line job (first, second)) 200 (placed_asks job)
+    (each_placed job (λ k ask. length (pair_line job (first, second) (k, ask)) ≤ 200) (λ k ask l. pair_line-le job first second k ask h one two l)) in
+    subst (λ (n : ℕ). length (lines_of_pair job (first, second)) ≤ n * 200) (length-enumerate_from 0 job.setting.asks) many
+
+-- the lines of all pairs have at most 200 bytes for each two walks and each ask
+pair_lines-le : (b : Bool) (job : Job) (os : List Outcome) → IsJob job → AreOutcomesOf job os → length (pair_lines b job os) ≤ job.setting.walks / 2 * (length job.setting.asks * 200)
+pair_lines-le false job os h all_of = omega arith
+pair_lines-le true job os h all_of =
+    let firsts = take job.setting.walks os in
+    let width : length firsts ≡ job.setting.walks = length-take-le job.setting.walks os (walks_within job os all_of) in
+    let many = length-flat_map-le (lines_of_pair job) (length job.setting.asks * 200) (by_twos firsts) (each_pair firsts (λ k d l. short job os k d h all_of l)) in
+    let same : length (pair_lines true job os) ≡ length (flat_map (lines_of_pair job) (by_twos firsts)) = ap (λ xs. length (flat_map (lines_of_pair job) (by_twos xs))) (walks_first job os all_of) in
+    let half : length (by_twos firsts) ≡ job.setting.walks / 2 = length-by_twos firsts ∙ ap (λ n. n / 2) width in
+    subst (λ (n : ℕ). length (pair_lines true job os) ≤ n * (length job.setting.asks * 200)) half (omega (arith, same, many))
+  where
+    each_pair : (firsts : List Outcome) → ((k : ℕ) (d : Outcome) → k < length firsts → IsShort job (get_or firsts k d))
+        → All (λ pair. length (lines_of_pair job pair) ≤ length job.setting.asks * 200) (by_twos firsts)
+    each_pair firsts shorts k d l =
+        let count = length-by_twos firsts in
+        subst (λ (pair : Outcome × Outcome). length (lines_of_pair job pair) ≤ length job.setting.asks * 200)
+        (sym (get_or-by_twos firsts k d l))
+        (lines_of_pair-le job (get_or firsts (2 * k) d.0) (get_or firsts (2 * k + 1) d.1) h (shorts (2 * k) d.0 (omega (arith, count, l))) (shorts (2 * k + 1) d.1 (omega (arith, count, l))))
+
+-- the line of a walk's moves is at most 200 bytes long
+moved_line-le : (found : Outcome) → length (moved_line found) ≤ 200
+moved_line-le found =
+    let whole = length-line (codes "walk") (decimal found.id ∷ codes "moved" ∷ decimal found.moved ∷ []) in
+    omega (arith, whole, length-decimal_any found.id, length-decimal_any found.moved)
+
+-- the lines of the walks' moves have at most 200 bytes for each walk
+moved_lines-le : (job : Job) (os : List Outcome) → AreOutcomesOf job os → length (moved_lines job os) ≤ job.setting.walks * 200
+moved_lines-le job os all_of =
+    let firsts = take job.setting.walks os in
+    let width : length firsts ≡ job.setting.walks = length-take-le job.setting.walks os (walks_within job os all_of) in
+    let many = length-flat_map-le moved_line 200 firsts (λ k d l. moved_line-le (get_or firsts k d)) in
+    let same : length (moved_lines job os) ≡ length (flat_map moved_line firsts) = ap (λ xs. length (flat_map moved_line xs)) (walks_first job os all_of) in
+    subst (λ (n : ℕ). length (moved_lines job os) ≤ n * 200) width (omega (arith, same, many))
+
 -- the lines of the parallel test have at most 200 bytes for each ask
 ends_lines-le : (n : ℕ) (job : Job) (os : List Outcome) → IsJob job → job.setting.stop ≡ 0 → AreOutcomesOf job os → length (ends_lines n job os) ≤ length job.setting.asks * 200
 ends_lines-le zero job os h none all_of = omega arith
@@ -322,9 +395,10 @@ length-setting_line job =
     omega (arith, whole, length-decimal_any job.setting.walks, length-decimal_any job.setting.steps, length-decimal_any job.setting.ends, length-decimal_any job.setting.hub_steps)
 
 -- the first line is at most 17 bytes long
-length-title_line : (b : Bool) → length (title_line b) ≤ 17
-length-title_line true = omega arith
-length-title_line false = omega arith
+length-title_by : (blind shift : Bool) → length (title_by blind shift) ≤ 17
+length-title_by true shift = omega arith
+length-title_by false true = omega arith
+length-title_by false false = omega arith
 
 -- the line of the most cut edges is at most 73 bytes long
 length-cut_line : (job : Job) → length (cut_line job) ≤ 73
@@ -381,6 +455,11 @@ length-cut_length_line there (c ∷ column) =
     let whole = length-line (codes "cut-length") (decimal there ∷ []) in
     omega (arith, whole, length-decimal_any there)
 
+-- so it is in a report that may be blind
+length-start_length_line : (blind : Bool) (there : ℕ) (column : List ℕ) → length (start_length_line blind there column) ≤ 76
+length-start_length_line true there column = omega arith
+length-start_length_line false there column = length-cut_length_line there column
+
 -- the line of its limit is at most 76 bytes long
 length-length_line : (most : ℕ) → length (length_line most) ≤ 76
 length-length_line most =
@@ -392,8 +471,8 @@ length-length_line most =
 length-length_lines : (job : Job) → length (length_lines job) ≤ 152
 length-length_lines job =
     let there = cut_length job.graph job.counts.lengths job.start in
-    let both = length-append (cut_length_line there job.setting.columns.length) (length_line job.setting.max_length) in
-    omega (arith, both, length-cut_length_line there job.setting.columns.length, length-length_line job.setting.max_length)
+    let both = length-append (start_length_line job.setting.blind there job.setting.columns.length) (length_line job.setting.max_length) in
+    omega (arith, both, length-start_length_line job.setting.blind there job.setting.columns.length, length-length_line job.setting.max_length)
 
 -- the lines of the rules are at most 830 bytes long
 length-rule_lines : (job : Job) → length (rule_lines job) ≤ 830
@@ -416,6 +495,22 @@ length-rule_lines job =
   where
     seven-le : (a b c d e f g : List ℕ) (n : ℕ) → length a + length b + length c + length d + length e + length f + length g ≤ n → length (a ++ b ++ c ++ d ++ e ++ f ++ g) ≤ n
     seven-le a b c d e f g n h = simp length-append h
+
+-- the line of the weight is at most 170 bytes long
+length-weight_line : (job : Job) → length (weight_line job) ≤ 170
+length-weight_line job =
+    let pieces = largest_change (job.graph.units * job.districts) in
+    let weight = job.setting.cut_weight in
+    let whole = length-line (codes "cut-weight") (quarters weight ∷ codes "of" ∷ codes "64" ∷ codes "pieces" ∷ decimal pieces ∷ []) in
+    let both = length-append (decimal (weight / 4)) (quarter_digits (weight % 4)) in
+    cond_both {A = List ℕ} (nat_lt weight 256) (line (codes "cut-weight" ∷ quarters weight ∷ codes "of" ∷ codes "64" ∷ codes "pieces" ∷ decimal pieces ∷ [])) [] (λ t. length t ≤ 170)
+    (λ _. omega (arith, whole, both, length-decimal_any (weight / 4), length-quarter_digits (weight % 4), length-decimal_any pieces)) (λ _. omega arith)
+  where
+    length-quarter_digits : (n : ℕ) → length (quarter_digits n) ≤ 3
+    length-quarter_digits zero = omega arith
+    length-quarter_digits (suc zero) = omega arith
+    length-quarter_digits (suc (suc zero)) = omega arith
+    length-quarter_digits (suc (suc (suc n))) = omega arith
 
 -- the line of early stopping is at most 70 bytes long
 length-stop_line : (n : ℕ) → length (stop_line n) ≤ 70
@@ -499,16 +594,26 @@ length-columns_line columns region =
       length-quoted columns.district,
     )
 
--- eight texts with a bounded total length are joined within that bound
-joined-le : (a b c d e f g h : List ℕ) (n : ℕ) → length a + length b + length c + length d + length e + length f + length g + length h ≤ n → length (a ++ b ++ c ++ d ++ e ++ f ++ g ++ h) ≤ n
-joined-le a b c d e f g h n few = simp length-append few
+-- nine texts with a bounded total length are joined within that bound
+joined-le : (a b c d e f g h i : List ℕ) (n : ℕ) → length a + length b + length c + length d + length e + length f + length g + length h + length i ≤ n → length (a ++ b ++ c ++ d ++ e ++ f ++ g ++ h ++ i) ≤ n
+joined-le a b c d e f g h i n few = simp length-append few
 
--- the head is at most 1809 bytes long, without the lines of the origin
-length-head : (job : Job) → IsJob job → length (head job) ≤ 1809 + length (origin_lines job job.origin)
+-- the head is at most 1979 bytes long, without the lines of the origin
+length-head : (job : Job) → IsJob job → length (head job) ≤ 1979 + length (origin_lines job job.origin)
 length-head job h =
-    joined-le (title_line job.setting.shift) (origin_lines job job.origin) (key_line job) (graph_line job) (population_line job) (rule_lines job) (setting_line job) (stop_line job.setting.stop)
-    (1809 + length (origin_lines job job.origin))
-    (omega (arith, length-title_line job.setting.shift, length-key_line job h, length-graph_line job, length-population_line job, length-rule_lines job, length-setting_line job, length-stop_line job.setting.stop))
+    joined-le (title_by job.setting.blind job.setting.shift) (origin_lines job job.origin) (key_line job) (graph_line job) (population_line job) (rule_lines job) (weight_line job) (setting_line job) (stop_line job.setting.stop)
+    (1979 + length (origin_lines job job.origin))
+    (omega (
+      arith,
+      length-title_by job.setting.blind job.setting.shift,
+      length-key_line job h,
+      length-graph_line job,
+      length-population_line job,
+      length-rule_lines job,
+      length-weight_line job,
+      length-setting_line job,
+      length-stop_line job.setting.stop,
+    ))
 
 -- ---- all of it
 
@@ -522,29 +627,57 @@ pub both_observed : (first second : List ℕ) (one two : ℕ) (fits : Type 0) (a
     → IfSome answer (λ room. length (first ++ second) ≤ room)
 both_observed first second one two fits answer short brief is = observed (first ++ second) (two + one) fits answer (omega (arith, short, brief, length-append first second)) is
 
--- the six parts of a report, each within its bound, are joined within the sum
-parts-le : (a b c d e f : List ℕ) (h l m n k : ℕ) → length a ≤ 1809 + h → length b ≤ l → length c ≤ 591 → length d ≤ m → length e ≤ n → length f ≤ 4 → 2404 + h + l + m + n ≤ k
-    → length (a ++ b ++ c ++ d ++ e ++ f) ≤ k
-parts-le a b c d e f h l m n k la lb lc ld le lf most = simp length-append (omega arith)
+-- the parts of a report, each within its bound, are joined within the sum
+parts-le : (a b p c d e f : List ℕ) (h l t m n k : ℕ) → length a ≤ 1979 + h → length b ≤ l → length p ≤ t → length c ≤ 591 → length d ≤ m → length e ≤ n → length f ≤ 4 → 2574 + h + l + t + m + n ≤ k
+    → length (a ++ b ++ p ++ c ++ d ++ e ++ f) ≤ k
+parts-le a b p c d e f h l t m n k la lb lp lc ld le lf most = simp length-append (omega arith)
 
--- a report has at most 2560 bytes, 200 for each ask of each trajectory and of two tests, and the lines of its origin
-pub report-le : (job : Job) (os : List Outcome) (stops : List (List ℕ)) (serial : Option (ℕ × List ℕ)) → IsJob job → AreOutcomesOf job os → AreStopsOf job stops → IsSerialOf job serial
-    → length (report job os stops serial) ≤ 2560 + (job.setting.walks + 2) * length job.setting.asks * 200 + length (origin_lines job job.origin)
-unfolding report
-report-le job os stops serial h all_of stopped found =
+-- the parts of a blind report are joined within the sum of their bounds
+blind_parts-le : (a b c : List ℕ) (h l k : ℕ) → length a ≤ 1979 + h → length b ≤ l → length c ≤ 4 → 1983 + h + l ≤ k → length (a ++ b ++ c) ≤ k
+blind_parts-le a b c h l k la lb lc most = simp length-append (omega arith)
+
+-- the bound on a report
+abbrev most_bytes : Job → ℕ
+most_bytes job = 3000 + (job.setting.walks + job.setting.walks / 2 + 2) * length job.setting.asks * 200 + length (origin_lines job job.origin)
+
+-- a blind report is within the bound
+blind-le : (job : Job) (os : List Outcome) → IsJob job → AreOutcomesOf job os → length (blind_report job os) ≤ most_bytes job
+blind-le job os h all_of =
+    let origin = length (origin_lines job job.origin) in
+    let walks = job.setting.walks in
+    let asks = length job.setting.asks in
+    blind_parts-le (head job) (moved_lines job os) (line (codes "end" ∷ [])) origin (walks * 200) (most_bytes job)
+    (length-head job h) (moved_lines-le job os all_of) (omega arith) (products walks (walks / 2) asks origin (small job h).asked)
+  where
+    products : (w t a h : ℕ) → w ≤ w * a → 1983 + h + w * 200 ≤ 3000 + (w + t + 2) * a * 200 + h
+    products w t a h asked = grind (arith, asked)
+
+-- a report with all findings is within the bound
+open-le : (job : Job) (os : List Outcome) (stops : List (List ℕ)) (serial : Option (ℕ × List ℕ)) → IsJob job → AreOutcomesOf job os → AreStopsOf job stops → IsSerialOf job serial
+    → length (report_by_parts job os stops serial) ≤ most_bytes job
+open-le job os stops serial h all_of stopped found =
     let asks = length job.setting.asks in
     let walks = job.setting.walks in
     let origin = length (origin_lines job job.origin) in
-    parts-le (head job) (walk_lines job os) (shift_line job.setting.shift os) (test_lines job.setting.stop job os stops) (serial_lines job serial) (line (codes "end" ∷ []))
-    origin (walks * (asks * 200)) (asks * 200) (asks * 200) (2560 + (walks + 2) * asks * 200 + origin)
-    (length-head job h) (walk_lines-le job os h all_of) (length-shift_line job.setting.shift os) (test_lines-le job.setting.stop job os stops h refl all_of stopped)
-    (serial_lines-le job.setting.serial job serial h found) (omega arith) (products walks asks origin)
+    parts-le (head job) (walk_lines job os) (pair_lines job.setting.pairs job os) (shift_line job.setting.shift os) (test_lines job.setting.stop job os stops) (serial_lines job serial) (line (codes "end" ∷ []))
+    origin (walks * (asks * 200)) (walks / 2 * (asks * 200)) (asks * 200) (asks * 200) (most_bytes job)
+    (length-head job h) (walk_lines-le job os h all_of) (pair_lines-le job.setting.pairs job os h all_of) (length-shift_line job.setting.shift os) (test_lines-le job.setting.stop job os stops h refl all_of stopped)
+    (serial_lines-le job.setting.serial job serial h found) (omega arith) (products walks (walks / 2) asks origin)
   where
-    products : (w a h : ℕ) → 2404 + h + w * (a * 200) + a * 200 + a * 200 ≤ 2560 + (w + 2) * a * 200 + h
-    products w a h = grind arith
+    products : (w t a h : ℕ) → 2574 + h + w * (a * 200) + t * (a * 200) + a * 200 + a * 200 ≤ 3000 + (w + t + 2) * a * 200 + h
+    products w t a h = grind arith
 
--- the bound without the origin is below 90 million bytes
-pub enough-le : (walks asks : ℕ) → walks ≤ 100000 → asks ≤ 4 → 2560 + (walks + 2) * asks * 200 ≤ 90000000
+-- a report has at most 3000 bytes, 200 for each ask of each walk, of each pair of walks and of two tests, and the lines of
+-- its origin
+pub report-le : (job : Job) (os : List Outcome) (stops : List (List ℕ)) (serial : Option (ℕ × List ℕ)) → IsJob job → AreOutcomesOf job os → AreStopsOf job stops → IsSerialOf job serial
+    → length (report job os stops serial) ≤ 3000 + (job.setting.walks + job.setting.walks / 2 + 2) * length job.setting.asks * 200 + length (origin_lines job job.origin)
+report-le job os stops serial h all_of stopped found = elim (cases_Bool job.setting.blind) [
+  | inl blind ↦ subst (λ (t : List ℕ). length t ≤ most_bytes job) (report_is_blind job os stops serial blind) (blind-le job os h all_of)
+  | inr open_one ↦ subst (λ (t : List ℕ). length t ≤ most_bytes job) (report_is_whole job os stops serial open_one) (open-le job os stops serial h all_of stopped found)
+]
+
+-- the bound without the origin is below 130 million bytes
+pub enough-le : (walks asks : ℕ) → walks ≤ 100000 → asks ≤ 4 → 3000 + (walks + walks / 2 + 2) * asks * 200 ≤ 130000000
 enough-le walks asks few four =
-    let product = mul-le (walks + 2) asks 100002 4 (omega arith) four in
+    let product = mul-le (walks + walks / 2 + 2) asks 150002 4 (omega arith) four in
     omega (arith, product)

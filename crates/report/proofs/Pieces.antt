@@ -1,11 +1,12 @@
 -- A list of pieces that are appended one by one.
-use Rattle.std.proofs.Common.{◌≡◌, ℕ, suc, ◌+◌, ◌<◌, ◌≤◌, drop, get_or, add-one, zero-add, drop-cons, List, [], ◌++◌, length, flat_map, refl, ap, sym, ◌∙◌, subst, arith, append-nil, length-append, Ok, Err}
+use Rattle.std.proofs.Common.{◌≡◌, ℕ, zero, suc, ◌+◌, ◌*◌, ◌/◌, ◌<◌, ◌≤◌, drop, get_or, add-one, zero-add, drop-cons, List, [], ◌++◌, length, flat_map, refl, ap, sym, ◌∙◌, subst, arith, append-nil, length-append, Ok, Err}
 use Rattle.std.proofs.lemmas.List.{drop_all}
 use Rattle.std.specs.Prelude.{zip}
 use Rattle.std.proofs.lemmas.Slice.Zip.{get_or-zip, length-zip}
 use Rattle.std.proofs.lemmas.List.FromFn.{length-enumerate_from, get_or-enumerate_from}
 use Rattle.audit_model.specs.Room.{RoomyBytes}
 use Rattle.audit_model.specs.declared.memory.Memory.{Memory}
+use Rattle.audit_model.specs.declared.outcome.Outcome.{Outcome}
 use Rattle.audit_model.specs.declared.setting.Ask.{Ask}
 use Rattle.audit_model.specs.declared.setting.Score.TheVariants.{Seats}
 use Rattle.audit_model.specs.declared.setting.Tail.TheVariants.{Low}
@@ -13,6 +14,7 @@ use Rattle.audit_model.specs.Job.{Job}
 use Rattle.report.specs.Lines.{AppendsText}
 use Rattle.report.specs.Parts.{ask_at}
 use Rattle.audit_model.specs.Stopping.{placed_asks}
+use Rattle.audit_statement.specs.Report.{by_twos}
 use Rattle.report.proofs.Written.{IsWritten, written-more, written-err}
 
 -- the first i pieces are appended
@@ -79,6 +81,26 @@ module _ (job : Job) (piece : ℕ × Ask → List ℕ) (place : ℕ) (old now : 
   -- if the piece of each ask is appended, the whole is
   pub asks-all : length job.setting.asks ≤ place → AppendsText old now (flat_map piece (placed_asks job)) (Ok tt)
   asks-all over = pieces-all piece (placed_asks job) place old now (omega (arith, over, length-enumerate_from 0 job.setting.asks)) before
+
+-- ---- two outcomes at a time
+
+-- half as many pairs as outcomes
+pub length-by_twos : (os : List Outcome) → length (by_twos os) ≡ length os / 2
+length-by_twos [] = omega arith
+length-by_twos (first ∷ []) = omega arith
+length-by_twos (first ∷ second ∷ rest) = omega (arith, length-by_twos rest)
+
+-- the pair at a place has the outcomes at twice the place and next to it
+pub get_or-by_twos : (os : List Outcome) (k : ℕ) (d : Outcome × Outcome) → k < length (by_twos os) → get_or (by_twos os) k d ≡ (get_or os (2 * k) d.0, get_or os (2 * k + 1) d.1)
+get_or-by_twos [] k d l = absurd (omega arith)
+get_or-by_twos (first ∷ []) k d l = absurd (omega arith)
+get_or-by_twos (first ∷ second ∷ rest) zero d l = refl
+get_or-by_twos (first ∷ second ∷ rest) (suc k) d l =
+    let even : 2 * suc k ≡ suc (suc (2 * k)) = omega arith in
+    let odd : 2 * suc k + 1 ≡ suc (suc (2 * k + 1)) = omega arith in
+    get_or-by_twos rest k d (omega arith)
+    ∙ ap (λ i. (get_or (first ∷ second ∷ rest) i d.0, get_or rest (2 * k + 1) d.1)) (sym even)
+    ∙ ap (λ i. (get_or (first ∷ second ∷ rest) (2 * suc k) d.0, get_or (first ∷ second ∷ rest) i d.1)) (sym odd)
 
 -- ---- the asks, each with the stop of its test
 

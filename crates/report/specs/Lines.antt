@@ -6,8 +6,9 @@ use Rattle.json.specs.Print.{quoted}
 use Rattle.audit_model.specs.Room.{RoomyBytes}
 use Rattle.audit_model.specs.declared.memory.Memory.{Memory}
 use Rattle.report.specs.declared.lines.Word.{Word}
-use Rattle.report.specs.declared.lines.Word.TheVariants.{Text, Number, Signed, Fraction, Billionths, Key, Quoted}
+use Rattle.report.specs.declared.lines.Word.TheVariants.{Text, Number, Signed, Fraction, Billionths, Quarters, Key, Quoted}
 use Rattle.audit_statement.specs.Report.{fraction, billionths}
+use Rattle.audit_statement.specs.Words.{quarters}
 
 -- the text of a word
 abbrev pub word_text : Word → List ℕ
@@ -16,6 +17,7 @@ word_text (Number n) = decimal n
 word_text (Signed z) = signed_decimal z
 word_text (Fraction top bottom) = fraction top bottom
 word_text (Billionths n) = billionths n
+word_text (Quarters q) = quarters q
 word_text (Key key) = encode_lower key.now
 word_text (Quoted text) = quoted text.now
 

@@ -12,7 +12,7 @@ use Rattle.audit_model.specs.Job.{Job}
 use Rattle.audit_model.specs.Test.{p_value}
 use Rattle.audit_model.specs.Stopping.{placed_asks}
 use Rattle.report.specs.Lines.{spaced}
-use Rattle.audit_statement.specs.Report.{line, ask_words, billionths, frozen_words, graph_line, group_words, length_words, origin_lines, population_line, region_words, rule_lines, serial_lines, setting_line, shift_line, stop_line, test_lines, title_line, walk_line, walk_lines}
+use Rattle.audit_statement.specs.Report.{line, ask_words, billionths, frozen_words, graph_line, group_words, length_words, origin_lines, pair_line, pair_lines, population_line, region_words, rule_lines, serial_lines, setting_line, shift_line, stop_line, test_lines, title_by, walk_line, walk_lines, weight_line}
 
 -- the line with the digest and the number of the bytes that were read
 abbrev pub source_line : Origin → List ℕ
@@ -38,9 +38,9 @@ last_columns columns = spaced (frozen_words columns.frozen) ++ spaced (length_wo
 abbrev pub key_line : Job → List ℕ
 key_line job = line (codes "key" ∷ encode_lower job.setting.key ∷ [])
 
--- the lines of the graph, of the population and of the rules
+-- the lines of the graph, of the population, of the rules and of the weight
 abbrev pub plan_lines : Job → List ℕ
-plan_lines job = graph_line job ++ population_line job ++ rule_lines job
+plan_lines job = graph_line job ++ population_line job ++ rule_lines job ++ weight_line job
 
 -- the lines of a job that a report and a trace share
 abbrev pub job_lines : Job → List ℕ
@@ -49,18 +49,23 @@ job_lines job = origin_lines job job.origin ++ key_line job ++ plan_lines job ++
 -- the lines before those of the asks
 abbrev pub head : Job → List ℕ
 head job =
-    title_line job.setting.shift
+    title_by job.setting.blind job.setting.shift
     ++ origin_lines job job.origin
     ++ key_line job
     ++ graph_line job
     ++ population_line job
     ++ rule_lines job
+    ++ weight_line job
     ++ setting_line job
     ++ stop_line job.setting.stop
 
 -- the lines of an outlier walk, one for each ask
 abbrev pub lines_of : Job → Outcome → List ℕ
 lines_of job found = flat_map (walk_line job found) (placed_asks job)
+
+-- the lines of a pair of walks, one for each ask
+abbrev pub lines_of_pair : Job → Outcome × Outcome → List ℕ
+lines_of_pair job pair = flat_map (pair_line job pair) (placed_asks job)
 
 -- the ask at a place. Past the last ask it is this default.
 abbrev pub ask_at : Job → ℕ → Ask
@@ -81,11 +86,12 @@ place_line job place ask rank = line (
     ∷ codes "rank" ∷ decimal rank ∷ codes "of" ∷ decimal (job.setting.steps + 1)
     ∷ codes "p" ∷ billionths (p_value rank (job.setting.steps + 1)) ∷ [])
 
--- the report, part by part
+-- the report with all findings, part by part
 abbrev pub report_by_parts : Job → List Outcome → List (List ℕ) → Option (ℕ × List ℕ) → List ℕ
 report_by_parts job outcomes stops serial =
     head job
     ++ walk_lines job outcomes
+    ++ pair_lines job.setting.pairs job outcomes
     ++ shift_line job.setting.shift outcomes
     ++ test_lines job.setting.stop job outcomes stops
     ++ serial_lines job serial

@@ -9,10 +9,11 @@ ghost use Rattle.audit_statement.specs.Report as definition;
 use crate::check::push_plan_lines;
 use crate::lines::{Word, push_line};
 use crate::origin::push_origin_lines;
+use crate::pairs::push_pair_lines;
 use crate::serial::push_serial_lines;
 use crate::shift::push_shift_line;
 use crate::stops::push_test_lines;
-use crate::walks::push_walk_lines;
+use crate::walks::{push_moved_lines, push_walk_lines};
 use audit_model::buffers::Bytes;
 use audit_model::memory::Memory;
 use audit_model::outcome::Outcome;
@@ -22,7 +23,6 @@ use plan_core::job::Job;
 /// if the parallel test stops early. `stops` has a stopping place and the numerator and denominator of a p-value for
 /// each ask. `serial` has the start plan's position in the serial test's run and a rank for each ask. Allocates
 /// nothing, because `reserve` has allocated the capacity.
-#[tactic(auto, using(crate::proofs::Wholly::report_is_whole))]
 pub fn text(
     job: &Job,
     sorted: &[Outcome],
@@ -50,10 +50,41 @@ fn push_report(
     requires outcomes { AreOutcomesOf job.now sorted.now }
     requires stops { AreStopsOf job.now stops.now }
     requires serial { IsSerialOf job.now serial }
+    ensures { AppendsText out.old out.new (definition.report job.now sorted.now stops.now serial) result }
+{
+    if job.setting().blind {
+        push_blind_report(job, sorted, out)
+    } else {
+        push_open_report(job, sorted, stops, serial, out)
+    }
+}
+
+/// Appends the report of a blind run, which has nothing of any score.
+fn push_blind_report(job: &Job, sorted: &[Outcome], out: &mut Bytes) -> Result<(), Memory>
+    requires { AreOutcomesOf job.now sorted.now }
+    ensures { AppendsText out.old out.new (definition.blind_report job.now sorted.now) result }
+{
+    push_head(job, out)?;
+    push_moved_lines(job, sorted, out)?;
+    push_line(out, &[Word::Text("end")])
+}
+
+/// Appends the report with all findings.
+fn push_open_report(
+    job: &Job,
+    sorted: &[Outcome],
+    stops: &[[u32; 3]],
+    serial: Option<(u32, [u64; 4])>,
+    out: &mut Bytes,
+) -> Result<(), Memory>
+    requires outcomes { AreOutcomesOf job.now sorted.now }
+    requires stops { AreStopsOf job.now stops.now }
+    requires serial { IsSerialOf job.now serial }
     ensures { AppendsText out.old out.new (report_by_parts job.now sorted.now stops.now serial) result }
 {
     push_head(job, out)?;
     push_walk_lines(job, sorted, out)?;
+    push_pair_lines(job, sorted, out)?;
     push_shift_line(job, sorted, out)?;
     push_test_lines(job, sorted, stops, out)?;
     push_serial_lines(job, serial, out)?;
@@ -81,16 +112,19 @@ pub fn push_job_lines(job: &Job, out: &mut Bytes) -> Result<(), Memory>
 
 /// Appends the title line.
 fn push_title_line(job: &Job, out: &mut Bytes) -> Result<(), Memory>
-    ensures { AppendsText out.old out.new (definition.title_line job.now.setting.shift) result }
+    ensures { AppendsText out.old out.new (definition.title_by job.now.setting.blind job.now.setting.shift) result }
 {
-    push_line(out, &[Word::Text(title_of(job.setting().shift))])
+    let setting = job.setting();
+    push_line(out, &[Word::Text(title_of(setting.blind, setting.shift))])
 }
 
 /// Returns the title of a report. Version 2 is for reports with the line of the seats histogram.
-fn title_of(shift: bool) -> &'static str
-    ensures { definition.line (result.now ∷ []) ≡ definition.title_line shift }
+fn title_of(blind: bool, shift: bool) -> &'static str
+    ensures { definition.line (result.now ∷ []) ≡ definition.title_by blind shift }
 {
-    if shift {
+    if blind {
+        "walk-pilot 1"
+    } else if shift {
         "district-audit 2"
     } else {
         "district-audit 1"

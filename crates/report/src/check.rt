@@ -8,6 +8,7 @@ ghost use Rattle.audit_statement.specs.Report as definition;
 use crate::lines::{Word, push_line};
 use crate::origin::push_origin_lines;
 use crate::rules::push_rule_lines;
+use crate::weight::push_weight_line;
 use audit_model::buffers::Bytes;
 use audit_model::memory::Memory;
 use plan_core::job::Job;
@@ -33,13 +34,14 @@ fn push_check(job: &Job, out: &mut Bytes) -> Result<(), Memory>
     push_line(out, &[Word::Text("end")])
 }
 
-/// Appends the lines of the graph, of the population and of the rules.
+/// Appends the lines of the graph, of the population, of the rules and of the weight.
 pub(crate) fn push_plan_lines(job: &Job, out: &mut Bytes) -> Result<(), Memory>
     ensures { AppendsText out.old out.new (plan_lines job.now) result }
 {
     push_graph_line(job, out)?;
     push_population_line(job, out)?;
-    push_rule_lines(job, out)
+    push_rule_lines(job, out)?;
+    push_weight_line(job, out)
 }
 
 /// Appends the line with the numbers of units, edges and districts.

@@ -4,7 +4,9 @@ ghost use Rattle.std.specs.Prelude.{◌≡◌, ◌∷◌, map};
 ghost use Rattle.report.specs.Lines.{AppendsText, spaced, tail_of, word_text};
 ghost use Rattle.audit_statement.specs.Report.{line};
 
-use crate::numbers::{push_billionths, push_fraction, push_key, push_number, push_signed};
+use crate::numbers::{
+    push_billionths, push_fraction, push_key, push_number, push_quarters, push_signed,
+};
 use crate::quoted::push_quoted;
 use audit_model::buffers::Bytes;
 use audit_model::memory::Memory;
@@ -19,6 +21,8 @@ pub enum Word<'a> {
     Fraction(i64, u64),
     /// A number of billionths.
     Billionths(u64),
+    /// A number of quarters.
+    Quarters(u32),
     /// A key or a digest, written as hexadecimal digits.
     Key(&'a [u8; 32]),
     /// A text, written as a JSON string.
@@ -35,6 +39,7 @@ pub fn push_word(out: &mut Bytes, word: &Word) -> Result<(), Memory>
         Word::Signed(number) => push_signed(out, *number),
         Word::Fraction(top, bottom) => push_fraction(out, *top, *bottom),
         Word::Billionths(number) => push_billionths(out, *number),
+        Word::Quarters(number) => push_quarters(out, *number),
         Word::Key(key) => push_key(out, key),
         Word::Quoted(text) => push_quoted(out, text),
     }

@@ -5,6 +5,7 @@ ghost use Rattle.std.specs.Fmt.{signed_decimal};
 ghost use Rattle.hex.specs.Hex.{encode_lower};
 ghost use Rattle.report.specs.Lines.{AppendsText};
 ghost use Rattle.audit_statement.specs.Report.{fraction, billionths, nine_digits};
+ghost use Rattle.audit_statement.specs.Words.{quarter_digits, quarters};
 
 use audit_model::buffers::Bytes;
 use audit_model::memory::Memory;
@@ -43,6 +44,27 @@ pub fn push_billionths(out: &mut Bytes, number: u64) -> Result<(), Memory>
 {
     push_number(out, number / BILLION)?;
     push_decimals(out, number % BILLION)
+}
+
+/// Appends a number of quarters: a whole number, and what is left behind a point.
+pub fn push_quarters(out: &mut Bytes, number: u32) -> Result<(), Memory>
+    ensures { AppendsText out.old out.new (quarters number) result }
+{
+    push_number(out, u64::from(number / 4))?;
+    out.append(quarter_digits(number % 4).as_bytes())
+}
+
+/// Returns the digits behind the point of a number of quarters, with the point.
+pub fn quarter_digits(rest: u32) -> &'static str
+    requires { rest < 4 }
+    ensures { result.now ≡ quarter_digits rest }
+{
+    match rest {
+        0 => "",
+        1 => ".25",
+        2 => ".5",
+        _ => ".75",
+    }
 }
 
 /// Appends the digits of a key, two for each byte.

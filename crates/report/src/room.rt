@@ -15,7 +15,7 @@ use plan_core::job::Job;
 use std::alloc::Global;
 
 /// An upper bound on the total bytes of all lines except those of asks and of the origin.
-const FRAME_ROOM: usize = 2560;
+const FRAME_ROOM: usize = 3000;
 
 /// An upper bound on the bytes of one line of an ask.
 const LINE_ROOM: usize = 200;
@@ -69,9 +69,10 @@ fn lines_room(job: &Job) -> usize
     ensures enough { (outcomes : List Outcome) (stops : List (List ℕ)) (serial : Option (ℕ × List ℕ)) →
         AreOutcomesOf job.now outcomes → AreStopsOf job.now stops → IsSerialOf job.now serial →
         length (definition.report job.now outcomes stops serial) ≤ result + length (definition.origin_lines job.now job.now.origin) }
-    ensures few { result ≤ 90000000 }
+    ensures few { result ≤ 130000000 }
 {
-    let lines_of_ask = job.setting().walks as usize + 2;
+    let walks = job.setting().walks as usize;
+    let lines_of_ask = walks + walks / 2 + 2;
     FRAME_ROOM + lines_of_ask * ask_count(job) * LINE_ROOM
 }
 

@@ -148,11 +148,12 @@ fn push_length_lines(job: &Job, out: &mut Bytes) -> Result<(), Memory>
     push_length_line(job, out)
 }
 
-/// Appends the line with the total length of the start plan's cut edges, if a column of lengths is named.
+/// Appends the line with the total length of the start plan's cut edges, if a column of lengths is named and the report
+/// is not blind.
 fn push_cut_length_line(job: &Job, out: &mut Bytes) -> Result<(), Memory>
-    ensures { AppendsText out.old out.new (definition.cut_length_line (cut_length job.now.graph job.now.counts.lengths job.now.start) job.now.setting.columns.length) result }
+    ensures { AppendsText out.old out.new (definition.start_length_line job.now.setting.blind (cut_length job.now.graph job.now.counts.lengths job.now.start) job.now.setting.columns.length) result }
 {
-    if length_column(job).is_empty() {
+    if job.setting().blind || length_column(job).is_empty() {
         return Ok(());
     }
     push_line(

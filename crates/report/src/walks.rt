@@ -6,7 +6,7 @@ ghost use Rattle.audit_model.specs.Trajectory.{value_at};
 ghost use Rattle.report.specs.Lines.{AppendsText};
 ghost use Rattle.report.specs.Outcomes.{AreOutcomesOf, HasCounts, IsCount};
 ghost use Rattle.report.specs.Parts.{ask_at, lines_of};
-ghost use Rattle.audit_statement.specs.Report.{walk_line, walk_lines};
+ghost use Rattle.audit_statement.specs.Report.{moved_line, moved_lines, walk_line, walk_lines};
 
 use crate::asks::{ask_count, ask_words};
 use crate::lines::{Word, push_line};
@@ -24,6 +24,37 @@ pub fn push_walk_lines(job: &Job, sorted: &[Outcome], out: &mut Bytes) -> Result
     ensures { AppendsText out.old out.new (walk_lines job.now sorted.now) result }
 {
     push_walks(job, walks_of(job, sorted), out)
+}
+
+/// Appends a line with the number of moves of each outlier walk.
+pub fn push_moved_lines(job: &Job, sorted: &[Outcome], out: &mut Bytes) -> Result<(), Memory>
+    requires { AreOutcomesOf job.now sorted.now }
+    ensures { AppendsText out.old out.new (moved_lines job.now sorted.now) result }
+{
+    push_moves(walks_of(job, sorted), out)
+}
+
+fn push_moves(walks: &[Outcome], out: &mut Bytes) -> Result<(), Memory>
+    ensures { AppendsText out.old out.new (flat_map moved_line walks.now) result }
+{
+    for found in walks {
+        push_moved_line(found, out)?;
+    }
+    Ok(())
+}
+
+fn push_moved_line(found: &Outcome, out: &mut Bytes) -> Result<(), Memory>
+    ensures { AppendsText out.old out.new (moved_line found.now) result }
+{
+    push_line(
+        out,
+        &[
+            Word::Text("walk"),
+            Word::Number(u64::from(found.id)),
+            Word::Text("moved"),
+            Word::Number(found.moved),
+        ],
+    )
 }
 
 /// Appends a line for each of these outcomes and each ask.

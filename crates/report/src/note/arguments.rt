@@ -20,6 +20,7 @@ pub(crate) fn word_line(fault: &WordFault) -> Line<'_>
         WordFault::NoValue(name) => words_line("no value for ", spelling_of(name)),
         WordFault::MissingName(name) => words_line(spelling_of(name), " is missing"),
         WordFault::BadValue(name) => words_line("bad value for ", spelling_of(name)),
+        WordFault::PairsNeedTwoWalks => text_line("pairs need two walks"),
         WordFault::Memory => text_line("memory"),
     }
 }

@@ -100,3 +100,13 @@ returns-in-GroupOf c = rw c.in-GroupOf.is refl
 
 pub returns-in-Source : goal.returns-in-Source
 returns-in-Source c = rw c.in-Source.is refl
+
+pub returns-in-Pairs : goal.returns-in-Pairs
+returns-in-Pairs c = rw c.in-Pairs.is refl
+
+pub returns-in-CutWeight : goal.returns-in-CutWeight
+unfolding digits
+returns-in-CutWeight c = rw c.in-CutWeight.is refl
+
+pub returns-in-Blind : goal.returns-in-Blind
+returns-in-Blind c = rw c.in-Blind.is refl

@@ -28,5 +28,6 @@ returns-in-Ok c =
       c.limits_of-limits.ensures.group_districts,
       c.limits_of-limits.ensures.group_share,
       c.limits_of-limits.ensures.max_length,
+      c.weight_at.ensures,
       source,
     ) refl

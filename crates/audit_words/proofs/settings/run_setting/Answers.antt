@@ -39,4 +39,6 @@ returns c =
     c.number_at-11.ensures (omega (arith, (number-bounds 1 100000 (text name.Parts) (and_parts (definition.is_number 1 100000 (text name.Parts)) (definition.saves_parts command.Check (pairs_in c.args.words.now)) c.requires.good.parts).0).1)) in
     let part : c.number_at-12.result ≡ number name.Part =
     c.number_at-12.ensures (omega (arith, (number-bounds 0 100000 (text name.Part) (and_parts (definition.is_number 0 100000 (text name.Part)) (nat_lt (number name.Part) (number name.Parts)) c.requires.good.part).0).1)) in
-    rw (slack, key, walks, steps, ends, hub_steps, asks, workers, budget, save, resume, max_cut, shift, stop, serial, parts, part) refl
+    let pairs : c.eq-4.result ≡ bytes_eq (text name.Pairs) (codes "yes") = c.eq-4.ensures ∙ ap (λ t. bytes_eq t (codes "yes")) c.text_of-5.ensures in
+    let blind : c.eq-5.result ≡ bytes_eq (text name.Blind) (codes "yes") = c.eq-5.ensures ∙ ap (λ t. bytes_eq t (codes "yes")) c.text_of-6.ensures in
+    rw (slack, key, walks, steps, ends, hub_steps, asks, workers, budget, save, resume, max_cut, shift, stop, serial, parts, part, c.weight_at.ensures, pairs, blind) refl

@@ -5,7 +5,7 @@ use Rattle.audit_model.specs.Limits.{IsSetting}
 use Rattle.audit_words.specs.ArgumentBytes.{argument_bytes, pairs_in}
 use Rattle.audit_words.proofs.Accepted.{IsSetting-good}
 use Rattle.audit_words.proofs.ValidValues.{AreReadable-good}
-use Rattle.audit_words.proofs.Reading.{argument_bytes-empty, setting_of-no_words, setting_of-other_word, setting_of-command, refused_by_pairs, refused_by_names, refused_by_values, taken}
+use Rattle.audit_words.proofs.Reading.{argument_bytes-empty, setting_of-no_words, setting_of-other_word, setting_of-command, refused_by_pairs, refused_by_names, refused_by_values, refused_by_walks, taken}
 use Rattle.audit_statement.specs.Words as definition
 use Rattle.audit_words.proofs.words.read.Goals as goal
 
@@ -51,11 +51,21 @@ returns-in_err-judge_values-clause-exact c =
       | inr found ↦ inr (whole ∙ refused_by_values c.in-Some-command_of.command (pairs_in c.in-Some.rest.now) c.in_err-judge_values.field-0.0 c.in_ok-judge_pairs.ensures c.in_ok-judge_missing.ensures found)
     ])
 
+pub returns-in_err-judge_walks-clause-exact : goal.returns-in_err-judge_walks-clause-exact
+returns-in_err-judge_walks-clause-exact c =
+    let p = err_from_is_err_and c.from_residual-in_err-judge_walks.result c.from_residual-in_err-judge_walks.ensures.1 in
+    let known : Some c.in-Some-command_of.command ≡ definition.command_of (string_bytes c.in-Some.word.now) = subst (λ t. Some c.in-Some-command_of.command ≡ definition.command_of t) c.as_str.ensures.value c.in-Some-command_of.ensures in
+    let whole = setting_of-command (argument_bytes c.args.words.now) (string_bytes c.in-Some.word.now) (argument_bytes c.in-Some.rest.now) c.in-Some-command_of.command (ap argument_bytes c.in-Some.ensures.cases.0) known in
+    rw (p.1, p.2) (elim c.in_err-judge_walks.ensures [
+      | inl memory ↦ inl memory
+      | inr found ↦ inr (whole ∙ refused_by_walks c.in-Some-command_of.command (pairs_in c.in-Some.rest.now) c.in_err-judge_walks.field-0.0 c.in_ok-judge_pairs.ensures c.in_ok-judge_missing.ensures c.in_ok-judge_values.ensures found)
+    ])
+
 pub returns-in-Ok-clause-exact : goal.returns-in-Ok-clause-exact
 returns-in-Ok-clause-exact c =
     let known : Some c.in-Some-command_of.command ≡ definition.command_of (string_bytes c.in-Some.word.now) = subst (λ t. Some c.in-Some-command_of.command ≡ definition.command_of t) c.as_str.ensures.value c.in-Some-command_of.ensures in
     let whole = setting_of-command (argument_bytes c.args.words.now) (string_bytes c.in-Some.word.now) (argument_bytes c.in-Some.rest.now) c.in-Some-command_of.command (ap argument_bytes c.in-Some.ensures.cases.0) known in
-    whole ∙ taken c.in-Some-command_of.command (pairs_in c.in-Some.rest.now) c.in_ok-judge_pairs.ensures c.in_ok-judge_missing.ensures c.in_ok-judge_values.ensures
+    whole ∙ taken c.in-Some-command_of.command (pairs_in c.in-Some.rest.now) c.in_ok-judge_pairs.ensures c.in_ok-judge_missing.ensures c.in_ok-judge_values.ensures c.in_ok-judge_walks.ensures
     ∙ ap (λ s. Ok s) (sym c.in-Ok.ensures)
 
 pub setting_for-requires : goal.setting_for-requires

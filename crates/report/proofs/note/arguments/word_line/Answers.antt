@@ -22,5 +22,8 @@ returns-in-MissingName c = c.words_line-in-MissingName.ensures ∙ rw (c.in-Miss
 pub returns-in-BadValue : goal.returns-in-BadValue
 returns-in-BadValue c = c.words_line-in-BadValue.ensures ∙ rw (c.in-BadValue.is, c.spelling_of-in-BadValue.ensures)
 
+pub returns-in-PairsNeedTwoWalks : goal.returns-in-PairsNeedTwoWalks
+returns-in-PairsNeedTwoWalks c = c.text_line-in-PairsNeedTwoWalks.ensures ∙ rw c.in-PairsNeedTwoWalks.is
+
 pub returns-in-Memory : goal.returns-in-Memory
 returns-in-Memory c = c.text_line-in-Memory.ensures ∙ rw c.in-Memory.is

@@ -2,7 +2,7 @@ use Rattle.std.proofs.Common.{ℕ, List, codes, sym, ap, ◌∙◌}
 use Rattle.std.proofs.lemmas.Bool.{cond-false, cond-true}
 use Rattle.audit_statement.specs.Checkpoint.{digest_name, has_further_rules, has_lengths, has_newer_rules, has_rules}
 use Rattle.ckpt_format.proofs.Hashing.{hashes_same}
-use Rattle.ckpt_format.proofs.digest.hash_first.Goals as goal
+use Rattle.ckpt_format.proofs.digest.hash_even.Goals as goal
 
 pub returns-then-has_lengths : goal.returns-then-has_lengths
 returns-then-has_lengths c =
