@@ -12,3 +12,4 @@ pub mod Proposing
 pub mod Reading
 pub mod Tables
 pub mod Words
+pub mod Weights

@@ -76,8 +76,8 @@ module _ (job : Job) (plan : List ℕ) (sums : Following) (marks : ℕ) (table :
     -- if the pair is not open, the plan stays
     still_closed : flag ≡ false → next job plan draw ≡ plan
     still_closed closed = next_stays job plan draw (found / job.districts) (found % job.districts) proposal_is
-        (λ move. both_ways (is_open job.graph plan (found / job.districts) (found % job.districts)) (sym flag_is ∙ closed)
-        (move_is_open job plan (found / job.districts) (found % job.districts) current.numbers.sound current.summed.legal unit_below district_below move.elsewhere move))
+        (λ step. both_ways (is_open job.graph plan (found / job.districts) (found % job.districts)) (sym flag_is ∙ closed)
+        (move_is_open job plan (found / job.districts) (found % job.districts) current.numbers.sound current.summed.legal unit_below district_below step.move.elsewhere step.move))
 
     -- if the pair is open, it is the proposed one
     pub is_proposed : (districts : ℕ) → districts ≡ job.districts → flag ≡ true → ProposesOpen job plan draw (found / districts) (found % districts)

@@ -3,13 +3,15 @@ use Rattle.std.specs.Prelude.{◌≡◌, ℕ, ◌+◌, ◌*◌, ◌/◌, ◌%◌
 use Rattle.audit_model.specs.Job.{Job}
 use Rattle.audit_model.specs.JobOf.{IsJob}
 use Rattle.audit_model.specs.Plan.{least_population, greatest_population}
+use Rattle.audit_model.specs.Weight.{largest_change, weighed_draws}
 use Rattle.flip_kernel.specs.declared.proposal.Pairs.{Pairs}
 
 -- the place of a draw in its block of this size; draws after the last whole block have none
 abbrev pub place_in : ℕ → ℕ → Option ℕ
 place_in size draw = if nat_lt draw (2 ^ 64 / size * size) then Some (draw % size) else None
 
--- the greatest draw at which a whole block can begin, and 2^64 - 1 divided by both counts and rounded down
+-- the greatest draw at which a whole block can begin, 2^64 - 1 divided by both counts and rounded down, and, with a
+-- weight, the largest change of the number of cut edges in one step and the greatest draw that counts
 pub record AreBlocks (pairs : Pairs) : Type 0 where
   pub some : 0 < pairs.count
   pub last : pairs.last + pairs.count ≡ 2 ^ 64
@@ -18,6 +20,8 @@ pub record AreBlocks (pairs : Pairs) : Type 0 where
   pub some_districts : 0 < pairs.districts
   pub enough_districts : pairs.district_inverse * pairs.districts < 2 ^ 64
   pub most_districts : 2 ^ 64 ≤ pairs.district_inverse * pairs.districts + pairs.districts
+  pub largest : pairs.largest_change ≡ largest_change pairs.count
+  pub last_weighed : pairs.last_weighed + 1 ≡ weighed_draws pairs.count (largest_change pairs.count)
 
 -- the numbers that steps of a job need: its pairs and its population bounds
 pub record AreNumbersOf (job : Job) (pairs : Pairs) (low high : ℕ) : Type 0 where

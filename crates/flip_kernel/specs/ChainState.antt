@@ -9,6 +9,7 @@ use Rattle.audit_model.specs.District.{district_sum}
 use Rattle.audit_model.specs.Plan.{IsLegal, cut_edges, least_population, greatest_population}
 use Rattle.audit_model.specs.Proposal.{proposal}
 use Rattle.audit_model.specs.Score.{sums_of}
+use Rattle.audit_model.specs.Weight.{is_taken}
 use Rattle.district_sums.specs.Following.{Following, StandsFor, districts_in}
 use Rattle.contig.specs.Counts.{Counted, AreCounts}
 use Rattle.contig.specs.Table.{Faced}
@@ -60,6 +61,11 @@ allows job plan = nat_le (cut_length job.graph job.counts.lengths plan) job.sett
 pub record IsMove (job : Job) (plan : List ℕ) (unit district : ℕ) : Type 0 where
   pub elsewhere : slice_index plan unit ≢ district
   pub legal : IsLegal job (slice_set plan unit district)
+
+-- the move, whose change of cut edges the draw takes
+pub record IsStep (job : Job) (plan : List ℕ) (draw unit district : ℕ) : Type 0 where
+  pub move : IsMove job plan unit district
+  pub taken : IsTrue (is_taken job plan (slice_set plan unit district) draw)
 
 -- the district that people leave keeps the least population, and the one they join the greatest
 pub record KeepsBounds (low high people from to : ℕ) : Type 0 where

@@ -9,8 +9,9 @@ ghost use Rattle.audit_model.specs.Meets.{meets_rules};
 ghost use Rattle.audit_model.specs.District.{district_sum};
 ghost use Rattle.audit_model.specs.Plan.{IsLegal, cut_edges, least_population, greatest_population};
 ghost use Rattle.audit_model.specs.Step.{next};
+ghost use Rattle.audit_model.specs.Weight.{is_taken};
 ghost use Rattle.district_sums.specs.Following.{StandsFor, count_near, districts_in};
-ghost use Rattle.flip_kernel.specs.ChainState.{IsMove, IsSummed, KeepsBoundsIn, ProposesOpen, allows, sums_in};
+ghost use Rattle.flip_kernel.specs.ChainState.{IsMove, IsStep, IsSummed, KeepsBoundsIn, ProposesOpen, allows, sums_in};
 ghost use Rattle.flip_kernel.specs.Judged.{HasConstraintAt};
 ghost use Rattle.flip_kernel.specs.OpenPairs.{is_open};
 
@@ -19,9 +20,11 @@ use crate::filling::{TriedFillers, fill_holes};
 use crate::moving::Flip;
 use crate::nearby::NeighborCounts;
 use crate::open_pairs::OpenPairs;
-use crate::permission::{is_permitted, is_short, put_unit};
+use crate::permission::{is_permitted, is_short};
 use crate::proposal::Pairs;
 use crate::start::{start_of, tables_of};
+use crate::weight::is_taken_by;
+use crate::writing::{put_plan, shift};
 use audit_model::lists::UnitList;
 use audit_model::memory::Memory;
 use audit_model::outcome::SumsView;
@@ -231,6 +234,20 @@ impl Board {
         )
     }
 
+    /// Returns true if the draw takes the change of cut edges by the flip. Without a weight, every draw does.
+    #[inline(always)]
+    fn takes(&self, flip: Flip, draw: u64) -> bool
+        requires made { self.now.job ≡ flip.job.now }
+        ensures { result ≡ is_taken flip.entry.job.now self.now.plan (slice_set self.now.plan flip.entry.unit flip.entry.district) draw }
+    {
+        // Reading a field makes the type's invariant known to the prover.
+        let sums = &self.sums;
+        if flip.job.setting().cut_weight == 256 {
+            return true;
+        }
+        is_taken_by(flip, draw, &self.pairs, sums, &self.near, &self.plan)
+    }
+
     /// Returns true if the constraint permits the plan after the flip. A constraint that limits
     /// nothing is not asked.
     #[inline]
@@ -395,23 +412,27 @@ impl Board {
         }
     }
 
-    /// Returns true if a flip within the population bounds is a move. The pair must be open. `steps` counts a search of
-    /// the district.
+    /// Returns true if a flip within the population bounds is a move that the draw takes. The pair must be open. `steps`
+    /// counts a search of the district.
     pub(crate) fn may_move_within<J: Judge, L: Ledger>(
         &mut self,
         judge: &J,
         flip: Flip,
+        draw: u64,
         steps: &mut Steps<L>,
     ) -> bool
         requires made { self.old.job ≡ flip.job.now }
         requires judge { HasConstraintAt flip.job.now self.old.plan (J.judging judge.now) }
         requires beside { IsTrue (is_open flip.job.now.graph self.old.plan flip.unit flip.district) }
         requires kept { KeepsBoundsIn flip.job.now self.old.plan flip.unit flip.district }
-        ensures moves { IsTrue result ↔ IsMove flip.entry.job.now self.old.plan flip.entry.unit flip.entry.district }
+        ensures moves { IsTrue result ↔ IsStep flip.entry.job.now self.old.plan draw flip.entry.unit flip.entry.district }
         ensures same { self.new ≡ self.old }
         ensures searches { (steps.old ≤ steps.new) × (steps.new ≤ steps.old + 1) }
         ensures local { IsLocal flip.entry.job.now.graph self.old.plan flip.entry.unit → steps.new ≡ steps.old }
     {
+        if !self.takes(flip, draw) {
+            return false;
+        }
         match self.decide_without_search(judge, flip) {
             Some(moves) => moves,
             None => self.can_leave(flip.job, flip.unit, steps),
@@ -420,13 +441,16 @@ impl Board {
 
     /// Returns true if `may_move` would search a district for this flip. Test programs count searches with it. Nothing
     /// is proved of the result.
-    pub(crate) fn asks_search<J: Judge>(&mut self, judge: &J, flip: Flip) -> bool
+    pub(crate) fn asks_search<J: Judge>(&mut self, judge: &J, flip: Flip, draw: u64) -> bool
         requires made { self.old.job ≡ flip.job.now }
         requires judge { HasConstraintAt flip.job.now self.old.plan (J.judging judge.now) }
         requires beside { IsTrue (is_open flip.job.now.graph self.old.plan flip.unit flip.district) }
         ensures same { self.new ≡ self.old }
     {
-        if !self.keeps_bounds(flip) || self.decide_without_search(judge, flip).is_some() {
+        if !self.keeps_bounds(flip) || !self.takes(flip, draw) {
+            return false;
+        }
+        if self.decide_without_search(judge, flip).is_some() {
             return false;
         }
         self.decide_by_filling(flip.job, flip.unit).is_none() && !self.is_local(flip.job, flip.unit)
@@ -469,32 +493,4 @@ impl Board {
         self.open_pairs.update(moved, districts, home, &self.near);
         self.fillers.follow(&self.faces, moved, home, &self.counts);
     }
-}
-
-/// Moves a unit to a district, in the plan and in its sums. `mates` has the number of the unit's neighbors in its old
-/// district, and then in the new one.
-#[inline(always)]
-fn shift(flip: Flip, mates: (u64, u64), sums: &mut Sums, plan: &mut UnitList)
-    requires summed { IsSummed flip.job.now plan.old sums.old }
-    requires home_mates { mates.0 ≡ count_near flip.job.now.graph plan.old flip.unit (slice_index plan.old flip.unit) }
-    requires other_mates { mates.1 ≡ count_near flip.job.now.graph plan.old flip.unit flip.district }
-    ensures plan { plan.new ≡ slice_set plan.old flip.entry.unit flip.entry.district }
-    ensures places { districts_in sums.new ≡ flip.entry.job.now.districts }
-    ensures stands { StandsFor flip.entry.job.now.graph flip.entry.job.now.counts plan.new sums.new }
-{
-    let member = Member {
-        graph: flip.job.graph(),
-        plan: plan.as_slice(),
-        unit: flip.unit,
-    };
-    sums.follow(member, flip.job.counts(), flip.district, mates);
-    put_unit(plan, flip.unit, flip.district);
-}
-
-/// Overwrites the plan with another one, without updating the sums.
-fn put_plan(plan: &mut UnitList, other: &[u32])
-    requires { length plan.old ≡ length other.now }
-    ensures { plan.new ≡ other.now }
-{
-    plan.as_mut_slice().copy_from_slice(other);
 }

@@ -4,7 +4,7 @@ ghost use Rattle.std.specs.Prelude.{◌≡◌, ℕ, ◌+◌, ◌<◌, ◌-◌, �
 ghost use Rattle.audit_model.specs.Local.{IsLocal};
 ghost use Rattle.audit_model.specs.Proposal.{proposal};
 ghost use Rattle.audit_model.specs.Plan.{IsLegal};
-ghost use Rattle.audit_model.specs.Step.{next, mirrored};
+ghost use Rattle.audit_model.specs.Step.{CanReturn, next, mirrored};
 
 use crate::moving::Flip;
 use crate::state::State;
@@ -43,6 +43,7 @@ pub fn try_flip<J: Judge, L: Ledger>(
                 unit,
                 district,
             },
+            draw,
             steps,
         ),
     }
@@ -78,7 +79,7 @@ pub fn try_flips<J: Judge, L: Ledger>(
                 unit,
                 district,
             };
-            (place + 1, state.flip(flip, steps))
+            (place + 1, state.flip(flip, draws[place], steps))
         }
     }
 }
@@ -97,8 +98,8 @@ pub fn mirror<J: Judge>(job: &Job, state: &mut State<J>, draw: u64) -> u64
     ensures moved { (unit district : ℕ) → proposal job.now.graph.units job.now.districts draw ≡ Some (unit, district) →
         ¬ (next job.now state.old.plan draw ≡ state.old.plan) →
         result ≡ draw - draw % (job.now.graph.units * job.now.districts) + (unit * job.now.districts + slice_index state.old.plan unit) }
-    ensures back { next job.now (next job.now state.old.plan draw) result ≡ state.old.plan }
-    ensures again { mirrored job.now (next job.now state.old.plan draw) result ≡ draw }
+    ensures back { CanReturn job.now state.old.plan draw → next job.now (next job.now state.old.plan draw) result ≡ state.old.plan }
+    ensures again { CanReturn job.now state.old.plan draw → mirrored job.now (next job.now state.old.plan draw) result ≡ draw }
 {
     find_mirror::<J, Brand>(job, state, draw, Blank::new(1))
 }
@@ -124,7 +125,7 @@ fn find_mirror<J: Judge, L: Ledger>(job: &Job, state: &mut State<J>, draw: u64, 
                 unit,
                 district,
             };
-            if state.may_move(flip, &mut steps) {
+            if state.may_move(flip, draw, &mut steps) {
                 draw - u64::from(district) + u64::from(home)
             } else {
                 draw

@@ -38,6 +38,8 @@ mod permission;
 pub mod proposal;
 mod start;
 pub mod state;
+mod weight;
+mod writing;
 
 pub use flip::{mirror, try_flip};
 pub use proposal::propose;

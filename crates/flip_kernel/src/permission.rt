@@ -11,20 +11,12 @@ ghost use Rattle.flip_kernel.specs.Nearby.{CountsNeighbors};
 
 use crate::moving::Flip;
 use crate::nearby::NeighborCounts;
+use crate::writing::put_unit;
 use audit_model::lists::UnitList;
 use district_sums::lengths::length_after;
 use district_sums::sums::Sums;
 use dual_graph::member::Member;
 use flip_guard::judge::Judge;
-
-/// Writes a unit's district in the plan, without updating the sums.
-#[inline]
-pub(crate) fn put_unit(plan: &mut UnitList, unit: u32, district: u32)
-    requires { unit < length plan.old }
-    ensures { plan.new ≡ slice_set plan.old unit district }
-{
-    plan.as_mut_slice()[unit as usize] = district;
-}
 
 /// Does the work of `keeps_length` if edges have lengths. The new total is computed from the total before the flip. Few
 /// jobs have lengths, so the code is kept out of line.

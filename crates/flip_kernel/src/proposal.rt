@@ -5,6 +5,8 @@ ghost use Rattle.audit_model.specs.Proposal.{proposal};
 ghost use Rattle.flip_kernel.specs.Blocks.{AreBlocks, place_in};
 ghost use Rattle.audit_model.specs.Limits.{most_units, most_districts};
 
+use crate::weight::{largest_change, last_weighed};
+
 /// The pairs of a unit and a district, and the numbers that find the pair of a draw.
 #[derive(Drop)]
 pub struct Pairs {
@@ -17,6 +19,10 @@ pub struct Pairs {
     pub inverse: u64,
     /// 2^64 - 1 divided by `districts` and rounded down.
     pub district_inverse: u64,
+    /// With a weight, the largest change of the number of cut edges in one step.
+    pub largest_change: u32,
+    /// With a weight, the greatest draw that counts.
+    pub last_weighed: u64,
 }
 
 impl Pairs {
@@ -35,6 +41,8 @@ impl Pairs {
             last: u64::MAX - (count - 1),
             inverse: u64::MAX / count,
             district_inverse: u64::MAX / u64::from(districts),
+            largest_change: largest_change(count),
+            last_weighed: last_weighed(count),
         }
     }
 
@@ -45,6 +53,15 @@ impl Pairs {
         ensures { result ≡ draw % self.now.count }
     {
         divide(draw, self.count, self.inverse).1
+    }
+
+    /// Returns the quotient of a draw by `count`: the number of whole blocks before its own.
+    #[inline]
+    pub fn quotient(&self, draw: u64) -> u64
+        requires { AreBlocks self.now }
+        ensures { result ≡ draw / self.now.count }
+    {
+        divide(draw, self.count, self.inverse).0
     }
 
     /// Returns true if a draw with the remainder `rest` lies after the last whole block. Such a

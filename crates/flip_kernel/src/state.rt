@@ -5,7 +5,7 @@ ghost use Rattle.audit_model.specs.JobOf.{IsJob};
 ghost use Rattle.audit_model.specs.Local.{IsLocal};
 ghost use Rattle.audit_model.specs.Plan.{IsLegal};
 ghost use Rattle.audit_model.specs.Step.{next};
-ghost use Rattle.flip_kernel.specs.ChainState.{IsMove, KeepsBoundsIn, ProposesOpen, sums_in};
+ghost use Rattle.flip_kernel.specs.ChainState.{IsMove, IsStep, KeepsBoundsIn, ProposesOpen, sums_in};
 ghost use Rattle.flip_kernel.specs.Judged.{IsJudgeFor};
 ghost use Rattle.flip_kernel.specs.OpenPairs.{is_open};
 
@@ -110,12 +110,17 @@ impl<J: Judge> State<J> {
         None
     }
 
-    /// Returns true if the flip is a move. The pair must be open. Neither the plan nor the
-    /// constraint changes.
-    pub(crate) fn may_move<L: Ledger>(&mut self, flip: Flip, steps: &mut Steps<L>) -> bool
+    /// Returns true if the flip is a move that the draw takes. The pair must be open. Neither the plan nor
+    /// the constraint changes.
+    pub(crate) fn may_move<L: Ledger>(
+        &mut self,
+        flip: Flip,
+        draw: u64,
+        steps: &mut Steps<L>,
+    ) -> bool
         requires made { self.old.job ≡ flip.job.now }
         requires beside { IsTrue (is_open flip.job.now.graph self.old.plan flip.unit flip.district) }
-        ensures moves { IsTrue result ↔ IsMove flip.entry.job.now self.old.plan flip.entry.unit flip.entry.district }
+        ensures moves { IsTrue result ↔ IsStep flip.entry.job.now self.old.plan draw flip.entry.unit flip.entry.district }
         ensures same { self.new ≡ self.old }
         ensures searches { (steps.old ≤ steps.new) × (steps.new ≤ steps.old + 1) }
         ensures local { IsLocal flip.entry.job.now.graph self.old.plan flip.entry.unit → steps.new ≡ steps.old }
@@ -123,7 +128,7 @@ impl<J: Judge> State<J> {
         if !self.board.keeps_bounds(flip) {
             return false;
         }
-        self.board.may_move_within(&self.judge, flip, steps)
+        self.board.may_move_within(&self.judge, flip, draw, steps)
     }
 
     /// Returns true if the step of this draw searches a district.
@@ -139,7 +144,7 @@ impl<J: Judge> State<J> {
                     unit,
                     district,
                 };
-                self.board.asks_search(&self.judge, flip)
+                self.board.asks_search(&self.judge, flip, draw)
             }
         }
     }
@@ -156,14 +161,14 @@ impl<J: Judge> State<J> {
             .moved(self.board.plan().as_slice(), flip.unit, home);
     }
 
-    /// Makes the flip if it is a move. Returns true if the flip was made. The pair must be open.
+    /// Makes the flip if it is a move that the draw takes. Returns true if the flip was made. The pair must be open.
     ///
     /// The population bounds are tested first, because they reject most flips that get this far.
     #[inline]
-    pub(crate) fn flip<L: Ledger>(&mut self, flip: Flip, steps: &mut Steps<L>) -> bool
+    pub(crate) fn flip<L: Ledger>(&mut self, flip: Flip, draw: u64, steps: &mut Steps<L>) -> bool
         requires made { self.old.job ≡ flip.job.now }
         requires beside { IsTrue (is_open flip.job.now.graph self.old.plan flip.unit flip.district) }
-        ensures moves { IsTrue result ↔ IsMove flip.entry.job.now self.old.plan flip.entry.unit flip.entry.district }
+        ensures moves { IsTrue result ↔ IsStep flip.entry.job.now self.old.plan draw flip.entry.unit flip.entry.district }
         ensures moved { IsTrue result → self.new ≡ record self.old { plan = slice_set self.old.plan flip.entry.unit flip.entry.district } }
         ensures unchanged { IsFalse result → self.new ≡ self.old }
         ensures searches { (steps.old ≤ steps.new) × (steps.new ≤ steps.old + 1) }
@@ -172,23 +177,23 @@ impl<J: Judge> State<J> {
         if !self.board.keeps_bounds(flip) {
             return false;
         }
-        self.flip_within(flip, steps)
+        self.flip_within(flip, draw, steps)
     }
 
     /// Does the work of `flip` for a flip within the population bounds. Few flips get this far, so
     /// the code is kept out of line.
     #[inline(never)]
-    fn flip_within<L: Ledger>(&mut self, flip: Flip, steps: &mut Steps<L>) -> bool
+    fn flip_within<L: Ledger>(&mut self, flip: Flip, draw: u64, steps: &mut Steps<L>) -> bool
         requires made { self.old.job ≡ flip.job.now }
         requires beside { IsTrue (is_open flip.job.now.graph self.old.plan flip.unit flip.district) }
         requires kept { KeepsBoundsIn flip.job.now self.old.plan flip.unit flip.district }
-        ensures moves { IsTrue result ↔ IsMove flip.entry.job.now self.old.plan flip.entry.unit flip.entry.district }
+        ensures moves { IsTrue result ↔ IsStep flip.entry.job.now self.old.plan draw flip.entry.unit flip.entry.district }
         ensures moved { IsTrue result → self.new ≡ record self.old { plan = slice_set self.old.plan flip.entry.unit flip.entry.district } }
         ensures unchanged { IsFalse result → self.new ≡ self.old }
         ensures searches { (steps.old ≤ steps.new) × (steps.new ≤ steps.old + 1) }
         ensures local { IsLocal flip.entry.job.now.graph self.old.plan flip.entry.unit → steps.new ≡ steps.old }
     {
-        if !self.board.may_move_within(&self.judge, flip, steps) {
+        if !self.board.may_move_within(&self.judge, flip, draw, steps) {
             return false;
         }
         self.make_move(flip);

@@ -6,17 +6,17 @@ use Rattle.audit_model.specs.Proposal.{proposal}
 use Rattle.audit_model.specs.Step.{next, mirrored}
 use Rattle.audit_model.proofs.Mirror.{mirrored_below, mirrored_stays}
 use Rattle.std.proofs.Math.Nat.{mod-le}
-use Rattle.flip_kernel.specs.ChainState.{IsMove, ProposesOpen}
+use Rattle.flip_kernel.specs.ChainState.{IsStep, ProposesOpen}
 use Rattle.flip_kernel.proofs.flip.find_mirror.Goals as goal
 use Rattle.flip_kernel.proofs.Flipping.{next_moved, next_stays, move_differs, mirrored_turned, proposed_place}
 
 -- a draw minus its district, plus the unit's old district
 turned : (job : Job) (plan : List ℕ) (draw unit district minus plus : ℕ) → proposal job.graph.units job.districts draw ≡ Some (unit, district)
-    → unit < length plan → IsMove job plan unit district → minus ≡ district → plus ≡ get_or plan unit 0 → draw - minus + plus ≡ mirrored job plan draw
+    → unit < length plan → IsStep job plan draw unit district → minus ≡ district → plus ≡ get_or plan unit 0 → draw - minus + plus ≡ mirrored job plan draw
 turned job plan draw unit district minus plus is l move less more =
     ap (λ (n : ℕ). draw - n + plus) less ∙ ap (λ (n : ℕ). draw - district + n) more
     ∙ sym (mirrored_turned job plan draw unit district is
-    (λ same. move_differs job plan draw unit district l move (sym (next_moved job plan draw unit district is move) ∙ same)))
+    (λ same. move_differs job plan draw unit district l move.move (sym (next_moved job plan draw unit district is move) ∙ same)))
 
 pub returns-in-None-clause-value : goal.returns-in-None-clause-value
 returns-in-None-clause-value g c =

@@ -1,6 +1,7 @@
 use Rattle.std.proofs.Common.{ℕ, ap, ◌∙◌}
 use Rattle.audit_model.specs.Step.{next, mirrored}
 use Rattle.audit_model.proofs.Mirror.{next-mirrored, mirrored-mirrored, mirrored_stays}
+use Rattle.audit_model.proofs.Weighing.{can_return}
 use Rattle.flip_kernel.proofs.Flipping.{mirrored_moved}
 use Rattle.flip_kernel.proofs.flip.mirror.Goals as goal
 
@@ -12,13 +13,13 @@ returns-clause-moved g c = λ unit district is differs.
     c.find_mirror.ensures.value ∙ mirrored_moved c.args.job.now c.args.state.now.plan c.args.draw unit district is differs
 
 pub returns-clause-back : goal.returns-clause-back
-returns-clause-back g c =
+returns-clause-back g c = λ can.
     let plan = c.args.state.now.plan in
     ap (λ (w : ℕ). next c.args.job.now (next c.args.job.now plan c.args.draw) w) c.find_mirror.ensures.value
-    ∙ next-mirrored c.args.job.now plan c.args.draw c.find_mirror.ensures.legal
+    ∙ next-mirrored c.args.job.now plan c.args.draw c.find_mirror.ensures.legal (can_return c.args.job.now plan c.args.draw c.find_mirror.ensures.legal can)
 
 pub returns-clause-again : goal.returns-clause-again
-returns-clause-again g c =
+returns-clause-again g c = λ can.
     let plan = c.args.state.now.plan in
     ap (λ (w : ℕ). mirrored c.args.job.now (next c.args.job.now plan c.args.draw) w) c.find_mirror.ensures.value
-    ∙ mirrored-mirrored c.args.job.now plan c.args.draw c.find_mirror.ensures.legal
+    ∙ mirrored-mirrored c.args.job.now plan c.args.draw c.find_mirror.ensures.legal (can_return c.args.job.now plan c.args.draw c.find_mirror.ensures.legal can)

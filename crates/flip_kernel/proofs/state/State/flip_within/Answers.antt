@@ -2,7 +2,7 @@ use Rattle.std.proofs.Common.{ℕ, Bool, List, set, sym, ap, ◌∙◌, subst}
 use Rattle.std.specs.Prelude.{◌↔◌, IsTrue}
 use Rattle.audit_model.specs.Job.{Job}
 use Rattle.audit_model.specs.Local.{IsLocal}
-use Rattle.flip_kernel.specs.ChainState.{ChainState, IsMove, KeepsBoundsIn}
+use Rattle.flip_kernel.specs.ChainState.{ChainState, IsMove, IsStep, KeepsBoundsIn}
 use Rattle.flip_kernel.specs.Judged.{HasConstraintAt}
 use Rattle.flip_kernel.specs.OpenPairs.{is_open}
 use Rattle.flip_kernel.proofs.state.State.flip_within.Goals as goal
@@ -31,8 +31,8 @@ invariant_of-self g c =
 pub returns-then-not-may_move_within-clause-moves : goal.returns-then-not-may_move_within-clause-moves
 returns-then-not-may_move_within-clause-moves g c =
     let flip = c.args.flip in
-    subst (λ (b : Bool). IsTrue b ↔ IsMove flip.job.now c.args.self.now.plan flip.unit flip.district) c.if-not-may_move_within.true
-    (subst (λ (p : List ℕ). IsTrue c.may_move_within.result ↔ IsMove flip.job.now p flip.unit flip.district) (ap (λ (h : ChainState). h.plan) c.self.view_is) c.may_move_within.ensures.moves)
+    subst (λ (b : Bool). IsTrue b ↔ IsStep flip.job.now c.args.self.now.plan c.args.draw flip.unit flip.district) c.if-not-may_move_within.true
+    (subst (λ (p : List ℕ). IsTrue c.may_move_within.result ↔ IsStep flip.job.now p c.args.draw flip.unit flip.district) (ap (λ (h : ChainState). h.plan) c.self.view_is) c.may_move_within.ensures.moves)
 
 pub returns-then-not-may_move_within-clause-unchanged : goal.returns-then-not-may_move_within-clause-unchanged
 returns-then-not-may_move_within-clause-unchanged g c = λ no. c.may_move_within.ensures.same ∙ c.self.view_is
@@ -56,13 +56,13 @@ pub make_move-requires-clause-allowed : goal.make_move-requires-clause-allowed
 make_move-requires-clause-allowed g c =
     let flip = c.args.flip in
     subst (λ (h : ChainState). IsMove flip.job.now h.plan flip.unit flip.district) (sym c.may_move_within.ensures.same)
-    (c.may_move_within.ensures.moves.0 c.if-not-may_move_within.false)
+    (c.may_move_within.ensures.moves.0 c.if-not-may_move_within.false).move
 
 pub returns-clause-moves : goal.returns-clause-moves
 returns-clause-moves g c =
     let flip = c.args.flip in
-    subst (λ (b : Bool). IsTrue b ↔ IsMove flip.job.now c.args.self.now.plan flip.unit flip.district) c.if-not-may_move_within.false
-    (subst (λ (p : List ℕ). IsTrue c.may_move_within.result ↔ IsMove flip.job.now p flip.unit flip.district) (ap (λ (h : ChainState). h.plan) c.self.view_is) c.may_move_within.ensures.moves)
+    subst (λ (b : Bool). IsTrue b ↔ IsStep flip.job.now c.args.self.now.plan c.args.draw flip.unit flip.district) c.if-not-may_move_within.false
+    (subst (λ (p : List ℕ). IsTrue c.may_move_within.result ↔ IsStep flip.job.now p c.args.draw flip.unit flip.district) (ap (λ (h : ChainState). h.plan) c.self.view_is) c.may_move_within.ensures.moves)
 
 pub returns-clause-moved : goal.returns-clause-moved
 returns-clause-moved g c = λ yes.

@@ -1,10 +1,11 @@
 use Rattle.std.proofs.Common.{◌≡◌, ℕ, false, List, sym, ap, ◌∙◌, subst}
 use Rattle.std.specs.Prelude.{◌↔◌, IsTrue}
+use Rattle.std.proofs.lemmas.Bool.{false≢true}
 use Rattle.audit_model.specs.Job.{Job}
 use Rattle.audit_model.specs.JobOf.{IsJob}
 use Rattle.audit_model.specs.Local.{IsLocal}
 use Rattle.audit_model.specs.Plan.{IsLegal}
-use Rattle.flip_kernel.specs.ChainState.{ChainState, IsMove}
+use Rattle.flip_kernel.specs.ChainState.{ChainState, IsMove, IsStep}
 use Rattle.flip_kernel.specs.Judged.{HasConstraintAt}
 use Rattle.flip_kernel.specs.OpenPairs.{is_open}
 use Rattle.flip_kernel.proofs.Beside.{open_elsewhere}
@@ -19,11 +20,12 @@ returns-then-not-keeps_bounds-clause-moves g c =
     let plan : List ℕ = old.plan in
     let made : old.job ≡ job = ap (λ (h : ChainState). h.job) c.self.view_is ∙ c.requires.made in
     let same = ap (λ (h : ChainState). h.plan) c.self.view_is in
-    subst (λ (p : List ℕ). IsTrue false ↔ IsMove job p flip.unit flip.district) same
+    let no : IsTrue false ↔ IsMove job c.args.self.now.plan flip.unit flip.district = subst (λ (p : List ℕ). IsTrue false ↔ IsMove job p flip.unit flip.district) same
     (not_kept job plan flip.unit flip.district (subst IsJob made c.keeps_bounds.ensures.sound)
     (subst (λ (j : Job). IsLegal j plan) made c.keeps_bounds.ensures.legal) flip.unit_below flip.district_below
     (open_elsewhere job.graph plan flip.unit flip.district (ap (λ (p : List ℕ). is_open job.graph p flip.unit flip.district) same ∙ c.requires.beside))
-    c.keeps_bounds.result c.if-not-keeps_bounds.true c.keeps_bounds.ensures.value)
+    c.keeps_bounds.result c.if-not-keeps_bounds.true c.keeps_bounds.ensures.value) in
+    (λ yes. absurd (false≢true yes), λ step. no.1 step.move)
 
 pub keeps_bounds-requires-clause-made : goal.keeps_bounds-requires-clause-made
 keeps_bounds-requires-clause-made g c = ap (λ (h : ChainState). h.job) c.self.view_is ∙ c.requires.made
@@ -58,7 +60,7 @@ invariant_of-self g c =
 pub returns-clause-moves : goal.returns-clause-moves
 returns-clause-moves g c =
     let flip = c.args.flip in
-    subst (λ (p : List ℕ). IsTrue c.may_move_within.result ↔ IsMove flip.job.now p flip.unit flip.district) (ap (λ (h : ChainState). h.plan) c.self.view_is) c.may_move_within.ensures.moves
+    subst (λ (p : List ℕ). IsTrue c.may_move_within.result ↔ IsStep flip.job.now p c.args.draw flip.unit flip.district) (ap (λ (h : ChainState). h.plan) c.self.view_is) c.may_move_within.ensures.moves
 
 pub returns-clause-same : goal.returns-clause-same
 returns-clause-same g c = c.may_move_within.ensures.same ∙ c.self.view_is
