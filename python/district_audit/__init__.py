@@ -33,11 +33,14 @@ from .errors import (
     WriteFault,
 )
 from .exhibit import exhibit_plans
+from .limits import LimitReports, over_limits
 from .manifest import Manifest, ManifestRefused
 from .outlier import OutlierTest, RankTest, outlier_test, rank_test
+from .pilot import EndsTable, Pilot, compare_ends, pilot
 from .preparing import Change, Prepared, prepare
 from .report import (
     Ends,
+    Pair,
     PlanCheck,
     Report,
     Rules,
@@ -69,11 +72,13 @@ __all__ = [
     "Effect",
     "ElectionReports",
     "Ends",
+    "EndsTable",
     "FrozenWalk",
     "GraphChanged",
     "GraphRefused",
     "HeadNotCompared",
     "Interrupted",
+    "LimitReports",
     "Manifest",
     "ManifestRefused",
     "MapWarning",
@@ -81,6 +86,8 @@ __all__ = [
     "MissingExtra",
     "NamedReports",
     "OutlierTest",
+    "Pair",
+    "Pilot",
     "PlanCheck",
     "PlanReports",
     "PrepareRefused",
@@ -114,11 +121,14 @@ __all__ = [
     "audit_to_file",
     "check",
     "compactness",
+    "compare_ends",
     "exhibit_plans",
     "key_of",
     "load_study",
     "make",
     "outlier_test",
+    "over_limits",
+    "pilot",
     "plans",
     "prepare",
     "rank_test",

@@ -471,6 +471,12 @@ OTHERS = {
         "bool, default False",
         "Whether notes and changes have every id, where else they have the first ten.",
     ),
+    "limits_from": (
+        "str, optional",
+        'Where the limits come from, as "law" or "older plans". It is kept with the report. Left'
+        " out, a limit that is the enacted plan's own number, or nearly, gives the warning"
+        " `LimitAtOwnNumber`.",
+    ),
     "strict": (
         "bool, default True",
         "Whether an illegal plan is refused. With False the answer has its `faults`.",

@@ -11,6 +11,7 @@ from fractions import Fraction
 
 from . import checkpoints, custody
 from . import labels as naming
+from . import own_limits
 from . import progress as bars
 from . import slips
 from .arguments import (
@@ -89,6 +90,8 @@ class Given:
     """The preparation of the graph."""
     warnings: tuple[MapWarning, ...] = ()
     """Likely mistakes in the map, and in the question about it."""
+    limits_from: str | None = None
+    """Where the limits come from, as the user says."""
 
     @property
     def audited(self) -> Audited:
@@ -97,7 +100,9 @@ class Given:
         rules = self.rules.copy()
         rules.pop("assignment", None)
         digest = hashlib.sha256(self.data).hexdigest()
-        return Audited(digest, columns, rules, warnings=self.warnings)
+        return Audited(
+            digest, columns, rules, warnings=self.warnings, limits_from=self.limits_from
+        )
 
 
 def words_in(arguments: Words) -> dict[str, object]:
@@ -118,6 +123,7 @@ def prepare_call(command: str, graph: object, words: Words) -> Given:
     """
     named = plain_words(command, words)
     path, made = None, getattr(graph, "custody", None)
+    limits_from = own_limits.source_of_limits(command, named.pop("limits_from", None))
     taken = {name: named.pop(name) for name in PREPARING if name in named}
     rules = typing.cast(Preparation, taken)
     if "assignment" in rules and "district" in named:
@@ -141,9 +147,13 @@ def prepare_call(command: str, graph: object, words: Words) -> Given:
         data, found, known, made = prepared.data, prepared.warnings, None, prepared.custody
         named.update(prepared.columns)
     found = found + slips.of_question(command, named)
+    if command != "read_trace" and limits_from is None:
+        found = found + at_own_numbers(data, named)
     if command != "read_trace":
         emit([one for one in found if known is None or one not in known], 3)
-    return Given(data, words_of(command, named), named, rules, "", path, made, tuple(found))
+    return Given(
+        data, words_of(command, named), named, rules, "", path, made, tuple(found), limits_from
+    )
 
 
 def tested_words(command: str, named: Words, rules: Preparation) -> dict[str, object]:
@@ -174,6 +184,16 @@ def of_call(known: list[MapWarning], named: Words) -> list[MapWarning]:
     share = slips.of_share(count_in(named, "group_share")) if named.get("group") else []
     others = [one for one in known if not isinstance(one, SmallGroupShare)]
     return others + share
+
+
+def at_own_numbers(data: bytes, named: Words) -> list[MapWarning]:
+    """Returns warnings of limits that are the enacted plan's own numbers, or nearly."""
+    plan = plan_of(data, named) if own_limits.has_limits(named) else None
+    if plan is None or plan.faults:
+        return []
+    share = own_limits.share_of(named)
+    own = own_limits.own_numbers(plan.districts, plan.cut_edges, plan.cut_length, share)
+    return own_limits.limits_at_own(named, own)
 
 
 def columns_left(graph: Prepared, words: Words) -> dict[str, str]:
@@ -315,6 +335,7 @@ def check(
     freeze: str | AsPrepared | None = AS_PREPARED,
     length: str | AsPrepared | None = AS_PREPARED,
     max_length: int | AsPrepared | None = AS_PREPARED,
+    limits_from: str | None = None,
     source: bool = False,
     numbers: str | None = None,
     missing: str | None = None,
@@ -422,6 +443,7 @@ def run(
     freeze: str | AsPrepared | None = AS_PREPARED,
     length: str | AsPrepared | None = AS_PREPARED,
     max_length: int | AsPrepared | None = AS_PREPARED,
+    limits_from: str | None = None,
     source: bool = False,
     workers: int = 1,
     save: int = 0,
@@ -473,6 +495,8 @@ def run(
         A trajectory changed the plan never, or fewer times than there are units.
     GraphChanged
         Values of a graph were changed where it was prepared.
+    LimitAtOwnNumber
+        A limit is the enacted plan's own number, or nearly, and `limits_from` is left out.
     """
     words = words_in(locals())
     if elections is None:
@@ -770,6 +794,7 @@ def plans(
     freeze: str | AsPrepared | None = AS_PREPARED,
     length: str | AsPrepared | None = AS_PREPARED,
     max_length: int | AsPrepared | None = AS_PREPARED,
+    limits_from: str | None = None,
     source: bool = False,
     workers: int = 1,
     numbers: str | None = None,

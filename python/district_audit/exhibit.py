@@ -180,10 +180,10 @@ def is_of_plans(plans: Named) -> bool:
 
 def refuse_other_jobs(reports: typing.Sequence[Report]) -> None:
     """Raises ValueError unless the reports are of one call: equal key, map, rules and setting."""
-    if len(reports) > 1 and any(one.batch and one.batch.kind == "election" for one in reports):
+    if len(reports) > 1 and any(one.batch and one.batch.kind != "plan" for one in reports):
         raise ValueError(
-            "the reports are those of several elections, and not of several plans: make an exhibit"
-            " of each, which names the others"
+            "the reports are those of several elections or limits, and not of several plans: make"
+            " an exhibit of each, which names the others"
         )
 
     def job(report: Report) -> tuple[object, ...]:

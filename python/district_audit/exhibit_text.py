@@ -144,8 +144,8 @@ def one_of_several(report: Report) -> str:
         return ""
     many = plural(len(batch.names), batch.kind)
     others = f"; the others: {', '.join(batch.others)}" if batch.others else ""
-    if batch.kind == "election":
-        return f" The report is on election {batch.name}, one of {many} of one call{others}."
+    if batch.kind in ("election", "limit"):
+        return f" The report is on {batch.kind} {batch.name}, one of {many} of one call{others}."
     where = (
         "the graph's own"
         if batch.place == 0

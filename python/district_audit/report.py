@@ -18,6 +18,7 @@ import typing
 from decimal import Decimal
 from fractions import Fraction
 
+from . import own_limits
 from .arguments import MOST_WEIGHT
 from .effect import Effect, Number, test_effects
 from .errors import ReportRefused, extra
@@ -209,6 +210,8 @@ class Audited:
     """The call that made the report, or what the manifest says of it."""
     warnings: tuple[MapWarning, ...] = ()
     """Likely mistakes in the map, and in the question about it."""
+    limits_from: str | None = None
+    """Where the limits come from, as the call says; None if it does not."""
 
     def is_of(self, data: bytes) -> bool:
         """Returns whether these are the bytes that the program read."""
@@ -1093,6 +1096,14 @@ class PlanCheck:
         return dataclasses.replace(
             self, table=plan.districts, cut_edges=plan.cut_edges, cut_length=plan.cut_length
         )
+
+    @property
+    def own_numbers(self) -> dict[str, int]:
+        """The plan's own numbers by the names of the limits that count them, as facts: a limit is
+        not to be made from them. Empty of a text alone.
+        """
+        share = own_limits.HALF if self.rules.group_share is None else self.rules.group_share
+        return own_limits.own_numbers(self.table, self.cut_edges, self.cut_length, share)
 
     @classmethod
     def from_plan(cls, plan: Plan, edges: int, rules: Rules) -> PlanCheck:

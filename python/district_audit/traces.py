@@ -541,6 +541,7 @@ def trace(
     freeze: str | AsPrepared | None = AS_PREPARED,
     length: str | AsPrepared | None = AS_PREPARED,
     max_length: int | AsPrepared | None = AS_PREPARED,
+    limits_from: str | None = None,
     source: bool = False,
     last: bool = False,
     progress: bool = False,

@@ -16,8 +16,8 @@ __all__ = [
     "AllUnitsFrozen", "BordersNotShared", "ColumnRounded", "CoordinatesInDegrees",
     "DistrictCannotChange", "DistrictFrozen", "DistrictRounded", "DistrictWithoutPeople",
     "DistrictWithoutVotes", "FrozenWalk", "GraphChanged", "HeadNotCompared", "LengthsRounded",
-    "MapWarning", "MoreVotesThanPeople", "NoCompactnessLimit", "NoPeople", "PercentagesNotCounts",
-    "SharesNotCounts", "SmallGroupShare", "emit", "read",
+    "LimitAtOwnNumber", "MapWarning", "MoreVotesThanPeople", "NoCompactnessLimit", "NoPeople",
+    "PercentagesNotCounts", "SharesNotCounts", "SmallGroupShare", "emit", "read",
 ]
 
 
@@ -78,6 +78,13 @@ class SmallGroupShare(MapWarning):
 
 class NoCompactnessLimit(MapWarning):
     """A partisan question, where no rule limits how sprawling the compared plans are."""
+
+
+class LimitAtOwnNumber(MapWarning):
+    """A limit equals the enacted plan's own number, or exceeds it by less than a tenth.
+
+    `limits_from="law"`, or another text on where the limits come from, silences it in a call.
+    """
 
 
 class BordersNotShared(MapWarning):

@@ -133,7 +133,7 @@ class LineTests(unittest.TestCase):
         found = Report.parse("\n".join([*lines, ""]))
         self.assertEqual(str(found), "\n".join([*lines, ""]))
         page = exhibit.page([("", found)], exhibit.Options())
-        self.assertIn("0.000000001 times 3 is 0.000000003", page)
+        self.assertIn("It has 3 bounds and p-values itself; the least is 0.000000001", page)
         self.assertNotIn("E-9", page)
         self.assertNotIn("E-9", found._repr_html_())
 
@@ -219,13 +219,13 @@ class ShownTests(unittest.TestCase):
     def test_exhibit_shows_pairs_and_counts_them(self) -> None:
         page = exhibit.page([("", Report.parse(paired_text()))], exhibit.Options())
         for words in (
-            "walks 0 and 1", "10 of 200001", "Bound of a pair of walks", "0.000100000 times 12",
+            "walks 0 and 1", "10 of 200001", "Bound of a pair of walks", "It has 12 bounds and p-values itself; the least is 0.000100000",
             "--pairs yes",
         ):
             self.assertIn(words, page)
         plain = exhibit.page([("", Report.parse(common.readme_report()))], exhibit.Options())
         self.assertNotIn("Bound of a pair of walks", plain)
-        self.assertIn("0.006324524 times 9", plain)
+        self.assertIn("It has 9 bounds and p-values itself; the least is 0.006324524", plain)
 
     def test_picture_has_a_row_for_each_pair(self) -> None:
         rows = picture.pair_rows(Report.parse(paired_text()))

@@ -30,7 +30,7 @@ from unittest import mock
 from tests.checks import Checks
 from tests.oracle import model
 
-# Whether a change of cut edges is made: by the weight, the number of pairs, the greatest change,
+# A rule: if a change of cut edges is made, by the weight, the number of pairs, the greatest change,
 # the draw, the cut edges before, and the number that is added.
 Rule = Callable[[int, int, int, int, int, int], bool]
 Plan = tuple[int, ...]
@@ -101,7 +101,7 @@ class Grid:
 
 @dataclasses.dataclass
 class Result:
-    """How many pairs of plans were compared, how many are out of balance, for how many plans the
+    """Counts of pairs of plans that were compared, of those out of balance, of plans for which the
     weight is not stationary, and how many flips change more cut edges than a step may.
     """
 

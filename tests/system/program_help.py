@@ -44,7 +44,7 @@ def values_of(text: str) -> str:
 
 def default_of(text: str) -> str:
     """Returns the default that the usage has for that of the table."""
-    known = {"none": "required", "the empty text": "default none"}
+    known = {"required": "required", "the empty text": "default none"}
     return known.get(text, "default " + text.strip("`"))
 
 

@@ -7,7 +7,8 @@ PROGRAM is the built auditor; without it, the one that the variable DISTRICT_AUD
 in crates/audit_program/out, which is built there if it is missing. Right reports come from the
 program. Faulty ones come from the plain model in tests/oracle/model.py, in which one function is
 replaced by a wrong one. JOBS jobs (12 by default) are drawn, audited by the program and re-checked.
-The last line counts the checks.
+The last line counts the checks. If the program does not know the words of pairs, of a weight and of
+a pilot, jobs with these words are audited by the plain model alone, and one check is skipped.
 """
 # RUN: {auditor}
 # NEEDS: networkx
@@ -16,9 +17,11 @@ from __future__ import annotations
 import contextlib
 import csv
 import dataclasses
+import hashlib
 import importlib.util
 import io
 import json
+import math
 import os
 import random
 import re
@@ -29,6 +32,7 @@ import tempfile
 import types
 import typing
 from collections.abc import Callable, Iterator, Sequence
+from fractions import Fraction
 from pathlib import Path
 from unittest import mock
 
@@ -39,6 +43,7 @@ TOP = Path(__file__).resolve().parents[2]
 EXAMPLES = TOP / "examples" / "data"
 ZEROS = "0" * 64
 NO_WORDS: list[str] = []
+UNCHECKED = ["--walks-unchecked", "yes"]
 CYCLE = ["--pop", "pop", "--first", "a", "--second", "b", "--district", "d"]
 REAL_KEY = "25625133bdfe4640fd1099604c66ef5bdc9757e9aac463095ef41e04bb2def94"
 
@@ -82,6 +87,13 @@ def call_recheck(*words: object) -> tuple[int, str]:
     with contextlib.redirect_stdout(io.StringIO()) as text:
         status = recheck.main([str(word) for word in words])
     return status, text.getvalue()
+
+
+def says(name: str, status: int, text: str, *words: object) -> None:
+    """Passes where recheck has this status, and prints this text among others."""
+    came, printed = call_recheck(*words)
+    is_right = came == status and text in printed
+    COUNTS.judge(name, is_right, f"expected status {status} and '{text}', got {came}: {printed}")
 
 
 def agrees(name: str, *words: object) -> None:
@@ -184,7 +196,8 @@ def examples(auditor: str, room: Path) -> None:
         (room / "graph").write_bytes(data)
         (room / "report").write_bytes(run(auditor, ["run", *words], data).stdout)
         agrees(name, room / "graph", room / "report", *words)
-        agrees(f"{name}, one trajectory", room / "graph", room / "report", *words, "--id", "0")
+        agrees(f"{name}, one trajectory", room / "graph", room / "report", *words, "--id", "0",
+               *UNCHECKED)
     words = [
         "--slack", "1000", "--key", ZEROS, "--steps", "4095", "--serial", "yes", "--ends", "2",
         "--ask", "cut-edges:low,gap:high",
@@ -352,12 +365,22 @@ MODEL_FAULTS = (
 def wheel() -> str:
     """Returns a hub and a ring of six units: one district may have a hole or break in two."""
     votes = [(3, 1), (1, 2), (1, 2), (2, 1), (0, 4), (5, 1), (2, 2)]
+    return wheel_of(votes, [int(u in (0, 1, 2, 6)) for u in range(7)])
+
+
+def wheel_of(votes: Sequence[tuple[int, int]], plan: Sequence[int]) -> str:
+    """Returns a hub and a ring of the other units."""
+    last = len(plan) - 1
     nodes = [
-        {"id": u, "pop": 1, "a": a, "b": b, "d": int(u in (0, 1, 2, 6))}
-        for u, (a, b) in enumerate(votes)
+        {"id": u, "pop": 1, "a": a, "b": b, "d": district}
+        for u, ((a, b), district) in enumerate(zip(votes, plan))
     ]
-    ring = [[{"id": 0}, {"id": 1 + u % 6}, {"id": 1 + (u + 4) % 6}] for u in range(1, 7)]
-    return json.dumps({"nodes": nodes, "adjacency": [[{"id": u} for u in range(1, 7)], *ring]})
+    ring = [
+        [{"id": 0}, {"id": 1 + u % last}, {"id": 1 + (u + last - 2) % last}]
+        for u in range(1, last + 1)
+    ]
+    hub = [{"id": u} for u in range(1, last + 1)]
+    return json.dumps({"nodes": nodes, "adjacency": [hub, *ring]})
 
 
 def right_texts(auditor: str, graph: bytes, room: Path) -> tuple[model.Job, str, str]:
@@ -400,7 +423,7 @@ def right_texts(auditor: str, graph: bytes, room: Path) -> tuple[model.Job, str,
     agrees("a right trace", room / "graph", room / "right", *FAULTY, "--trace", room / "trace")
     agrees(
         "segments of a right trace", room / "graph", room / "right", *CYCLE, "--trace",
-        room / "trace", "--segments", "1", "--seed", "a public text",
+        room / "trace", "--segments", "1", "--seed", "a public text", *UNCHECKED,
     )
     return job, report, trace
 
@@ -515,7 +538,7 @@ def plan_reports(auditor: str, room: Path) -> str:
     COUNTS.judge("the model's reports of plans", came == text, "they are not the program's")
     agrees("right reports of plans", room / "plans", room / "plan reports", *FAULTY)
     agrees("one trajectory of each plan", room / "plans", room / "plan reports", *CYCLE, "--id",
-           "1")
+           "1", *UNCHECKED)
     return text
 
 
@@ -599,10 +622,225 @@ def columns_left_out(auditor: str, room: Path) -> None:
         at = words.index(name)
         said = (f"cannot be checked: ValueError: the report has a line `{line}`: give {name}"
                 " COLUMN\n")
-        COUNTS.judge(f"{name} is left out", call_recheck(*both, *words[:at], *words[at + 2:])
-                     == (2, said), said)
-    COUNTS.judge("no column is given", call_recheck(*both) == (
-        2, "cannot be checked: ValueError: the report has a line `units`: give --pop COLUMN\n"))
+        says(f"{name} is left out", 2, said, *both, *words[:at], *words[at + 2:])
+    says("no column is given", 2, "the report has a line `units`: give --pop COLUMN\n", *both)
+
+
+# ---- samples, and what they leave open
+
+SAMPLED = [
+    *CYCLE, "--slack", "5000", "--key", ZEROS, "--walks", "2", "--steps", "40", "--ends", "19",
+    "--hub-steps", "17", "--ask", "gap:low,cut-edges:low",
+]
+
+
+def samples(room: Path) -> None:
+    """Samples leave out endpoint trajectories only, and tell what they leave out."""
+    graph = wheel().encode()
+    report = model.audit(["run", *SAMPLED], graph, [None, None]).out
+    both = room / "graph", room / "right"
+    both[0].write_bytes(graph)
+    both[1].write_text(report)
+    seed = ["--seed", "a public text"]
+    for path in both:
+        digest = hashlib.sha256(path.read_bytes()).hexdigest()
+        says(f"the digest of {path.name}", 0, f"sha256 {digest} of ", *both, *SAMPLED)
+    says("walks of a sample", 0, "report: walks: 2 of 2 walked again; ", *both, *CYCLE, "--sample",
+         "3", *seed)
+    # The least of printf 'a public text trajectory 2' | sha256sum and so on, to 20.
+    says("a sample is named", 0, "trajectories: 3 of 19 walked again (3, 16, 17);", *both, *CYCLE,
+         "--sample", "3", *seed)
+    for name in ("--sample", "--segments"):
+        said = f"cannot be checked: {name} without --seed"
+        says(f"{name} without a seed", 2, said, *both, *CYCLE, name, "3")
+    says("walks that are left out", 2, "agrees; NOT CHECKED: walk 1\n", *both, *CYCLE, "--id", "0")
+    says("walks that may be left out", 0, "agrees; NOT CHECKED: walk 0, walk 1\n", *both, *CYCLE,
+         "--sample", "3", *seed, *UNCHECKED)
+    bad = re.sub(r"count \d+ of 41 bound .*", "count 1 of 41 bound 0.220863053", report, count=1)
+    (room / "bad").write_text(bad)
+    differs("a forged count beside a sample", "report line 6, word 10 after count", both[0],
+            room / "bad", *CYCLE, "--sample", "1", *seed)
+    forged_stop(room, graph)
+
+
+def forged_stop(room: Path, graph: bytes) -> None:
+    """A test that is said to have stopped earlier than it did."""
+    report = model.audit(["run", *SAMPLED, "--stop", "3"], graph, [None, None]).out
+    stop = re.search(r"stop \S+ low .* place (\d+) value 3/\d+ p .*", report)
+    assert stop is not None and int(stop[1]) > 3, report
+    forged = re.sub(r"place .*", "place 3 value 3/3 p 1.000000000", stop[0])
+    bad = report.replace(stop[0], forged)
+    (room / "right").write_text(report)
+    (room / "bad").write_text(bad)
+    agrees("a test that stopped", room / "graph", room / "right", *SAMPLED)
+    differs("a stop that is forged", "report line", room / "graph", room / "bad", *SAMPLED)
+
+
+def risks() -> None:
+    """Chances that wrong ends stay hidden, worked by hand as products of fractions."""
+    for rank, part, some, wrong in ((41, 1000, 20, 40), (41, 20, 20, 10), (1, 20, 20, 50)):
+        chance = math.prod(Fraction(999 - wrong - k, 999 - k) for k in range(some))
+        line = f"ends gap low start 1/1 rank {rank} of "
+        found = re.match(r"ends (\S+ \S+) .* rank (\d+) of ", line)
+        with contextlib.redirect_stdout(io.StringIO()) as text:
+            recheck.print_risk(found, part, some, 999)
+        said = f" {wrong} wrong ends; that many all escaped with chance {float(chance):.6f}."
+        COUNTS.judge(f"risk of rank {rank} at 1/{part}", said in text.getvalue(), text.getvalue())
+
+
+def linked_checkpoint(room: Path) -> None:
+    """A rank that the outcomes of a checkpoint do not give, none of which is recomputed."""
+    graph = wheel().encode()
+    job = model.job_of(model.Setting(["run", *SAMPLED]), graph)
+    found = model.outcomes(job, job.digest())
+    folder = room / "linked"
+    folder.mkdir()
+    data = model.checkpoint(job.digest(), 0, dict(enumerate(found)))
+    (folder / "audit-0.ckpt").write_bytes(data)
+    report = model.report(job, found)
+    rank = re.search(r"ends gap low .* rank (\d+) of 20 p .*", report)
+    assert rank is not None and rank[1] != "1"
+    (room / "right").write_text(report)
+    (room / "bad").write_text(
+        report.replace(rank[0], re.sub(r"rank .*", "rank 1 of 20 p 0.050000000", rank[0])))
+    words = ["--checkpoints", folder, "--sample", "1", "--seed", "x"]
+    agrees("a checkpoint of the report", room / "graph", room / "right", *CYCLE, *words)
+    differs("a rank of another checkpoint", "report line 10, word 7 after rank", room / "graph",
+            room / "bad", *CYCLE, *words)
+
+
+# ---- pairs, weights and pilots
+
+WEIGHED = [
+    *CYCLE, "--slack", "10000", "--key", ZEROS, "--walks", "4", "--steps", "998", "--ends", "3",
+    "--hub-steps", "100", "--pairs", "yes", "--ask", "gap:low,cut-edges:high",
+]
+Pairs = Callable[[model.Setting, Sequence[str], Sequence[model.Outcome]], list[str]]
+Takes = Callable[[int, int, int, int, int, int], bool]
+
+
+def change_pairs(change: Callable[[int, int], tuple[int, str]]) -> Callable[[Pairs], Pairs]:
+    """Returns a fault that prints another count and bound of a pair, by its count and visits."""
+
+    def wrong(right: Pairs) -> Pairs:
+        def lines(
+            setting: model.Setting, words: Sequence[str], found: Sequence[model.Outcome]
+        ) -> list[str]:
+            new = []
+            for line in right(setting, words, found):
+                row = line.split(" ")
+                count, bound = change(int(row[8]), setting.steps + 1)
+                new.append(" ".join([*row[:8], str(count), *row[9:12], bound]))
+            return new
+
+        return lines
+
+    return wrong
+
+
+def bound_of(top: int, of: int) -> str:
+    return model.billionths(-(-top * model.BILLION // of))
+
+
+def next_pair(right: Pairs) -> Pairs:
+    """Takes walks 1 and 2 for the second pair."""
+    return lambda setting, words, found: [
+        line.replace("pair 2 3", "pair 1 2")
+        for line in right(setting, words, [found[0], found[1], found[1], found[2]])
+    ]
+
+
+def other_question(right: Pairs) -> Pairs:
+    """Gives each question the counts of the other one."""
+    return lambda setting, words, found: right(
+        setting, words, [one._replace(values=one.values[::-1]) for one in found]
+    )
+
+
+PAIR_FAULTS = (
+    Fault("the start counted twice", model, "pair_lines",
+          change_pairs(lambda count, of: (count + 1, bound_of(count + 1, of))), "report line"),
+    Fault("a bound of all visited plans", model, "pair_lines",
+          change_pairs(lambda count, of: (count, bound_of(count, 2 * of - 1))), "report line"),
+    Fault("a bound of a pair that is rounded down", model, "pair_lines",
+          change_pairs(lambda count, of: (count, model.billionths(count * model.BILLION // of))),
+          "report line"),
+    Fault("pairs that share a walk", model, "pair_lines", next_pair, "report line"),
+    Fault("the counts of another question", model, "pair_lines", other_question, "report line"),
+)
+
+
+def change_takes(takes: Takes) -> Callable[[Takes], Takes]:
+    """Returns a fault of the rule of the weight: another one."""
+    return lambda right: takes
+
+
+TAKES = model.takes
+WEIGHT_FAULTS = (
+    Fault("great falls are taken", model, "takes", change_takes(
+        lambda q, n, m, draw, cut, added: added < -m or TAKES(q, n, m, draw, cut, added)), ""),
+    Fault("only the first piece", model, "takes", change_takes(
+        lambda q, n, m, draw, cut, added: abs(added) <= m
+        and TAKES(q, n, m, draw, cut, min(1, added))), ""),
+    Fault("one piece more", model, "takes", change_takes(
+        lambda q, n, m, draw, cut, added: TAKES(q, n, m, draw, cut, added)
+        and (added <= 0 or draw // n % 64 ** (added + 1) < model.factors(q, cut, added + 1))), ""),
+    Fault("the quotient of another draw", model, "takes", change_takes(
+        lambda q, n, m, draw, cut, added: TAKES(q, n, m, draw ^ 2**63, cut, added)), ""),
+    Fault("falls are weighed", model, "takes", change_takes(
+        lambda q, n, m, draw, cut, added: TAKES(q, n, m, draw, cut + min(added, 0), abs(added))),
+        ""),
+    Fault("factors that are not rounded", model, "factor",
+          lambda right: lambda weight, edge: weight // 4, ""),
+)
+
+
+def weighed_wheel(weight: str, plan: Sequence[int]) -> tuple[list[str], bytes]:
+    """Returns the words and the graph of a run with a weight on a wheel."""
+    votes = [(5 * unit % 7, 3 * unit % 5 + 1) for unit in range(len(plan))]
+    return [*WEIGHED, "--cut-weight", weight], wheel_of(votes, plan).encode()
+
+
+def weights(room: Path) -> None:
+    """Right and faulty reports with pairs and weights, and texts of pilots, by the plain model."""
+    for weight, faults in (("64", PAIR_FAULTS), ("45.25", PAIR_FAULTS), ("60.75", WEIGHT_FAULTS)):
+        # The hub's first move takes 14 cut edges away, more than the 8 pieces of 42 pairs.
+        words, graph = weighed_wheel(weight, [0] * 4 + [1] * 17)
+        report = model.audit(["run", *words], graph, [None, None]).out
+        (room / "graph").write_bytes(graph)
+        (room / "right").write_text(report)
+        agrees(f"a report with pairs and the weight {weight}", room / "graph", room / "right",
+               *words)
+        for fault in faults:
+            with replace(fault.owner, fault.function, fault.wrong):
+                bad = model.audit(["run", *words], graph, [None, None]).out
+            (room / "bad").write_text(bad)
+            differs(f"{fault.name}, weight {weight}", "report line", room / "graph", room / "bad",
+                    *words)
+        pilot = [word for word in words if word != "--pairs"] + ["--blind", "yes"]
+        pilot.remove("yes")
+        (room / "right").write_text(model.audit(["run", *pilot], graph, [None, None]).out)
+        agrees(f"a pilot with the weight {weight}", room / "graph", room / "right", *pilot)
+        text = (room / "right").read_text()
+        (room / "bad").write_text(re.sub(r"walk 1 moved \d+", "walk 1 moved 1", text))
+        differs(f"a wrong pilot, weight {weight}", "report line", room / "graph", room / "bad",
+                *pilot)
+    lost_draws(room)
+
+
+def lost_draws(room: Path) -> None:
+    """Checks the limit of draws with 15 pairs, where 4 of 1000 draws are lost with a weight."""
+    words, graph = weighed_wheel("50", [0, 0, 1, 1, 2])
+    words[words.index("--steps") + 1] = "8191"
+    (room / "graph").write_bytes(graph)
+    (room / "right").write_text(model.audit(["run", *words], graph, [None, None]).out)
+    agrees("a report with lost draws", room / "graph", room / "right", *words)
+    takes = change_takes(
+        lambda q, n, m, draw, cut, added: TAKES(q, n, m, draw % (n * 64**m), cut, added))
+    with replace(model, "takes", takes):
+        (room / "bad").write_text(model.audit(["run", *words], graph, [None, None]).out)
+    differs("the limit of draws without a weight", "report line", room / "graph", room / "bad",
+            *words)
 
 
 # ---- drawn jobs
@@ -694,7 +932,41 @@ def drawn_words(rng: random.Random) -> list[str]:
     if rng.random() < 0.3 or any(ask.startswith("cut-length") for ask in asks):
         words += ["--length", "length"]
         words += ["--max-length", str(rng.randrange(90, 400))] if rng.random() < 0.4 else []
-    return words + (["--freeze", "keep"] if rng.random() < 0.3 else [])
+    words += ["--freeze", "keep"] if rng.random() < 0.3 else []
+    has_two = words[words.index("--walks") + 1] == "2"
+    words += ["--pairs", "yes"] if has_two and rng.random() < 0.7 else []
+    quarters = rng.choice(["", ".25", ".5", ".75"])
+    words += ["--cut-weight", f"{rng.randrange(1, 64)}{quarters}"] if rng.random() < 0.5 else []
+    return words + (["--blind", "yes"] if rng.random() < 0.1 else [])
+
+
+def leave_out(words: Sequence[str], *names: str) -> list[str]:
+    """Returns the words without these names and their values."""
+    pairs = zip(words[::2], words[1::2])
+    return [word for pair in pairs for word in pair if pair[0] not in names]
+
+
+class Auditor:
+    """The program; or the plain model, if the program does not know the newest words."""
+
+    def __init__(self, path: str) -> None:
+        self.path = path
+        words = ["run", "--cut-weight", "64", "--pairs", "no", "--blind", "no"]
+        self.is_new = b"unknown name" not in run(path, words, b"").stderr
+        if not self.is_new:
+            print("recheck: the program knows no pairs, weight and pilot: those are the model's")
+            COUNTS.skipped += 1
+
+    def call(self, words: Sequence[str], graph: bytes, folder: str = ".") -> tuple[int, bytes]:
+        """Returns the status and the text of a call, which may write slots into a folder."""
+        if self.is_new or not {"--cut-weight", "--pairs", "--blind"} & {*words}:
+            end = run(self.path, words, graph, folder)
+            return end.returncode, end.stdout
+        answer = model.audit(words, graph, [None, None])
+        for place, data in enumerate(answer.slots):
+            if data is not None:
+                Path(folder, f"audit-{place}.ckpt").write_bytes(data)
+        return answer.status, answer.out.encode()
 
 
 def drawn_table(rng: random.Random, job: model.Job, ids: Sequence[object]) -> bytes:
@@ -711,69 +983,74 @@ def drawn_table(rng: random.Random, job: model.Job, ids: Sequence[object]) -> by
 
 
 def drawn_plans(
-    auditor: str, room: Path, rng: random.Random, graph: bytes, words: Sequence[str]
+    auditor: Auditor, room: Path, rng: random.Random, graph: bytes, words: Sequence[str]
 ) -> None:
     """Draws plans of a job, which the program audits, and re-checks their reports."""
+    words = leave_out(words, "--blind")
     job = model.job_of(model.Setting(["run", *words]), graph)
     ids = [node["id"] for node in json.loads(graph)["nodes"]]
     data = graph + b"\n" + drawn_table(rng, job, ids)
-    end = run(auditor, ["plans", *words], data)
+    status, text = auditor.call(["plans", *words], data)
     (room / "plans").write_bytes(data)
-    (room / "plan reports").write_bytes(end.stdout)
-    COUNTS.judge(f"plans: {words}", end.returncode == 0, end.stderr.decode())
+    (room / "plan reports").write_bytes(text)
+    COUNTS.judge(f"plans: {words}", status == 0, f"status {status}")
     agrees(f"reports of plans: {words}", room / "plans", room / "plan reports", *words,
            *rng.choice([NO_WORDS, ["--sample", "2", "--seed", "drawn"]]))
 
 
-def campaign(auditor: str, room: Path, jobs: int, seed: int) -> None:
+def drawn_trace(
+    auditor: Auditor, room: Path, rng: random.Random, graph: bytes, words: Sequence[str]
+) -> None:
+    """Traces all trajectories of a job, and re-checks the trace."""
+    plain = leave_out(words, "--shift", "--serial", "--stop", "--pairs", "--blind")
+    last = sum(int(words[words.index(name) + 1]) for name in ("--walks", "--ends")) - 1
+    thin = str(rng.choice([1, 7, 50, 1000]))
+    status, text = auditor.call(["trace", "--ids", f"0-{last}", "--thin", thin, *plain], graph)
+    (room / "trace").write_bytes(text)
+    COUNTS.judge(f"a trace: {words}", status == 0, f"status {status}")
+    agrees(
+        f"the trace of a job: {words}", room / "graph", room / "report", *words, "--trace",
+        room / "trace", *UNCHECKED,
+        *(["--segments", "2", "--seed", "drawn"] if rng.choice([0, 1]) else []),
+    )
+
+
+def drawn_run(
+    auditor: Auditor, room: Path, rng: random.Random, graph: bytes, words: Sequence[str]
+) -> bytes:
+    """Runs a job, re-checks its report and in half of all jobs its checkpoints, and returns it."""
+    saving = [] if {"--stop", "--blind"} & {*words} else ["--save", "3"]
+    with tempfile.TemporaryDirectory() as folder:
+        status, text = auditor.call(["run", *words, *saving], graph, folder)
+        COUNTS.judge(f"the run of a job: {words}", status == 0, f"status {status}")
+        (room / "graph").write_bytes(graph)
+        (room / "report").write_bytes(text)
+        given = words if rng.random() < 0.5 or "--source" not in words else []
+        checked = ["--checkpoints", folder, "--id", "0", *UNCHECKED]
+        agrees(
+            f"a job: {words}", room / "graph", room / "report", *given,
+            *(checked if saving and rng.random() < 0.5 else []),
+        )
+    return text
+
+
+def campaign(path: str, room: Path, jobs: int, seed: int) -> None:
     rng, done, moved, traced, many = random.Random(seed), 0, 0, 0, 0
-    has_trace = b"unknown command" not in run(auditor, ["trace"], b"").stderr
+    auditor = Auditor(path)
     while done < jobs:
         graph, words = drawn_graph(rng), drawn_words(rng)
-        saving = [] if "--stop" in words else ["--save", "3"]
         try:  # a call of the program is dear, and most drawn jobs are refused
             model.job_of(model.Setting(["run", *words]), graph)
         except model.Refused:
             continue
-        with tempfile.TemporaryDirectory() as folder:
-            end = run(auditor, ["run", *words, *saving], graph, folder)
-            COUNTS.judge(f"the run of job {done}", end.returncode == 0, end.stderr.decode())
-            (room / "graph").write_bytes(graph)
-            (room / "report").write_bytes(end.stdout)
-            given = words if rng.random() < 0.5 or "--source" not in words else []
-            agrees(
-                f"job {done}: {words}",
-                room / "graph",
-                room / "report",
-                *given,
-                *(["--checkpoints", folder, "--id", "0"] if saving and rng.random() < 0.5 else []),
-            )
+        text = drawn_run(auditor, room, rng, graph, words)
         if rng.random() < 0.3:
             drawn_plans(auditor, room, rng, graph, words)
             many += 1
-        if has_trace and rng.random() < 0.5:
-            plain = [
-                w
-                for pair in zip(words[::2], words[1::2])
-                for w in pair
-                if pair[0] not in ("--shift", "--serial", "--stop")
-            ]
-            last = sum(int(words[words.index(name) + 1]) for name in ("--walks", "--ends")) - 1
-            trace = run(
-                auditor,
-                [
-                    "trace", "--ids", f"0-{last}", "--thin", str(rng.choice([1, 7, 50, 1000])),
-                    *plain,
-                ],
-                graph,
-            )
-            (room / "trace").write_bytes(trace.stdout)
-            agrees(
-                f"trace of job {done}: {words}", room / "graph", room / "report", *given, "--trace",
-                room / "trace", *(["--segments", "2"] if rng.choice([0, 1]) else []),
-            )
+        if rng.random() < 0.5 and "--blind" not in words:
+            drawn_trace(auditor, room, rng, graph, words)
             traced += 1
-        moved += b"moved 0" not in end.stdout
+        moved += b"moved 0" not in text
         done += 1
         if done % 50 == 0:
             print(f"recheck: {done} drawn jobs, {COUNTS.failed} failed", flush=True)
@@ -795,6 +1072,10 @@ def main(args: Sequence[str]) -> int:
             examples(auditor, room)
             faults(auditor, room)
             columns_left_out(auditor, room)
+            samples(room)
+            risks()
+            linked_checkpoint(room)
+            weights(room)
         campaign(auditor, room, jobs, seed)
     skipped = f", {COUNTS.skipped} skipped" if COUNTS.skipped else ""
     print(f"recheck: {COUNTS.passed} passed, {COUNTS.failed} failed{skipped}")
