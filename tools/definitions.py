@@ -11,8 +11,8 @@ docs/claims/DEFINITIONS.md anew, behind their marks.
 `check` prints nothing where docs/claims/DEFINITIONS.md lists exactly those modules, no crate of
 code stands below the statement, the plain statement takes at most 130 definitions of 600 lines,
 without the words of the command line, docs/claims/THE_CLAIM.md quotes each definition that it comes
-to, and all quotes and counts are as `page` writes them. Else it prints what is not so, and ends
-with status 1.
+to and names each clause of the contract, each premise is counted, and all quotes and counts are as
+`page` writes them. Else it prints what is not so, and ends with status 1.
 """
 import argparse
 import os
@@ -114,6 +114,14 @@ WHOLE = [
     PLAIN, ("audit_statement", "PlainlyEnded", "EndsPlainly"),
     ("audit_words", "Answers", "AnswersOrAudits"),
 ]
+# The premises of the top call, by their clauses.
+PREMISES = {
+    "lets": ("audit_statement", "Due", "LetsDueSaves"),
+    "text": ("audit_words", "DueAnswers", "LetsAnswerOrText"),
+    "note": ("audit_words", "DueAnswers", "LetsAnyLine"),
+}
+CLAUSE = re.compile(r"^    (requires|ensures) (\w+) \{", re.M)
+BOX = re.compile(r"^```text$.*?^```$", re.M | re.S)
 
 
 def plain_fault() -> typing.Iterator[str]:
@@ -142,6 +150,8 @@ def count_table() -> typing.Iterator[str]:
     yield count_row("`plain` of `audit_plainly`", Path([PLAIN]))
     yield count_row("the same without the words of the command line", Path([PLAIN], WORDS))
     yield count_row("`ends` of `audit_plainly`", Path([WHOLE[1]]))
+    for clause, root in PREMISES.items():
+        yield count_row(f"premise `{clause}` of `audit_plainly`", Path([root]))
     for module, record in RECORDS:
         for field, roots in fields_of("audit_statement", module, record):
             yield count_row(f"`{record}.{field}`", Path(roots))
@@ -265,6 +275,20 @@ def write_page() -> None:
             file.write(update_text(text))
 
 
+def find_unnamed() -> typing.Iterator[str]:
+    """Returns the clauses of the quoted contract of which the page says nothing, and the premises
+    that are not counted.
+    """
+    with open(QUOTING[0], encoding="utf-8") as file:
+        words = BOX.sub("", file.read())
+    clauses = CLAUSE.findall("\n".join(contract()))
+    for _, name in clauses:
+        if f"`{name}`" not in words:
+            yield f"docs/claims/THE_CLAIM.md says nothing of the clause {name}"
+    for name in sorted({name for kind, name in clauses if kind == "requires"} ^ set(PREMISES)):
+        yield f"tools/definitions.py does not count the premise {name}"
+
+
 # ---- the list of modules
 
 
@@ -302,7 +326,9 @@ def show_path(name: str) -> None:
 
 def main(word: str, name: str) -> int:
     if word == "check":
-        faults = [*find_unlisted(), *code_below(), *plain_fault(), *find_stale()]
+        faults = [
+            *find_unlisted(), *code_below(), *plain_fault(), *find_stale(), *find_unnamed(),
+        ]
         print("\n".join(faults), end="\n" if faults else "")
         return 1 if faults else 0
     if word == "page":
