@@ -6,8 +6,8 @@ A planted error is a file crates/CRATE/planted/NAME.edit:
     only: board::is_short          the function that the prover must refuse
     old: TEXT                      a text that stands in the file exactly once
     new: TEXT                      the text in its place; more pairs may follow
-    without: proofs/board/is_short answers that the changed function has no use for (may be left out)
-    goal: GOAL                     the only goal of the function that stays open (may be left out)
+    without: proofs/board/is_short answers that the changed function does not use (optional)
+    goal: GOAL                     the only goal that stays open (optional)
 
 All errors of a crate are tried in one copy of it, in one call of the prover over the libraries that
 `rt ci` left in this checkout. The prover checks the named functions and those that they call in the
@@ -93,6 +93,11 @@ def check_refusals(checks: Checks, edits: list[Edit], end: End) -> None:
         refused = re.search(rf"^fn {name}: (not proved$|no proof: (?!.*it calls `))", text, re.M)
         wanted = f"{edit.only} is not proved, for no other function's sake"
         checks.is_true(f"{crate}/{edit.name}_refused", refused, wanted, text[-1500:])
+        for goal in edit.goals:
+            open_goals = rf"`search` did not prove `{re.escape(goal)}`"
+            alone = re.search(rf"^fn {name}: .*{open_goals}$", text, re.M)
+            wanted = f"{goal} alone is open"
+            checks.is_true(f"{crate}/{edit.name}_goal", alone, wanted, text[-1500:])
     counts = [(int(one), int(proved)) for one, proved in COUNTS.findall(text)]
     is_alone = [one - proved for one, proved in counts] == [len(edits)]
     checks.is_true(f"{crate}_others", is_alone, "all others proved", counts)
