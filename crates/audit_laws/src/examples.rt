@@ -7,6 +7,7 @@ pub mod lengths;
 pub mod limits;
 pub mod model;
 pub mod origins;
+pub mod pairs;
 pub mod rules;
 pub mod tables;
 pub mod traces;

@@ -16,14 +16,13 @@ use Rattle.audit_model.specs.Stopping.{placed_asks}
 use Rattle.audit_model.specs.Trajectory.{Draws, outcome, outcome_by, sequence, tally}
 use Rattle.claim_counter.specs.Walks.{found}
 use Rattle.audit_statement.specs.Draw.{draw}
-use Rattle.hex.specs.Hex.{encode_lower}
 use Rattle.audit_model.proofs.Fitting as fitting
 use Rattle.audit_model.proofs.Parts.{only_part}
 use Rattle.audit_model.proofs.Resumed.{full_is_sequence}
 use Rattle.audit_model.proofs.Below.{length-map_below, get_or-map_below}
 use Rattle.report.specs.Outcomes.{AreOutcomesOf, AreStopsBy, AreStopsOf, IsStopOf, reported_by}
 use Rattle.sequential_test.specs.Rounds.{AreParts, StopsInTime, ends_after, found_below}
-use Rattle.audit_statement.specs.Report.{graph_line, line, origin_lines, population_line, report, rule_lines, serial_lines, setting_line, shift_line, stop_line, test_lines, title_line, walk_line, walk_lines}
+use Rattle.audit_statement.specs.Report.{by_twos, head_lines, line, moved_line, pair_line, pair_lines, report, report_by, serial_lines, shift_line, test_lines, walk_line, walk_lines}
 use Rattle.audit_laws.specs.Runs.{AreAll, IsRunJob}
 use Rattle.audit_laws.proofs.Starting.{every_id, none_right, none_fit}
 use Rattle.audit_laws.proofs.Running.{are_all, fit_list, leaves_none, one_part, run_setting}
@@ -102,37 +101,41 @@ module _ (job : Job) (draws : Draws) where
   tests_alike zero some os ps stops = absurd (omega (arith, some))
   tests_alike (suc h) some os ps stops = refl
 
+  -- the outlier walks alone
+  abbrev alone : List Outcome
+  alone = map_below job.setting.walks f
+
+  -- all outcomes
+  abbrev all : List Outcome
+  all = map_below (job.setting.walks + job.setting.ends) f
+
+  same_walks : filter (λ o. nat_lt o.id job.setting.walks) alone ≡ filter (λ o. nat_lt o.id job.setting.walks) all
+  same_walks = walks_kept job.setting.walks (omega arith) ∙ sym (walks_kept (job.setting.walks + job.setting.ends) (omega arith))
+
+  pairs_alike : (b : Bool) → pair_lines b job alone ≡ pair_lines b job all
+  pairs_alike true = ap (λ (os : List Outcome). flat_map (λ pair. flat_map (pair_line job pair) (placed_asks job)) (by_twos os)) same_walks
+  pairs_alike false = refl
+
+  -- the report with these lines of the walks, of pairs, of the histogram and of the tests
+  abbrev with_lines : Option (ℕ × List ℕ) → List ℕ → List ℕ → List ℕ → List ℕ → List ℕ
+  with_lines serial walks two shift tests = head_lines job ++ walks ++ two ++ shift ++ tests ++ serial_lines job serial ++ line (codes "end" ∷ [])
+
+  reports_alike : (b : Bool) → 1 ≤ job.setting.stop → (stops : List (List ℕ)) (serial : Option (ℕ × List ℕ)) → report_by b job alone stops serial ≡ report_by b job all stops serial
+  reports_alike true some stops serial = ap (λ (os : List Outcome). head_lines job ++ flat_map moved_line os ++ line (codes "end" ∷ [])) same_walks
+  reports_alike false some stops serial =
+      ap (λ (os : List Outcome). with_lines serial (flat_map (λ found. flat_map (walk_line job found) (placed_asks job)) os) (pair_lines job.setting.pairs job alone)
+      (shift_line job.setting.shift alone) (test_lines job.setting.stop job alone stops)) same_walks
+      ∙ ap (λ (two : List ℕ). with_lines serial (walk_lines job all) two (shift_line job.setting.shift alone) (test_lines job.setting.stop job alone stops)) (pairs_alike job.setting.pairs)
+      ∙ ap (λ (shift : List ℕ). with_lines serial (walk_lines job all) (pair_lines job.setting.pairs job all) shift (test_lines job.setting.stop job alone stops))
+      (sym (shift_of_walks job.setting.shift job.setting.ends))
+      ∙ ap (λ (tests : List ℕ). with_lines serial (walk_lines job all) (pair_lines job.setting.pairs job all) (shift_line job.setting.shift all) tests)
+      (tests_alike job.setting.stop some alone all stops)
+
   -- the report on the outlier walks alone is the report on all outcomes
   pub walks_determine_all : 1 ≤ job.setting.stop → (stops : List (List ℕ)) (serial : Option (ℕ × List ℕ))
       → report job (map_below job.setting.walks f) stops serial ≡ report job (sequence job draws) stops serial
   unfolding report sequence
-  walks_determine_all some stops serial =
-      ap (λ (walks : List ℕ). with_lines walks (shift_line job.setting.shift alone) (test_lines job.setting.stop job alone stops))
-      (ap (λ (os : List Outcome). flat_map (λ found. flat_map (walk_line job found) (placed_asks job)) os) (walks_kept job.setting.walks (omega arith) ∙ sym (walks_kept (job.setting.walks + job.setting.ends) (omega arith))))
-      ∙ ap (λ (shift : List ℕ). with_lines (walk_lines job all) shift (test_lines job.setting.stop job alone stops)) (sym (shift_of_walks job.setting.shift job.setting.ends))
-      ∙ ap (λ (tests : List ℕ). with_lines (walk_lines job all) (shift_line job.setting.shift all) tests) (tests_alike job.setting.stop some alone all stops)
-    where
-      alone : List Outcome
-      alone = map_below job.setting.walks f
-
-      all : List Outcome
-      all = map_below (job.setting.walks + job.setting.ends) f
-
-      with_lines : List ℕ → List ℕ → List ℕ → List ℕ
-      with_lines walks shift tests =
-          title_line job.setting.shift
-          ++ origin_lines job job.origin
-          ++ line (codes "key" ∷ encode_lower job.setting.key ∷ [])
-          ++ graph_line job
-          ++ population_line job
-          ++ rule_lines job
-          ++ setting_line job
-          ++ stop_line job.setting.stop
-          ++ walks
-          ++ shift
-          ++ tests
-          ++ serial_lines job serial
-          ++ line (codes "end" ∷ [])
+  walks_determine_all some stops serial = reports_alike job.setting.blind some stops serial
 
 -- ---- the outcomes of one thread
 

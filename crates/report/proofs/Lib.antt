@@ -7,6 +7,7 @@ pub mod Letting
 pub mod Limits
 pub mod Longest
 pub mod Pieces
+mod Powers
 pub mod Ranked
 pub mod Regions
 pub mod Sorted

@@ -1,5 +1,5 @@
 -- A list of pieces that are appended one by one.
-use Rattle.std.proofs.Common.{◌≡◌, ℕ, zero, suc, ◌+◌, ◌*◌, ◌/◌, ◌<◌, ◌≤◌, drop, get_or, add-one, zero-add, drop-cons, List, [], ◌++◌, length, flat_map, refl, ap, sym, ◌∙◌, subst, arith, append-nil, length-append, Ok, Err}
+use Rattle.std.proofs.Common.{◌≡◌, ℕ, zero, suc, ◌+◌, ◌*◌, ◌/◌, ◌<◌, ◌≤◌, drop, get_or, add-one, zero-add, drop-cons, List, [], ◌++◌, length, flat_map, refl, ap, sym, ◌∙◌, subst, arith, append-nil, length-append, Ok, Err, ◌∷◌}
 use Rattle.std.proofs.lemmas.List.{drop_all}
 use Rattle.std.specs.Prelude.{zip}
 use Rattle.std.proofs.lemmas.Slice.Zip.{get_or-zip, length-zip}
