@@ -7,6 +7,7 @@ pub mod Order
 pub mod Pairing
 pub mod Parting
 pub mod Powers
+pub mod Prefixes
 pub mod Ranges
 pub mod Reading
 pub mod Spelling
