@@ -3,6 +3,7 @@ use Rattle.audit_model.specs.Below.{count_below}
 use Rattle.audit_model.specs.Plan.{is_legal}
 use Rattle.audit_model.specs.Serially.{serial_of}
 use Rattle.audit_model.specs.Step.{next}
+use Rattle.audit_model.specs.Weight.{is_taken}
 use Rattle.audit_model.specs.Trajectory.{sequence, visit}
 use Rattle.audit_statement.specs.Draw.{draw}
 use Rattle.hex.specs.Hex.{encode_with}
@@ -14,5 +15,5 @@ use Rattle.audit_model.proofs.Least.{bound_from}
 use Rattle.audit_laws.proofs.examples.further.report_with_all_tests.Goals as goal
 
 pub returns : goal.returns
-unfolding thread_report report sequence serial_of digits encode_with is_legal next visit count_below draw u32_at block_word double_rounds column_round diagonal_round quarter_round
+unfolding thread_report report sequence serial_of digits encode_with is_legal next is_taken visit count_below draw u32_at block_word double_rounds column_round diagonal_round quarter_round
 returns c = rw (bound_from 4 4 1414213562 (omega arith) refl refl) refl

@@ -3,6 +3,7 @@ use Rattle.audit_model.specs.Below.{count_below}
 use Rattle.audit_model.specs.Plan.{is_legal}
 use Rattle.audit_model.specs.Serially.{serial_of}
 use Rattle.audit_model.specs.Step.{next}
+use Rattle.audit_model.specs.Weight.{is_taken}
 use Rattle.audit_model.specs.Trajectory.{visit}
 use Rattle.audit_statement.specs.Draw.{draw}
 use Rattle.rand_chacha.specs.Block.{block_word, column_round, diagonal_round, double_rounds, quarter_round}
@@ -10,5 +11,5 @@ use Rattle.rand_core.specs.Steps.{u32_at}
 use Rattle.audit_laws.proofs.examples.further.serial_test_on_two_units.Goals as goal
 
 pub returns : goal.returns
-unfolding serial_of is_legal next visit count_below draw u32_at block_word double_rounds column_round diagonal_round quarter_round
+unfolding serial_of is_legal next is_taken visit count_below draw u32_at block_word double_rounds column_round diagonal_round quarter_round
 returns c = refl
