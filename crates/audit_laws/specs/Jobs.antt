@@ -120,6 +120,14 @@ job_of_lengths max_length asks = record (job_of_four path_of_four (record (run_o
   max_length = max_length;
 })) { counts = record (counts_of_votes (3 ∷ 1 ∷ 1 ∷ 2 ∷ []) (1 ∷ 2 ∷ 2 ∷ 1 ∷ []) 4) { lengths = 9 ∷ 9 ∷ 7 ∷ 7 ∷ 5 ∷ 5 ∷ [] } }
 
+-- a triangle of units with a fourth unit at one of them
+abbrev pub triangle_with_tail : Graph
+triangle_with_tail = record { units = 4; neighbours = (1 ∷ 2 ∷ []) ∷ (0 ∷ 2 ∷ []) ∷ (0 ∷ 1 ∷ 3 ∷ []) ∷ (2 ∷ []) ∷ [] }
+
+-- the job of this graph with this weight of each cut edge, in units of 1 / 256
+abbrev pub weighted_job : ℕ → Job
+weighted_job weight = job_of_four triangle_with_tail (record (run_of 5000 1 8 0 1000 []) { cut_weight = weight })
+
 -- the first draws of stream 0 under the all-zero key
 abbrev pub first_draws : List ℕ
 first_draws =

@@ -11,3 +11,4 @@ pub mod pairs;
 pub mod rules;
 pub mod tables;
 pub mod traces;
+pub mod weights;
