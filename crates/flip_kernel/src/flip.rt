@@ -87,8 +87,9 @@ pub fn try_flips<J: Judge, L: Ledger>(
 /// Returns the mirror of a draw: the draw that leads back from the plan after `draw`.
 ///
 /// If `draw` changes nothing, the mirror is `draw` itself. Otherwise it is the draw of the same
-/// block that proposes the unit and its old district. The state is unchanged, and nothing is
-/// allocated.
+/// block that proposes the unit and its old district. With a weight on cut edges, more draws take cut
+/// edges away than add them, so a mirror leads back only from steps that take none away. The state is
+/// unchanged, and nothing is allocated.
 pub fn mirror<J: Judge>(job: &Job, state: &mut State<J>, draw: u64) -> u64
     requires made { state.old.job ≡ job.now }
     ensures value { result ≡ mirrored job.now state.old.plan draw }

@@ -14,10 +14,11 @@
 //!   pair.
 //! - A *flip* is a unit and a district to which it may go. A flip is a *move* if the plan after it
 //!   is legal. *Home* is the district of the unit before the flip.
-//! - A *step* takes a draw. If the draw proposes an open pair and the flip to this pair is a move,
-//!   the step makes the move. Otherwise the plan stays the same.
+//! - A *step* takes a draw. If the draw proposes an open pair, the flip to this pair is a move, and
+//!   the draw takes its change of cut edges, the step makes the move. Otherwise the plan stays the
+//!   same. Without a weight on cut edges, every draw takes every change.
 //! - The *mirror* of a draw is the draw whose step leads back: from the plan after the draw to the
-//!   plan before it.
+//!   plan before it. With a weight, it leads back from steps that take no cut edges away.
 //! - The *constraint* of a job allows or forbids a plan by rules beyond population, contiguity and
 //!   the length of cut edges. Its trait is `Judge`.
 //! - The *board* is the current plan with its sums and tables. The *state* is the board with the

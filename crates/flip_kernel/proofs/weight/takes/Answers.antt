@@ -1,8 +1,8 @@
-use Rattle.std.proofs.Common.{◌≡◌, ℕ, ◌+◌, ◌-◌, ◌*◌, ◌/◌, ◌%◌, ◌^◌, ◌<◌, ◌≤◌, Bool, sym, ap, ◌∙◌, arith}
+use Rattle.std.proofs.Common.{◌≡◌, ℕ, ◌-◌, ◌*◌, ◌%◌, ◌^◌, ◌<◌, ◌≤◌, ap, ◌∙◌, arith}
 use Rattle.std.specs.Int.Bits.{bit_and}
 use Rattle.std.specs.Prelude.{nat_le, nat_lt}
 use Rattle.std.proofs.lemmas.Nat.{one_shl, pow_pos}
-use Rattle.audit_model.specs.Weight.{factors, largest_change, passes, weighed_draws}
+use Rattle.audit_model.specs.Weight.{factors, largest_change, weighed_draws}
 use Rattle.flip_kernel.proofs.Weights.{digits_are, few_digits, passes_digits, passes_down}
 use Rattle.flip_kernel.proofs.weight.takes.Goals as goal
 
