@@ -19,7 +19,7 @@ from decimal import Decimal
 from fractions import Fraction
 
 from . import own_limits
-from .arguments import MOST_WEIGHT
+from .arguments import MOST_WEIGHT, SCORES
 from .effect import Effect, Number, test_effects
 from .errors import ReportRefused, extra
 
@@ -43,7 +43,6 @@ MOST_UNITS, MOST_EDGES, MOST_DISTRICTS, MOST_REGIONS, MOST_TRAJECTORIES, MOST_CU
 )
 MOST_SPLITS, MOST_BYTES = 995_000, 67_108_864
 MOST_SHARE, HALF_SHARE = 10_000, 5000
-SCORES = ("seats", "mean-median", "gap", "cut-edges", "cut-length")
 MOST_LENGTH = 2**32 - 1
 MOST_CUT_LENGTH = MOST_EDGES * MOST_LENGTH
 TAILS = ("low", "high")
