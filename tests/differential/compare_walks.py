@@ -143,7 +143,8 @@ def add_rules(
     chance: random.Random, graph: networkx.Graph, columns: Columns, drawn: Drawn
 ) -> Drawn:
     """Returns the job with drawn rules that its start plan obeys, most of them closely."""
-    plan, words, more = columns.plan, list(drawn.words), {}
+    plan, words = columns.plan, list(drawn.words)
+    more: dict[str, Sequence[object]] = {}
     if chance.random() < 0.5:
         more["COUNTY"] = drawn_regions(chance, graph, plan)
         words += ["--region", "COUNTY"]
