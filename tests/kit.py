@@ -76,9 +76,14 @@ def find_kit() -> typing.Optional[Kit]:
     if not shutil.which("rt"):
         return None
     folder = pathlib.Path(run(["rt", "doc"]).out.strip().splitlines()[-1]).parent
-    lines = (line.partition("#")[0] for line in (TOP / "crates.txt").read_text().splitlines())
+    return Kit(folder, read_uses((TOP / "crates.txt").read_text()))
+
+
+def read_uses(text: str) -> dict[str, list[str]]:
+    """Returns the crates that a crates.txt lists, each with the libraries that it uses."""
+    lines = (line.partition("#")[0] for line in text.splitlines())
     rows = [line.split(":") for line in lines if ":" in line]
-    return Kit(folder, {head.split()[0]: rest.split() for head, rest in rows})
+    return {head.split()[0]: rest.split() for head, rest in rows}
 
 
 def library_of(name: str) -> pathlib.Path:

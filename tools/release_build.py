@@ -83,19 +83,31 @@ def crates_of(kit_uses: typing.Mapping[str, list[str]]) -> list[str]:
     return sorted(found)
 
 
-def digest_files(files: typing.Iterable[pathlib.Path], top: pathlib.Path) -> str:
-    """Returns the SHA-256 over paths and bytes of files below a folder, in order of their paths."""
+def digest_files(files: typing.Mapping[str, bytes]) -> str:
+    """Returns the SHA-256 over names and bytes of files, in order of their names."""
     digest = hashlib.sha256()
-    for name, path in sorted((str(path.relative_to(top)), path) for path in files):
-        digest.update(f"{name}\0{hashlib.sha256(path.read_bytes()).hexdigest()}\n".encode())
+    for name, data in sorted(files.items()):
+        digest.update(f"{name}\0{hashlib.sha256(data).hexdigest()}\n".encode())
     return digest.hexdigest()
 
 
-def digest_crates(uses: typing.Mapping[str, list[str]], top: pathlib.Path = TOP) -> str:
-    """Returns the digest of all that the programs are proved and compiled from."""
-    folders = [top / "crates" / crate / part for crate in crates_of(uses) for part in SOURCES]
-    files = [path for folder in folders for path in folder.rglob("*") if path.is_file()]
-    return digest_files([*files, top / "crates.txt", top / "HANDLES"], top)
+def digest_sources(files: typing.Mapping[str, bytes], crates: typing.Iterable[str]) -> str:
+    """Returns the digest of the files of a checkout that these crates are proved and built from."""
+    fronts = tuple(f"crates/{crate}/{part}/" for crate in crates for part in SOURCES)
+    named = ("crates.txt", "HANDLES")
+    return digest_files(
+        {name: data for name, data in files.items() if name.startswith(fronts) or name in named}
+    )
+
+
+def digest_crates(uses: typing.Mapping[str, list[str]]) -> str:
+    """Returns the digest of all that the programs of this checkout are proved and built from."""
+    crates = crates_of(uses)
+    folders = [TOP / "crates" / crate / part for crate in crates for part in SOURCES]
+    paths = [path for folder in folders for path in folder.rglob("*") if path.is_file()]
+    paths += [TOP / "crates.txt", TOP / "HANDLES"]
+    files = {str(path.relative_to(TOP)): path.read_bytes() for path in paths if path.exists()}
+    return digest_sources(files, crates)
 
 
 def digest_libraries(uses: typing.Mapping[str, list[str]]) -> str:
@@ -107,8 +119,8 @@ def digest_libraries(uses: typing.Mapping[str, list[str]]) -> str:
     missing = [name for name in names if not library_of(name).is_dir()]
     if missing:
         raise ReleaseError(f"there are no libraries of {' '.join(missing)}: run bash .ci/run")
-    files = [path for name in names for path in library_of(name).rglob("*") if path.is_file()]
-    return digest_files(files, TOP)
+    paths = [path for name in names for path in library_of(name).rglob("*") if path.is_file()]
+    return digest_files({str(path.relative_to(TOP)): path.read_bytes() for path in paths})
 
 
 def read_libc() -> tuple[str, str]:

@@ -70,11 +70,19 @@ def programs_in(folder: pathlib.Path, stamp: Stamp, compiler: str) -> dict[str, 
     return entries
 
 
+def link_second_name(entries: dict[str, Entry]) -> None:
+    """Makes one of the two names of the program over folders a link, if both are the same bytes."""
+    if entries["audit_gather"] == entries["audit_slots"]:
+        entries["audit_gather"] = Entry(target="audit_slots")
+
+
 def write_programs(out: pathlib.Path, room: pathlib.Path, stamp: Stamp, time: int) -> None:
     """Writes the archive of the programs, with documents, examples and the scripts that check."""
     entries = {}
     for place, compiler in COMPILERS.items():
-        for name, entry in programs_in(room / place, stamp, compiler).items():
+        programs = programs_in(room / place, stamp, compiler)
+        link_second_name(programs)
+        for name, entry in programs.items():
             entries[f"{place}/{name}"] = entry
     # The names under which scripts/two_compilers.sh finds the two builds.
     for name, place in (("llvm", "bin"), ("rattle", "second")):
