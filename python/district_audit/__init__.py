@@ -31,6 +31,7 @@ from .errors import (
     WordsRefused,
     WorkLeft,
     WriteFault,
+    WrongProgram,
 )
 from .exhibit import exhibit_plans
 from .limits import LimitReports, over_limits
@@ -117,6 +118,7 @@ __all__ = [
     "WordsRefused",
     "WorkLeft",
     "WriteFault",
+    "WrongProgram",
     "__version__",
     "audit_to_file",
     "check",
