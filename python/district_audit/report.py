@@ -210,7 +210,7 @@ class Audited:
     warnings: tuple[MapWarning, ...] = ()
     """Likely mistakes in the map, and in the question about it."""
     limits_from: str | None = None
-    """Where the limits come from, as the call says; None if it does not."""
+    """The source of the limits, as the call says; None if it does not."""
 
     def is_of(self, data: bytes) -> bool:
         """Returns whether these are the bytes that the program read."""
@@ -1239,7 +1239,7 @@ class Report:
     batch: Batch | None = dataclasses.field(default=None, compare=False)
     """The plans or elections among which this report is one; None if it is by itself."""
     has_pairs: bool = False
-    """Whether the text has lines of pairs, as `pairs=True` asks for."""
+    """True if the text has lines of pairs, as `pairs=True` asks for."""
 
     @classmethod
     def parse(cls, text: str) -> Report:
