@@ -37,20 +37,53 @@ class Kit(typing.NamedTuple):
         """Returns the words with which a proof runs on one processor."""
         return ["--logic-built", str(self.folder / "logic_built"), "--jobs", "1"]
 
+    def prove(self, folder: pathlib.Path, crate: str, checked: pathlib.Path) -> End:
+        """Proves a program's crate in its folder, and keeps in `checked` what was proved."""
+        words = [*self.words(crate, "src/main.rt"), "--links", f"{crate}="]
+        return self.rattle(folder, ["check", *words, *self.logic(), "-o", str(checked)])
+
+    def compile(
+        self, folder: pathlib.Path, crate: str, checked: pathlib.Path, compiler: str,
+        made: pathlib.Path,
+    ) -> End:
+        """Compiles what was proved of a program's crate to an object, by `llvm` or `rattle`."""
+        words = [*self.words(crate, "src/main.rt"), "--links", f"{crate}="]
+        words += ["--crate-checked", str(checked), "--toolchain", str(self.folder / "toolchain")]
+        return self.rattle(folder, ["build", *words, "--backend", compiler, "-o", str(made)])
+
+    def c_libraries(self) -> list[str]:
+        """Returns the C parts of the standard library, which each program is linked with."""
+        return [str(self.folder / "c" / name) for name in ("libos_c.a", "liblibc_c.a")]
+
     def rattle(self, folder: pathlib.Path, words: list[str]) -> End:
         """Runs the compiler in a crate's folder. The libraries' folders stand beside it."""
         return run([self.folder / "bin" / "rattle", *words], folder=folder)
 
 
 def kit_of(checks: Checks) -> typing.Optional[Kit]:
+    """Returns the toolchain, or None, after a check that counts as skipped, if it is not here.
+
+    The toolchain is nothing that a user could install, so its absence is no failure.
+    """
+    kit = find_kit()
+    if kit is None:
+        checks.skips("toolchain", "missing: rt, the command of the toolchain")
+    return kit
+
+
+def find_kit() -> typing.Optional[Kit]:
     """Returns the toolchain, or None if it is not here."""
     if not shutil.which("rt"):
-        checks.count_missing("toolchain", "rt")
         return None
     folder = pathlib.Path(run(["rt", "doc"]).out.strip().splitlines()[-1]).parent
-    lines = (line.partition("#")[0] for line in (TOP / "crates.txt").read_text().splitlines())
+    return Kit(folder, read_uses((TOP / "crates.txt").read_text()))
+
+
+def read_uses(text: str) -> dict[str, list[str]]:
+    """Returns the crates that a crates.txt lists, each with the libraries that it uses."""
+    lines = (line.partition("#")[0] for line in text.splitlines())
     rows = [line.split(":") for line in lines if ":" in line]
-    return Kit(folder, {head.split()[0]: rest.split() for head, rest in rows})
+    return {head.split()[0]: rest.split() for head, rest in rows}
 
 
 def library_of(name: str) -> pathlib.Path:

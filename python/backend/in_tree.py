@@ -2,7 +2,7 @@
 and of PEP 660 for `pip install -e`.
 
 What is built is fixed by pyproject.toml and by the files of the package; the same files give the
-same bytes.
+same bytes. `build_release_wheel` adds the programs, for users who have no toolchain.
 """
 import base64
 import hashlib
@@ -27,7 +27,8 @@ def section(name: str) -> dict[str, str]:
     """
     text = (HERE / "pyproject.toml").read_text(encoding="utf-8")
     found = re.search(f"^\\[{re.escape(name)}\\]$(.*?)(?=^\\[|\\Z)", text, re.MULTILINE | re.DOTALL)
-    return dict(re.findall(r"^([\w-]+) = (.*)$", found[1], re.MULTILINE)) if found else {}
+    rows = re.compile(r"^([\w-]+) = (\[\n.*?^\]|.*?)$", re.MULTILINE | re.DOTALL)
+    return dict(rows.findall(found[1])) if found else {}
 
 
 def texts(value: str) -> list[str]:
@@ -39,7 +40,10 @@ PROJECT = {key: texts(value) for key, value in section("project").items()}
 VERSION = PROJECT["version"][0]
 NAME = f"{PACKAGE}-{VERSION}"
 INFO = NAME + ".dist-info"
-WHEEL = "Wheel-Version: 1.0\nGenerator: in_tree\nRoot-Is-Purelib: true\nTag: py3-none-any\n"
+SCRIPTS = NAME + ".data/scripts/"
+# A wheel with programs: static files for Linux, which need no C library of the system. pip takes
+# the file where glibc is 2.17 or later.
+PLATFORMS = ("manylinux_2_17_x86_64", "manylinux2014_x86_64")
 
 
 def metadata() -> str:
@@ -47,7 +51,9 @@ def metadata() -> str:
         "Metadata-Version: 2.1", "Name: " + PROJECT["name"][0], "Version: " + VERSION,
         "Summary: " + PROJECT["description"][0],
         "Requires-Python: " + PROJECT["requires-python"][0], "License: " + PROJECT["license"][0],
+        "License-File: LICENSE", "Author: " + PROJECT["authors"][0],
     ]
+    lines += ["Classifier: " + text for text in PROJECT["classifiers"]]
     for extra, needs in section("project.optional-dependencies").items():
         lines.append("Provides-Extra: " + extra)
         lines += [f'Requires-Dist: {need}; extra == "{extra}"' for need in texts(needs)]
@@ -62,12 +68,23 @@ def entry_points() -> str:
     )
 
 
-def describe_wheel() -> dict[str, str]:
+def license_bytes() -> bytes:
+    """The license, which stands above the package in the repository and beside it in an archive."""
+    places = (HERE / "LICENSE", HERE.parent / "LICENSE")
+    return next(place for place in places if place.exists()).read_bytes()
+
+
+def describe_wheel(
+    platforms: typing.Sequence[str] = ("any",),
+) -> dict[str, typing.Union[str, bytes]]:
     """The files that say what a wheel is."""
+    is_pure = str(platforms == ("any",)).lower()
+    head = f"Wheel-Version: 1.0\nGenerator: in_tree\nRoot-Is-Purelib: {is_pure}\n"
     return {
         INFO + "/METADATA": metadata(),
-        INFO + "/WHEEL": WHEEL,
+        INFO + "/WHEEL": head + "".join(f"Tag: py3-none-{platform}\n" for platform in platforms),
         INFO + "/entry_points.txt": entry_points(),
+        INFO + "/licenses/LICENSE": license_bytes(),
     }
 
 
@@ -81,9 +98,9 @@ def sources() -> dict[str, bytes]:
     return {f"{PACKAGE}/{path.name}": path.read_bytes() for path in found}
 
 
-def wheel(folder: str, files: Files) -> str:
+def wheel(folder: str, files: Files, platforms: typing.Sequence[str] = ("any",)) -> str:
     """Writes a wheel, and answers its name."""
-    name, record = NAME + "-py3-none-any.whl", []
+    name, record = f"{NAME}-py3-none-{'.'.join(platforms)}.whl", []
     with zipfile.ZipFile(pathlib.Path(folder) / name, "w", zipfile.ZIP_DEFLATED) as archive:
         for path, content in files.items():
             data = content.encode("utf-8") if isinstance(content, str) else content
@@ -98,7 +115,9 @@ def wheel(folder: str, files: Files) -> str:
 
 def entry(path: str) -> zipfile.ZipInfo:
     one = zipfile.ZipInfo(path, STAMP)
-    one.external_attr = 0o100644 << 16
+    one.create_system = 3
+    is_program = path.startswith(SCRIPTS) and not path.endswith(".origin")
+    one.external_attr = (0o100755 if is_program else 0o100644) << 16
     one.compress_type = zipfile.ZIP_DEFLATED
     return one
 
@@ -126,6 +145,12 @@ def build_wheel(
     return wheel(wheel_directory, {**sources(), **describe_wheel()})
 
 
+def build_release_wheel(wheel_directory: str, programs: typing.Mapping[str, bytes]) -> str:
+    """Builds a wheel that leaves programs beside Python, with the files that say what they are."""
+    scripts = {SCRIPTS + name: data for name, data in sorted(programs.items())}
+    return wheel(wheel_directory, {**sources(), **scripts, **describe_wheel(PLATFORMS)}, PLATFORMS)
+
+
 def build_editable(
     wheel_directory: str,
     config_settings: Settings = None,
@@ -137,6 +162,7 @@ def build_editable(
 def build_sdist(sdist_directory: str, config_settings: Settings = None) -> str:
     name = f"{NAME}.tar.gz"
     files: dict[str, typing.Union[str, bytes]] = {**sources(), "PKG-INFO": metadata()}
+    files["LICENSE"] = license_bytes()
     for path in ("pyproject.toml", "README.md", "backend/in_tree.py"):
         files[path] = (HERE / path).read_bytes()
     with tarfile.open(

@@ -31,6 +31,7 @@ from .errors import (
     WordsRefused,
     WorkLeft,
     WriteFault,
+    WrongProgram,
 )
 from .exhibit import exhibit_plans
 from .limits import LimitReports, over_limits
@@ -58,6 +59,7 @@ from .trace_text import TraceHead, TraceRefused
 from .traces import Sample, StaleSample, Trace, read_trace, trace
 from .verifying import verify
 from .warnings import MapWarning
+from .weighing import WeightChoice, choose_weight
 from .words import key_of
 
 __version__ = "0.1.0"
@@ -114,12 +116,15 @@ __all__ = [
     "TypeRefused",
     "ValueRefused",
     "Walk",
+    "WeightChoice",
     "WordsRefused",
     "WorkLeft",
     "WriteFault",
+    "WrongProgram",
     "__version__",
     "audit_to_file",
     "check",
+    "choose_weight",
     "compactness",
     "compare_ends",
     "exhibit_plans",

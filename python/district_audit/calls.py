@@ -91,7 +91,7 @@ class Given:
     warnings: tuple[MapWarning, ...] = ()
     """Likely mistakes in the map, and in the question about it."""
     limits_from: str | None = None
-    """Where the limits come from, as the user says."""
+    """The source of the limits, as the user says."""
 
     @property
     def audited(self) -> Audited:

@@ -170,6 +170,12 @@ class ProgramMissing(FileNotFoundError):
     """An installed program that was not found."""
 
 
+class WrongProgram(ProgramMissing):
+    """A program that was found and must not be used: of another version than the package, made for
+    another processor, damaged, or another program.
+    """
+
+
 class MissingExtra(ImportError):
     """An optional module that is not installed, or cannot be imported.
 

@@ -197,7 +197,7 @@ def legality(report: Report) -> str:
     return said[0] + more + "."
 
 
-def weighed(report: Report) -> str:
+def describe_weight(report: Report) -> str:
     """Returns what a step asks beside legality if cut edges are weighed."""
     weight = report.rules.cut_weight
     if weight is None:
@@ -215,7 +215,7 @@ def methods(report: Report) -> list[str]:
     found = [
         "The program changes a plan in small random steps. A step names one unit and one district "
         "at random, and moves the unit there if the resulting plan is legal"
-        + weighed(report)
+        + describe_weight(report)
         + "; otherwise the plan stays, and counts again. "
         + legality(report)
         + " The enacted plan meets these rules. All random draws come from the key below."

@@ -16,7 +16,7 @@ if typing.TYPE_CHECKING:
     from .districts import District
 
 HALF = 5000
-# What each limit counts, in words.
+# The things that each limit counts, in words.
 COUNTED = {
     "max_cut": "cut edges",
     "max_split": "districts in one region",

@@ -10,8 +10,9 @@ from __future__ import annotations
 import dataclasses
 import typing
 
+from .arguments import SCORES
 from .errors import extra
-from .report import SCORES, SEATS, Line, Report, Shift, Walk
+from .report import SEATS, Line, Report, Shift, Walk
 
 if typing.TYPE_CHECKING:
     from matplotlib.axes import Axes

@@ -28,7 +28,7 @@ MOST_STEPS = 10**9
 
 @dataclasses.dataclass(frozen=True)
 class Pilot:
-    """What `pilot` found. It has nothing of any score."""
+    """The result of `pilot`. It has nothing of any score."""
 
     units: int
     """The number of units of the map."""
@@ -155,7 +155,7 @@ class EndCounts:
 
 @dataclasses.dataclass(frozen=True)
 class EndsTable:
-    """What `compare_ends` found."""
+    """The result of `compare_ends`."""
 
     units: int
     """The number of units of the map."""

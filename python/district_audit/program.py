@@ -1,13 +1,19 @@
 """Paths of the installed programs, and one call of them."""
 from __future__ import annotations
 
+import base64
+import errno
+import functools
+import hashlib
+import importlib.metadata
 import os
 import pathlib
+import re
 import shutil
 import subprocess
 import typing
 
-from .errors import ProgramMissing
+from .errors import ProgramMissing, WrongProgram
 
 PathLike = typing.Union[str, "os.PathLike[str]"]
 
@@ -16,13 +22,21 @@ KNOWN = {
     "audit": ("DISTRICT_AUDIT", ("district-audit", "audit_program")),
     "slots": ("DISTRICT_AUDIT_SLOTS", ("audit_slots",)),
 }
+# The end of the name of a build that was made without a proof, and how each of its texts begins.
+UNPROVED = "-unproved"
+NOT_PROVED = re.compile(r"[^:\n]*: NOT PROVED: .*(?:\n|\Z)")
+AGAIN = "install the wheel again, with pip install --force-reinstall FILE.whl"
 
 
-def find_program(which: str, given: PathLike | None = None) -> str:
+def find_program(which: str, given: PathLike | None = None, unproved: bool = False) -> str:
     """Returns the path of a program: the given one, or the one that the environment names, or the
-    one in the folders of PATH.
+    one that was installed with this package, or the one in the folders of PATH.
 
-    Raises ProgramMissing if there is none.
+    With `unproved`, the build without a proof is looked for in PATH, which
+    `scripts/install.sh FOLDER unproved` makes. It is used only if it is asked for so, or named.
+
+    Raises ProgramMissing if there is none, and WrongProgram if it is of another version than the
+    package, damaged, or no such program.
     """
     variable, names = KNOWN[which]
     named = os.fspath(given) if given is not None else os.environ.get(variable)
@@ -30,15 +44,91 @@ def find_program(which: str, given: PathLike | None = None) -> str:
         path = shutil.which(named)
         if path is None:
             raise ProgramMissing(f"there is no program {named}")
-        return str(pathlib.Path(path).absolute())
+        return checked(path, which)
+    if unproved:
+        names = tuple(name + UNPROVED for name in names)
+    else:
+        beside = find_beside_package(names[0])
+        if beside is not None:
+            return checked(beside, which)
     for name in names:
         path = shutil.which(name)
         if path is not None:
-            return str(pathlib.Path(path).absolute())
+            return checked(path, which)
     raise ProgramMissing(
-        f"there is no {names[0]} in the folders of PATH: scripts/install.sh FOLDER leaves it in a"
-        f" folder, and the variable {variable} may name it"
+        f"there is no {names[0]} with this package or in the folders of PATH: install the wheel of"
+        f" a release, which has it. scripts/install.sh FOLDER makes it with the toolchain, and the"
+        f" variable {variable} may name it"
     )
+
+
+def find_beside_package(name: str) -> str | None:
+    """Returns the program that the wheel of this package left, or None if no wheel left it.
+
+    It is found also in an environment that is not activated. Raises WrongProgram if it is missing,
+    or is not the wheel's program any more.
+    """
+    try:
+        installed = importlib.metadata.distribution("district-audit")
+    except importlib.metadata.PackageNotFoundError:
+        return None
+    own = pathlib.Path(__file__).resolve().parent
+    if pathlib.Path(str(installed.locate_file("district_audit"))).resolve() != own:
+        return None
+    for file in installed.files or ():
+        if file.name == name:
+            path = pathlib.Path(os.path.abspath(str(file.locate())))
+            if not os.access(path, os.X_OK):
+                raise WrongProgram(f"the program {path} of this package is missing: {AGAIN}")
+            if file.hash is not None and digest(path, path.stat().st_mtime_ns) != file.hash.value:
+                raise WrongProgram(f"the program {path} is not the one of this package: {AGAIN}")
+            return str(path)
+    return None
+
+
+@functools.lru_cache(maxsize=64)
+def digest(path: pathlib.Path, changed: int) -> str:
+    """Returns the SHA-256 of a file, as a wheel writes it; `changed` is when it was changed."""
+    whole = hashlib.sha256(path.read_bytes()).digest()
+    return base64.urlsafe_b64encode(whole).decode().rstrip("=")
+
+
+def checked(path: str, which: str) -> str:
+    """Returns the absolute path of a program that can be used with this package.
+
+    Raises WrongProgram if the program cannot be started here, or if its answer to --version is that
+    of another program or version. One that gives no answer is left to fail in the call itself.
+    """
+    absolute = pathlib.Path(path).absolute()
+    fault = find_fault(str(absolute), which, absolute.stat().st_mtime_ns)
+    if fault:
+        raise WrongProgram(fault)
+    return str(absolute)
+
+
+@functools.lru_cache(maxsize=64)
+def find_fault(path: str, which: str, changed: int) -> str:
+    """Returns what is wrong with a program, where, and what to do; or nothing."""
+    from . import __version__
+
+    name = KNOWN[which][1][0]
+    try:
+        ended = call(path, ["--version"], b"")
+    except OSError as why:
+        if why.errno == errno.ENOEXEC:
+            return (f"the program {path} cannot be started: it is damaged, or made for another"
+                    f" processor than {os.uname().machine}: {AGAIN}")
+        return f"the program {path} cannot be started: {why.strerror}"
+    if ended.status != 0:
+        return ""
+    line = ended.text.partition("\n")[0]
+    found = re.fullmatch(r"([\w-]+) ([0-9][\w.+-]*)", line)
+    if found is None or found[1] != name:
+        return f"the program {path} is no {name}: to --version it answers {line[:80]!r}"
+    if found[2] != __version__:
+        return (f"the program {path} is of version {found[2]}, and this package of {__version__}:"
+                " install both from one release")
+    return ""
 
 
 class Ended(typing.NamedTuple):
@@ -50,6 +140,8 @@ class Ended(typing.NamedTuple):
     """Standard output."""
     line: str
     """Standard error, without its last line end."""
+    is_unproved: bool = False
+    """True if the program said in its first line that it was built without a proof."""
 
 
 def call(
@@ -73,10 +165,12 @@ def call(
         except BaseException:
             stop(process)
             raise
-    return Ended(
-        process.returncode, text.decode("utf-8", "surrogateescape"),
-        note.decode("utf-8", "surrogateescape").removesuffix("\n"),
-    )
+    said, line = (data.decode("utf-8", "surrogateescape") for data in (text, note))
+    front = NOT_PROVED.match(line)
+    if front:
+        line = line[front.end():]
+        said = NOT_PROVED.sub("", said, count=1) if NOT_PROVED.match(said) else said
+    return Ended(process.returncode, said, line.removesuffix("\n"), front is not None)
 
 
 def read_outputs(

@@ -19,7 +19,7 @@ from decimal import Decimal
 from fractions import Fraction
 
 from . import own_limits
-from .arguments import MOST_WEIGHT
+from .arguments import MOST_WEIGHT, SCORES
 from .effect import Effect, Number, test_effects
 from .errors import ReportRefused, extra
 
@@ -43,7 +43,6 @@ MOST_UNITS, MOST_EDGES, MOST_DISTRICTS, MOST_REGIONS, MOST_TRAJECTORIES, MOST_CU
 )
 MOST_SPLITS, MOST_BYTES = 995_000, 67_108_864
 MOST_SHARE, HALF_SHARE = 10_000, 5000
-SCORES = ("seats", "mean-median", "gap", "cut-edges", "cut-length")
 MOST_LENGTH = 2**32 - 1
 MOST_CUT_LENGTH = MOST_EDGES * MOST_LENGTH
 TAILS = ("low", "high")
@@ -211,7 +210,7 @@ class Audited:
     warnings: tuple[MapWarning, ...] = ()
     """Likely mistakes in the map, and in the question about it."""
     limits_from: str | None = None
-    """Where the limits come from, as the call says; None if it does not."""
+    """The source of the limits, as the call says; None if it does not."""
 
     def is_of(self, data: bytes) -> bool:
         """Returns whether these are the bytes that the program read."""
@@ -1240,7 +1239,7 @@ class Report:
     batch: Batch | None = dataclasses.field(default=None, compare=False)
     """The plans or elections among which this report is one; None if it is by itself."""
     has_pairs: bool = False
-    """Whether the text has lines of pairs, as `pairs=True` asks for."""
+    """True if the text has lines of pairs, as `pairs=True` asks for."""
 
     @classmethod
     def parse(cls, text: str) -> Report:

@@ -559,7 +559,8 @@ class Exceptions(common.ProgramCase):
             district_audit.check(CYCLE, program=self.wrapper("kill -9 $$"), **common.WORDS)
         self.assertEqual(caught.exception.status, -9)
         with self.assertRaises(district_audit.ReportRefused):
-            district_audit.check(CYCLE, program=self.wrapper("echo plan-check 2"), **common.WORDS)
+            line = "[ $1 = --version ] && exec PROGRAM; echo plan-check 2"
+            district_audit.check(CYCLE, program=self.wrapper(line), **common.WORDS)
 
     def test_the_program_is_found_by_name(self) -> None:
         (self.folder / "district-audit").symlink_to(self.program)

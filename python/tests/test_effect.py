@@ -9,6 +9,7 @@ from common import EXAMPLES, KEY, ProgramCase, WORDS, Words, anything, example, 
 
 import district_audit
 from district_audit import effect
+from district_audit.arguments import SCORES
 
 DRAWS = 2**64
 # A number a + b sqrt(x), as the pair of a and b.
@@ -249,9 +250,7 @@ class TheoremTests(unittest.TestCase):
         for name, (make, plans) in self.CHAINS.items():
             chain = anything(make)()
             self.assertEqual(len(chain.plans), plans, name)
-            for score, tail in itertools.product(
-                ("seats", "gap", "mean-median", "cut-edges"), ("low", "high")
-            ):
+            for score, tail in itertools.product(SCORES[:4], ("low", "high")):
                 tails = [chain.is_extreme(score, tail, start) for start in range(plans)]
                 for steps in (1, 2, 3, 5, 8):
                     found = [chain.counts(tails[start], start, steps) for start in range(plans)]

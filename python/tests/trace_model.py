@@ -11,7 +11,7 @@ import district_audit
 from common import Root, Value, Words
 from tests.oracle import model
 
-SCORES = ["seats", "mean-median", "gap", "cut-edges"]
+SCORES = list(model.SCORES[:4])
 COLUMNS: Words = dict(pop="pop", first="a", second="b", district="d")
 
 # A path of four units in two districts: a walk of five steps, in two of which unit 1 moves there
@@ -154,13 +154,8 @@ def visit(job: model.Job, number: int) -> list[tuple[typing.Sequence[int], int]]
     """Returns the plans and the moves of a trajectory: a list of both after each step, and how many
     steps.
     """
-    setting, plan = job.setting, tuple(job.plan)
-    if number < setting.walks:
-        plans = job.walk(plan, 2 * number, setting.steps)[0]
-    else:
-        hub = job.walk(plan, 1, setting.hub_steps)[0][-1]
-        plans = job.walk(hub, 2 * (number - setting.walks) + 3, setting.hub_steps)[0]
-    moves = [0]
+    hub = job.walk(tuple(job.plan), 1, job.setting.hub_steps)[0][-1]
+    plans, moves = model.trajectory_plans(job, number, hub), [0]
     for before, after in zip(plans, plans[1:]):
         moves.append(moves[-1] + (before != after))
     return list(zip(plans, moves))
@@ -172,40 +167,8 @@ def shown_steps(steps: int, thin: int) -> list[int]:
 
 def text_of(job: model.Job, first: int, last: int, thin: int) -> str:
     """Returns the trace of some trajectories."""
-    setting, start = job.setting, tuple(job.plan)
-    lines = [
-        "district-trace 1",
-        *model.origin_lines(job),
-        "key " + setting.key.hex(),
-        *model.head(job),
-        (
-            f"walks {setting.walks} steps {setting.steps} ends {setting.ends} "
-            f"hub-steps {setting.hub_steps}"
-        ),
-    ]
-    lines += [
-        f"ask {score} {tail} start {job.value(start, score)}/{job.denominator(score)}"
-        for score, tail in setting.asks
-    ]
-    for number in range(first, last + 1):
-        plans = visit(job, number)
-        lines.append(f"trace id {number} steps {len(plans) - 1} thin {thin}")
-        before: typing.Sequence[int] = start
-        for step in shown_steps(len(plans) - 1, thin):
-            plan, moved = plans[step]
-            words = [
-                step,
-                moved,
-                *(job.value(plan, score) for score, _ in setting.asks),
-                *(
-                    f"{unit}:{district}"
-                    for unit, district in enumerate(plan)
-                    if district != before[unit]
-                ),
-            ]
-            lines.append(" ".join(map(str, words)))
-            before = plan
-    return "\n".join([*lines, "end", ""])
+    text: str = model.trace_text(job, first, last, thin)
+    return text
 
 
 def scores_by_hand(root: Root, assignment: typing.Mapping[Value, Value]) -> dict[str, object]:

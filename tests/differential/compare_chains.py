@@ -30,18 +30,9 @@ from collections.abc import Sequence
 
 from tests.checks import End
 from tests.differential import compare_walks
-from tests.oracle.checkpoints import fault, generation_and_count, old_checkpoint, outcomes_in
+from tests.oracle import model
 
 SLOTS = ("audit-0.ckpt", "audit-1.ckpt")
-
-
-def words_of(job: compare_walks.Job, asked: compare_walks.Trajectories) -> list[str]:
-    words = [
-        "run", "--pop", "POP", "--first", "A", "--second", "B", "--district", "CD", "--slack",
-        str(job.slack), "--key", job.key.hex(), "--ask",
-        ",".join(":".join(ask) for ask in asked.asks),
-    ]
-    return words + compare_walks.trajectory_words(asked) + compare_walks.rule_words(job)
 
 
 def spoil(chance: random.Random, folder: str) -> None:
@@ -53,38 +44,30 @@ def spoil(chance: random.Random, folder: str) -> None:
         file.write_bytes(content)
 
 
-def read_valid(folder: str) -> list[bytes | None]:
-    """Returns the bytes of each file, or None where it is not intact."""
+def read_slots(folder: str) -> list[model.Slot]:
+    """Returns the state of each file."""
     files = [pathlib.Path(folder, name) for name in SLOTS]
-    return [
-        file.read_bytes() if file.exists() and fault(file.read_bytes()) is None else None
-        for file in files
-    ]
+    return [model.decode(file.read_bytes() if file.exists() else None) for file in files]
 
 
 def downgrade(folder: str) -> None:
     """Writes all intact files in the first version of the format, without bins."""
-    for name, data in zip(SLOTS, read_valid(folder)):
-        if data:
-            generation = generation_and_count(data)[0]
-            pathlib.Path(folder, name).write_bytes(
-                old_checkpoint(data[12:44], generation, outcomes_in(data))
-            )
+    for name, slot in zip(SLOTS, read_slots(folder)):
+        if slot.fault is None:
+            found = model.outcomes_in(slot)
+            data = model.checkpoint(slot.job, slot.generation, found, version=1)
+            pathlib.Path(folder, name).write_bytes(data)
 
 
 def count_saved(folder: str, walks: int, shift: str) -> int:
     """Returns the number of outcomes from which a run goes on, 0 if no file is valid."""
-    zero, one = read_valid(folder)
-    if zero is None or one is None:
-        newest = zero or one
-    else:
-        first, second = (generation_and_count(data)[0] for data in (zero, one))
-        newest = one if second == (first + 1) % 3 else zero
+    slots = read_slots(folder)
+    newest = model.newest(slots)
     if newest is None:
         return 0
     return sum(
         shift == "no" or number >= walks or any(outcome.bins)
-        for number, outcome in outcomes_in(newest).items()
+        for number, outcome in model.outcomes_in(slots[newest]).items()
     )
 
 
@@ -171,18 +154,14 @@ def main(
     chance = random.Random(seed)
     same, counts = 0, Counts()
     for number in range(graphs):
-        job = compare_walks.drawn_job(chance)
-        numbers = (
-            chance.randint(1, 30), 2 ** chance.randint(5, 14) - 1, chance.randint(0, 20),
-            chance.randint(10, 5000),
-        )
-        asks = [
-            (score, chance.choice(("low", "high")))
-            for score in ("seats", "mean-median", "gap", "cut-edges")
+        drawn, walks = compare_walks.drawn_job(chance), chance.randint(1, 30)
+        words = [
+            "run", *drawn.words, "--walks", str(walks), "--steps",
+            str(2 ** chance.randint(5, 14) - 1), "--ends", str(chance.randint(0, 20)),
+            "--hub-steps", str(chance.randint(10, 5000)), *compare_walks.draw_asks(chance),
         ]
-        words = words_of(job, compare_walks.Trajectories(*numbers, asks))
-        text = compare_walks.document(job)
-        audit = Audit(program, words, numbers[0], text, workers, save)
+        text = drawn.text
+        audit = Audit(program, words, walks, text, workers, save)
         with tempfile.TemporaryDirectory() as folder:
             found, asked = chain(chance, audit, folder, counts)
             wanted = run(program, [*words, *asked], text, folder, 600)

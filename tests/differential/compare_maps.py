@@ -32,7 +32,7 @@ from tests.parsers import add_draws, comparing_parser
 from tests.oracle import model
 from tests.places import package_command, package_environment
 
-ASKS = ("seats", "mean-median", "gap", "cut-edges")
+ASKS = model.SCORES[:4]
 # A node of a graph, or the entry of a neighbor: its values by their columns.
 Entry = dict[str, typing.Union[int, str]]
 

@@ -36,7 +36,7 @@ from tests.parsers import add_draws, comparing_parser
 from tests.oracle import model
 
 BASE = "--pop pop --first a --second b --district d".split()
-ASKS = ("seats", "mean-median", "gap", "cut-edges")
+ASKS = model.SCORES[:4]
 RULES = (
     "--max-cut", "--max-split", "--max-splits", "--max-split-regions", "--group-districts",
     "--max-length",

@@ -24,15 +24,10 @@ from collections import Counter
 import networkx
 
 from tests.differential.compare_walks import (
-    Job,
-    Trajectories,
-    drawn_graph,
-    drawn_plan,
-    call_run,
-    report,
+    Drawn, call_run, drawn_columns, drawn_graph, judge, report,
 )
 
-ASKS = [("seats", "low"), ("mean-median", "high"), ("gap", "low"), ("cut-edges", "high")]
+ASKS = "seats:low,mean-median:high,gap:low,cut-edges:high"
 
 
 def tree(chance: random.Random) -> networkx.Graph:
@@ -141,17 +136,13 @@ def renumber(chance: random.Random, graph: networkx.Graph) -> networkx.Graph:
     return relabelled
 
 
-def drawn_job(chance: random.Random, shape: str) -> Job:
+def drawn_job(chance: random.Random, shape: str) -> Drawn:
     while True:
         graph = renumber(chance, SHAPES[shape](chance))
-        districts = chance.randint(2, min(5, len(graph) // 2))
-        people, first, second = ([chance.randint(low, 9) for _ in graph] for low in (1, 0, 0))
-        first[0] += 1
-        plan = drawn_plan(chance, graph, districts)
-        for slack in (3000, 6000, 9000, 10000):
-            job = Job(graph, plan, people, first, second, districts, slack, chance.randbytes(32))
-            if job.is_legal(plan):
-                return job
+        columns = drawn_columns(chance, graph, chance.randint(2, min(5, len(graph) // 2)))
+        drawn = judge(graph, columns, chance.randbytes(32), (3000, 6000, 9000, 10000))
+        if drawn:
+            return drawn
 
 
 def main(program: str, graphs: int = 50, seed: int = 1, steps: int = 2000) -> int:
@@ -161,10 +152,13 @@ def main(program: str, graphs: int = 50, seed: int = 1, steps: int = 2000) -> in
     moves: Counter[str] = Counter()
     for number in range(graphs):
         shape = list(SHAPES)[number % len(SHAPES)]
-        job = drawn_job(chance, shape)
-        asked = Trajectories(1, steps, 3, steps // 10, ASKS)
-        wanted = report(job, asked)
-        answer = call_run(program, job, asked, chance.randint(1, 4))
+        drawn = drawn_job(chance, shape)
+        words = [
+            "--walks", "1", "--steps", str(steps), "--ends", "3", "--hub-steps", str(steps // 10),
+            "--ask", ASKS,
+        ]
+        wanted = report(drawn, words)
+        answer = call_run(program, drawn, [*words, "--workers", str(chance.randint(1, 4))])
         tried[shape] += 1
         same[shape] += answer == wanted
         moves[shape] += int(

@@ -22,7 +22,7 @@ from collections.abc import Sequence
 from tests.checks import End
 from tests.oracle import model
 
-SCORES = ["seats", "mean-median", "gap", "cut-edges"]
+SCORES = model.SCORES[:4]
 
 
 @dataclasses.dataclass(frozen=True)

@@ -9,6 +9,7 @@ import pathlib
 import sys
 
 from tests.checks import Checks, run
+from tests.oracle import model
 from tests.places import DATA, EXAMPLES, python_with
 
 KEY = "0" * 64
@@ -49,11 +50,8 @@ def main() -> int:
         checks.count_missing("write_plans", "pandas")
     plans_of_table(checks, auditor)
     words = ["run", *CYCLE, "--ask", "gap:low,gap:high", "--key", KEY]
-    end = run(
-        [sys.executable, "-m", "tests.oracle.checkpoints", *words],
-        (DATA / "cycle.json").read_bytes(),
-    )
-    checks.is_equal("digest_of_cycle", end.out.partition("\n")[0], f"digest {CYCLE_DIGEST}")
+    job = model.job_of(model.Setting(words), (DATA / "cycle.json").read_bytes())
+    checks.is_equal("digest_of_cycle", job.digest().hex(), CYCLE_DIGEST)
     return checks.finish()
 
 

@@ -1007,13 +1007,13 @@ class Job:
         return count * (shares[(count - 1) // 2] + shares[count // 2]) - 2 * sum(shares)
 
     def denominator(self, score: str) -> int:
-        return {
-            "seats": 1,
-            "cut-edges": 1,
-            "cut-length": 1,
-            "mean-median": 2 * self.districts * BILLION,
-            "gap": 2 * (sum(self.first) + sum(self.second)),
-        }[score]
+        if score == "mean-median":
+            return 2 * self.districts * BILLION
+        if score == "gap":
+            return 2 * (sum(self.first) + sum(self.second))
+        if score not in ("seats", "cut-edges", "cut-length"):
+            raise ValueError(f"unknown score {score}")
+        return 1
 
     def has_split_limits(self) -> bool:
         """Returns whether there are regions whose splits, or whose split ones, are limited."""
@@ -1455,15 +1455,19 @@ def outcomes_in(slot: Slot) -> dict[int, Outcome]:
 # ---- traces
 
 
+def trajectory_plans(job: Job, number: int, hub: Plan) -> list[Plan]:
+    """Returns the plans that the trajectory with this id visits."""
+    setting = job.setting
+    if number < setting.walks:
+        return job.walk(tuple(job.plan), 2 * number, setting.steps)[0]
+    return job.walk(hub, 2 * (number - setting.walks) + 3, setting.hub_steps)[0]
+
+
 def trajectory_lines(job: Job, number: int, thin: int, hub: Plan) -> list[str]:
     """Returns the lines of the trajectory with this id, by the model's walk."""
-    setting = job.setting
+    setting, visited = job.setting, trajectory_plans(job, number, hub)
     before: Plan = tuple(job.plan)
-    if number < setting.walks:
-        first, stream, steps = before, 2 * number, setting.steps
-    else:
-        first, stream, steps = hub, 2 * (number - setting.walks) + 3, setting.hub_steps
-    visited = job.walk(first, stream, steps)[0]
+    steps = len(visited) - 1
     lines, moved, shown = (
         [f"trace id {number} steps {steps} thin {thin}"], 0, {*range(0, steps, thin), steps},
     )

@@ -78,18 +78,15 @@ def built_program(
     checks: Checks, kit: Kit, clone: pathlib.Path, checked: pathlib.Path
 ) -> pathlib.Path:
     """Builds and links the auditor in a clone; the first time it is proved, too."""
-    words = [*kit.words(PROGRAM, "src/main.rt"), "--links", f"{PROGRAM}="]
     folder = clone / "crates" / PROGRAM
     if not checked.exists():
-        end = kit.rattle(folder, ["check", *words, *kit.logic(), "-o", str(checked)])
-        checks.has_status("program_is_proved", end)
-    tools = ["--toolchain", str(kit.folder / "toolchain")]
+        checks.has_status("program_is_proved", kit.prove(folder, PROGRAM, checked))
     made = folder / "out" / PROGRAM
     made.parent.mkdir(exist_ok=True)
-    words = ["build", *words, "--crate-checked", str(checked), *tools, "--backend", "llvm"]
-    checks.has_status("program_builds", kit.rattle(folder, [*words, "-o", f"{made}.o"]))
-    words = ["--target", "x86_64-unknown-linux-gnu", *tools, "-o", str(made), f"{made}.o"]
-    words += [str(kit.folder / "c" / name) for name in ("libos_c.a", "liblibc_c.a")]
+    built = pathlib.Path(f"{made}.o")
+    checks.has_status("program_builds", kit.compile(folder, PROGRAM, checked, "llvm", built))
+    words = ["--target", "x86_64-unknown-linux-gnu", "--toolchain", str(kit.folder / "toolchain")]
+    words += ["-o", str(made), str(built), *kit.c_libraries()]
     checks.has_status("program_links", run([kit.folder / "bin" / "rattle-link", *words]))
     return made
 

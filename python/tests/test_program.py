@@ -1,0 +1,152 @@
+"""The programs that the package calls: those of its wheel, and programs that it must not call."""
+import importlib.util
+import os
+import pathlib
+import struct
+import subprocess
+import unittest
+import venv
+
+import common
+import district_audit
+from district_audit.program import find_program
+
+VERSION = district_audit.__version__
+SHOW = "from district_audit.program import find_program; print(find_program('audit'))"
+
+
+def answering(text: str) -> bytes:
+    """Returns a script that answers with a text."""
+    return f"#!/bin/sh\necho '{text}'\n".encode()
+
+
+def elf_of(machine: int) -> bytes:
+    """Returns the head of an executable for a processor, with no code."""
+    head = b"\x7fELF\x02\x01\x01" + bytes(9)
+    return head + struct.pack("<HHIQQQIHHHHHH", 2, machine, 1, 0, 64, 0, 0, 64, 56, 0, 64, 0, 0)
+
+
+class ProgramsThatAreRefused(common.FolderCase):
+    """Each is refused before a run, by a named error that says what to do."""
+
+    def refuse(self, data: bytes, said: str, which: str = "audit") -> None:
+        path = self.folder / "a-program"
+        path.write_bytes(data)
+        path.chmod(0o755)
+        with self.assertRaisesRegex(district_audit.WrongProgram, said):
+            find_program(which, path)
+        variable = "DISTRICT_AUDIT" if which == "audit" else "DISTRICT_AUDIT_SLOTS"
+        with common.environment(**{variable: str(path)}):
+            with self.assertRaisesRegex(district_audit.WrongProgram, said):
+                find_program(which)
+
+    def test_another_version(self) -> None:
+        self.refuse(
+            answering("district-audit 0.0.9"),
+            f"is of version 0.0.9, and this package of {VERSION}: install both from one release",
+        )
+
+    def test_another_program(self) -> None:
+        self.refuse(answering("plan-check 1"), "is no district-audit: to --version it answers")
+        self.refuse(answering(f"audit_slots {VERSION}"), "is no district-audit")
+        self.refuse(answering(f"district-audit {VERSION}"), "is no audit_slots", "slots")
+
+    def test_another_processor_or_a_damaged_file(self) -> None:
+        said = "it is damaged, or made for another processor than"
+        self.refuse(elf_of(183), said)
+        self.refuse(b"\x7fELF" + bytes(40), said)
+
+    def test_the_command_says_so_in_one_line(self) -> None:
+        path = self.folder / "district-audit"
+        path.write_bytes(elf_of(183))
+        path.chmod(0o755)
+        env = {**os.environ, "DISTRICT_AUDIT": str(path), "PYTHONPATH": str(common.TOP / "python")}
+        code = "import sys; from district_audit.commands import run; sys.exit(run())"
+        words = ["check", str(common.EXAMPLES / "data" / "cycle.json"), "--pop", "pop", "--first",
+                 "a", "--second", "b", "--district", "d", "--slack", "5000"]
+        end = subprocess.run(
+            ["python3", "-c", code, *words], env=env, capture_output=True, text=True, check=False
+        )
+        self.assertNotIn("Traceback", end.stderr)
+        self.assertIn("made for another processor", end.stderr)
+        self.assertNotEqual(end.returncode, 0)
+
+
+class ProgramsOfAWheel(common.FolderCase):
+    """A wheel with stand-ins for the programs, in an environment that is not activated."""
+
+    def make_wheel(self) -> pathlib.Path:
+        place = common.TOP / "python" / "backend" / "in_tree.py"
+        spec = importlib.util.spec_from_file_location("in_tree", place)
+        assert spec is not None and spec.loader is not None
+        backend = importlib.util.module_from_spec(spec)
+        spec.loader.exec_module(backend)
+        programs = {
+            name: answering(f"{name} {VERSION}")
+            for name in ("district-audit", "audit_slots", "audit_gather")
+        }
+        programs["district-audit.origin"] = b"proved yes\n"
+        return self.folder / str(backend.build_release_wheel(str(self.folder), programs))
+
+    def show(self, **more: str) -> "subprocess.CompletedProcess[str]":
+        """Returns how the environment's Python ends that asks for the program."""
+        env = {"PATH": "/usr/bin:/bin", "HOME": str(self.folder), **more}
+        return subprocess.run(
+            [self.folder / "venv" / "bin" / "python", "-c", SHOW], env=env, cwd=self.folder,
+            capture_output=True, text=True, check=False,
+        )
+
+    def refuses(self, said: str) -> None:
+        end = self.show()
+        self.assertIn("WrongProgram", end.stderr)
+        self.assertIn(said, end.stderr)
+        self.assertIn("pip install --force-reinstall", end.stderr)
+
+    def test_they_are_found_and_kept_apart(self) -> None:
+        common.needs("ensurepip")
+        venv.create(self.folder / "venv", with_pip=True)
+        folder = self.folder / "venv" / "bin"
+        words = ["-m", "pip", "install", "--no-index", "-q", str(self.make_wheel())]
+        pip = [str(folder / "python"), *words]
+        subprocess.run(pip, check=True, capture_output=True)
+        program = folder / "district-audit"
+        self.assertEqual(self.show().stdout, f"{program}\n", self.show().stderr)
+        self.assertTrue((folder / "district-audit.origin").is_file())
+        self.assertTrue(os.access(folder / "audit_gather", os.X_OK))
+        other = self.folder / "other"
+        other.mkdir()
+        (other / "district-audit").write_bytes(answering(f"district-audit {VERSION}"))
+        (other / "district-audit").chmod(0o755)
+        end = self.show(PATH=f"{other}:/usr/bin:/bin")
+        self.assertEqual(end.stdout, f"{program}\n", "the program of the wheel goes first")
+        end = self.show(DISTRICT_AUDIT=str(other / "district-audit"))
+        self.assertEqual(end.stdout, f"{other / 'district-audit'}\n")
+        program.write_bytes((folder / "audit_slots").read_bytes())
+        self.refuses("is not the one of this package")
+        program.unlink()
+        self.refuses("of this package is missing")
+
+
+class TextsWithoutAProof(common.FolderCase):
+    """A build without a proof is used only if it is asked for, and its first line is understood."""
+
+    def make(self) -> pathlib.Path:
+        path = self.folder / "district-audit-unproved"
+        line = "district-audit-unproved: NOT PROVED: this build was made without a proof"
+        path.write_text(
+            f"#!/bin/sh\necho '{line}'\necho '{line}' >&2\necho district-audit {VERSION}\n"
+        )
+        path.chmod(0o755)
+        return path
+
+    def test_it_is_found_where_it_is_asked_for(self) -> None:
+        path = self.make()
+        with common.environment(PATH=f"{self.folder}:/usr/bin:/bin", DISTRICT_AUDIT=None):
+            with self.assertRaises(district_audit.ProgramMissing):
+                find_program("audit")
+            self.assertEqual(find_program("audit", unproved=True), str(path))
+        self.assertEqual(find_program("audit", path), str(path))
+
+
+if __name__ == "__main__":
+    unittest.main()
