@@ -155,13 +155,13 @@ def walks_figure(number: int, title: str, rows: list[Row]) -> str:
     for power in range(decades + 1):
         value = 10.0**-power
         parts.append(
-            line(scale(value), 12, scale(value), bottom, 'stroke="#999" stroke-width="0.7"')
+            line(scale(value), 14, scale(value), bottom, 'stroke="#999" stroke-width="0.7"')
         )
         if power % every == 0:
             label = "1" if power == 0 else f"1/{10 ** power:,}"
             parts.append(text(scale(value), bottom + 16, label, "middle"))
-    parts.append(line(scale(0.05), 12, scale(0.05), bottom, 'stroke="#000" stroke-dasharray="5 4"'))
-    parts.append(text(scale(0.05), 9, "0.05", "middle"))
+    parts.append(line(scale(0.05), 14, scale(0.05), bottom, 'stroke="#000" stroke-dasharray="5 4"'))
+    parts.append(text(scale(0.05), 11, "0.05", "middle"))
     for row, place in zip(rows, places):
         y = place.middle
         parts.append(paragraph(LEFT - GAP, y, place.label, "end"))
