@@ -21,6 +21,7 @@ from .exhibit_counting import find_announced_for, multiply, tell_announced
 from .exhibit_custody import (
     NOT_PROVED,
     custody_of,
+    limits_line,
     preparation_lines,
     program_of,
     program_rows,
@@ -153,6 +154,7 @@ def page(plans: Named, options: Options) -> str:
         list_asks(first, parties, scores),
         heading("How it was done"),
         *paragraphs(texts.methods(first, options.called)),
+        *paragraphs(filter(None, [limits_line(first)])),
         *about_preparation(first),
         heading("Results"),
         *results(plans, options, parties, graph),

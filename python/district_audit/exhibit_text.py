@@ -204,7 +204,7 @@ def legality(report: Report, names: Names = Names()) -> str:
     return said[0] + more + "."
 
 
-def weighed(report: Report) -> str:
+def describe_weight(report: Report) -> str:
     """Returns what a step asks beside legality if cut edges are weighed."""
     weight = report.rules.cut_weight
     if weight is None:
@@ -222,7 +222,7 @@ def methods(report: Report, names: Names = Names()) -> list[str]:
     found = [
         "The program changes a plan in small random steps. A step names one unit and one district "
         "at random, and moves the unit there if the resulting plan is legal"
-        + weighed(report)
+        + describe_weight(report)
         + "; otherwise the plan stays, and counts again. "
         + legality(report, names)
         + " The enacted plan meets these rules. All random draws come from the key below."

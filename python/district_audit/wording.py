@@ -5,12 +5,13 @@ import dataclasses
 import re
 import typing
 
-from .report import MOST_REGIONS, MOST_SPLITS, MOST_WEIGHT, Rules, weight_text
+from .arguments import MOST_WEIGHT
+from .report import MOST_REGIONS, MOST_SPLITS, Rules, weight_text
 
 
 @dataclasses.dataclass(frozen=True)
 class Names:
-    """What a page or picture calls the things that a report has no names for."""
+    """Names of the things that a report has no names for."""
 
     group: str = ""
     """The group, as "Black voting-age population"."""

@@ -219,7 +219,8 @@ class ShownTests(unittest.TestCase):
     def test_exhibit_shows_pairs_and_counts_them(self) -> None:
         page = exhibit.page([("", Report.parse(paired_text()))], exhibit.Options())
         for words in (
-            "walks 0 and 1", "10 of 200001", "Bound of a pair of walks", "It has 12 bounds and p-values itself; the least is 0.000100000",
+            "walks 0 and 1", "10 of 200001", "Bound of a pair of walks",
+            "It has 12 bounds and p-values itself; the least is 0.000100000",
             "--pairs yes",
         ):
             self.assertIn(words, page)
