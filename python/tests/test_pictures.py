@@ -12,6 +12,7 @@ from test_exhibit import TEXTS, shift_report
 import district_audit
 from district_audit import PlanReports, Report, exhibit, wording
 from district_audit import report as reading
+from district_audit.arguments import SCORES
 
 LONG = (
     "The Very Long Established Progressive Conservative Union Party of the Northern Territories",
@@ -107,8 +108,8 @@ class Layout(common.FolderCase):
         """The texts of each figure's SVG, measured by matplotlib, are inside and do not meet."""
         for name, text in TEXTS.items():
             report = Report.parse(text)
-            wide = {score: f"-{'1234567890 ' * 9}" for score in reading.SCORES}
-            for enacted in ({score: "3" for score in reading.SCORES}, wide):
+            wide = {score: f"-{'1234567890 ' * 9}" for score in SCORES}
+            for enacted in ({score: "3" for score in SCORES}, wide):
                 drawn = exhibit.drawings(report, enacted, LONG, 1, LONG[1])
                 self.assertTrue(drawn, name)
                 for figure in drawn:
