@@ -122,7 +122,7 @@ def prepare_call(command: str, graph: object, words: Words) -> Given:
     and what `prepare` answered go to the program as they are.
     """
     named = plain_words(command, words)
-    path, made = None, getattr(graph, "custody", None)
+    path, made = None, graph.custody if isinstance(graph, Prepared) else None
     limits_from = own_limits.source_of_limits(command, named.pop("limits_from", None))
     taken = {name: named.pop(name) for name in PREPARING if name in named}
     rules = typing.cast(Preparation, taken)

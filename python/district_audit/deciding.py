@@ -33,7 +33,7 @@ def numbers_by_name(report: Report) -> dict[str, Decimal]:
     found = {f"walk {walk.number} {walk.ask}": walk.bound for walk in report.walks}
     if report.setting.walks == 1:
         found.update({f"walk {walk.ask}": walk.bound for walk in report.walks})
-    for pair in getattr(report, "pairs", ()):
+    for pair in report.pair_lines:
         found[f"pair {pair.first} {pair.second} {pair.ask}"] = pair.bound
     found.update({f"stop {test.ask}": test.p for test in report.stops})
     found.update({f"ends {test.ask}": test.p for test in report.ends})

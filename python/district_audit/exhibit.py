@@ -21,6 +21,7 @@ from .exhibit_counting import find_announced_for, multiply, tell_announced
 from .exhibit_custody import (
     NOT_PROVED,
     custody_of,
+    limits_line,
     preparation_lines,
     program_of,
     program_rows,
@@ -39,6 +40,7 @@ from .exhibit_districts import (
 )
 from .exhibit_figures import escape
 from .report import MOST_REGIONS, MOST_SPLITS, Report, weight_text
+from .wording import Names, add_article, read_names
 
 PathLike = typing.Union[str, "os.PathLike[str]"]
 # A report with more lines than this is shown in part; its hash is of all of it.
@@ -81,6 +83,15 @@ class Options:
     alpha: Number | None = None
     decides: str | None = None
     manifest: PathLike | None = None
+    names: typing.Mapping[str, str] | None = None
+    geometry: object = None
+    plan: object = None
+    ids: str | None = None
+
+    @property
+    def called(self) -> Names:
+        """What the page calls the group, the regions and lengths."""
+        return read_names(self.names)
 
 
 def write(path: PathLike, plans: Named, options: Options) -> None:
@@ -102,6 +113,9 @@ def exhibit_plans(
     alpha: Number | None = None,
     decides: str | None = None,
     manifest: PathLike | None = None,
+    names: typing.Mapping[str, str] | None = None,
+    geometry: object = None,
+    ids: str | None = None,
 ) -> None:
     """Writes one page on several plans: what `district_audit.plans` returns, names and reports.
 
@@ -109,7 +123,8 @@ def exhibit_plans(
     first. Raises ValueError if the reports are not of one call, or are those of several elections.
     """
     options = Options(
-        title, parties, graph, columns, command, notes, epsilon, alpha, decides, manifest
+        title, parties, graph, columns, command, notes, epsilon, alpha, decides, manifest, names,
+        geometry, None, ids,
     )
     write(path, plans, options)
 
@@ -138,7 +153,8 @@ def page(plans: Named, options: Options) -> str:
         heading("What was asked"),
         list_asks(first, parties, scores),
         heading("How it was done"),
-        *paragraphs(texts.methods(first)),
+        *paragraphs(texts.methods(first, options.called)),
+        *paragraphs(filter(None, [limits_line(first)])),
         *about_preparation(first),
         heading("Results"),
         *results(plans, options, parties, graph),
@@ -302,12 +318,16 @@ def results(
     parts = [] if announced is None else paragraphs([tell_announced(plans, announced)])
     number = 1
     for place, (name, report) in enumerate(plans):
-        enacted = {score: texts.show(score, value) for score, value in starts_of(report).items()}
+        enacted = {
+            score: texts.show(score, value, options.called)
+            for score, value in starts_of(report).items()
+        }
         parts += [f"<h3>Plan {escape(name)}</h3>"] if len(plans) > 1 else []
         if graph is not None and place == 0:
-            parts += district_table(report, districts_of(report, graph), parties, graph.is_exact)
+            found = districts_of(report, graph)
+            parts += district_table(report, found, parties, graph.is_exact, options.called)
         parts += paragraphs(texts.findings(report, enacted, parties))
-        parts += [result_table(report)]
+        parts += [result_table(report, options.called)]
         parts += [] if announced is not None else paragraphs([multiply(report, len(plans))])
         if options.epsilon is not None and options.alpha is not None and report.walks:
             parts += effect_table(report.effect(options.epsilon, options.alpha))
@@ -317,12 +337,12 @@ def results(
     return parts
 
 
-def result_table(report: Report) -> str:
-    """Returns a row for each line of a test, with the enacted value as written and as a decimal."""
+def result_table(report: Report, names: Names = Names()) -> str:
+    """Returns a row for each line of a test, with the enacted value as a decimal and as written."""
     rows: list[tuple[object, ...]] = []
 
     def value(score: str, start: object, fraction: Fraction) -> tuple[str, str]:
-        return str(start), texts.show(score, fraction)
+        return texts.show(score, fraction, names), str(start)
 
     is_long = report.setting.walks > figures.MOST_ROWS
     for walk in () if is_long else report.walks:
@@ -385,7 +405,7 @@ def result_table(report: Report) -> str:
             )
         )
     return table(
-        ("test", "ask", "enacted value", "in decimals", "at least as extreme", "result"),
+        ("test", "ask", "enacted value", "exact fraction", "at least as extreme", "result"),
         rows,
         plain=2,
         kind="results",
@@ -439,7 +459,7 @@ def drawings(
         )
     if shift is not None and max(shift.counts) > 0:
         seats = starts_of(report).get("seats")
-        title = f"Districts won by {parties[0]} in the visited plans{of_plan}"
+        title = f"Districts won by {add_article(parties[0])} in the visited plans{of_plan}"
         found.append(
             figures.seats_figure(
                 number + len(found),
@@ -457,15 +477,16 @@ def district_table(
     districts: typing.Sequence[District],
     parties: tuple[str, str],
     is_exact: bool,
+    names: Names = Names(),
 ) -> list[str]:
     """Returns the table of the districts of the enacted plan, and its total deviation."""
     ideal = Fraction(report.population, len(districts))
     has_group = any(one.group is not None for one in districts)
     titles = [
-        "district", "units", "people", "from ideal", "in %", "votes of " + parties[0],
-        "votes of " + parties[1], f"share of {parties[0]}, %", "won by",
+        "district", "units", "people", "from ideal", "in %", "votes of " + add_article(parties[0]),
+        "votes of " + add_article(parties[1]), f"share of {add_article(parties[0])}, %", "won by",
     ]
-    titles += ["group, %"] if has_group else []
+    titles += [f"{names.group or 'group'}, %"] if has_group else []
     rows = []
     for one in districts:
         off = one.population - ideal

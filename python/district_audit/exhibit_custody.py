@@ -98,6 +98,12 @@ def preparation_lines(custody: Custody) -> list[str]:
     return found or ["Nothing was changed."]
 
 
+def limits_line(report: Report) -> str:
+    """Returns where the limits come from, as the makers of the report said; empty without it."""
+    said = None if report.audited is None else report.audited.limits_from
+    return "" if said is None else f"The makers say where the limits come from: {said}."
+
+
 def versions_line(custody: Custody) -> str:
     """Returns the versions of the packages that took part."""
     said = [f"{name} {version}" for name, version in custody.versions.items()]
@@ -110,5 +116,5 @@ def warnings_of(reports: typing.Iterable[Report]) -> list[str]:
     for report in reports:
         custody = custody_of(report)
         found += [] if custody is None else [text for _, text in custody.warnings]
-        found += map(str, getattr(report, "warnings", ()))
+        found += map(str, report.warnings)
     return list(dict.fromkeys(found))

@@ -10,14 +10,15 @@ import typing
 import unicodedata
 from decimal import Decimal
 
+from .measuring import LINE, width, wrap
 from .report import SEATS, Ends, Report, Serial, Shift, Walk
 
 # A question with more walks than this has one row for all of them.
-# The greatest width of a character of a label, in the units of a figure.
-CHARACTER = 8
 MOST_ROWS = 8
 # The drawing area of a figure: its left and right end, in units of the SVG.
 LEFT, RIGHT, WIDTH = 300.0, 590.0, 900.0
+# The free room beside a text.
+GAP = 8.0
 HATCH = (
     '<defs><pattern id="hatch" width="6" height="6" patternUnits="userSpaceOnUse" '
     'patternTransform="rotate(45)"><rect width="6" height="6" fill="#fff"/>'
@@ -39,6 +40,36 @@ def text(x: float, y: float, words: object, anchor: str = "start", more: str = "
         f'<text x="{x:.1f}" y="{y:.1f}"'
         f' text-anchor="{anchor}"{more and " " + more}>{escape(words)}</text>'
     )
+
+
+def paragraph(x: float, y: float, lines: typing.Sequence[str], anchor: str = "start") -> str:
+    """Returns lines of a text whose middle is at a height."""
+    first = y + 4 - LINE * (len(lines) - 1) / 2
+    return "".join(
+        text(x, first + LINE * place, words, anchor) for place, words in enumerate(lines)
+    )
+
+
+class Fitted(typing.NamedTuple):
+    """A row whose texts are in lines that fit: its middle, its height, and both texts."""
+
+    middle: float
+    height: float
+    label: list[str]
+    words: list[str]
+
+
+def fit_rows(
+    rows: typing.Sequence[Row | Rank], top: float, least: float
+) -> list[Fitted]:
+    """Returns the places of rows below each other, the first of which begins at `top`."""
+    found = []
+    for row in rows:
+        label, words = wrap(row.label, LEFT - 2 * GAP), wrap(row.words, WIDTH - RIGHT - 2 * GAP)
+        height = least + LINE * (max(len(label), len(words)) - 1)
+        found.append(Fitted(top + height / 2, height, label, words))
+        top += height
+    return found
 
 
 def line(x1: float, y1: float, x2: float, y2: float, more: str = 'stroke="#000"') -> str:
@@ -115,32 +146,36 @@ def walks_figure(number: int, title: str, rows: list[Row]) -> str:
         place = 1 + min(math.log10(value), math.log10(2)) / decades
         return LEFT + (RIGHT - LEFT) * 0.86 * place
 
-    bottom = 26 + 26.0 * len(rows)
+    places = fit_rows(rows, 19, 26)
+    bottom = places[-1].middle + places[-1].height / 2 + 7
     parts = []
     # Labels that would run into each other are left out.
-    longest = CHARACTER * len(f"1/{10 ** decades:,}")
+    longest = width(f"1/{10 ** decades:,}") + GAP
     every = math.ceil(longest / (scale(1.0) - scale(0.1)))
     for power in range(decades + 1):
         value = 10.0**-power
         parts.append(
-            line(scale(value), 12, scale(value), bottom, 'stroke="#999" stroke-width="0.7"')
+            line(scale(value), 14, scale(value), bottom, 'stroke="#999" stroke-width="0.7"')
         )
         if power % every == 0:
             label = "1" if power == 0 else f"1/{10 ** power:,}"
             parts.append(text(scale(value), bottom + 16, label, "middle"))
-    parts.append(line(scale(0.05), 12, scale(0.05), bottom, 'stroke="#000" stroke-dasharray="5 4"'))
-    parts.append(text(scale(0.05), 9, "0.05", "middle"))
-    for place, row in enumerate(rows):
-        y = 32 + 26.0 * place
-        parts.append(text(LEFT - 8, y + 4, row.label, "end"))
-        parts.append(text(RIGHT + 8, y + 4, row.words))
-        for part, bound in row.points:
-            size = scale(bound)
-            parts.append(
-                f'<path d="M {size:.1f} {y - 6:.1f} l 6 6 l -6 6 l -6 -6 z" fill="#fff"'
-                ' stroke="#000"/>'
-            )
-            parts.append(f'<circle cx="{scale(part):.1f}" cy="{y:.1f}" r="4.5" fill="#000"/>')
+    parts.append(line(scale(0.05), 14, scale(0.05), bottom, 'stroke="#000" stroke-dasharray="5 4"'))
+    parts.append(text(scale(0.05), 11, "0.05", "middle"))
+    for row, place in zip(rows, places):
+        y = place.middle
+        parts.append(paragraph(LEFT - GAP, y, place.label, "end"))
+        parts.append(paragraph(RIGHT + GAP, y, place.words))
+        parts += [
+            f'<circle cx="{scale(part):.1f}" cy="{y:.1f}" r="4.5" fill="#000"/>'
+            for part, _ in row.points
+        ]
+        # Open diamonds hide nothing.
+        parts += [
+            f'<path d="M {scale(bound):.1f} {y - 7:.1f} l 7 7 l -7 7 l -7 -7 z" fill="none"'
+            ' stroke="#000"/>'
+            for _, bound in row.points
+        ]
     caption = (
         "Filled circle: the fraction of the visited plans that are at least as extreme as "
         "the enacted plan. Open diamond: the bound, which says nothing at 1 and above. The "
@@ -187,20 +222,21 @@ def label(ask: str, enacted: typing.Mapping[str, str]) -> str:
 
 def ranks_figure(number: int, title: str, rows: list[Rank]) -> str:
     """Returns the enacted plan's place among the plans that it is ranked with."""
-    bottom = 10 + 32.0 * len(rows)
-    width = RIGHT - LEFT
+    places = fit_rows(rows, 7, 32)
+    bottom = places[-1].middle + places[-1].height / 2 + 3
+    whole = RIGHT - LEFT
     parts = []
-    for place, row in enumerate(rows):
-        y, at = 14 + 32.0 * place, LEFT + width * row.part
-        parts.append(rectangle(LEFT, y, width, 18, "#fff"))
-        parts.append(rectangle(LEFT, y, width * row.part, 18, "url(#hatch)"))
+    for row, place in zip(rows, places):
+        y, at = place.middle - 9, LEFT + whole * row.part
+        parts.append(rectangle(LEFT, y, whole, 18, "#fff"))
+        parts.append(rectangle(LEFT, y, whole * row.part, 18, "url(#hatch)"))
         parts.append(line(at, y - 5, at, y + 23, 'stroke="#000" stroke-width="4"'))
-        parts.append(text(LEFT - 8, y + 14, row.label, "end"))
-        parts.append(text(RIGHT + 8, y + 14, row.words))
-    twentieth = LEFT + width / 20
+        parts.append(paragraph(LEFT - GAP, place.middle, place.label, "end"))
+        parts.append(paragraph(RIGHT + GAP, place.middle, place.words))
+    twentieth = LEFT + whole / 20
     parts.append(line(twentieth, 4, twentieth, bottom, 'stroke="#000" stroke-dasharray="5 4"'))
     for value, words in ((0.05, "0.05"), (0.5, "0.5"), (1.0, "1")):
-        parts.append(text(LEFT + width * value, bottom + 16, words, "middle"))
+        parts.append(text(LEFT + whole * value, bottom + 16, words, "middle"))
     caption = (
         "Thick mark: the enacted plan. The hatched part left of it holds the plans that are "
         "at least as extreme, the enacted plan among them. The most extreme plan is at the "

@@ -7,6 +7,7 @@ from fractions import Fraction
 from .exhibit_counting import numbers_of
 from .exhibit_custody import about_proof
 from .report import MOST_REGIONS, MOST_SPLITS, Report, weight_text
+from .wording import Names, add_article, keep_limits, plural, verb
 
 Parties = tuple[str, str]
 
@@ -44,17 +45,15 @@ def decimal(value: Fraction | int, places: int, has_sign: bool = False) -> str:
     return sign + (f"{whole}.{rest:0{places}}" if places else str(whole))
 
 
-def show(score: str, value: Fraction) -> str:
-    """Returns the value of a score as people read it: a number, or percent."""
-    if score in ("seats", "cut-edges", "cut-length"):
+def show(score: str, value: Fraction, names: Names = Names()) -> str:
+    """Returns the value of a score as people read it: a number, a length, or percent."""
+    if score == "cut-length":
+        return f"{value} {names.length}".strip()
+    if score in ("seats", "cut-edges"):
         return str(value)
     if score in ("mean-median", "gap"):
         return decimal(100 * value, 3, True) + " %"
     raise ValueError(f"unknown score {score}")
-
-
-def plural(count: int, what: str) -> str:
-    return f"{count:,} {what}{'' if count == 1 else 's'}"
 
 
 # ---- what was asked
@@ -62,24 +61,25 @@ def plural(count: int, what: str) -> str:
 
 def definition(score: str, parties: Parties) -> str:
     """Returns what a score is, what its sign says, and which party a value hurts."""
-    one, other = parties
+    one, other = map(add_article, parties)
     if score == "seats":
+        has = verb(one, "has", "have")
         return (
-            f"The number of districts in which {one} has more votes than {other}; a tie counts for"
-            f" {other}. A low value hurts {one}, a high value hurts {other}."
+            f"The number of districts in which {one} {has} more votes than {other}; a tie counts"
+            f" for {other}. A low value hurts {one}, a high value hurts {other}."
         )
     if score == "mean-median":
         return (
             f"The median of the district vote shares of {one}, less their mean. Below zero,"
-            f" {one} does worse in the middle district than on average, which hurts {one}. Above"
-            f" zero hurts {other}."
+            f" {one} {verb(one, 'does', 'do')} worse in the middle district than on average, which"
+            f" hurts {one}. Above zero hurts {other}."
         )
     if score == "gap":
         return (
             f"The efficiency gap: the wasted votes of {other} less those of {one}, as a fraction of"
             " all votes. Wasted are all votes for the loser of a district, and the winner's votes"
-            f" beyond half. Above zero, {other} wastes more, which hurts {other}. Below zero hurts"
-            f" {one}."
+            f" beyond half. Above zero, {other} {verb(other, 'wastes', 'waste')} more, which hurts"
+            f" {other}. Below zero hurts {one}."
         )
     if score == "cut-length":
         return (
@@ -99,8 +99,9 @@ def question(ask: str, parties: Parties) -> str:
     """Returns an ask as a question."""
     score, tail = ask.split(":")
     many = "few" if tail == "low" else "many"
+    one, other = map(add_article, parties)
     if score == "seats":
-        return f"Does {parties[0]} win unusually {many} districts?"
+        return f"{verb(one, 'Does', 'Do')} {one} win unusually {many} districts?"
     if score == "cut-edges":
         return f"Does the plan cut unusually {many} edges?"
     if score == "cut-length":
@@ -109,8 +110,10 @@ def question(ask: str, parties: Parties) -> str:
     names = {"gap": "efficiency gap", "mean-median": "mean-median score"}
     if score not in names:
         raise ValueError(f"unknown score {score}")
-    hurt = parties[0] if tail == "low" else parties[1]
-    return f"Is the {names[score]} unusually {tail}, so that {hurt} is hurt?"
+    hurt = one if tail == "low" else other
+    return (
+        f"Is the {names[score]} unusually {tail}, so that {hurt} {verb(hurt, 'is', 'are')} hurt?"
+    )
 
 
 # ---- how it was done
@@ -130,7 +133,7 @@ def subject(report: Report, parties: Parties, names: typing.Sequence[str]) -> st
         "This page presents a report of the district plan auditor about a map of"
         f" {plural(report.units, 'voting unit')} with {plural(report.edges, 'pair')} of"
         f" neighbors, {report.population:,} people and {plural(report.districts, 'district')}. The"
-        f" parties compared are {parties[0]} and {parties[1]}.{plans}"
+        f" parties compared are {add_article(parties[0])} and {add_article(parties[1])}.{plans}"
     )
 
 
@@ -156,9 +159,9 @@ def one_of_several(report: Report) -> str:
     )
 
 
-def legality(report: Report) -> str:
+def legality(report: Report, names: Names = Names()) -> str:
     """Returns which plans are legal, in one sentence or more."""
-    rules = report.rules
+    rules = keep_limits(report.rules, report.edges, report.districts)
     said = [
         f"A plan is legal here if each district is contiguous and has {rules.low:,} to"
         f" {rules.high:,} people, which is within {decimal(Fraction(rules.slack, 100), 2)} percent"
@@ -167,16 +170,16 @@ def legality(report: Report) -> str:
     said += (
         [f"has at most {plural(rules.max_cut, 'cut edge')}"] if rules.max_cut is not None else []
     )
-    if rules.max_split is not None and rules.max_split < report.districts:
+    if rules.max_split is not None and rules.regions is not None:
         said.append(
-            f"each of the {plural(rules.regions or 0, 'region')} lies in at most"
+            f"each of the {rules.regions:,} {names.region} lies in at most"
             f" {plural(rules.max_split, 'district')}"
         )
     if rules.max_splits is not None and rules.max_splits < MOST_SPLITS:
-        said.append(f"regions are split at most {plural(rules.max_splits, 'time')} in all")
+        said.append(f"{names.region} are split at most {plural(rules.max_splits, 'time')} in all")
     if rules.max_split_regions is not None and rules.max_split_regions < MOST_REGIONS:
         said.append(
-            f"at most {plural( rules.max_split_regions, 'region')} may lie in more than one"
+            f"at most {names.count_regions(rules.max_split_regions)} may lie in more than one"
             " district"
         )
     if rules.group_districts is not None:
@@ -186,13 +189,17 @@ def legality(report: Report) -> str:
             else f"more than {decimal(Fraction(rules.group_share, 100), 2)} percent"
         )
         said.append(
-            f"the group has {share} in at least {plural(rules.group_districts, 'district')}"
+            f"{names.the_group} {verb(names.group, 'has', 'have')} {share} in at least"
+            f" {plural(rules.group_districts, 'district')}"
         )
     if rules.frozen is not None:
         keep = "1 unit keeps" if rules.frozen == 1 else f"{plural(rules.frozen, 'unit')} keep"
         said.append(f"{keep} the districts of the enacted plan")
     if rules.max_length is not None:
-        said.append(f"the boundaries between districts have a length of at most {rules.max_length}")
+        said.append(
+            "the boundaries between districts have a length of at most"
+            f" {names.measure(rules.max_length)}"
+        )
     more = "" if len(said) == 1 else f"; further, {'; '.join(said[1:])}"
     return said[0] + more + "."
 
@@ -209,7 +216,7 @@ def describe_weight(report: Report) -> str:
     )
 
 
-def methods(report: Report) -> list[str]:
+def methods(report: Report, names: Names = Names()) -> list[str]:
     """Returns the methods, one paragraph for each kind of test in the report."""
     setting = report.setting
     found = [
@@ -217,7 +224,7 @@ def methods(report: Report) -> list[str]:
         "at random, and moves the unit there if the resulting plan is legal"
         + describe_weight(report)
         + "; otherwise the plan stays, and counts again. "
-        + legality(report)
+        + legality(report, names)
         + " The enacted plan meets these rules. All random draws come from the key below."
     ]
     if setting.walks:

@@ -61,6 +61,8 @@ class Manifest:
     """The kind and the text of each warning of the reports."""
     decides: str | None
     """The number that was announced as the one that counts, as "ends seats:low"."""
+    limits_from: str | None
+    """Where the limits come from, as the call said; None if it did not."""
     versions: typing.Mapping[str, str]
     """The versions of Python and of the packages that were installed."""
     processors: int
@@ -82,6 +84,7 @@ class Manifest:
             "changes": None if self.changes is None else write_file(self.changes),
             "warnings": write_warnings(self.warnings),
             "decides": self.decides,
+            "limits_from": self.limits_from,
             "versions": dict(self.versions),
             "processors": self.processors,
         }
@@ -105,7 +108,7 @@ class Manifest:
         entries = tuple(read_entry(one) for one in list_in(value["reports"], "the reports"))
         if not entries:
             raise ManifestRefused("the manifest names no report")
-        decides = value["decides"]
+        decides, limits_from = value["decides"], value["limits_from"]
         preparation, changes = value["preparation"], value["changes"]
         return cls(
             value["kind"],
@@ -115,6 +118,7 @@ class Manifest:
             None if changes is None else read_file(changes, "the table of changes"),
             read_warnings(value["warnings"]),
             None if decides is None else text_of(decides, "decides"),
+            None if limits_from is None else text_of(limits_from, "limits_from"),
             texts_by_name(value["versions"], "the versions"),
             count_of(value["processors"], "the number of processors", 1),
         )
@@ -136,7 +140,7 @@ def read_manifest_of_one(value: Json) -> Manifest:
     )
     return Manifest(
         "report", (entry,), Program(read_file(value["program"], "the program")), None, None, (),
-        None, {"district-audit": text_of(value["package"], "the version of the package")},
+        None, None, {"district-audit": text_of(value["package"], "the version of the package")},
         count_of(value["processors"], "the number of processors", 1),
     )
 

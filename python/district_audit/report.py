@@ -103,50 +103,6 @@ class Rules:
     pieces: int | None = None
     """The greatest change of the number of cut edges in one step; None: there is no weight."""
 
-    def describe(self) -> list[str]:
-        """Returns the limits on cut edges and on the districts of a region, in words."""
-        said = [] if self.max_cut is None else [f"at most {self.max_cut} cut edges"]
-        return said + (
-            []
-            if self.regions is None
-            else [f"{self.regions} regions, each in at most {self.max_split or 0} districts"]
-        )
-
-    def describe_more(self) -> list[str]:
-        """Returns the other rules in words: splits in all, split regions, a group's majorities,
-        frozen units, and the length of cut edges.
-        """
-        is_few = self.max_splits is not None and self.max_splits < MOST_SPLITS
-        said = [f"at most {self.max_splits} splits of regions in all"] if is_few else []
-        is_few = self.max_split_regions is not None and self.max_split_regions < MOST_REGIONS
-        said += (
-            [f"at most {self.max_split_regions} regions in more than one district"]
-            if is_few
-            else []
-        )
-        if self.group_districts is not None:
-            one = "one" if self.group_share is None else "it"
-            share = (
-                "a majority"
-                if self.group_share is None
-                else f"more than {self.group_share} of 10000"
-            )
-            said.append(
-                f"the group has {share} in {self.majorities or 0} districts, and must have {one}"
-                f" in {self.group_districts}"
-            )
-        said += [] if self.frozen is None else [f"{self.frozen} units keep their districts"]
-        said += (
-            []
-            if self.max_length is None
-            else [f"cut edges have a length of at most {self.max_length} in all"]
-        )
-        return said + (
-            []
-            if self.cut_weight is None
-            else [f"each cut edge weighs {weight_text(self.cut_weight)}/{MOST_WEIGHT}"]
-        )
-
 
 @dataclasses.dataclass(frozen=True)
 class Source:
@@ -1538,6 +1494,10 @@ class Report:
         alpha: Number | None = None,
         decides: str | None = None,
         manifest: PathLike | None = None,
+        names: typing.Mapping[str, str] | None = None,
+        geometry: object = None,
+        plan: object = None,
+        ids: str | None = None,
     ) -> None:
         """Writes the report as one self-contained page of HTML, for a court.
 
@@ -1579,6 +1539,17 @@ class Report:
             The manifest of a report that was read from a text. `Report.load` finds it. Without a
             manifest the page cannot know how many numbers were computed for the question, and says
             so.
+        names : dict
+            What the page calls the group, the regions and the unit of length, as {"group": "Black
+            voting-age population", "region": "counties", "length": "meters"}.
+        geometry : GeoDataFrame, GeoSeries, or dict of shapely geometries by unit
+            The units' areas, for a map of the enacted plan's districts. It needs shapely, and the
+            graph: the report's own, of a call of this package, or `graph`.
+        plan : Sample of a trace, or dict of districts by unit
+            A plan whose map is drawn beside that of the enacted plan.
+        ids : str
+            The column of a GeoDataFrame that has the units' ids; if left out, the index or the only
+            column that has all of them.
 
         Raises ManifestRefused, a ValueError, if the manifest does not name the report; ValueError
         if the graph or a column is not that of the report, if a column is missing, or if a graph is
@@ -1587,25 +1558,28 @@ class Report:
         from . import exhibit
 
         options = exhibit.Options(
-            title, parties, graph, columns, command, notes, epsilon, alpha, decides, manifest
+            title, parties, graph, columns, command, notes, epsilon, alpha, decides, manifest,
+            names, geometry, plan, ids,
         )
         exhibit.write(path, [("", self)], options)
 
     def plot(
         self,
-        name: str | None = None,
+        name: PathLike | None = None,
         *,
         ax: matplotlib.axes.Axes | None = None,
         title: str | None = None,
         parties: typing.Sequence[str] | None = None,
         scores: typing.Sequence[str] | str | None = None,
+        names: typing.Mapping[str, str] | None = None,
     ) -> matplotlib.figure.Figure:
         """Draws the report, and returns the matplotlib figure.
 
         Parameters
         ----------
-        name : str, optional
-            The figure is written to NAME.png and NAME.svg, too.
+        name : path, optional
+            The file to write, as "picture.png", "picture.svg" or "picture.pdf". A name without the
+            end of a format is that of two files, NAME.png and NAME.svg.
         ax : matplotlib Axes, optional
             The first panel alone, the walks or else the rank tests, is drawn there.
         title : str, optional
@@ -1614,6 +1588,8 @@ class Report:
             The names of the first and the second party.
         scores : str or list of str, optional
             The scores, as "seats", or questions, as "gap:high", that are drawn; all where left out.
+        names : dict, optional
+            Names for the group, the regions and the unit of length, as for `exhibit`.
 
         Raises
         ------
@@ -1624,7 +1600,9 @@ class Report:
         """
         from . import picture
 
-        figure = picture.draw(self, ax=ax, title=title, parties=parties, scores=scores)
+        figure = picture.draw(
+            self, ax=ax, title=title, parties=parties, scores=scores, names=names
+        )
         if name is not None:
             picture.save(figure, name)
         return figure
@@ -1639,10 +1617,12 @@ class Report:
         )
 
     def _repr_html_(self) -> str:
+        from . import wording
+
         rules = self.rules
         limits = [
-            f"{rules.low} to {rules.high} people a district", *rules.describe(),
-            *rules.describe_more(),
+            f"{rules.low} to {rules.high} people a district",
+            *wording.describe_limits(rules, wording.Names(), self.edges, self.districts),
         ]
         about = (
             f"{self.units} units, {self.edges} edges, {self.districts} districts,"

@@ -85,16 +85,17 @@ class NamedReports(list[Pair]):
 
     def plot(
         self,
-        name: str | None = None,
+        name: PathLike | None = None,
         *,
         title: str | None = None,
         scores: typing.Sequence[str] | None = None,
         parties: typing.Sequence[str] | None = None,
+        names: typing.Mapping[str, str] | None = None,
     ) -> matplotlib.figure.Figure:
         """Draws the walks and tests of all reports, a row for each; see `Report.plot`."""
         from . import picture
 
-        figure = picture.draw_named(self, self.what, title, scores, parties)
+        figure = picture.draw_named(self, self.what, title, scores, parties, names)
         if name is not None:
             picture.save(figure, name)
         return figure

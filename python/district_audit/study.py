@@ -22,6 +22,7 @@ from .deciding import find_announced
 from .elections import ElectionReports
 from .errors import TypeRefused
 from .graphs import Foreign
+from .limits import LimitReports
 from .manifest import (
     CHANGES_SUFFIX,
     GRAPH_SUFFIX,
@@ -134,11 +135,13 @@ def write_study(path: PathLike, pairs: Pairs, decides: str | None = None) -> Man
     entries = write_reports(place, kind, pairs, made, graphs)
     custody = made[0].custody
     changes = None if custody is None else write_changes(place, custody)
-    warned = [one for _, report in pairs for one in getattr(report, "warnings", ())]
+    warned = [one for _, report in pairs for one in report.warnings]
+    audited = pairs[0][1].audited
+    limits_from = None if audited is None else audited.limits_from
     manifest = Manifest(
         kind, tuple(entries), made[0].program, custody, changes,
-        tuple(dict.fromkeys((one.kind, str(one)) for one in warned)), decides, find_versions(),
-        os.cpu_count() or 1,
+        tuple(dict.fromkeys((one.kind, str(one)) for one in warned)), decides,
+        limits_from, find_versions(), os.cpu_count() or 1,
     )
     write_whole(place.with_name(place.name + SUFFIX), str(manifest).encode("utf-8"))
     return manifest
@@ -329,7 +332,10 @@ def join(report: Report, manifest: Manifest, entry: Entry, name: str) -> Report:
         if one != "assignment" and one in given and not isinstance(given[one], dict)
     }
     warned = tuple(read_warning(kind, text) for kind, text in manifest.warnings)
-    audited = Audited(entry.map_sha256, columns, typing.cast(Preparation, rules), call, warned)
+    audited = Audited(
+        entry.map_sha256, columns, typing.cast(Preparation, rules), call,
+        warned, manifest.limits_from,
+    )
     names = manifest.names
     batch = Batch(manifest.kind, names, names.index(name)) if manifest.kind != "report" else None
     return dataclasses.replace(report, audited=audited, batch=batch)
@@ -358,6 +364,6 @@ def load_study(manifest: PathLike) -> NamedReports:
             raise ManifestRefused(f"{entry.report.name} has other plans than the manifest says")
         pairs += [(name, join(report, made, entry, name)) for name, report in read]
     kinds: dict[str, type[NamedReports]] = {
-        "plan": PlanReports, "election": ElectionReports,
+        "plan": PlanReports, "election": ElectionReports, "limit": LimitReports,
     }
     return kinds.get(made.kind, NamedReports)(pairs)

@@ -212,11 +212,11 @@ class ExhibitTests(FolderCase):
         """Bonferroni's product, and fractions with decimals."""
         text = Page(exhibit.page([("", with_call(TEXTS["both tests"]))], exhibit.Options())).text
         self.assertIn("0.006324524 times 9 is 0.056920716", text)
-        self.assertIn("-600/60000 -1.000 %", text)
+        self.assertIn("-1.000 % -600/60000", text)
 
     def test_many_walks_have_one_row(self) -> None:
         text = Page(page_of(TEXTS["many walks"])).text
-        self.assertIn("9 outlier walks cut-edges:low 125/1 125 2 to 9 of 100001", text)
+        self.assertIn("9 outlier walks cut-edges:low 125 125/1 2 to 9 of 100001", text)
         self.assertNotIn("outlier walk 1", text)
 
     def test_labels_of_an_axis_do_not_meet(self) -> None:

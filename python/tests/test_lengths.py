@@ -11,7 +11,7 @@ import unittest
 
 import common  # noqa: F401  (finds the package)
 import district_audit
-from district_audit import commands, scores
+from district_audit import commands, scores, wording
 from district_audit.districts import plan_of
 from district_audit.report import PlanCheck
 from district_audit.trace_plan import Plan, UnitTable
@@ -181,7 +181,8 @@ class Reading(unittest.TestCase):
         self.assertEqual((check.rules.cut_length, check.rules.max_length), (10, 12))
         self.assertEqual(str(check), self.TEXT)
         self.assertEqual(
-            check.rules.describe_more(), ["cut edges have a length of at most 12 in all"]
+            wording.describe_limits(check.rules, wording.Names(), check.edges, check.districts),
+            ["cut edges have a length of at most 12 in all"],
         )
 
     def test_lines_that_cannot_be(self) -> None:

@@ -185,6 +185,7 @@ class Manifests(common.ProgramCase):
             json.dumps({**value, "warnings": [{"kind": "x"}]}),
             json.dumps({**value, "versions": {"python": 3}}),
             json.dumps({**value, "decides": 1}),
+            json.dumps({**value, "limits_from": 1}),
             json.dumps({**value, "preparation": {}}),
         ]
         for one in broken:

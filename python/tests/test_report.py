@@ -9,7 +9,7 @@ from unittest import mock
 
 import common
 from common import anything, find_in
-from district_audit import PlanCheck, Report, ReportRefused, Rules, Source, Start
+from district_audit import PlanCheck, Report, ReportRefused, Rules, Source, Start, wording
 from district_audit import report as reading
 from district_audit.picture import percent
 from district_audit.report import bound_of
@@ -205,11 +205,11 @@ class Values(unittest.TestCase):
         self.assertFalse(source.is_of(data[:-1] + b" "))
         self.assertIsNone(self.report.source)
         said = [
-            "6 regions, each in at most 200 districts", "at most 3 splits of regions in all",
-            "at most 3 regions in more than one district",
+            "at most 3 splits of regions in all", "at most 3 regions in more than one district",
             "the group has a majority in 2 districts, and must have one in 2",
         ]
-        self.assertEqual(report.rules.describe() + report.rules.describe_more(), said)
+        limits = wording.describe_limits(report.rules, wording.Names(), 265, 4)
+        self.assertEqual(limits, said)
         for words in (
             *said,
             (
@@ -219,7 +219,9 @@ class Values(unittest.TestCase):
         ):
             self.assertIn(words, report._repr_html_())
         self.assertEqual(
-            Rules(500, 1, 3, None, 200, 6, 995000, 0).describe_more(),
+            wording.describe_limits(
+                Rules(500, 1, 3, None, 200, 6, 995000, 0), wording.Names(), 10, 4
+            ),
             ["at most 0 regions in more than one district"],
         )
 
@@ -281,7 +283,7 @@ class Pictures(common.FolderCase):
         )
         regions = find_in("max-split ([0-9]+) regions ([0-9]+)", text)
         self.assertIn(
-            f"{regions[2]} regions, each in at most {regions[1]} districts", self.draw(text)[1]
+            f"{regions[2]} regions, each in at most {regions[1]} district", self.draw(text)[1]
         )
         text = next(
             text
@@ -308,7 +310,7 @@ class Pictures(common.FolderCase):
         figure, svg = self.draw(common.groups_report())
         lines = figure.texts[0].get_text().split("\n")
         self.assertEqual(
-            lines[1],
+            " ".join(lines[1:-4]),
             (
                 "at most 3 splits of regions in all; at most 3 regions in more than one district; "
                 "the group has a majority in 2 districts, and must have one in 2"

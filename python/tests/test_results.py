@@ -115,9 +115,6 @@ class Elections(common.ProgramCase):
             "check takes": lambda: district_audit.check(
                 data, population="TOTPOP", district="CD", **anything({"elections": ELECTIONS})
             ),
-            "audit_to_file writes the report of": lambda: district_audit.audit_to_file(
-                self.folder / "report", data, program=self.program, **words
-            ),
         }
         for name, call in calls.items():
             with self.subTest(name), self.assertRaises(district_audit.TypeRefused) as caught:
