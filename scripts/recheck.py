@@ -34,7 +34,7 @@ import sys
 from functools import lru_cache
 from itertools import chain, product, zip_longest
 from pathlib import Path
-from typing import Any, Dict, Iterable, Iterator, List, NamedTuple, Optional, Sequence, Tuple
+from typing import Any, Dict, Iterable, Iterator, List, NamedTuple, Optional, Sequence, Set, Tuple
 
 BILLION = 10 ** 9
 WORD = 2 ** 32 - 1  # a word of 32 bits that are all 1
@@ -427,8 +427,11 @@ class Job:
     """The run of a report: its map, its rules, its start plan, and the start plan's scores."""
 
     def __init__(self, report: Report, names: Dict[str, str], data: bytes, map_: Map) -> None:
-        self.report, self.names, self.n = report, names, report.n
-        self.key, self.asks = report.key, report.asks
+        self.report = report
+        self.names = names
+        self.n = report.n
+        self.key = report.key
+        self.asks = report.asks
         self.origin = f"source sha256 {hashlib.sha256(data).hexdigest()} bytes {len(data)}"
         self.edges, self.columns = map_
         self.start = self.columns["--district"]
@@ -442,8 +445,9 @@ class Job:
         self.set_rules()
         self.set_weight()
         walk = Walk(self, self.start)
-        self.seats, self.majorities, self.cut_length = (
-            walk.score("seats"), walk.count_majorities(), walk.length)
+        self.seats = walk.score("seats")
+        self.majorities = walk.count_majorities()
+        self.cut_length = walk.length
         self.values = walk.values()
         self.texts = self.format_asks()
         self.place = next(draws_of(self.key, 2 ** 33, 0, 1)) % (self.n["steps"] + 1)  # KERNEL 7
@@ -451,7 +455,8 @@ class Job:
     def set_rules(self) -> None:
         """Sets the bounds of population (KERNEL 4, rule 2), and which rules there are."""
         n, columns = self.n, self.columns
-        self.districts, self.total = max(self.start) + 1, sum(columns["--pop"])
+        self.districts = max(self.start) + 1
+        self.total = sum(columns["--pop"])
         shares = 10000 * self.districts
         self.low = divide_up((10000 - n["slack"]) * self.total, shares)
         self.high = (10000 + n["slack"]) * self.total // shares
@@ -561,8 +566,8 @@ class Walk:
 
     def add(self, unit: int, district: int, sign: int) -> None:
         """Adds a unit to the sums of a district, or takes it away, if the sign is -1."""
-        job, d, touch, plan, is_open = (
-            self.job, self.job.districts, self.touch, self.plan, self.is_open)
+        job, touch, is_open = self.job, self.touch, self.is_open
+        plan, d = self.plan, job.districts
         for name, column in job.counts.items():
             self.sums[name][district] += sign * column[unit]
         for v in job.near[unit]:
@@ -578,7 +583,8 @@ class Walk:
 
     def move(self, unit: int, into: int) -> None:
         """Moves a unit into another district."""
-        plan, at, out = self.plan, unit * self.job.districts, self.plan[unit]
+        plan, out = self.plan, self.plan[unit]
+        at = unit * self.job.districts
         self.cut += self.touch[at + out] - self.touch[at + into]
         for v, length in self.job.far[unit].items():
             self.length += length * ((plan[v] == out) - (plan[v] == into))
@@ -652,9 +658,10 @@ class Walk:
         self, units: List[int], first: int, hidden: List[int], size: int
     ) -> Tuple[bool, bool]:
         """Searches from one unit. Returns if the answer is known, and if all units are joined."""
-        plan, near, own = self.plan, self.job.near, self.plan[first]
-        queue, missing = [first], set(units)
-        missing.discard(first)
+        plan, near = self.plan, self.job.near
+        own = plan[first]
+        queue = [first]
+        missing = set(units) - {first}
         for v in (first, *hidden):
             plan[v] = -1  # while the search lasts: found, or not to be found
         for u in queue:
@@ -686,7 +693,8 @@ class Walk:
     def try_move(self, unit: int, into: int, draw: int) -> bool:
         """Moves a unit if its new plan is legal and the weight lets this draw take it."""
         job, plan = self.job, self.plan
-        out, people, amount = plan[unit], self.sums["--pop"], job.columns["--pop"][unit]
+        out, amount = plan[unit], job.columns["--pop"][unit]
+        people = self.sums["--pop"]
         if unit in job.frozen:
             return False
         if people[out] - amount < job.low or people[into] + amount > job.high:
@@ -711,16 +719,21 @@ class Walk:
         With the first plan, the plan before them is tallied, too. A plan's marks are counted when
         it changes: as often as it was visited.
         """
-        job, is_open, d, asks = self.job, self.is_open, self.job.districts, len(self.job.asks)
-        limit, pairs = job.limit, job.pairs
-        tally, moved, marks = [0] * (asks + 9), 0, self.marks()
+        job, is_open = self.job, self.is_open
+        d, pairs, limit = job.districts, job.pairs, job.limit
+        asks = len(job.asks)
+        tally = [0] * (asks + 9)
+        moved = 0
+        marks = self.marks()
         since = begin - with_first
         for step, draw in enumerate(draws_of(job.key, stream, begin, end), begin):
             pair = draw % pairs
             if is_open[pair] and draw < limit and self.try_move(*divmod(pair, d), draw):
                 for mark in marks:
                     tally[mark] += step - since
-                marks, moved, since = self.marks(), moved + 1, step
+                moved += 1
+                marks = self.marks()
+                since = step
         for mark in marks:
             tally[mark] += end - since
         DONE["steps"] += end - begin
@@ -753,7 +766,9 @@ class Check:
     """A check of a job's report, trace and checkpoints."""
 
     def __init__(self, job: Job, words: Dict[str, str]) -> None:
-        self.job, self.words, self.n = job, words, job.n
+        self.job = job
+        self.words = words
+        self.n = job.n
         self.hub_plan: List[int] = []
         self.walked: Dict[int, Tally] = {}  # trajectories that were recomputed as a whole
         self.known: Dict[int, Tally] = {}  # and those that a trace or a checkpoint shows
@@ -884,7 +899,9 @@ class ReportCheck:
     """
 
     def __init__(self, check: Check) -> None:
-        self.check, self.job, self.n, self.known = check, check.job, check.n, check.known
+        self.job = check.job
+        self.n = check.n
+        self.known = check.known
         self.lines = check.job.report.lines
         self.visits = check.n["steps"] + 1
         self.counts: Dict[Tuple[int, int], int] = {}  # by walk and ask
@@ -1026,7 +1043,11 @@ class TraceCheck:
     """The check of a trace (FORMATS, the trace; KERNEL 8)."""
 
     def __init__(self, check: Check, lines: List[str]) -> None:
-        self.check, self.job, self.n, self.lines = check, check.job, check.n, lines
+        self.check = check
+        self.job = check.job
+        self.n = check.n
+        self.lines = lines
+        self.last_values: List[int] = []  # those of the last plan of a section
 
     def run(self) -> None:
         asks = [f"ask {text}" for text in self.job.texts]
@@ -1045,42 +1066,60 @@ class TraceCheck:
         The first, the last, and some inner segments are recomputed. The first line of an
         endpoint's section is the hub, which is recomputed unless --skip-hub is given.
         """
-        number, thin = number_in(title, "id"), number_in(title, "thin")
-        (stream, _, steps), is_walk = self.job.way(number), number < self.n["walks"]
+        number = number_in(title, "id")
+        thin = number_in(title, "thin")
         most = self.n["walks"] + self.n["ends"] - 1
+        stream, _, steps = self.job.way(number)
         same(f"trace line {at}", f"trace id {min(number, most)} steps {steps} thin {thin}", title)
         places = [*range(0, steps, thin), steps]
         same(f"trace line {at}: number of plans", [len(places)], [len(rows)])
         middle = range(1, len(places) - 2)
         some = self.check.pick("--segments", f"segment-{number}", middle)
         chosen = {0, *some, len(places) - 2}
-        asks, plan, moved = len(self.job.asks), self.job.start, 0
+        first: Optional[List[int]] = self.job.start
+        if number >= self.n["walks"]:
+            first = None if "--skip-hub" in self.check.words else self.check.hub()
+        moved, counts, bins = self.check_rows(at + 1, rows, places, stream, chosen, first)
+        if number >= self.n["walks"]:
+            counts, bins = self.last_values, []
+        elif len(some) < len(middle):
+            counts, bins = [], []  # the counts depend on all segments
+        self.check.known.setdefault(number, (moved, counts, bins))
+        print_sample(f"trace of id {number}: {len(rows)} plans, inner segments", some, middle)
+
+    def check_rows(
+        self, at: int, rows: List[str], places: List[int], stream: int, chosen: Set[int],
+        first: Optional[List[int]],
+    ) -> Tally:
+        """Checks the rows of a section, and recomputes the chosen segments behind them.
+
+        At is the number of the first row's line, places are the steps of the rows, and first is
+        the first plan, if it is known. Returns the moves, and the counts of these segments.
+        """
+        asks = len(self.job.asks)
+        plan = self.job.start
+        moved = 0
         total = [0] * (asks + 9)
-        expected: Optional[List[int]] = self.job.start
-        if not is_walk:
-            expected = None if "--skip-hub" in self.check.words else self.check.hub()
+        expected = first
         for n, (place, line) in enumerate(zip(places, rows)):
-            where = f"trace line {at + n + 1}"
             row = line.split(" ")
             shown = self.read_plan(plan, row)
             if expected is None:  # the segment before was not recomputed
                 expected = shown
                 moved = min(max(moved, int(row[1])), place)
-            self.compare_row(where, [place, moved], plan, expected, line)
-            walk, plan, moved, expected = Walk(self.job, shown), shown, int(row[1]), None
-            same(f"{where}, the plan is legal", [True], [walk.is_legal()])
+            self.compare_row(f"trace line {at + n}", [place, moved], plan, expected, line)
+            walk = Walk(self.job, shown)
+            same(f"trace line {at + n}, the plan is legal", [True], [walk.is_legal()])
+            self.last_values = walk.values()
+            plan = shown
+            moved = int(row[1])
+            expected = None
             if n in chosen:
                 more, counts, bins = walk.go(stream, place, places[n + 1], n == 0)
-                expected, moved = walk.plan, moved + more
+                expected = walk.plan
+                moved += more
                 total = [sum(both) for both in zip(total, counts + bins)]
-        if not is_walk:
-            found: Tally = (moved, Walk(self.job, plan).values(), [])
-        elif len(some) == len(middle):
-            found = (moved, total[:asks], total[asks:])
-        else:
-            found = (moved, [], [])  # the counts depend on all segments
-        self.check.known.setdefault(number, found)
-        print_sample(f"trace of id {number}: {len(rows)} plans, inner segments", some, middle)
+        return moved, total[:asks], total[asks:]
 
     def read_plan(self, before: Sequence[int], row: List[str]) -> List[int]:
         """Returns the plan of a row, which shows the units whose district changed."""
@@ -1109,7 +1148,10 @@ class CheckpointCheck:
     FORMS = {1: ">IQ4q", 2: ">IQ4q9I"}  # an outcome, by the version
 
     def __init__(self, check: Check, path: Path) -> None:
-        self.check, self.job, self.n, self.path = check, check.job, check.n, path
+        self.check = check
+        self.job = check.job
+        self.n = check.n
+        self.path = path
 
     def run(self) -> None:
         data = self.path.read_bytes()

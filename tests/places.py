@@ -48,10 +48,14 @@ def program(name: str) -> pathlib.Path:
     """Returns the path of the auditor, or of the program over its folders (`folders`).
 
     That is what its variable names, or what `rt ci` and `rt run` leave in the crate's folder.
-    If it is missing there, it is proved and built, after a line on standard error that says so.
-    Raises FileNotFoundError if there is no program.
+    If it is missing there, it is taken from the release if there is one of these crates, or else
+    proved and built, after a line on standard error that says so. Raises FileNotFoundError if there
+    is no program.
     """
     variable, crate = PROGRAMS[name]
+    released = None if os.environ.get(variable) else released_program(name)
+    if released is not None and not os.access(TOP / "crates" / crate / "out" / crate, os.X_OK):
+        return released
     path = pathlib.Path(os.environ.get(variable) or TOP / "crates" / crate / "out" / crate)
     is_missing = not os.environ.get(variable) and not os.access(path, os.X_OK)
     if is_missing and shutil.which("rt"):
@@ -67,6 +71,25 @@ def program(name: str) -> pathlib.Path:
     if not os.access(path, os.X_OK):
         raise FileNotFoundError(f"there is no program {path}; the variable {variable} may name it")
     return path.resolve()
+
+
+@functools.lru_cache(maxsize=None)
+def released_program(name: str) -> typing.Optional[pathlib.Path]:
+    """Returns the release's program, unpacked below out/release, or None without a release.
+
+    It is the program of the commit of the release. `tests/run release` says whether that has the
+    crates of this checkout.
+    """
+    found = sorted((TOP / "release").glob("district-audit-*-linux-x86_64.tar.gz"))
+    if not found:
+        return None
+    place = TOP / "out" / "release" / hashlib.sha256(found[-1].read_bytes()).hexdigest()[:16]
+    path = place / "bin" / {"auditor": "district-audit", "folders": "audit_slots"}[name]
+    if not path.exists():
+        place.mkdir(parents=True, exist_ok=True)
+        words = ["tar", "xzf", str(found[-1]), "-C", str(place), "--strip-components=1"]
+        subprocess.run(words, check=True)
+    return path if os.access(path, os.X_OK) else None
 
 
 def origin_of(path: typing.Union[str, pathlib.Path]) -> dict[str, str]:

@@ -28,7 +28,7 @@ from tools.release_files import ORIGIN, SUMS, git, write_release
 RECORD = TOP / "out" / "gate"
 # The test that compares the last release with the programs. A release is renewed because it fails.
 RENEWED = "release"
-# What may have changed since the gate passed: documents, and the last release.
+# Documents and the last release may have changed since the gate passed.
 UNTRIED = (":(exclude)*.md", ":(exclude)docs", ":(exclude)release")
 
 

@@ -26,7 +26,7 @@ CRATES = {
 # The compilers of proved code, by the folder of their programs.
 COMPILERS = {"bin": "llvm", "second": "rattle"}
 SOURCES = ("src", "specs", "proofs")
-# What gcc links statically beside an object: each decides bytes of the program.
+# The files that gcc links statically beside an object: each decides bytes of the program.
 STATIC_PARTS = (
     "crt1.o", "crti.o", "crtbeginT.o", "crtend.o", "crtn.o", "libc.a", "libgcc.a", "libgcc_eh.a",
 )
@@ -37,7 +37,7 @@ class ReleaseError(Exception):
 
 
 class Stamp(typing.NamedTuple):
-    """What the programs of a release answer to --version, and what their bytes depend on."""
+    """The answer of the programs of a release to --version, and all that their bytes depend on."""
 
     version: str
     commit: str
@@ -54,7 +54,7 @@ class Stamp(typing.NamedTuple):
 
 
 class Elf(typing.NamedTuple):
-    """What the head of an executable says."""
+    """The head of an executable."""
 
     machine: int
     is_static: bool

@@ -19,8 +19,8 @@ from tests.checks import run
 from tests.places import TOP
 from tools.release_build import COMPILERS, CRATES, ReleaseError, Stamp, expect, origin_text
 
-# What stands in the archive of programs beside them. A folder means all files of the commit below.
-# What is not there yet is left out.
+# The files in the archive of programs beside them. A folder means all files of the commit below.
+# One that is not there yet is left out.
 BESIDE = (
     "CHANGELOG.md", "CITATION.cff", "LICENSE", "README.md", "SECURITY.md", "docs/claims",
     "docs/user", "examples", "python/README.md", "r", "scripts/recheck.py",

@@ -6,11 +6,14 @@ the enacted plan nor votes are read.
 """
 from __future__ import annotations
 
+import heapq
 import random
 import typing
 
-Unit = typing.Hashable
-Neighbors = typing.Mapping[typing.Any, typing.Sequence[typing.Any]]
+from .graphs import Foreign
+
+Unit = Foreign
+Neighbors = typing.Mapping[Foreign, typing.Sequence[Foreign]]
 TREES, TRIES = 40, 400
 
 
@@ -19,7 +22,7 @@ class Map(typing.NamedTuple):
 
     neighbors: Neighbors
     """The neighbors of each unit."""
-    people: typing.Mapping[typing.Any, int]
+    people: typing.Mapping[Foreign, int]
     """The people of each unit."""
     low: int
     """The least population of a district."""
@@ -35,8 +38,6 @@ def spanning_tree(
     The tree grows from a random unit by the edge of the least random weight that leaves it. Fewer
     units are returned if these are not contiguous.
     """
-    import heapq
-
     order = sorted(units, key=str)
     first = order[dice.randrange(len(order))]
     found: list[tuple[Unit, Unit | None]] = []
@@ -124,7 +125,7 @@ def neutral_plans(whole: Map, districts: int, seed: str) -> typing.Iterator[dict
         yield {unit: number for number, part in enumerate(found, 1) for unit in part}
 
 
-def cut_edges(plan: typing.Mapping[typing.Any, object], neighbors: Neighbors) -> int:
+def cut_edges(plan: typing.Mapping[Foreign, object], neighbors: Neighbors) -> int:
     """Returns the number of edges between two districts of a plan."""
     both = sum(
         plan[unit] != plan[other] for unit, others in neighbors.items() for other in others

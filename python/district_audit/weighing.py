@@ -15,6 +15,7 @@ from .arguments import MOST_WEIGHT, refuse, weight_of
 from .calls import NO_WORDS, prepare_call
 from .districts import table_of
 from .errors import AuditError, GraphRefused, TypeRefused, extra
+from .graphs import Foreign
 from .neutral import Map, cut_edges, neutral_plans
 from .pilot import OF_SCORES, differing
 from .traces import trace
@@ -24,12 +25,11 @@ if typing.TYPE_CHECKING:
     import matplotlib.figure
     import pandas
 
-    from .graphs import Foreign
     from .words import Key
 
 SAMPLES = 256
 LEAST_WEIGHT, NEAR = 12, 2
-PlanOfIds = typing.Mapping[typing.Any, object]
+PlanOfIds = typing.Mapping[Foreign, object]
 
 
 @dataclasses.dataclass(frozen=True)

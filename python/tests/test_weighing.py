@@ -113,7 +113,10 @@ class ChoiceTests(FolderCase):
             self.assertEqual((row[0], row[1], row[4]), (band.weight, band.median, inside))
 
     def test_refusals(self) -> None:
-        for words in ({"ask": "gap:low"}, {"cut_weight": 33}, {"assignment": {0: 1}}):
+        wrong: list[common.Words] = [
+            {"ask": "gap:low"}, {"cut_weight": 33}, {"assignment": {0: 1}},
+        ]
+        for words in wrong:
             with self.subTest(words=words), self.assertRaises(district_audit.TypeRefused):
                 district_audit.choose_weight(grid(True, 3), **{**WORDS, **words})
         with self.assertRaises(ValueError):

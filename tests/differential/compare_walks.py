@@ -150,7 +150,8 @@ def add_rules(
         words += ["--region", "COUNTY"]
     if chance.random() < 0.5:
         is_own = chance.random() < 0.5
-        more["WHOLE"] = [chance.randint(0, 9) for _ in plan] if is_own else columns.people
+        own = [chance.randint(0, 9) for _ in plan]
+        more["WHOLE"] = own if is_own else columns.people
         more["GROUP"] = [chance.randint(0, 9) // 2 + 4 * (district % 2) for district in plan]
         words += ["--group", "GROUP", *(["--group-of", "WHOLE"] if is_own else [])]
     drawn = Drawn(document(graph, columns, more), words)

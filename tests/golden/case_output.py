@@ -80,6 +80,8 @@ def main() -> int:
     program = pathlib.Path(os.environ.get("DISTRICT_AUDIT_CASES") or CASES / "out" / "case_runner")
     if os.access(program, os.X_OK):
         check_program(checks, program.resolve())
+    elif not shutil.which("rt"):
+        checks.skips("program", "missing: case_runner, which rt ci builds")
     else:
         checks.count_missing("program", f"the program {program}")
     modeled = [call.name for call in calls if not is_great(call.words)]

@@ -68,6 +68,8 @@ class Counted(NamedTuple):
     instructions: int
     searches: Optional[float]
     """The number of searches in a thousand steps; None where they cannot be seen."""
+    is_stripped: bool = False
+    """True if the program has no names of functions, as those of a release."""
 
 
 # ---- the runs
@@ -243,7 +245,9 @@ class Room:
         (top / "district-audit").symlink_to(self.program)
         for tool in ("audit_slots", "audit_gather"):
             (top / tool).symlink_to(os.path.abspath(folders))
-        self.sees_searches = SEARCHES.encode() in pathlib.Path(program).read_bytes()
+        data = pathlib.Path(program).read_bytes()
+        self.sees_searches = SEARCHES.encode() in data
+        self.is_stripped = b".symtab\0" not in data
 
     def folder(self, run: Run) -> pathlib.Path:
         """Makes the run's folder anew, with its files."""
@@ -269,7 +273,7 @@ class Room:
         if done.returncode not in (0, 7) or found is None:
             raise RuntimeError(f"{name} ends with status {done.returncode}: {note[-300:]}")
         if not run.steps or not self.sees_searches:
-            return Counted(int(found[1]), None)
+            return Counted(int(found[1]), None, self.is_stripped)
         calls = calls_of(out.read_text(errors="replace"), SEARCHES)
         return Counted(int(found[1]), calls * 1000 / run.steps)
 
@@ -348,6 +352,8 @@ def compare_run(name: str, came: Counted, limits: Limits) -> Result:
     said += f"; {times:.3f} of the recorded {wanted['instructions']}"
     if times > limits.times:
         return name, False, f"{said}, and at most {limits.times} is expected"
+    if "searches" in wanted and came.searches is None and came.is_stripped:
+        return name, True, f"{said}; searches cannot be seen in a program without names"
     if "searches" in wanted and came.searches is None:
         return name, False, f"{said}; the program has no function {SEARCHES}"
     most = MOST_TIMES * wanted.get("searches", 0) + MORE_SEARCHES

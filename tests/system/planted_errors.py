@@ -15,6 +15,7 @@ same crate. It must refuse each named function, but none because of a refused on
 prove all others.
 """
 # RUN:
+# NEEDS: rt
 import concurrent.futures
 import dataclasses
 import functools

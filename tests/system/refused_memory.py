@@ -31,7 +31,7 @@ so. Where gcc is missing, that counts as skipped.
 """
 # RUN: {auditor} each
 # RUN refused_memory_of_folders: {folders} folders
-# NEEDS: gcc
+# NEEDS: gcc dynamic
 from __future__ import annotations
 
 import argparse

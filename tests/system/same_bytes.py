@@ -7,6 +7,7 @@ stands in any of these files. A library's checked proofs, which are no code, are
 both were written alike.
 """
 # RUN:
+# NEEDS: rt
 import os
 import pathlib
 import shutil

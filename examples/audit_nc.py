@@ -1,0 +1,35 @@
+#!/usr/bin/env python3
+"""Audits the map of North Carolina in data/nc.json. Usage: python3 audit_nc.py [FOLDER].
+
+Prints the report, and writes report, manifest, exhibit.html and, with matplotlib, picture.png and
+picture.svg to the folder, which is the working folder if none is given. `make audit` calls it with
+the package and the programs of the release. It takes some seconds.
+"""
+import pathlib
+import sys
+
+import district_audit
+
+if "--help" in sys.argv:
+    sys.exit(print(__doc__))
+here = pathlib.Path(__file__).resolve().parent
+out = pathlib.Path(sys.argv[1] if len(sys.argv) > 1 else ".")
+out.mkdir(parents=True, exist_ok=True)
+prepared = district_audit.prepare(
+    str(here / "data" / "nc.json"), population="BIR74", first="NWBIR74", second="WBIR74",
+    district="PLAN11", slack=1000, numbers="nearest", missing="error",
+)
+key = district_audit.key_of("a text that was announced, with the numbers of a lottery")
+report = district_audit.audit_to_file(
+    out / "report", prepared, slack=1000, max_cut=120, key=key, walks=2, steps=100000, ends=99,
+    hub_steps=10000, workers=4, ask=["cut-edges:low", "mean-median:high"], progress=True,
+)
+print(report, end="")
+report.exhibit(out / "exhibit.html", parties=("non-white births", "white births"))
+written = "report, report.manifest.json, exhibit.html"
+try:
+    report.plot(str(out / "picture"))
+    written += ", picture.png, picture.svg"
+except district_audit.MissingExtra:
+    written += "; no picture, which needs matplotlib (apt-get install python3-matplotlib)"
+print(f"in {out}: {written}")

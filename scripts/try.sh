@@ -1,0 +1,85 @@
+#!/bin/bash
+# The two commands for everybody who has this repository, with the toolchain or without: `make audit` and `make test` call this script.
+#
+# Usage: scripts/try.sh audit [FOLDER]   installs package and programs of the folder `release` in out/venv, audits the map of North
+#                                        Carolina, prints the report and leaves report, exhibit and picture in FOLDER, which is out/audit
+#        scripts/try.sh test             installs what the tests need, runs all tests that can run here, and the gate if the toolchain is here
+# As root on Debian or Ubuntu both install missing packages, and say which. Elsewhere they print the line to type.
+# On failure, one line on standard error says what is wrong and what to do, and the status is 1.
+
+here=$(cd "$(dirname "$0")" && pwd) || exit 1
+# shellcheck source=usage.sh
+. "$here/usage.sh"
+help_where_asked "$@"
+top=$(cd "$here/.." && pwd) || exit 1
+
+fail() {
+    echo "try: $1" >&2
+    exit 1
+}
+
+# Installs Debian packages as root, after a line that names them. The words are a reason, then the packages.
+need_packages() {
+    local why=$1
+    shift
+    if [ "$(id -u)" != 0 ] || ! command -v apt-get >/dev/null; then
+        fail "$why: as root, apt-get install -y $*"
+    fi
+    echo "try: installing $*"
+    export DEBIAN_FRONTEND=noninteractive
+    { apt-get install -y --no-install-recommends "$@" || { apt-get update && apt-get install -y --no-install-recommends "$@"; }; } \
+        </dev/null >"$log" 2>&1 || fail "$why, and the installation failed: $(tail -n 1 "$log" | head -c 200)"
+}
+
+# Fails unless the release is whole, and made for this machine.
+check_release() {
+    local wrong
+    [ -d "$top/release" ] || fail "there is no folder release: scripts/release.sh release makes it with the toolchain"
+    wrong=$(cd "$top/release" && sha256sum --check --quiet SHA256SUMS 2>&1) ||
+        fail "release/ is not as it was made ($(head -n 1 <<<"$wrong")): load the repository again"
+    [ "$(uname -s) $(uname -m)" = "Linux x86_64" ] ||
+        fail "the programs in release/ are for Linux on x86_64, and this is $(uname -s) on $(uname -m): build them with the toolchain, as docs/user/GUIDE.md says"
+}
+
+# Makes the virtual environment out/venv with the wheel of the release, if it is not there.
+make_environment() {
+    local wheels=("$top"/release/district_audit-*.whl) python=$top/out/venv/bin/python sums
+    sums=$(sha256sum <"${wheels[0]}") || fail "release/ has no wheel: load the repository again"
+    if [ -x "$python" ] && [ "$(cat "$top/out/venv/wheel.sha256" 2>/dev/null)" = "$sums" ]; then return; fi
+    python3 -c 'import sys, venv, ensurepip; sys.exit(sys.version_info < (3, 9))' 2>/dev/null ||
+        need_packages "Python 3.9 or later with venv is missing" python3 python3-venv
+    # The picture is no reason to fail: the audit goes on without it.
+    if ! python3 -c 'import matplotlib' 2>/dev/null && [ "$(id -u)" = 0 ] && command -v apt-get >/dev/null; then
+        (need_packages "matplotlib, which draws the picture, is missing" python3-matplotlib)
+    fi
+    rm -rf "$top/out/venv"
+    mkdir -p "$top/out"
+    python3 -m venv --system-site-packages "$top/out/venv" >"$log" 2>&1 || fail "the environment out/venv cannot be made: $(tail -n 1 "$log")"
+    "$python" -m pip install --no-index --no-deps --force-reinstall --disable-pip-version-check "${wheels[0]}" >"$log" 2>&1 ||
+        fail "pip does not install ${wheels[0]}: $(grep -v '^$' "$log" | tail -n 1 | head -c 300)"
+    echo "$sums" >"$top/out/venv/wheel.sha256"
+}
+
+audit() {
+    check_release
+    make_environment
+    echo "try: auditing examples/data/nc.json"
+    exec "$top/out/venv/bin/python" "$top/examples/audit_nc.py" "${1:-$top/out/audit}"
+}
+
+tests() {
+    "$here/needs.sh" install
+    cd "$top" || exit 1
+    if command -v rt >/dev/null; then exec bash .ci/run; fi
+    echo "try: the toolchain is not here: what needs it is skipped, by name"
+    # A forge sets CI, with which a missing package is a failure. What is missing was to be installed above.
+    exec tests/run full
+}
+
+log=$(mktemp) || exit 1
+trap 'rm -f "$log"' EXIT
+case ${1:-} in
+    audit) audit "${@:2}" ;;
+    test) tests ;;
+    *) fail "give audit or test; --help says more" ;;
+esac
