@@ -1,7 +1,7 @@
 use Rattle.std.proofs.Common.{decimal, ◌/◌, ◌%◌}
 use Rattle.std.proofs.lemmas.Result.{err_from_is_err_and}
 use Rattle.audit_statement.specs.Words.{quarter_digits}
-use Rattle.report.proofs.Written.{appends-two, appends-err}
+use Rattle.report.proofs.Written.{appends-err}
 use Rattle.report.proofs.numbers.push_quarters.Goals as goal
 
 pub returns-in_err-push_number : goal.returns-in_err-push_number
