@@ -33,9 +33,10 @@ pub fn bound_of_a_pair()
 
 /// Shows a blind report: no ask, no line of a pair, and no length of the start plan's cut edges.
 pub fn blind_report_with_a_weight()
-    ensures { report (record (job_of_lengths 12 (record { score = CutLength; tail = Low } ∷ []))
-            { setting = record (run_of 5000 1 8 0 1000 (record { score = CutLength; tail = Low } ∷ []))
-                { columns = record columns { length = codes "l" }; max_length = 12; cut_weight = 133; pairs = true; blind = true } })
+    ensures { report (record (job_of_lengths 12 (record { score = CutLength; tail = Low } ∷ [])) {
+      setting = record (run_of 5000 1 8 0 1000 (record { score = CutLength; tail = Low } ∷ []))
+          { columns = record columns { length = codes "l" }; max_length = 12; cut_weight = 133; pairs = true; blind = true };
+    })
         (record { id = 0; moved = 3; values = pos 8 ∷ pos 0 ∷ pos 0 ∷ pos 0 ∷ []; bins = empty_histogram } ∷ []) [] None ≡
         codes "walk-pilot 1" ++ 10 ∷ codes "key 0000000000000000000000000000000000000000000000000000000000000000" ++ 10 ∷
         codes "units 4 edges 3 districts 2" ++ 10 ∷ codes "population 4 slack 5000 low 1 high 3" ++ 10 ∷ codes "max-length 12" ++ 10 ∷

@@ -20,8 +20,9 @@ pub fn small_largest_changes()
 {}
 
 /// Shows steps with a weight of 134 of 256, in a triangle of the units 0, 1 and 2 with a tail, the unit 3. In the plan
-/// with the tail alone, one edge is cut. The step that puts unit 2 to the tail cuts another edge, whose factor is 34: of
-/// the draws that propose it, those with a quotient below 34 in the last digit take it. Each draw takes the step back.
+/// with the tail alone, one edge is cut. The step that puts unit 2 to the tail cuts another edge, whose factor is 34.
+/// Of the draws that propose the step, those whose quotient has a last digit below 34 take it. Each draw takes the step
+/// back.
 pub fn steps_with_a_weight()
     ensures taken { next (weighted_job 134) (0 ∷ 0 ∷ 0 ∷ 1 ∷ []) 269 ≡ 0 ∷ 0 ∷ 1 ∷ 1 ∷ [] }
     ensures refused { next (weighted_job 134) (0 ∷ 0 ∷ 0 ∷ 1 ∷ []) 277 ≡ 0 ∷ 0 ∷ 0 ∷ 1 ∷ [] }
