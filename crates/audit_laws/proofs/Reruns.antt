@@ -144,22 +144,6 @@ module _ (job : Job) (options : RunOptions) where
   unfolding job_digest
   digest_same = refl
 
-  ends_same : (ends : ℕ) (outcomes : List Outcome) → ends_lines ends again outcomes ≡ ends_lines ends job outcomes
-  ends_same zero outcomes = refl
-  ends_same (suc ends) outcomes = refl
-
-  tests_same : (enough : ℕ) (outcomes : List Outcome) (stops : List (List ℕ)) → test_lines enough again outcomes stops ≡ test_lines enough job outcomes stops
-  tests_same zero outcomes stops = ends_same job.setting.ends outcomes
-  tests_same (suc h) outcomes stops = refl
-
-  serial_same : (serial : Option (ℕ × List ℕ)) → serial_lines again serial ≡ serial_lines job serial
-  serial_same None = refl
-  serial_same (Some found) = refl
-
-  origin_same : (origin : Option Origin) → origin_lines again origin ≡ origin_lines job origin
-  origin_same None = refl
-  origin_same (Some origin) = refl
-
   -- the job with this run's requests for the text
   abbrev asked : Job
   asked = record job {
@@ -200,16 +184,21 @@ module _ (job : Job) (options : RunOptions) where
       ++ setting_line asked
       ++ stop_line job.setting.stop
 
+  -- the whole text with these lines of the origin, of pairs, of the tests and of the serial test
+  abbrev found_by : List Outcome → List ℕ → List ℕ → List ℕ → List ℕ → List ℕ
+  found_by outcomes head two tests rest = behind head ++ walk_lines asked outcomes ++ two ++ shift_line options.shift outcomes ++ tests ++ rest ++ line (codes "end" ∷ [])
+
   asked_by : (b : Bool) (outcomes : List Outcome) (stops : List (List ℕ)) (serial : Option (ℕ × List ℕ)) → report_by b again outcomes stops serial ≡ report_by b asked outcomes stops serial
   asked_by true outcomes stops serial = ap (λ (head : List ℕ). behind head ++ moved_lines asked outcomes ++ line (codes "end" ∷ [])) (asked_origin options.origin)
   asked_by false outcomes stops serial =
-      ap (λ (head : List ℕ). found_by head (pair_lines options.pairs again outcomes) (test_lines job.setting.stop again outcomes stops) (serial_lines again serial)) (asked_origin options.origin)
-      ∙ ap (λ (two : List ℕ). found_by (origin_lines asked options.origin) two (test_lines job.setting.stop again outcomes stops) (serial_lines again serial)) (asked_pairs options.pairs outcomes)
-      ∙ ap (λ (tests : List ℕ). found_by (origin_lines asked options.origin) (pair_lines options.pairs asked outcomes) tests (serial_lines again serial)) (asked_tests job.setting.stop outcomes stops)
-      ∙ ap (λ (rest : List ℕ). found_by (origin_lines asked options.origin) (pair_lines options.pairs asked outcomes) (test_lines job.setting.stop asked outcomes stops) rest) (asked_serial serial)
-    where
-      abbrev found_by : List ℕ → List ℕ → List ℕ → List ℕ → List ℕ
-      found_by head two tests rest = behind head ++ walk_lines asked outcomes ++ two ++ shift_line options.shift outcomes ++ tests ++ rest ++ line (codes "end" ∷ [])
+      ap (λ (head : List ℕ). found_by outcomes head (pair_lines options.pairs again outcomes) (test_lines job.setting.stop again outcomes stops) (serial_lines again serial)) (asked_origin options.origin)
+      ∙ ap (λ (two : List ℕ). found_by outcomes (origin_lines asked options.origin) two (test_lines job.setting.stop again outcomes stops) (serial_lines again serial)) (asked_pairs options.pairs outcomes)
+      ∙ ap (λ (tests : List ℕ). found_by outcomes (origin_lines asked options.origin) (pair_lines options.pairs asked outcomes) tests (serial_lines again serial)) (asked_tests job.setting.stop outcomes stops)
+      ∙ ap (λ (rest : List ℕ). found_by outcomes (origin_lines asked options.origin) (pair_lines options.pairs asked outcomes) (test_lines job.setting.stop asked outcomes stops) rest) (asked_serial serial)
+
+  -- the job with these requests
+  abbrev requesting : Bool → Bool → Bool → Option Origin → Job
+  requesting shift pairs blind origin = record job { setting = record job.setting { shift = shift; pairs = pairs; blind = blind }; origin = origin }
 
   report_same : options.shift ≡ job.setting.shift → options.origin ≡ job.origin → options.pairs ≡ job.setting.pairs → options.blind ≡ job.setting.blind
       → (outcomes : List Outcome) (stops : List (List ℕ)) (serial : Option (ℕ × List ℕ)) → report again outcomes stops serial ≡ report job outcomes stops serial
@@ -220,9 +209,6 @@ module _ (job : Job) (options : RunOptions) where
       ∙ ap (λ (o : Option Origin). report (requesting job.setting.shift options.pairs options.blind o) outcomes stops serial) from
       ∙ ap (λ (b : Bool). report (requesting job.setting.shift b options.blind job.origin) outcomes stops serial) two
       ∙ ap (λ (b : Bool). report (requesting job.setting.shift job.setting.pairs b job.origin) outcomes stops serial) blind
-    where
-      abbrev requesting : Bool → Bool → Bool → Option Origin → Job
-      requesting shift pairs blind origin = record job { setting = record job.setting { shift = shift; pairs = pairs; blind = blind }; origin = origin }
 
   rank_same : (draws : Draws) (place : ℕ) (ask : Ask) → serial_rank again draws place ask ≡ serial_rank job draws place ask
   rank_same draws place ask = ap (λ (v : Visits). rank_by v job draws place ask) visit_same
