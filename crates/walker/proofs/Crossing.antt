@@ -55,11 +55,11 @@ fillers_send = search (crosses, sendable) depth 20
 
 -- boards may be sent
 board_send : IsSend Board.the_row
-board_send = search (table_send, counts_send, fillers_send, units_send, numbers_send, marks_send, crosses, sendable) depth 20
+board_send = search (table_send, counts_send, fillers_send, units_send, numbers_send, marks_send, crosses, sendable) depth 40
 
 -- the board field of a state may be sent
 board_field_send : IsSend Board.the_field.row
-board_field_send = search (board_send, table_send, counts_send, fillers_send, units_send, numbers_send, marks_send, crosses, sendable) depth 20
+board_field_send = search (board_send, table_send, counts_send, fillers_send, units_send, numbers_send, marks_send, crosses, sendable) depth 40
 
 -- the buffers for scores may be sent
 room_send : IsSend Room.the_field.row
