@@ -17,8 +17,8 @@ if typing.TYPE_CHECKING:
 SPACE, TOP, MOST_HEIGHT = 24.0, 24.0, 760.0
 SIZES = (13.0, 11.0, 9.0, 7.0)
 NOT_PROVED = (
-    "The package drew this map from the shapes that were given with the units' ids. It is no part of"
-    " the proved report."
+    "The package drew this map from the shapes that were given with the units' ids. It is no part"
+    " of the proved report."
 )
 
 
