@@ -17,6 +17,7 @@ from . import exhibit_text as texts
 from .custody import write_whole
 from .decimals import ROUNDED_DOWN, percent_down, round_down
 from .effect import Effect, Number
+from .district_map import maps_of
 from .exhibit_counting import find_announced_for, multiply, tell_announced
 from .exhibit_custody import (
     NOT_PROVED,
@@ -39,6 +40,7 @@ from .exhibit_districts import (
     refuse_missing_columns,
 )
 from .exhibit_figures import escape
+from .map_figures import map_figure
 from .report import MOST_REGIONS, MOST_SPLITS, Report, weight_text
 from .wording import Names, add_article, read_names
 
@@ -62,6 +64,8 @@ h2, h3, .title { break-after: avoid; }
 figure { margin: 1.2em 0; } figcaption { font-size: 0.9em; }
 figure svg { width: 100%; height: auto; }
 svg text { font: 13px Arial, Helvetica, sans-serif; fill: #000; }
+svg text.at11 { font-size: 11px; } svg text.at9 { font-size: 9px; }
+svg text.at7 { font-size: 7px; }
 pre, code { font: 12px/1.4 'DejaVu Sans Mono', 'Courier New', monospace; }
 pre { white-space: pre-wrap; overflow-wrap: anywhere; border: 1px solid #888; padding: 0.6em; }
 code { overflow-wrap: anywhere; }
@@ -323,6 +327,8 @@ def results(
             for score, value in starts_of(report).items()
         }
         parts += [f"<h3>Plan {escape(name)}</h3>"] if len(plans) > 1 else []
+        if options.geometry is not None and place == 0:
+            parts.append(district_maps(report, options))
         if graph is not None and place == 0:
             found = districts_of(report, graph)
             parts += district_table(report, found, parties, graph.is_exact, options.called)
@@ -335,6 +341,16 @@ def results(
         number += len(drawn)
         parts += drawn
     return parts
+
+
+def district_maps(report: Report, options: Options) -> str:
+    """Returns the map of the enacted plan and, where there is one, of another plan beside it."""
+    maps = maps_of(
+        report, options.geometry, graph=options.graph, columns=options.columns, plan=options.plan,
+        ids=options.ids,
+    )
+    titles = [maps[0].title, *(one.title[0].lower() + one.title[1:] for one in maps[1:])]
+    return map_figure(maps, " and ".join(titles))
 
 
 def result_table(report: Report, names: Names = Names()) -> str:

@@ -1607,6 +1607,54 @@ class Report:
             picture.save(figure, name)
         return figure
 
+    def plot_map(
+        self,
+        geometry: object,
+        name: PathLike | None = None,
+        *,
+        graph: object = None,
+        columns: typing.Mapping[str, str] | None = None,
+        plan: object = None,
+        ids: str | None = None,
+        title: str | None = None,
+    ) -> matplotlib.figure.Figure:
+        """Draws a map of the enacted plan's districts, and of another plan's beside it.
+
+        Parameters
+        ----------
+        geometry : GeoDataFrame, GeoSeries, or dict of shapely geometries by unit
+            The units' areas.
+        name : path, optional
+            The file to write, as for `plot`.
+        graph : as for `exhibit`, optional
+            The graph that was audited; if left out, that of the call that made the report.
+        columns : dict, optional
+            The columns, as for `exhibit`, if the report does not name them.
+        plan : Sample of a trace, or dict of districts by unit, optional
+            The plan that is drawn beside the enacted one.
+        ids : str, optional
+            The column of a GeoDataFrame that has the units' ids; if left out, the index or the only
+            column that has all of them.
+        title : str, optional
+            The title above the maps.
+
+        Raises
+        ------
+        ValueError
+            A unit has no shape or no district, or the graph is not that of the report.
+        MissingExtra
+            An ImportError, where matplotlib or shapely is not installed.
+        """
+        from . import district_map, map_figures, picture
+
+        maps = district_map.maps_of(
+            self, geometry, graph=graph, columns=columns, plan=plan, ids=ids
+        )
+        figure = map_figures.plot_maps(maps, title)
+        if name is not None:
+            picture.save(figure, name)
+        return figure
+
     def __repr__(self) -> str:
         setting = self.setting
         walked = [f"{setting.walks} walks of {setting.steps} steps"] if setting.walks else []

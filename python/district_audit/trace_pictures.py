@@ -1,7 +1,7 @@
 """Pictures of scores along a trace, by matplotlib: histogram, box plot, running trace.
 
 All is black, gray and white: marks, hatches and words distinguish. Each function returns a
-matplotlib figure, and with `name` it also writes NAME.png and NAME.svg. Values are `int`,
+matplotlib figure, and with `name` it also writes a file of it, or NAME.png and NAME.svg. Values are `int`,
 `Fraction` or `float`. Each function raises MissingExtra if matplotlib is not installed, and
 ValueError if there is nothing to draw or a value is missing.
 """
@@ -11,11 +11,14 @@ import typing
 
 from .errors import extra
 from .graphs import is_missing
-from .picture import save
+from .picture import MIDDLE, Ruler, save, show_whole_numbers
 
 if typing.TYPE_CHECKING:
     from matplotlib.axes import Axes
+    from matplotlib.axis import Axis
     from matplotlib.figure import Figure
+
+    from .custody import PathLike
 
 # With more different whole numbers than this a histogram has bins of several.
 MOST_BARS = 60
@@ -45,16 +48,38 @@ def new_figure(width: float, height: float) -> tuple[Figure, Axes]:
 
     figure = Figure(figsize=(width, height))
     FigureCanvasAgg(figure)
-    axes = figure.add_axes((0.1, 0.17, 0.86, 0.7))
+    axes = figure.add_subplot()
     for side in ("top", "right"):
         axes.spines[side].set_visible(False)
     axes.tick_params(labelsize=8)
     return figure, axes
 
 
-def finish(figure: Figure, axes: Axes, title: str, name: str | None) -> Figure:
-    """Returns the figure with its title, which is written where it has a name."""
-    axes.set_title(title, fontsize=10, loc="left")
+def number_text(value: float) -> str:
+    """Returns a number with all digits if it is whole, and else with six digits."""
+    return f"{value:,.0f}" if value == int(value) else f"{value:.6g}"
+
+
+def show_numbers(axis: Axis, values: typing.Iterable[float]) -> None:
+    """Writes the ticks of an axis without powers of ten; of whole numbers it has no others."""
+    if all(value == int(value) for value in values):
+        show_whole_numbers(axis)
+    else:
+        axis.set_major_formatter(lambda value, _place: number_text(round(value, 12)))
+
+
+def finish(figure: Figure, axes: Axes, title: str, name: PathLike | None) -> Figure:
+    """Returns the figure with its texts in lines that fit, which is written where it has a name."""
+    ruler, wide = Ruler(), figure.get_figwidth() - 1.4
+    # A mark above the axes has its room below the title.
+    pad = 22 if title.endswith("\n") else 6
+    axes.set_title(ruler.wrap(title, wide, 10), fontsize=10, loc="left", pad=pad)
+    lines = [ruler.wrap(line, wide, MIDDLE) for line in axes.get_xlabel().split("\n")]
+    axes.set_xlabel("\n".join(lines), fontsize=MIDDLE)
+    high = 0.62 * figure.get_figheight()
+    axes.set_ylabel(ruler.wrap(axes.get_ylabel(), high, MIDDLE), fontsize=MIDDLE)
+    # The room for numbers, labels and the legend, as wide as they are.
+    figure.tight_layout(pad=0.8)
     if name is not None:
         save(figure, name)
     return figure
@@ -72,7 +97,7 @@ def histogram_edges(values: typing.Sequence[float]) -> list[float]:
 def histogram(values: typing.Iterable[typing.SupportsFloat], *,
               enacted: typing.SupportsFloat | None = None,
               title: str = "", label: str = "score", plans: str = "plans",
-              name: str | None = None) -> Figure:
+              name: PathLike | None = None) -> Figure:
     """Draws a histogram of a score over samples, with the enacted plan marked.
 
     Parameters
@@ -84,7 +109,8 @@ def histogram(values: typing.Iterable[typing.SupportsFloat], *,
     title, label, plans
         The title, what the score is, and what is counted.
     name
-        The picture is written to NAME.png and NAME.svg.
+        The file to write, as "picture.png", "picture.svg" or "picture.pdf". A name without the end
+        of a format is that of two files, NAME.png and NAME.svg.
     """
     found = numbers_of(values)
     mark = found[0] if enacted is None else float(enacted)
@@ -98,14 +124,13 @@ def histogram(values: typing.Iterable[typing.SupportsFloat], *,
     left, right = axes.get_xlim()
     place = (mark - left) / (right - left)
     side = "left" if place < 0.2 else "right" if place > 0.8 else "center"
-    axes.annotate(f"enacted plan {mark:.6g}", (mark, top), xytext=(0, 6),
+    axes.annotate(f"enacted plan {number_text(mark)}", (mark, top), xytext=(0, 6),
                   textcoords="offset points", ha=side, va="bottom", fontsize=8,
                   annotation_clip=False)
-    if all(value == int(value) for value in found):
-        axes.xaxis.get_major_locator().set_params(integer=True)
-    axes.yaxis.get_major_locator().set_params(integer=True)
+    show_numbers(axes.xaxis, found)
+    show_whole_numbers(axes.yaxis)
     axes.set_xlabel(label, fontsize=9)
-    axes.set_ylabel(f"{plans} (of {len(found)})", fontsize=9)
+    axes.set_ylabel(f"{plans} (of {len(found):,})", fontsize=9)
     if title:
         title += "\n"
     return finish(figure, axes, title, name)
@@ -113,7 +138,7 @@ def histogram(values: typing.Iterable[typing.SupportsFloat], *,
 
 def box_plot(rows: typing.Iterable[typing.Sequence[typing.SupportsFloat]], *,
              enacted: typing.Sequence[typing.SupportsFloat] | None = None, title: str = "",
-             label: str = "share of the first party", name: str | None = None) -> Figure:
+             label: str = "share of the first party", name: PathLike | None = None) -> Figure:
     """Draws a box for each place of ordered district shares, with the enacted plan's shares.
 
     Boxes go from the quarter to the three quarters of the plans, with a line at the median, and
@@ -144,21 +169,22 @@ def box_plot(rows: typing.Iterable[typing.Sequence[typing.SupportsFloat]], *,
                  patch_artist=True, boxprops={"facecolor": "0.88", "edgecolor": "black"},
                  medianprops={"color": "black", "linewidth": 1.6}, whiskerprops=black,
                  capprops=black)
-    axes.plot(places, marks, linestyle="", marker="D", markersize=6, markerfacecolor="black",
-              markeredgecolor="white", zorder=4, label="enacted plan")
+    # An open diamond hides neither a median nor a box.
+    axes.plot(places, marks, linestyle="", marker="D", markersize=7, markerfacecolor="none",
+              markeredgecolor="black", markeredgewidth=1.4, zorder=4, label="enacted plan")
     step = 1 + (len(places) - 1) // 30
     axes.set_xticks(places[::step])
     axes.set_xticklabels([str(place) for place in places[::step]])
-    axes.set_xlabel(f"districts by rising share\n{len(found)} plans; boxes: middle half; "
+    axes.set_xlabel(f"districts by rising share\n{len(found):,} plans; boxes: middle half; "
                     "whiskers: 1 to 99 percent", fontsize=9)
     axes.set_ylabel(label, fontsize=9)
-    axes.legend(loc="upper left", fontsize=8, frameon=False)
+    axes.legend(loc="upper center", bbox_to_anchor=(0.5, -0.2), ncol=2, fontsize=8, frameon=False)
     return finish(figure, axes, title, name)
 
 
 def running(walks: typing.Mapping[Walk, typing.Sequence[tuple[int, typing.SupportsFloat]]], *,
             enacted: typing.SupportsFloat | None = None, title: str = "", label: str = "score",
-            name: str | None = None) -> Figure:
+            name: PathLike | None = None) -> Figure:
     """Draws a score along the steps of one or more trajectories, with the enacted plan's value.
 
     Parameters
@@ -174,10 +200,11 @@ def running(walks: typing.Mapping[Walk, typing.Sequence[tuple[int, typing.Suppor
     if not by_walk:
         raise ValueError("there is nothing to draw")
     figure, axes = new_figure(9, 4)
-    firsts = []
+    firsts, seen = [], []
     for place, (walk, pairs) in enumerate(by_walk.items()):
         values = numbers_of(value for _, value in pairs)
         firsts.append(values[0])
+        seen += values
         is_one_of_many = len(by_walk) > MOST_LINES
         named = f"{len(by_walk)} trajectories" if place == 0 else None
         axes.plot([step for step, _ in pairs], values, drawstyle="steps-post",
@@ -187,8 +214,10 @@ def running(walks: typing.Mapping[Walk, typing.Sequence[tuple[int, typing.Suppor
                   label=named if is_one_of_many else f"trajectory {walk}")
     mark = firsts[0] if enacted is None else float(enacted)
     axes.axhline(mark, color="black", linewidth=2, linestyle=(0, (6, 3)),
-                 label=f"enacted plan {mark:.6g}")
+                 label=f"enacted plan {number_text(mark)}")
     axes.set_xlim(left=0)
+    show_whole_numbers(axes.xaxis)
+    show_numbers(axes.yaxis, [*seen, mark])
     axes.set_xlabel("steps", fontsize=9)
     axes.set_ylabel(label, fontsize=9)
     axes.legend(loc="upper center", bbox_to_anchor=(0.5, -0.14), ncol=5, fontsize=8, frameon=False)

@@ -9,6 +9,7 @@ import unittest
 from fractions import Fraction
 
 import common
+import test_pictures
 from common import anything
 import district_audit
 from district_audit import trace_pictures
@@ -57,6 +58,29 @@ class Pictures(common.FolderCase):
             [(bar.get_x(), bar.get_height()) for bar in axes.patches],
             [(1.5, 1), (2.5, 2), (3.5, 0), (4.5, 1)],
         )
+    def test_texts_fit_with_extreme_names(self) -> None:
+        """Each text is inside the canvas, and no two meet; axes have no powers of ten."""
+        long = "The Very Long Established Progressive Conservative Union Party " * 3
+        millions = [10**9 + 10**6 * place for place in range(50)]
+        words: common.Words = dict(title=long, label=long)
+        figures = [
+            trace_pictures.histogram(millions, plans=long, **words),
+            trace_pictures.histogram([Fraction(k, 7) for k in range(99)], **words),
+            trace_pictures.box_plot([[Fraction(k, 40)] * 38 for k in range(30)], **words),
+            trace_pictures.running(
+                {10**6 + w: [(0, 5), (10**9, 4 * 10**8)] for w in range(4)}, **words
+            ),
+        ]
+        for figure in figures:
+            for text, box in test_pictures.boxes_of(figure):
+                self.assertNotRegex(text, r"1e|10\^")
+                self.assertTrue(0 <= box.x0 and box.x1 <= figure.bbox.x1, text)
+                self.assertTrue(0 <= box.y0 and box.y1 <= figure.bbox.y1, text)
+            test_pictures.assert_apart(self, figure)
+            offsets = [axis.get_offset_text().get_text() for axis in (
+                figure.axes[0].xaxis, figure.axes[0].yaxis
+            )]
+            self.assertEqual(offsets, ["", ""])
 
     def test_boxes(self) -> None:
         rows = [[Fraction(k, 100), Fraction(100 + k, 300)] for k in range(101)]

@@ -1,0 +1,147 @@
+"""District maps as a figure of a page, in SVG, and as a picture of matplotlib."""
+from __future__ import annotations
+
+import math
+import typing
+
+from . import measuring
+from .district_map import DistrictMap, Ring, place_labels
+from .errors import extra
+from .exhibit_figures import WIDTH, escape, text
+
+if typing.TYPE_CHECKING:
+    from matplotlib.axes import Axes
+    from matplotlib.figure import Figure
+
+# The space between two maps, the room above a map for its title, and the greatest height of a map.
+SPACE, TOP, MOST_HEIGHT = 24.0, 24.0, 760.0
+SIZES = (13.0, 11.0, 9.0, 7.0)
+NOT_PROVED = (
+    "The package drew this map from the shapes that were given with the units' ids. It is no part"
+    " of the proved report."
+)
+
+
+def left_out_words(labels: typing.Sequence[str]) -> str:
+    """Returns which districts have no label on a map; empty if all have one."""
+    return f" Districts whose label has no room: {', '.join(labels)}." if labels else ""
+
+
+# ---- a page
+
+
+def map_figure(maps: typing.Sequence[DistrictMap], names: str) -> str:
+    """Returns the maps beside each other as a figure of a page."""
+    wide = (WIDTH - SPACE * (len(maps) - 1)) / len(maps)
+    wide = min(wide, *(MOST_HEIGHT / max(one.height, 0.01) for one in maps))
+    high = TOP + max(one.height for one in maps) * wide + 4
+    parts, missing = [], []
+    for place, one in enumerate(maps):
+        drawn, left_out = draw_map(one, place * (wide + SPACE), wide)
+        parts += drawn
+        missing += left_out
+    caption = NOT_PROVED + left_out_words(list(dict.fromkeys(missing)))
+    title = escape(names)
+    return (
+        f'<figure><figcaption class="title"><b>Map.</b> {title}</figcaption>'
+        f'<svg viewBox="0 0 {WIDTH} {math.ceil(high)}" role="img" aria-label="{title}">'
+        f"{''.join(parts)}</svg><figcaption>{escape(caption)}</figcaption></figure>"
+    )
+
+
+def draw_map(one: DistrictMap, left: float, wide: float) -> tuple[list[str], list[str]]:
+    """Returns the SVG of a map, and the labels that have no room."""
+    (title, *_) = measuring.wrap(one.title, wide)
+    parts = [text(left, 15, title, "start", 'font-weight="bold"')]
+    for area in one.areas:
+        data = " ".join(path_of(ring, left, wide) for ring in area.rings)
+        parts.append(
+            f'<path d="{data}" fill="{area.shade}" fill-rule="evenodd" stroke="#000"'
+            ' stroke-width="1.2" stroke-linejoin="round"/>'
+        )
+    labels, left_out = place_labels(one, wide, SIZES, measuring.width)
+    for label in labels:
+        # A style of its own, since that of the page gives each text one size.
+        more = f'class="at{label.size:g}" stroke="#fff" stroke-width="3" paint-order="stroke"'
+        parts.append(
+            text(left + label.x, TOP + label.y + 0.36 * label.size, label.words, "middle", more)
+        )
+    return parts, left_out
+
+
+def path_of(ring: Ring, left: float, wide: float) -> str:
+    """Returns a ring as commands of a path."""
+    points = [f"{left + x * wide:.1f} {TOP + y * wide:.1f}" for x, y in ring]
+    kept = [point for place, point in enumerate(points) if place == 0 or point != points[place - 1]]
+    return f"M {' L '.join(kept)} z"
+
+
+# ---- a picture
+
+
+def plot_maps(maps: typing.Sequence[DistrictMap], title: str | None = None) -> Figure:
+    """Returns a matplotlib figure of maps beside each other.
+
+    Raises MissingExtra if matplotlib is not installed.
+    """
+    extra("matplotlib")
+    from matplotlib.backends.backend_agg import FigureCanvasAgg
+    from matplotlib.figure import Figure
+
+    from .picture import EDGE, LARGE, MIDDLE, SMALL, Ruler
+    from .picture import WIDTH as INCHES
+
+    ruler = Ruler()
+    wide = (INCHES - 2 * EDGE - 0.3 * (len(maps) - 1)) / len(maps)
+    wide = min(wide, *(9.0 / max(one.height, 0.01) for one in maps))
+    shown = "" if title is None else ruler.wrap(title, INCHES - 2 * EDGE, LARGE, True)
+    above = 0.45 + (0.08 + 0.2 * (1 + shown.count("\n")) if shown else 0.0)
+    labelled = [
+        place_labels(
+            one, 72 * wide, (9.0, 8.0, 7.0, 6.0, 5.0),
+            lambda words, size: 72 * ruler.width(words, size),
+        )
+        for one in maps
+    ]
+    missing = list(dict.fromkeys(label for _, left_out in labelled for label in left_out))
+    notes = ruler.wrap(NOT_PROVED + left_out_words(missing), INCHES - 2 * EDGE)
+    below = 0.25 + 0.14 * (1 + notes.count("\n"))
+    high = max(one.height for one in maps) * wide
+    whole = above + high + below
+    figure = Figure(figsize=(INCHES, whole))
+    FigureCanvasAgg(figure)
+    for place, (one, (labels, _)) in enumerate(zip(maps, labelled)):
+        left = EDGE + place * (wide + 0.3)
+        box = (
+            left / INCHES, 1 - (above + one.height * wide) / whole, wide / INCHES,
+            one.height * wide / whole,
+        )
+        axes = figure.add_axes(box)
+        fill_axes(axes, one)
+        for label in labels:
+            axes.text(
+                label.x / (72 * wide), label.y / (72 * wide), label.words.replace("$", r"\$"),
+                ha="center", va="center", fontsize=label.size,
+            )
+        axes.set_title(ruler.wrap(one.title, wide, MIDDLE), fontsize=MIDDLE, loc="left")
+    if shown:
+        figure.text(
+            EDGE / INCHES, 1 - 0.1 / whole, shown, fontsize=LARGE, va="top", weight="bold"
+        )
+    figure.text(EDGE / INCHES, 0.1 / whole, notes, fontsize=SMALL, va="bottom")
+    return figure
+
+
+def fill_axes(axes: Axes, one: DistrictMap) -> None:
+    """Draws the districts of a map."""
+    from matplotlib.patches import PathPatch
+    from matplotlib.path import Path
+
+    axes.set_xlim(0, 1)
+    axes.set_ylim(one.height, 0)
+    axes.set_axis_off()
+    for area in one.areas:
+        path = Path.make_compound_path(*(Path(ring, closed=True) for ring in area.rings))
+        axes.add_patch(
+            PathPatch(path, facecolor=area.shade, edgecolor="black", linewidth=1, clip_on=False)
+        )

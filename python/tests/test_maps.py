@@ -1,0 +1,179 @@
+"""Maps of districts: shapes are found by their units, and labels have room."""
+from __future__ import annotations
+
+import html
+import itertools
+import re
+import unittest
+
+import common
+from test_exhibit import COLUMNS, Page
+from district_audit import Report, district_map, map_figures, measuring
+
+GRAPH = common.EXAMPLES / "data" / "grid.json"
+ROW = 20
+
+
+class Maps(common.FolderCase):
+    def setUp(self) -> None:
+        super().setUp()
+        common.needs("shapely")
+        self.report = Report.parse(common.readme_report())
+        self.units = [node["id"] for node in common.example("grid.json")["nodes"]]
+
+    def squares(self) -> dict[object, common.Value]:
+        """Returns a unit square for each unit of the grid, in its rows."""
+        from shapely.geometry import box
+
+        return {
+            unit: box(place % ROW, place // ROW, place % ROW + 1, place // ROW + 1)
+            for place, unit in enumerate(self.units)
+        }
+
+    def maps(self, geometry: object, **words: common.Value) -> list[district_map.DistrictMap]:
+        given: common.Words = dict(graph=GRAPH, columns=COLUMNS)
+        return district_map.maps_of(self.report, geometry, **{**given, **words})
+
+    def test_areas_of_districts_are_those_of_their_units(self) -> None:
+        """The outline of each district has the area of its squares: one each, by hand."""
+        from shapely.geometry import Point, Polygon
+
+        (drawn,) = self.maps(self.squares())
+        nodes = common.example("grid.json")["nodes"]
+        self.assertEqual(drawn.height, len(nodes) / ROW / ROW)
+        for area in drawn.areas:
+            units = sum(node["CD"] == area.label for node in nodes)
+            shape = Polygon(area.rings[0], area.rings[1:])
+            self.assertAlmostEqual(shape.area * ROW**2, units, places=6)
+            self.assertTrue(shape.contains(Point(area.at)))
+        self.assertEqual({area.label for area in drawn.areas}, {node["CD"] for node in nodes})
+
+    def test_neighbors_have_different_fills(self) -> None:
+        (drawn,) = self.maps(self.squares())
+        shade = {area.label: area.shade for area in drawn.areas}
+        root = common.example("grid.json")
+        district = {node["id"]: node["CD"] for node in root["nodes"]}
+        for node, entries in zip(root["nodes"], root["adjacency"]):
+            for entry in entries:
+                one, other = district[node["id"]], district[entry["id"]]
+                if one != other:
+                    self.assertNotEqual(shade[one], shade[other])
+
+    def test_a_plan_of_a_trace_stands_beside(self) -> None:
+        other = {unit: str(place // 150) for place, unit in enumerate(self.units)}
+
+        class Sample:
+            id, step, assignment = 3, 12_000, other
+
+        maps = self.maps(self.squares(), plan=Sample())
+        self.assertEqual(
+            [one.title for one in maps],
+            ["The enacted plan", "The plan of walk 3 after 12,000 steps"],
+        )
+        self.assertEqual([area.label for area in maps[1].areas], ["0", "1"])
+        with self.assertRaisesRegex(ValueError, "no district for the units 0"):
+            self.maps(self.squares(), plan={unit: "1" for unit in self.units[1:]})
+
+    def test_frames_and_mappings(self) -> None:
+        geopandas = common.needs("geopandas")
+        squares = self.squares()
+        wanted = self.maps(squares)
+        shapes = list(squares.values())
+        by_index = geopandas.GeoDataFrame(geometry=shapes, index=self.units)
+        names = [str(unit) for unit in self.units]
+        by_column = geopandas.GeoDataFrame({"GEOID": names, "x": 1}, geometry=shapes)
+        by_column.index = [f"row {place}" for place in range(len(shapes))]
+        for frame in (by_index, by_index.geometry, by_column):
+            self.assertEqual(self.maps(frame), wanted)
+        self.assertEqual(self.maps(by_column, ids="GEOID"), wanted)
+        both = by_column.assign(OTHER=names)
+        with self.assertRaisesRegex(ValueError, "GEOID, OTHER all have the ids"):
+            self.maps(both)
+        with self.assertRaisesRegex(ValueError, "no column has the ids"):
+            self.maps(by_column.drop(columns="GEOID"))
+        with self.assertRaisesRegex(ValueError, "is no column"):
+            self.maps(by_column, ids="geoid")
+
+    def test_what_is_refused(self) -> None:
+        squares = self.squares()
+        last = self.units[-1]
+        with self.assertRaisesRegex(ValueError, f"1 units have no shape in geometry: {last}"):
+            self.maps({unit: shape for unit, shape in squares.items() if unit != last})
+        with self.assertRaisesRegex(ValueError, "not of type list"):
+            self.maps(list(squares.values()))
+        with self.assertRaisesRegex(ValueError, "needs the graph"):
+            self.maps(squares, graph=None)
+
+    def test_the_exhibit_has_the_map(self) -> None:
+        path = self.folder / "page.html"
+        self.report.exhibit(
+            path, graph=GRAPH, columns=COLUMNS, geometry=self.squares(),
+            plan={unit: "one" for unit in self.units},
+        )
+        text = path.read_text(encoding="utf-8")
+        page = Page(text)
+        self.assertEqual(page.faults, [])
+        self.assertIn("Map. The enacted plan and another plan", page.text)
+        (figure,) = re.findall("<figure><figcaption[^>]*><b>Map.*?</figure>", text, re.S)
+        self.assertEqual(figure.count("<path "), 6 + 1)
+        for label in ("01", "06", "one"):
+            self.assertIn(f">{label}</text>", figure)
+
+    def test_the_picture_has_the_map(self) -> None:
+        common.needs("matplotlib")
+        path = self.folder / "map.svg"
+        figure = self.report.plot_map(
+            self.squares(), path, graph=GRAPH, columns=COLUMNS, title="The map",
+            plan={unit: "one" for unit in self.units},
+        )
+        self.assertEqual([len(axes.patches) for axes in figure.axes], [6, 1])
+        words = re.sub("<[^>]*>", " ", path.read_text(encoding="utf-8"))
+        for word in ("The map", "The enacted plan", "Another plan", "01", "06", "one"):
+            self.assertIn(word, words)
+        drawn_by = figure.canvas.get_renderer()
+        for text in (*figure.texts, *(text for axes in figure.axes for text in axes.texts)):
+            box = text.get_window_extent(drawn_by)
+            self.assertTrue(0 <= box.x0 and box.x1 <= figure.bbox.x1, text)
+            self.assertTrue(0 <= box.y0 and box.y1 <= figure.bbox.y1, text)
+
+
+class Labels(unittest.TestCase):
+    def crowd(self, label: str, count: int) -> district_map.DistrictMap:
+        """Returns a map of many districts whose labels stand close to each other."""
+        areas = [
+            district_map.Area(
+                f"{label}{place}", [[(0, 0), (1, 0), (1, 1)]],
+                ((place * 7 % 40) / 40, (place * 11 % 40) / 40), "#fff",
+            )
+            for place in range(count)
+        ]
+        return district_map.DistrictMap("The enacted plan", areas, 1.0)
+
+    def test_labels_do_not_meet_and_none_is_lost_in_silence(self) -> None:
+        for label, count in (("", 200), ("District of the long name ", 60), ("W" * 300, 3)):
+            drawn = self.crowd(label, count)
+            figure = html.unescape(map_figures.map_figure([drawn, drawn], "maps"))
+            found = re.findall(
+                r'<text x="([\d.]+)" y="([\d.]+)" text-anchor="middle" class="at(\d+)"[^>]*>'
+                "([^<]*)</text>", figure,
+            )
+            boxes = []
+            for x, y, size, words in found:
+                half = measuring.width(words, float(size)) / 2
+                boxes.append((float(x) - half, float(x) + half, float(y) - float(size) * 0.76,
+                              float(y) + float(size) * 0.24))
+            for box in boxes:
+                self.assertTrue(0 <= box[0] and box[1] <= 900, box)
+            for one, other in itertools.combinations(boxes, 2):
+                is_beside = one[1] <= other[0] or other[1] <= one[0]
+                is_above = one[3] <= other[2] or other[3] <= one[2]
+                self.assertTrue(is_beside or is_above, (one, other))
+            shown = {words for _, _, _, words in found}
+            for area in drawn.areas:
+                if area.label not in shown:
+                    self.assertIn("Districts whose label has no room: ", figure)
+                    self.assertIn(area.label, figure.split("no room: ")[1])
+
+
+if __name__ == "__main__":
+    unittest.main()
