@@ -52,8 +52,8 @@ pub fn next_stays_legal()
 {}
 
 /// Shows that the mirrored draw leads from the next plan back to the plan, and that mirroring the mirrored draw gives
-/// the first draw. With a weight, this holds of steps that take no cut edges away. Divided by the number of pairs (units
-/// times districts), both draws give the same integer quotient. The mirrored draw has at most 64 bits.
+/// the first draw. With a weight, this holds of steps that take no cut edges away. Divided by the number of pairs
+/// (units times districts), both draws give the same integer quotient. The mirrored draw has at most 64 bits.
 pub fn mirrored_leads_back()
     ensures back { (job : Job) (plan : List ℕ) (draw : ℕ) → IsLegal job plan → CanReturn job plan draw →
         next job (next job plan draw) (mirrored job plan draw) ≡ plan }
@@ -85,8 +85,8 @@ pub fn ways_are_symmetric()
 {}
 
 /// Shows that the chain with a weight is reversible to it: for any two legal plans, the weight of one, times the number
-/// of draws that lead from it to the other, is the same for both. The ratio of the ways is that of the factors of the cut
-/// edges that are added. No draw makes too large a change.
+/// of draws that lead from it to the other, is the same for both. The ratio of the ways is that of the factors of the
+/// cut edges that are added. No draw makes too large a change.
 pub fn ways_follow_the_weight()
     ensures ratio { (job : Job) (from to : List ℕ) (d : ℕ) → job.setting.cut_weight ≤ 256 → IsLegal job from → IsLegal job to →
         cut_edges job.graph to ≡ cut_edges job.graph from + d →

@@ -10,8 +10,8 @@ use Rattle.flip_kernel.specs.declared.proposal.Pairs.{Pairs}
 abbrev pub place_in : ℕ → ℕ → Option ℕ
 place_in size draw = if nat_lt draw (2 ^ 64 / size * size) then Some (draw % size) else None
 
--- the greatest draw at which a whole block can begin, 2^64 - 1 divided by both counts and rounded down, and, with a
--- weight, the largest change of the number of cut edges in one step and the greatest draw that counts
+-- The greatest draw at which a whole block can begin, and 2^64 - 1 divided by both counts and rounded down. With a
+-- weight, also the largest change of the number of cut edges in one step, and the greatest draw that counts.
 pub record AreBlocks (pairs : Pairs) : Type 0 where
   pub some : 0 < pairs.count
   pub last : pairs.last + pairs.count ≡ 2 ^ 64

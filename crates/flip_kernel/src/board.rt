@@ -412,8 +412,8 @@ impl Board {
         }
     }
 
-    /// Returns true if a flip within the population bounds is a move that the draw takes. The pair must be open. `steps`
-    /// counts a search of the district.
+    /// Returns true if a flip within the population bounds is a move that the draw takes. The pair must be open.
+    /// `steps` counts a search of the district.
     pub(crate) fn may_move_within<J: Judge, L: Ledger>(
         &mut self,
         judge: &J,
