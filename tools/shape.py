@@ -56,7 +56,7 @@ LIMITS = {
     "python_functions_named_by_a_participle": 0,
 }
 # Functions of more than 40 lines with one `match`, whose arms are one row of a table each.
-TABLES = {"argument_text"}
+TABLES = {"argument_text", "text"}
 # Participles without `ed`, and the words that make a participle no verb: `given_by`, `led_back`.
 PARTICIPLES = set(
     "begun broken built come cut done drawn driven fallen found given gone grown held hidden kept"

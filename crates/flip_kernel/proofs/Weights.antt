@@ -3,7 +3,7 @@ use Rattle.std.proofs.Common.{◌≡◌, ℕ, zero, suc, ◌+◌, ◌-◌, ◌*�
 use Rattle.std.specs.Int.Bits.{bit_and}
 use Rattle.std.specs.Prelude.{◌||◌, nat_le, nat_lt}
 use Rattle.std.proofs.Math.Nat.{mul-le-mul, mul-le-mul_left, one-le-pow, pow-le-pow_right, pow-suc, le-div_iff_mul-le}
-use Rattle.std.proofs.lemmas.Bool.{cases_eq, le-leb, le-ltb, lt-leb, lt-ltb, ne_eqb}
+use Rattle.std.proofs.lemmas.Bool.{cases_eq, le-leb, lt-ltb, ne_eqb}
 use Rattle.std.proofs.lemmas.Nat.{and_mask, div_below, mod_below, one_shl, pow-add}
 use Rattle.audit_model.specs.Job.{Job}
 use Rattle.audit_model.specs.Plan.{cut_edges}
@@ -88,20 +88,6 @@ factors_more q cut added = let e : suc added ≡ added + 1 = omega arith in ap (
 -- ---- the test on numbers
 
 module _ (limit pairs most draw added removed : ℕ) where
-  -- a draw that does not count takes no change
-  pub passes_late : weighed_draws pairs most ≤ draw → false ≡ passes limit pairs most draw added removed
-  passes_late late = ap (λ (b : Bool). b && (nat_le added most && nat_le removed most && nat_lt (draw / pairs % 64 ^ added) limit))
-      (sym (le-ltb draw (weighed_draws pairs most) late))
-
-  -- nor does it take too large a change
-  pub passes_far : most < added → false ≡ passes limit pairs most draw added removed
-  passes_far far = sym (none (nat_lt draw (weighed_draws pairs most)) (nat_le added most) (nat_le removed most) (nat_lt (draw / pairs % 64 ^ added) limit)
-      (lt-leb added most far))
-    where
-      none : (a b c d : Bool) → b ≡ false → (a && (b && c && d)) ≡ false
-      none true b c d h = ap (λ (x : Bool). x && c && d) h
-      none false b c d h = refl
-
   -- if the draw counts and the change is not too large, the last digits decide
   pub passes_digits : (digits : ℕ) → draw < weighed_draws pairs most → added ≤ most → removed ≤ most → digits ≡ draw / pairs % 64 ^ added
       → nat_lt digits limit ≡ passes limit pairs most draw added removed
