@@ -23,7 +23,7 @@ from district_audit import neutral, weighing
 from district_audit.graphs import Foreign
 
 ENDS, FLAGGED = 39, 2
-# The graph's own plan, and as many as a table may have beside it, or fewer.
+# The plans of one call, fewer than a table may have.
 BATCH = 10
 FIRST, SECOND = ["cut-edges:low", "gap:low", "gap:high"], ["mean-median:low", "mean-median:high"]
 Words = dict[str, typing.Union[str, int]]

@@ -52,7 +52,7 @@ from .report import Audited, PlanCheck, Report, Rules, join_batch
 from .results import PlanReports
 from .tables import Known, table_of
 from .values import test_labels_of
-from .warnings import MapWarning, SmallGroupShare, emit
+from .warnings import LimitAtOwnNumber, MapWarning, SmallGroupShare, emit
 from .words import words_of
 
 if typing.TYPE_CHECKING:
@@ -146,7 +146,8 @@ def prepare_call(command: str, graph: object, words: Words) -> Given:
         prepared = prepare_graph(graph, named, rules)
         data, found, known, made = prepared.data, prepared.warnings, None, prepared.custody
         named.update(prepared.columns)
-    found = found + slips.of_question(command, named)
+    found = [one for one in found if not isinstance(one, LimitAtOwnNumber)]
+    found += slips.of_question(command, named)
     if command != "read_trace" and limits_from is None:
         found = found + at_own_numbers(data, named)
     if command != "read_trace":
