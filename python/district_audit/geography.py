@@ -8,6 +8,7 @@ from __future__ import annotations
 import dataclasses
 import os
 import typing
+import warnings as python_warnings
 
 from .custody import SHAPEFILE
 from .errors import PrepareRefused, extra
@@ -249,7 +250,10 @@ def pairs_near(
     tree_of = extra("shapely.strtree").STRtree
     box = extra("shapely.geometry").box
     ids, polygons = list(shapes), list(shapes.values())
-    tree = tree_of(polygons)
+    with python_warnings.catch_warnings():
+        # shapely 1 tells that its trees will answer places, for which we are prepared.
+        python_warnings.simplefilter("ignore")
+        tree = tree_of(polygons)
     place_of = {id(polygon): place for place, polygon in enumerate(polygons)}
     for place, polygon in enumerate(polygons):
         left, low, right, high = polygon.bounds

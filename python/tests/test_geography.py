@@ -1,5 +1,7 @@
 """Dual graphs of maps: compared with an independent computation by shapely's predicates."""
+import contextlib
 import gzip
+import io
 import json
 import pathlib
 import random
@@ -330,6 +332,31 @@ class Files(common.FolderCase):
             graph_from(pathlib.Path("x.shp"), id="GEOID")
         self.assertIn("apt-get install python3-geopandas", str(caught.exception))
         self.assertEqual(caught.exception.extra, "maps")
+
+
+class Guide(common.ProgramCase):
+    """The first page of the guide, from a shapefile to an exhibit."""
+
+    def test_its_code_runs(self) -> None:
+        text = (common.TOP / "docs" / "user" / "GUIDE.md").read_text(encoding="utf-8")
+        code = text.split("```python\n")[1].split("```")[0]
+        self.assertIn("graph_from(", code)
+        for long, short in (("1_000_000", "2000"), ("ends=999", "ends=9"), ("100_000", "100"),
+                            ("workers=8", "workers=1")):
+            self.assertIn(long, code)
+            code = code.replace(long, short)
+        frame = grid(12, 5).rename(
+            columns={"GEOID": "GEOID20", "pop": "TOTPOP", "a": "DEM", "b": "REP", "d": "CD"})
+        frame.to_file(self.folder / "precincts.shp")
+        with common.environment(DISTRICT_AUDIT=self.program), contextlib.chdir(self.folder), \
+                contextlib.redirect_stdout(io.StringIO()) as said:
+            exec(compile(code.replace("tolerance=0.01", "tolerance=0.1"), "GUIDE", "exec"), {})
+        self.assertIn("islands, units without a neighbor: none", said.getvalue())
+        page = (self.folder / "exhibit.html").read_text(encoding="utf-8")
+        self.assertIn("Republican Party", page)
+        manifest = json.loads((self.folder / "report.manifest.json").read_text(encoding="utf-8"))
+        names = {file["name"] for file in manifest["preparation"]["files"]}
+        self.assertIn("precincts.shp", names)
 
 
 if __name__ == "__main__":
