@@ -154,7 +154,7 @@ class LimitTests(ProgramCase):
         )
         found = district_audit.over_limits(GRID, max_cut=[300, 140, 400_000], **words)
         self.assertEqual(found.names, ["max_cut=300", "max_cut=140", "max_cut=400000"])
-        for (_, report), limit in zip(found, (300, 140, None)):
+        for report, limit in zip(found.values(), (300, 140, None)):
             own: common.Words = {**words, "max_cut": limit or 400_000}
             alone = district_audit.run(GRID, **own)
             self.assertEqual(str(report), str(alone))
