@@ -13,6 +13,7 @@ ten (`grid`), and a map of triangles of 36 by 35 with eleven (`triangles`), both
 from __future__ import annotations
 
 import argparse
+import itertools
 import json
 import random
 import typing
@@ -22,6 +23,8 @@ from district_audit import neutral, weighing
 from district_audit.graphs import Foreign
 
 ENDS, FLAGGED = 39, 2
+# The plans of one call, fewer than a table may have.
+BATCH = 10
 FIRST, SECOND = ["cut-edges:low", "gap:low", "gap:high"], ["mean-median:low", "mean-median:high"]
 Words = dict[str, typing.Union[str, int]]
 Plan = dict[typing.Hashable, int]
@@ -75,14 +78,15 @@ def flags_of(
     """Returns the plans flagged in cut edges, in the gap and in mean-median."""
     columns = {name: value for name, value in words.items() if name != "district"}
     ranks: dict[str, list[int]] = {}
-    for asks in (FIRST, SECOND):
-        table = {f"plan-{number}": plan for number, plan in enumerate(plans[1:], 1)}
+    batches = [plans[at:at + BATCH] for at in range(0, len(plans), BATCH)]
+    for asks, some in itertools.product((FIRST, SECOND), batches):
+        table = {f"plan-{number}": plan for number, plan in enumerate(some[1:] or some)}
         found = district_audit.plans(
-            graph, table, assignment=plans[0], key=district_audit.key_of("neutral plans"),
+            graph, table, assignment=some[0], key=district_audit.key_of("neutral plans"),
             ask=asks, walks=0, ends=ENDS, hub_steps=steps, workers=4, program=program,
             limits_from="neutral plans", **typing.cast(dict[str, Foreign], {**columns, **more}),
         )
-        for _, report in found:
+        for _, report in found[:len(some)]:
             for end in report.ends:
                 ranks.setdefault(end.ask, []).append(end.rank)
     flagged = {ask: [rank <= FLAGGED for rank in found] for ask, found in ranks.items()}

@@ -46,8 +46,8 @@ queue() {
     submit --job-name=audit-gather --dependency="afterany:$array" --cpus-per-task="$cores" --time="$time" "$script" gather "$script" || exit 1
 }
 
-# Walks a part. Status 7 says that it is walked while others are not. A machine that died within the first save of all left a part of one file:
-# nothing was saved, so the file is taken away.
+# Walks a part. Without a budget, status 7 says that the part is complete while others are missing here: a scheduler gets 0 for it. A machine that
+# died within the first save of all left a part of one file: nothing was saved, so the file is taken away.
 walk() {
     mkdir -p "part-$1" && cd "part-$1" || exit 1
     local status
@@ -57,7 +57,11 @@ walk() {
         cat note >&2
         case $status,$(cat note) in 8,"checkpoint: slot 0 "*", slot 1 absent") rm audit-0.ckpt || exit ;; *) break ;; esac
     done
-    [ $status -eq 7 ] || [ $status -eq 0 ] || exit $status
+    case $status,${words[*]} in
+        7,*--budget*) echo "part $1 may be incomplete: its budget is used up" >&2 ;;
+        7,*) status=0; echo "part $1 of $parts is complete (status 7, for the other parts, becomes 0)" >&2 ;;
+    esac
+    [ $status -eq 0 ] || exit $status
 }
 
 # Gathers the parts and writes the report, or queues the parts again if a trajectory is missing.

@@ -35,6 +35,7 @@ from .errors import (
 )
 from .exhibit import exhibit_plans
 from .limits import LimitReports, over_limits
+from .geography import MapGraph, MapReport, graph_from
 from .manifest import Manifest, ManifestRefused
 from .outlier import OutlierTest, RankTest, outlier_test, rank_test
 from .pilot import EndsTable, Pilot, compare_ends, pilot
@@ -83,6 +84,8 @@ __all__ = [
     "LimitReports",
     "Manifest",
     "ManifestRefused",
+    "MapGraph",
+    "MapReport",
     "MapWarning",
     "MemoryRefused",
     "MissingExtra",
@@ -128,6 +131,7 @@ __all__ = [
     "compactness",
     "compare_ends",
     "exhibit_plans",
+    "graph_from",
     "key_of",
     "load_study",
     "make",

@@ -485,6 +485,11 @@ OTHERS = {
         "path, optional",
         "The folder of the checkpoints. The current one where it is left out.",
     ),
+    "overwrite": (
+        "bool, default False",
+        "Whether a run that saves may write over another run's checkpoints in the folder; else"
+        " these are refused before anything is walked.",
+    ),
     "progress": (
         'bool or "steps", default False',
         "Whether a bar shows how many trajectories are done, which needs `save`; without it, how"

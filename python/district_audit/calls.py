@@ -4,15 +4,11 @@ from __future__ import annotations
 import dataclasses
 import hashlib
 import os
-import pathlib
 import typing
 import warnings
 from fractions import Fraction
 
-from . import checkpoints, custody
-from . import labels as naming
 from . import own_limits
-from . import progress as bars
 from . import slips
 from .arguments import (
     AS_PREPARED,
@@ -30,29 +26,28 @@ from .arguments import (
     tested_elections,
     text_in,
 )
+from .custody import Custody
 from .districts import Plan, plan_of, slips_in
-from .elections import ElectionReports, folder_of, name_election
-from .errors import (
-    CheckpointRefused,
-    FrozenWalk,
-    GraphChanged,
-    GraphRefused,
-    Interrupted,
-    PrepareRefused,
-    SaveFault,
-    TypeRefused,
-    ValueRefused,
-    WorkLeft,
-    error_of,
-)
+from .elections import ElectionReports
+from .errors import GraphChanged, GraphRefused, PrepareRefused, TypeRefused
+from .geography import FILES
 from .graphs import Foreign
 from .preparing import Preparation, Prepared, prepare_map
-from .program import Ended, PathLike, call, find_program
+from .program import PathLike, call, find_program
 from .report import Audited, PlanCheck, Report, Rules, join_batch
 from .results import PlanReports
+from .running import (
+    Together,
+    Way,
+    add_call,
+    begin_call,
+    execute,
+    make_error,
+    warn_of_frozen,
+)
 from .tables import Known, table_of
 from .values import test_labels_of
-from .warnings import MapWarning, SmallGroupShare, emit
+from .warnings import LimitAtOwnNumber, MapWarning, SmallGroupShare, emit
 from .words import words_of
 
 if typing.TYPE_CHECKING:
@@ -62,8 +57,8 @@ if typing.TYPE_CHECKING:
 PREPARING = ("numbers", "missing", "join", "keep", "fill_region", "own_region", "assignment")
 # Arguments of calls that are neither words of the program nor of `prepare`.
 NO_WORDS = (
-    "graph", "table", "districts", "folder", "progress", "program", "slots", "strict", "elections",
-    "unknown", "text", "last",
+    "graph", "table", "districts", "folder", "overwrite", "progress", "program", "slots", "strict",
+    "elections", "unknown", "text", "last",
 )
 
 COLUMNS = ("pop", "first", "second", "district", "region", "group", "group_of", "freeze", "length")
@@ -86,7 +81,7 @@ class Given:
     """The table of plans, where there is one."""
     path: str | None = None
     """The path of the graph, if it was one whose bytes go to the program as they are."""
-    custody: custody.Custody | None = None
+    custody: Custody | None = None
     """The preparation of the graph."""
     warnings: tuple[MapWarning, ...] = ()
     """Likely mistakes in the map, and in the question about it."""
@@ -146,7 +141,8 @@ def prepare_call(command: str, graph: object, words: Words) -> Given:
         prepared = prepare_graph(graph, named, rules)
         data, found, known, made = prepared.data, prepared.warnings, None, prepared.custody
         named.update(prepared.columns)
-    found = found + slips.of_question(command, named)
+    found = [one for one in found if not isinstance(one, LimitAtOwnNumber)]
+    found += slips.of_question(command, named)
     if command != "read_trace" and limits_from is None:
         found = found + at_own_numbers(data, named)
     if command != "read_trace":
@@ -231,6 +227,13 @@ def bytes_of_graph(graph: PathLike | bytes | bytearray | memoryview) -> bytes:
             "the graph is a text of JSON, which is taken for a path: write graph.encode()"
         )
     if isinstance(graph, (str, os.PathLike)):
+        name = os.fspath(graph)
+        if name.lower().endswith((*FILES, ".graphml", ".gml", ".gz")):
+            is_map = name.lower().endswith(FILES)
+            way = f"graph_from({name!r}, id=..)" if is_map else repr(name)
+            raise PrepareRefused(
+                f"{name} is not what the program reads: prepare it first, prepare({way}, ..)"
+            )
         with open(graph, "rb") as file:
             return file.read()
     return bytes(graph)
@@ -250,62 +253,6 @@ def prepare_graph(graph: object, named: Words, rules: Preparation) -> Prepared:
     if changed:
         warnings.warn(GraphChanged("\n".join(changed)), stacklevel=4)
     return prepared
-
-
-def make_error(ended: Ended, asked: Given) -> Exception:
-    """Returns the exception for a call that did not end with 0."""
-    graph = asked.data.split(b"\n")[0] if asked.table else asked.data
-    said = naming.translate(ended.line, naming.labels_of(graph, asked.named), asked.table)
-    if ended.line == "graph: not JSON":
-        said = naming.find_json_fault(graph)
-    error = error_of(ended.status, ended.line, said)
-    if isinstance(error, GraphRefused) and " has no whole number from 0 to " in ended.line:
-        argument = "length=.." if " in attribute " in ended.line else 'numbers="nearest"'
-        error.hint = f"prepare(.., {argument}) makes fractions whole and names missing values"
-    if isinstance(error, SaveFault) and ended.text:
-        error.report = Report.parse(ended.text)
-    return error
-
-
-def warn_of_frozen(reports: typing.Sequence[tuple[str, Report]], level: int) -> None:
-    """Warns of walks that changed the plan never, or fewer times than there are units.
-
-    `level` is the number of calls between the warning and the user.
-    """
-    said = []
-    for name, report in reports:
-        steps = report.setting.steps
-        moved = {walk.number: (walk.moved, steps) for walk in report.walks}
-        few = few_moves("walk", moved, report.units)
-        said += [f"plan {name}: {few}" if name else few] if few else []
-    warn_of_few_moves(said, level + 1)
-
-
-def few_moves(what: str, moved: typing.Mapping[int, tuple[int, int]], units: int) -> str:
-    """Returns which trajectories made fewer moves than there are units, in words; '' if none.
-
-    `moved` has the moves and the steps of each trajectory by its number.
-    """
-    few = [number for number, (moves, _) in moved.items() if moves < units]
-    if not few:
-        return ""
-    number = min(few, key=lambda one: moved[one])
-    moves, steps = moved[number]
-    many = "walks" if what == "walk" else "trajectories"
-    return (
-        f"{what} {number} changed the plan {moves} times in {steps} steps ({len(few)} of"
-        f" {len(moved)} {many} fewer times than there are units, {units})"
-    )
-
-
-def warn_of_few_moves(said: list[str], level: int) -> None:
-    """Warns with these texts, if there are any."""
-    if said:
-        why = (
-            "such walks say little about other plans, and nothing where they changed none: walk"
-            " more steps, or loosen slack or the rules"
-        )
-        warnings.warn(FrozenWalk("\n".join([*said, why])), stacklevel=level + 1)
 
 
 # ---- check
@@ -369,7 +316,7 @@ def check(
         A value of the graph or of the assignment is refused, by the id of its unit.
     MemoryRefused, ReadFault, WriteFault, ProgramMissing
     """
-    asked = prepare_call("check", graph, words_in(locals()))
+    asked = prepare_call("check", graph, add_first_election(graph, words_in(locals())))
     ended = call(find_program("audit", program), asked.words, asked.data)
     plan = plan_of(asked.data, asked.named) if ended.status in (0, 2) else None
     if ended.status == 0:
@@ -385,6 +332,17 @@ def check(
         return answer
     error.faults, error.check = list(plan.faults), answer
     raise error
+
+
+def add_first_election(graph: object, words: dict[str, object]) -> dict[str, object]:
+    """Returns the words, with the columns of a prepared map's first election if none are named.
+
+    Whether a plan is legal does not depend on votes.
+    """
+    if isinstance(graph, Prepared) and graph.elections:
+        if words["first"] is None and words["second"] is None:
+            words["first"], words["second"] = next(iter(graph.elections.values()))
+    return words
 
 
 def rules_of(plan: Plan, named: Words) -> Rules:
@@ -452,6 +410,7 @@ def run(
     parts: int = 1,
     part: int = 0,
     folder: PathLike | None = None,
+    overwrite: bool = False,
     progress: bool | str = False,
     numbers: str | None = None,
     missing: str | None = None,
@@ -499,23 +458,23 @@ def run(
         A limit is the enacted plan's own number, or nearly, and `limits_from` is left out.
     """
     words = words_in(locals())
-    if elections is None:
-        return call_program(prepare_call("run", graph, words), folder, progress, program, slots)
+    way = Way(folder, progress, program, slots, overwrite)
+    kept = graph.elections if isinstance(graph, Prepared) and first is second is None else None
+    chosen = elections if elections is not None else kept or None
+    if chosen is None:
+        return execute(prepare_call("run", graph, words), way)
     if first is not None or second is not None:
         refuse(
             TypeRefused, "run", "elections", elections,
             "first and second are given too: each election has its own columns",
         )
-    reports = []
     saves = str(save) != "0" or resume not in (False, None, "no")
-    named = tested_elections(elections, saves)
-    for name, columns in named.items():
-        asked = prepare_call("run", graph, {**words, "first": columns[0], "second": columns[1]})
-        place = folder_of(folder, name) if saves else folder
-        try:
-            reports.append((name, call_program(asked, place, progress, program, slots)))
-        except WorkLeft as error:
-            raise name_election(error, name, len(reports), len(named)) from None
+    asked = {}
+    for name, columns in tested_elections(chosen, saves).items():
+        asked[name] = prepare_call(
+            "run", graph, {**words, "first": columns[0], "second": columns[1]}
+        )
+    reports = Together(asked, way, saves).execute()
     return ElectionReports(join_batch("election", share_warnings(reports)))
 
 
@@ -560,6 +519,7 @@ def make(
     parts: int = 1,
     part: int = 0,
     folder: PathLike | None = None,
+    overwrite: bool = False,
     progress: bool | str = False,
     program: PathLike | None = None,
     slots: PathLike | None = None,
@@ -581,177 +541,7 @@ def make(
     test_words("make", named)
     named = {name: value for name, value in named.items() if not is_default(name, value)}
     asked = Given(b"", words_of("make", named), named)
-    return call_program(asked, folder, progress, program, slots)
-
-
-def call_program(
-    asked: Given,
-    folder: PathLike | None,
-    progress: bool | str,
-    program: PathLike | None,
-    slots: PathLike | None,
-) -> Report:
-    """Calls the program for a report, with its checkpoints in a folder."""
-    path = find_program("audit", program)
-    place = pathlib.Path(folder) if folder is not None else pathlib.Path()
-    if not place.is_dir():
-        raise FileNotFoundError(f"folder={str(place)!r}: there is no such folder")
-    saves = str(asked.named.get("save", 0)) != "0"
-    resumes = asked.named.get("resume") in (True, "yes")
-    job = Job(asked, place, saves, resumes)
-    if progress not in (True, False, "steps"):
-        allowed = 'progress is True, False or "steps"'
-        refuse(ValueRefused, asked.words[0], "progress", progress, allowed)
-    watch = None
-    if progress:
-        watch = watch_of(asked, place, saves, resumes, slots, program, progress)
-    job.begin()
-    made = begin_call(asked, path)
-    try:
-        ended = call(path, asked.words, asked.data, folder, watch)
-    except KeyboardInterrupt:
-        raise job.make_interrupted() from None
-    finally:
-        if watch is not None:
-            watch.end()
-    job.end(ended.status)
-    if ended.status:
-        error = make_error(ended, asked)
-        raise job.explain(error) if isinstance(error, CheckpointRefused) else error
-    report = Report.parse(ended.text)
-    if asked.data:
-        report = dataclasses.replace(report, audited=add_call(asked.audited, made))
-    warn_of_frozen([("", report)], 4)
-    return report
-
-
-def begin_call(asked: Given, path: PathLike) -> custody.Call:
-    """Returns the record of a call of the program at a path, which begins now."""
-    now = custody.read_clock()
-    return custody.Call(
-        tuple(asked.words), custody.read_program(path), now, now, asked.data, asked.path,
-        asked.custody,
-    )
-
-
-def add_call(audited: Audited, made: custody.Call) -> Audited:
-    """Returns what a report keeps of its graph and of the call that made it, which ends now."""
-    return dataclasses.replace(
-        audited, call=dataclasses.replace(made, ended=custody.read_clock())
-    )
-
-
-def watch_of(
-    asked: Given,
-    place: pathlib.Path,
-    saves: bool,
-    resumes: bool,
-    slots: PathLike | None,
-    program: PathLike | None,
-    kind: object,
-) -> bars.Watch | bars.Clock:
-    """Returns the progress display of a run."""
-    total = total_of(asked)
-    if kind == "steps" and asked.data:
-        steps = count_in(asked.named, "steps" if walks_of(asked) else "hub_steps")
-        words = words_of("trace", trace_words(asked.named, steps))
-        return bars.StepClock(total, steps, [find_program("audit", program), *words], asked.data)
-    if not saves:
-        return bars.Clock(total)
-    if slots is None:
-        return bars.Watch(lambda: checkpoints.look_in(place, total), total, resumes, bars.new_bar())
-    path = find_program("slots", slots)
-    return bars.Watch(
-        lambda: bars.look(path, asked.words, asked.data, place), total, resumes, bars.new_bar()
-    )
-
-
-def walks_of(asked: Given) -> int:
-    """Returns the number of outlier walks of a run."""
-    return count_in(asked.named, "walks")
-
-
-def total_of(asked: Given) -> int:
-    """Returns the number of trajectories of a run."""
-    return walks_of(asked) + count_in(asked.named, "ends")
-
-
-def trace_words(named: Words, steps: int) -> dict[str, object]:
-    """Returns the words of a trace of a run's first trajectory, at a hundred of its steps."""
-    there = {name for name, row in TABLE.items() if "trace" in row.commands}
-    return {**{name: named[name] for name in named if name in there}, "thin": max(1, steps // 100)}
-
-
-class Job:
-    """The package's record of a run, which lies beside its checkpoints."""
-
-    def __init__(self, asked: Given, place: pathlib.Path, saves: bool, resumes: bool) -> None:
-        self.asked, self.place, self.saves, self.resumes = asked, place, saves, resumes
-        self.slots = checkpoints.slots_in(place) if saves or resumes else []
-        self.before = checkpoints.read_record(place) if saves or resumes else None
-        self.record: checkpoints.Record | None = None
-
-    def begin(self) -> None:
-        """Keeps the arguments of a run that saves, so that they are there if it is killed."""
-        if self.saves or self.resumes:
-            self.record = checkpoints.record_of(
-                self.asked.words[0], self.asked.data, self.asked.named, self.asked.words
-            )
-        if self.saves and (not self.resumes or self.before is None):
-            checkpoints.write_record(self.place, self.record)
-
-    def end(self, status: int) -> None:
-        """Keeps the arguments of the job whose checkpoints lie there now."""
-        if not self.saves:
-            return
-        has_saved = status in (0, 7) or status == 9 and self.has_new_slots()
-        if has_saved:
-            checkpoints.write_record(self.place, self.record)
-        elif not self.has_new_slots():
-            checkpoints.write_record(self.place, self.before)
-
-    def has_new_slots(self) -> bool:
-        return checkpoints.slots_in(self.place) != self.slots
-
-    def make_interrupted(self) -> Interrupted:
-        """Returns the exception for a run that Ctrl-C stopped; its message says what is saved."""
-        total = total_of(self.asked)
-        if not self.saves:
-            return Interrupted(
-                "stopped; nothing was saved (save=1 saves after each trajectory)", 0, total
-            )
-        newest = checkpoints.newest_of(checkpoints.slots_in(self.place))
-        is_own = self.resumes or self.has_new_slots()
-        if not is_own:
-            self.end(1)
-        done = newest.done if newest is not None and is_own else 0
-        if done == 0:
-            return Interrupted(
-                f"stopped: 0 of {total} done, and nothing was saved yet", 0, total, str(self.place)
-            )
-        return Interrupted(
-            (
-                f"stopped: {done} of {total} done; the same call with resume=True goes on in the"
-                f" same folder, {str(self.place.absolute())!r}; of trajectories under way nothing"
-                " is kept"
-            ),
-            done,
-            total,
-            str(self.place),
-        )
-
-    def explain(self, error: CheckpointRefused) -> CheckpointRefused:
-        """Names the arguments in which another job differs, as far as they were kept."""
-        if not error.line.startswith("checkpoint: other job"):
-            return error
-        if self.before is None or self.record is None:
-            said = f"no arguments of that job are kept in {str(self.place.absolute())!r}"
-            return CheckpointRefused(error.line, said)
-        differs = checkpoints.differences(self.before, self.record)
-        why = "; ".join(differs) or "it differs in nothing that was kept"
-        other = CheckpointRefused(error.line, f"{why}; another folder keeps both jobs")
-        other.differs = differs
-        return other
+    return execute(asked, Way(folder, progress, program, slots, overwrite))
 
 
 # ---- several plans
@@ -830,6 +620,13 @@ def plans(
     """
     if districts not in ("same", "any"):
         raise PrepareRefused(f'districts must be "same" or "any", not {districts!r}')
+    if isinstance(graph, Prepared) and graph.elections and first is second is None:
+        ways = [f'first="{one}", second="{other}" for {name}'
+                for name, (one, other) in graph.elections.items()]
+        refuse(
+            TypeRefused, "plans", "graph", graph,
+            f"the map was prepared with elections, and plans takes one: give {' or '.join(ways)}",
+        )
     asked = prepare_call("plans", graph, words_in(locals()))
     audited = asked.audited
     text = table_of(table, Known.read(asked.data, asked.named.get("district")), districts)
@@ -846,5 +643,5 @@ def plans(
         (name, dataclasses.replace(report, audited=audited))
         for name, report in Report.parse_plans(ended.text)
     )
-    warn_of_frozen(reports, 3)
+    warn_of_frozen(reports.pairs, 3)
     return reports

@@ -68,6 +68,8 @@ class Slot:
     """The number of trajectories that it has."""
     digest: str
     """Its job's digest, 64 hexadecimal digits."""
+    ids: tuple[int, ...] = dataclasses.field(default=(), repr=False)
+    """The trajectories that it has."""
 
 
 def slot_of(data: bytes) -> Slot | None:
@@ -79,7 +81,10 @@ def slot_of(data: bytes) -> Slot | None:
         return None
     if hashlib.sha256(data[:-32]).digest() != data[-32:]:
         return None
-    return Slot(generation, done, data[12:44].hex())
+    size = OUTCOME[version]
+    places = range(52, 52 + size * done, size)
+    ids = tuple(int.from_bytes(data[at:at + 4], "big") for at in places)
+    return Slot(generation, done, data[12:44].hex(), ids)
 
 
 def slots_in(folder: pathlib.Path) -> list[Slot | None]:
@@ -108,6 +113,15 @@ def look_in(folder: pathlib.Path, total: int) -> Look:
     slots = slots_in(folder)
     newest = newest_of(slots)
     return Look("\n".join(map(str, slots)), 0 if newest is None else newest.done, total)
+
+
+def is_part_done(folder: pathlib.Path, parts: int, part: int, total: int) -> bool:
+    """Returns whether the newest checkpoint of a folder has all trajectories of a part.
+
+    Part i of n has the trajectories whose number leaves i when it is divided by n.
+    """
+    newest = newest_of(slots_in(folder))
+    return newest is not None and set(newest.ids).issuperset(range(part, total, parts))
 
 
 # ---- the job

@@ -15,7 +15,7 @@ from .arguments import MOST_CUT_LENGTH
 from .preparing import MOST_CUT
 from .errors import MissingExtra, PrepareRefused, ProgramMissing, ReportRefused
 from .preparing import Prepared, prepare_map
-from .program import find_program, stop
+from .program import feed, find_program, stop
 from .report import Report
 from .values import test_labels_of
 
@@ -88,8 +88,9 @@ RUN = """Usage: district-audit-run WORDS < GRAPH > REPORT
 Runs the auditor with these words. They are those of `run`, or of `make` or `check` if that is the
 first of them. Standard output, exit status and diagnostic are the program's own. If the run saves
 and standard error is a terminal, a bar shows the progress. If the program refuses the graph, a
-second line gives the graph's own ids and labels for its numbers. Ctrl-C ends the run, and a line
-says how to go on.
+second line gives the graph's own ids and labels for its numbers. A run with --part whose own part
+is complete ends with 0 in place of 7, as schedulers want it, and a line says so. Ctrl-C ends the
+run, and a line says how to go on.
 """
 
 
@@ -254,7 +255,19 @@ def call_with(words: list[str]) -> int:
         watch = bars.Watch(
             lambda: checkpoints.look_in(pathlib.Path(), total), total, is_resumed, bars.PlainBar()
         )
-    return pass_through([program, *words], data, watch, saves)
+    return status_of_part(words, pass_through([program, *words], data, watch, saves))
+
+
+def status_of_part(words: list[str], status: int) -> int:
+    """Returns 0 in place of 7 where the run's own part is complete, and says so."""
+    parts, part = value_of(words, "--parts", "1"), value_of(words, "--part", "0")
+    if status != 7 or parts == "1" or not (parts + part).isdigit():
+        return status
+    if not checkpoints.is_part_done(pathlib.Path(), int(parts), int(part), total_of(words)):
+        return status
+    said = f"part {part} of {parts} is complete, and other parts are not here: status 0, not 7"
+    print(f"district-audit-run: {said}", file=sys.stderr)
+    return 0
 
 
 def warn_of_labels(data: bytes, words: typing.Sequence[str]) -> None:
@@ -300,11 +313,10 @@ def pass_through(command: list[str], data: bytes, watch: bars.Watch | None, save
 
 def read_note(process: subprocess.Popen[bytes], data: bytes, watch: bars.Watch | None) -> bytes:
     """Returns the program's standard error, and shows its progress meanwhile."""
-    first: bytes | None = data
+    feed(process, data)
     while True:
         try:
-            return process.communicate(first, timeout=0.1)[1]
+            return process.communicate(timeout=0.1)[1]
         except subprocess.TimeoutExpired:
-            first = None
             if watch is not None:
                 watch()

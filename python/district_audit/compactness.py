@@ -10,7 +10,9 @@ import math
 import typing
 
 from .errors import extra
+from .geography import measure_shared, warnings_of
 from .graphs import Foreign, as_json
+from .warnings import MapWarning, emit
 
 if typing.TYPE_CHECKING:
     from .trace_plan import Plan, UnitTable
@@ -37,11 +39,23 @@ class Shapes:
         extra("shapely")
         self.by_unit: dict[object, Foreign] = dict(geometries.items())
         self.measures: Measures | None = None
+        self.system = getattr(geometries, "crs", None)
+        self.warnings: list[MapWarning] = []
+        """Reasons for which lengths and areas are wrong, once they were measured."""
+
+    def find_warnings(self, table: UnitTable) -> list[MapWarning]:
+        """Returns the warnings of the polygons of a trace's units."""
+        shapes = {place: self.by_unit[unit] for place, unit in enumerate(table.ids)}
+        pairs = [(one, other) for one, others in enumerate(table.neighbors) for other in others
+                 if one < other]
+        return warnings_of(shapes, measure_shared(shapes, pairs), self.system)
 
     def measure(self, plan: Plan) -> Measures:
         """Returns what was measured of a plan's units. Raises ValueError if a unit has no shape."""
         if self.measures is None or self.measures.table is not plan.table:
             self.measures = Measures(plan.table, self.by_unit)
+            self.warnings = self.find_warnings(plan.table)
+            emit(self.warnings, 2)
         return self.measures
 
 

@@ -9,7 +9,7 @@ from .results import NamedReports
 
 
 class ElectionReports(NamedReports):
-    """The reports of one plan under several elections: a list of pairs, a name and a report.
+    """The reports of one plan under several elections: a mapping from their names, in order.
 
     All have the same key, so all visit the same plans, walk by walk: proposals and rules do not
     depend on votes. `["GOV18"]` is the report of an election, and `to_frame()` one table of all.
@@ -35,13 +35,20 @@ def folder_of(folder: PathLike | None, name: str) -> pathlib.Path:
     return place / name
 
 
-def name_election(error: WorkLeft, name: str, ended: int, count: int) -> WorkLeft:
-    """Names the election in which work is left; `ended` of `count` elections have no work left."""
+def name_election(
+    error: WorkLeft, name: str, ended: int, count: int, done: int | None = None
+) -> WorkLeft:
+    """Names the election in which work is left, number `ended` + 1 of `count`.
+
+    `done` trajectories of all elections are done; left out, those of the elections before it and
+    its own.
+    """
+    done = ended * error.total + error.done if done is None else done
     left = WorkLeft(
         error.line,
         f"election {name}, number {ended + 1} of {count};"
-        f" {ended * error.total + error.done} of {count * error.total} in all elections; the same"
+        f" {done} of {count * error.total} in all elections; the same"
         " call with resume=True goes on",
     )
-    left.election = name
+    left.election, left.part_is_done = name, error.part_is_done
     return left

@@ -117,11 +117,13 @@ class WorkLeft(AuditError):
     """Status 7: the budget is used up, and `done` of `total` trajectories are done.
 
     The same call with resume=True goes on. `election` is the name of the election that these are
-    of, or is empty without `elections`.
+    of, or is empty without `elections`. `part_is_done` is true where the run's own part (`parts`,
+    `part`) is complete, so that only other parts are left.
     """
 
     status = 7
     election = ""
+    part_is_done = False
 
     def __init__(self, line: str, labels: str = "") -> None:
         super().__init__(line, labels)
@@ -185,6 +187,7 @@ class MissingExtra(ImportError):
     """
 
     def __init__(self, module: str) -> None:
+        module = module.split(".")[0]
         self.extra, what = EXTRAS[module]
         debian = (
             "" if module == "gerrychain" else f"Debian: apt-get install python3-{module}; else: "
@@ -208,6 +211,7 @@ EXTRAS = {
     "pandas": ("frames", "makes tables"),
     "matplotlib": ("pictures", "draws pictures"),
     "shapely": ("shapes", "measures compactness"),
+    "geopandas": ("maps", "reads shapefiles and other maps"),
     "gerrychain": ("partitions", "makes partitions"),
 }
 

@@ -105,7 +105,7 @@ def write(path: PathLike, plans: Named, options: Options) -> None:
 
 def exhibit_plans(
     path: PathLike,
-    plans: Named,
+    plans: Named | typing.Mapping[str, Report],
     *,
     title: str = Options.title,
     parties: tuple[str, str] | None = None,
@@ -130,7 +130,8 @@ def exhibit_plans(
         title, parties, graph, columns, command, notes, epsilon, alpha, decides, manifest, names,
         geometry, None, ids,
     )
-    write(path, plans, options)
+    pairs = list(plans.items()) if isinstance(plans, typing.Mapping) else plans
+    write(path, pairs, options)
 
 
 def page(plans: Named, options: Options) -> str:

@@ -4,6 +4,7 @@ bytes.
 from __future__ import annotations
 
 import decimal
+import gzip
 import json
 import math
 import numbers
@@ -149,11 +150,38 @@ def read_file(name: str) -> Raw:
     return read_root(parse(data, name), name)
 
 
+# Beginnings of files that are no text of UTF-8, and what to do with such a file.
+FORMS = (
+    (b"BZh", "is compressed by bzip2: write `bunzip2` and its name first"),
+    (b"\xfd7zXZ", "is compressed by xz: write `unxz` and its name first"),
+    (b"\x28\xb5\x2f\xfd", "is compressed by zstd: write `unzstd` and its name first"),
+    (b"PK\x03\x04", "is a zip archive: unpack it first, or give a zipped shapefile to graph_from"),
+    (b"\xff\xfe", "is UTF-16 and not UTF-8: `iconv -f UTF-16 -t UTF-8` changes it"),
+    (b"\xfe\xff", "is UTF-16 and not UTF-8: `iconv -f UTF-16 -t UTF-8` changes it"),
+    (b"SQLite format 3", "is a GeoPackage: write graph_from(name, id=..)"),
+    (b"\x00\x00\x27\x0a", "is a shapefile: write graph_from(name, id=..)"),
+)
+
+
 def parse(data: bytes, name: str) -> object:
+    """Returns the JSON in bytes, which may be compressed by gzip."""
     try:
-        return json.loads(data.decode("utf-8-sig"))
-    except ValueError as error:
+        data = gzip.decompress(data) if data[:2] == b"\x1f\x8b" else data
+        for start, why in FORMS:
+            if data.startswith(start):
+                raise PrepareRefused(f"{name} {why}")
+        root = json.loads(data.decode("utf-8-sig"))
+    except UnicodeDecodeError as error:
+        raise PrepareRefused(
+            f"{name} is not UTF-8 at byte {error.start}: `iconv -f LATIN1 -t UTF-8` changes most"
+        ) from error
+    except (ValueError, EOFError, OSError) as error:
+        if isinstance(error, PrepareRefused):
+            raise
         raise PrepareRefused(f"{name} cannot be read: {error}") from error
+    if isinstance(root, dict) and root.get("type") == "FeatureCollection":
+        raise PrepareRefused(f"{name} is GeoJSON, a map: write graph_from(name, id=..)")
+    return root
 
 
 def read_root(root: object, name: str) -> Raw:

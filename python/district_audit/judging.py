@@ -7,7 +7,7 @@ from __future__ import annotations
 import functools
 import typing
 
-from . import slips
+from . import own_limits, slips
 from .decimals import percent_down
 from .graphs import SHOWN, Label, Row, as_json, sort_labels, list_ids
 from .report import HALF_SHARE
@@ -63,6 +63,8 @@ class Judged:
             sort_labels(row[choices.region] for row in rows.values()) if choices.region else []
         )
         self.shown = functools.partial(list_ids, everything=choices.show_all)
+        self.own: dict[str, int] = {}
+        """The plan's own numbers, by the names of the limits that count them."""
         self.warn_of_parts()
         self.judge_districts()
         self.judge_sizes()
@@ -76,6 +78,9 @@ class Judged:
         if choices.freeze:
             self.judge_frozen(choices.freeze)
         self.warnings += slips.slips_of(self)
+        if not self.refusals:
+            limits = {name: getattr(choices, name) for name in self.own}
+            self.warnings += own_limits.limits_at_own(limits, self.own)
 
     def sums_of(self, column: str) -> dict[Label, int]:
         """Returns the total of a column in each district."""
@@ -170,6 +175,7 @@ class Judged:
         if not split:
             return
         widest = max(split, key=lambda label: len(split[label]))
+        self.own["max_split"] = len(split[widest])
         self.notes.append(
             f"{len(split)} regions in {column}; {as_json(widest)} lies in the most districts,"
             f" {len(split[widest])}"
@@ -194,6 +200,7 @@ class Judged:
         `split` has the number of districts of each split region.
         """
         splits = sum(split.values()) - len(split)
+        self.own.update(max_splits=splits, max_split_regions=len(split))
         self.notes.append(
             f"{len(split)} regions lie in more than one district, with {splits} splits in"
             f" all{': ' + self.shown(sort_labels(split)) if split else ''}"
@@ -223,6 +230,7 @@ class Judged:
             f"{group} has {more} of {whole} in {len(most)} of {len(sums)} districts"
             + (f": {parts}" if most else "")
         )
+        self.own["group_districts"] = len(most)
         over = [unit for unit, row in self.rows.items() if row[group] > row[whole]]
         if over:
             self.notes.append(
@@ -246,6 +254,7 @@ class Judged:
         return int(both) // 2
 
     def judge_cut(self) -> None:
+        self.own["max_cut"] = self.cut_edges
         if self.cut_edges > self.choices.max_cut:
             self.refusals.append(f"{self.cut_edges} cut edges, more than {self.choices.max_cut}")
 
@@ -259,7 +268,7 @@ class Judged:
             if self.place[unit] < self.place[other]
             and self.rows[unit][district] != self.rows[other][district]
         ]
-        self.cut_length = total = sum(cut)
+        self.cut_length = self.own["max_length"] = total = sum(cut)
         self.notes.append(f"{len(cut)} edges between districts, with {total} of {column} in all")
         if total > self.choices.max_length:
             self.refusals.append(

@@ -24,6 +24,7 @@ from .arguments import (
     tested_elections,
 )
 from .errors import PrepareRefused, TypeRefused
+from .geography import MapGraph, find_map
 from .graphs import (
     Foreign,
     Label,
@@ -325,14 +326,19 @@ def prepare_map(graph: object, given: typing.Mapping[str, Foreign]) -> Prepared:
     named["first"], named["second"] = next(iter(votes.values()))
     named["elections"] = {} if elections is None else votes
     named["slack"] = count_in(said, "slack")
-    prepared = prepare_raw(raw_of(graph), Choices(**named))
+    raw = find_map(graph)
+    prepared = prepare_raw(raw_of(raw), Choices(**named))
+    if isinstance(raw, MapGraph):
+        prepared.notes += [f"map: {line}" for line in str(raw.report).splitlines()]
+        prepared.warnings += raw.warnings if named["length"] else []
     arguments = {
         name: value
         for name, value in given.items()
         if name in DEFAULTS and value is not DEFAULTS[name] or name == "population"
     }
     told = [(one.kind, str(one)) for one in prepared.warnings]
-    made = custody.record(graph, arguments, prepared.changes, told)
+    files = raw.files if isinstance(raw, MapGraph) else []
+    made = custody.record(graph, arguments, prepared.changes, told, files)
     return dataclasses.replace(prepared, custody=made)
 
 

@@ -2,6 +2,7 @@
 from __future__ import annotations
 
 import base64
+import contextlib
 import errno
 import functools
 import hashlib
@@ -11,6 +12,7 @@ import pathlib
 import re
 import shutil
 import subprocess
+import threading
 import typing
 
 from .errors import ProgramMissing, WrongProgram
@@ -181,14 +183,29 @@ def read_outputs(
     """Returns what a program writes on both outputs until it ends."""
     if meanwhile is None:
         return process.communicate(data)
-    first: bytes | None = data
+    feed(process, data)
     while True:
         try:
-            return process.communicate(first, timeout=0.1)
+            return process.communicate(timeout=0.1)
         except subprocess.TimeoutExpired:
-            # `process` keeps its input, and a second call goes on with it.
-            first = None
             meanwhile(process)
+
+
+def feed(process: subprocess.Popen[bytes], data: bytes) -> None:
+    """Writes a process's standard input in a thread, and closes it.
+
+    `communicate` with a timeout would not do: called again, it no longer writes what is left of the
+    input, and both would wait forever.
+    """
+    pipe, process.stdin = process.stdin, None
+
+    def write() -> None:
+        if pipe is not None:
+            # A program that ends before it has read all breaks the pipe.
+            with contextlib.suppress(BrokenPipeError), pipe:
+                pipe.write(data)
+
+    threading.Thread(target=write, daemon=True).start()
 
 
 def stop(process: subprocess.Popen[bytes]) -> None:

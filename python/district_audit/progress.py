@@ -38,8 +38,9 @@ class PlainBar:
     changes.
     """
 
-    def __init__(self, stream: typing.TextIO | None = None) -> None:
+    def __init__(self, stream: typing.TextIO | None = None, name: str = "") -> None:
         self.stream = stream or sys.stderr
+        self.name = f"{name}: " if name else ""
         self.is_terminal = self.stream.isatty()
         self.last: tuple[int, int] | None = None
 
@@ -47,7 +48,7 @@ class PlainBar:
         if (done, total) == self.last:
             return
         self.last = done, total
-        text = f"done {done} of {total}"
+        text = f"{self.name}done {done} of {total}"
         if self.is_terminal:
             full = WIDTH * done // max(total, 1)
             bar = "#" * full + "." * (WIDTH - full)
@@ -77,13 +78,13 @@ class Ticker(typing.Protocol):
 class TqdmBar:
     """A bar by tqdm, which also draws in notebooks."""
 
-    def __init__(self, tqdm: typing.Callable[..., Ticker]) -> None:
-        self.tqdm = tqdm
+    def __init__(self, tqdm: typing.Callable[..., Ticker], name: str = "") -> None:
+        self.tqdm, self.name = tqdm, name
         self.bar: Ticker | None = None
 
     def show(self, done: int, total: int) -> None:
         if self.bar is None:
-            self.bar = self.tqdm(total=total, unit="walk", desc="done")
+            self.bar = self.tqdm(total=total, unit="walk", desc=self.name or "done")
         self.bar.n = done
         self.bar.refresh()
 
@@ -92,13 +93,14 @@ class TqdmBar:
             self.bar.close()
 
 
-def new_bar() -> Bar:
-    """tqdm's bar where it is installed, else a plain one."""
+def new_bar(name: str = "") -> Bar:
+    """Returns tqdm's bar where it is installed, else a plain one, with the name of what it shows.
+    """
     try:
         from tqdm.auto import tqdm
     except ImportError:
-        return PlainBar()
-    return TqdmBar(tqdm)
+        return PlainBar(name=name)
+    return TqdmBar(tqdm, name)
 
 
 class Look(typing.NamedTuple):
@@ -127,29 +129,32 @@ def look(program: str, words: typing.Sequence[str], data: bytes, folder: PathLik
 class Clock:
     """The display of the time that a run without checkpoints has taken.
 
-    A terminal has one line of it. Elsewhere a line comes after 10 seconds, and each time that the
-    time has doubled.
+    Its first line comes within a second. A terminal then renews it each second; elsewhere a line
+    comes after 10 seconds, and each time that the time has doubled.
     """
 
-    def __init__(self, total: int, stream: typing.TextIO | None = None) -> None:
+    def __init__(
+        self, total: int, stream: typing.TextIO | None = None, name: str = ""
+    ) -> None:
         self.stream = stream or sys.stderr
+        self.name = f"{name}: " if name else ""
         self.is_terminal = self.stream.isatty()
         self.total, self.began = total, time.monotonic()
-        self.due = 1.0 if self.is_terminal else 10.0
+        self.due = 0.3
         self.has_shown = False
         self.done = 0
 
     def describe(self, seconds: float) -> str:
         return (
-            f"walking {self.total} trajectories for {seconds:.0f} s (save=1 shows how many are"
-            " done)"
+            f"{self.name}walking {self.total} trajectories for {seconds:.0f} s (save=1 shows how"
+            " many are done)"
         )
 
     def __call__(self, _process: object = None) -> None:
         seconds = time.monotonic() - self.began
         if seconds < self.due:
             return
-        self.due = seconds + 1 if self.is_terminal else 2 * seconds
+        self.due = seconds + 1 if self.is_terminal else max(10, 2 * seconds)
         text = self.describe(seconds)
         self.stream.write(f"\r{text} " if self.is_terminal else text + "\n")
         self.stream.flush()

@@ -14,49 +14,60 @@ if typing.TYPE_CHECKING:
     from .custody import PathLike
 
 Pair = tuple[str, Report]
-Kind = typing.TypeVar("Kind", bound="NamedReports")
 
 
-class NamedReports(list[Pair]):
-    """A list of pairs, a name and a report, which also finds a report by its name."""
+class NamedReports(typing.Mapping[str, Report]):
+    """A mapping from names to reports, in order.
+
+    Several plans may have one name, that of the graph's own plan and one of a table: `items`,
+    `values` and iteration then have each, and a look-up by this name is refused.
+    """
 
     what = "report"
     """The title of the column of names."""
 
+    def __init__(
+        self, reports: typing.Mapping[str, Report] | typing.Iterable[Pair] = ()
+    ) -> None:
+        found = reports.items() if isinstance(reports, typing.Mapping) else reports
+        self.pairs: list[Pair] = list(found)
+        """The pairs of name and report, in order."""
+
     @property
     def names(self) -> list[str]:
         """The names, in order."""
-        return [name for name, _ in self]
+        return [name for name, _ in self.pairs]
 
-    @typing.overload
-    def __getitem__(self, name: typing.SupportsIndex) -> Pair:
-        ...
+    def __iter__(self) -> typing.Iterator[str]:
+        return iter(self.names)
 
-    @typing.overload
-    def __getitem__(self: Kind, name: slice) -> Kind:
-        ...
+    def __len__(self) -> int:
+        return len(self.pairs)
 
-    @typing.overload
     def __getitem__(self, name: str) -> Report:
-        ...
-
-    def __getitem__(
-        self: Kind, name: typing.SupportsIndex | slice | str
-    ) -> Pair | Kind | Report:
-        """Returns the report of a name, or the pair in a place, as of a list.
+        """Returns the report of a name.
 
         Raises KeyError if there is no report of this name, or several.
         """
-        if isinstance(name, slice):
-            return type(self)(super().__getitem__(name))
-        if not isinstance(name, str):
-            return super().__getitem__(name)
-        reports = [report for other, report in self if other == name]
+        reports = [report for other, report in self.pairs if other == name]
         if len(reports) != 1:
             many = "several reports have" if reports else "no report has"
             names = ", ".join(map(repr, self.names))
             raise KeyError(f"{many} the name {name!r}; the names are {names}")
         return reports[0]
+
+    def items(self) -> typing.ItemsView[str, Report]:
+        """Returns the pairs of name and report."""
+        return PairsView(self)
+
+    def values(self) -> typing.ValuesView[Report]:
+        """Returns the reports."""
+        return ReportsView(self)
+
+    def __eq__(self, other: object) -> bool:
+        if isinstance(other, NamedReports):
+            return self.pairs == other.pairs
+        return isinstance(other, typing.Mapping) and dict(self.pairs) == dict(other)
 
     def to_frame(self, exact: bool = False) -> pandas.DataFrame:
         """Returns one pandas DataFrame of all reports: the name, and then the columns of
@@ -66,7 +77,7 @@ class NamedReports(list[Pair]):
         """
         pandas = extra("pandas")
         frames = []
-        for name, report in self:
+        for name, report in self.pairs:
             frame = report.to_frame(exact)
             frame.insert(0, self.what, name)
             frames.append(frame)
@@ -81,7 +92,7 @@ class NamedReports(list[Pair]):
         """
         from .study import write_study
 
-        write_study(path, self, decides)
+        write_study(path, self.pairs, decides)
 
     def plot(
         self,
@@ -95,7 +106,7 @@ class NamedReports(list[Pair]):
         """Draws the walks and tests of all reports, a row for each; see `Report.plot`."""
         from . import picture
 
-        figure = picture.draw_named(self, self.what, title, scores, parties, names)
+        figure = picture.draw_named(self.pairs, self.what, title, scores, parties, names)
         if name is not None:
             picture.save(figure, name)
         return figure
@@ -106,9 +117,37 @@ class NamedReports(list[Pair]):
     def _repr_html_(self) -> str:
         parts = [
             f"<h4>{self.what} {html.escape(name)}</h4>{report._repr_html_()}"
-            for name, report in self
+            for name, report in self.pairs
         ]
         return "".join(parts)
+
+
+class PairsView(typing.ItemsView[str, Report]):
+    """The pairs of named reports, each of several with one name."""
+
+    def __init__(self, reports: NamedReports) -> None:
+        super().__init__(reports)
+        self.reports = reports
+
+    def __iter__(self) -> typing.Iterator[Pair]:
+        return iter(self.reports.pairs)
+
+    def __len__(self) -> int:
+        return len(self.reports.pairs)
+
+
+class ReportsView(typing.ValuesView[Report]):
+    """The reports of named reports."""
+
+    def __init__(self, reports: NamedReports) -> None:
+        super().__init__(reports)
+        self.reports = reports
+
+    def __iter__(self) -> typing.Iterator[Report]:
+        return (report for _, report in self.reports.pairs)
+
+    def __len__(self) -> int:
+        return len(self.reports.pairs)
 
 
 class PlanReports(NamedReports):

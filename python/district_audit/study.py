@@ -94,7 +94,7 @@ def audit_to_file(
     else:
         given.update(folder=folder, progress=progress, slots=slots)
         found = calls.run(graph, elections=elections, **given)
-    write_study(path, [("", found)] if isinstance(found, Report) else found, decides)
+    write_study(path, [("", found)] if isinstance(found, Report) else found.pairs, decides)
     return found
 
 

@@ -16,10 +16,12 @@ from fractions import Fraction
 from . import progress as bars
 from . import scores as score_functions
 from .arguments import AS_PREPARED, AsPrepared, Words, document, tested_elections
-from .calls import Given, few_moves, prepare_call, warn_of_few_moves, words_in
+from .calls import Given, prepare_call, words_in
 from .errors import extra
 from .graphs import Foreign
+from .preparing import Prepared
 from .program import PathLike, find_program
+from .running import few_moves, warn_of_few_moves
 from .trace_head import compare_head
 from .trace_plan import Plan, UnitTable, places_of
 from .trace_rows import NAME, Row, Samples
@@ -589,6 +591,7 @@ def trace(
     GraphChanged
         Values of a graph were changed where it was prepared.
     """
+    elections = find_elections(graph, elections)
     words = add_elections("trace", words_in(locals()), elections)
     if words["ask"] is None and words["scores"] is None:
         words["ask"] = "cut-edges:low"
@@ -597,6 +600,13 @@ def trace(
     return Trace(ProgramLines(find_program("audit", program), sent), sent, graph, words,
                  ids=(shown_ids[0], shown_ids[-1]), elections=elections, last=last,
                  progress=progress)
+
+
+def find_elections(graph: object, elections: Elections | None) -> Elections | None:
+    """Returns the elections of a call, or else those that a map was prepared with."""
+    if elections is None and isinstance(graph, Prepared) and graph.elections:
+        return graph.elections
+    return elections
 
 
 def add_elections(
@@ -685,6 +695,7 @@ def read_trace(
         As for `trace`.
     """
     words = words_in(locals())
+    elections = find_elections(graph, elections)
     sent = prepare_call("read_trace", graph, add_elections("read_trace", words, elections))
     return Trace(FileLines(open(os.fspath(text), "rb")), sent, graph, words, elections=elections,
                  last=last, is_read=True)

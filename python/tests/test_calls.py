@@ -15,7 +15,7 @@ import warnings
 import common
 from common import anything
 import district_audit
-from district_audit import calls, checkpoints, commands, progress
+from district_audit import calls, checkpoints, commands, progress, running
 from district_audit.words import words_of
 
 CYCLE = common.EXAMPLES / "data" / "cycle.json"
@@ -159,9 +159,10 @@ class Calls(common.ProgramCase):
             population="BIR74", first="NWBIR74", second="WBIR74", slack=3000, key=common.KEY,
             steps=300, ask="cut-edges:low", numbers="nearest", program=self.program,
         )
-        own, other = district_audit.plans(graph, {"same": plan}, assignment=plan, **words)
-        self.assertEqual(str(own[1]), str(other[1]))
-        self.assertEqual(str(district_audit.run(graph, assignment=plan, **words)), str(own[1]))
+        both = district_audit.plans(graph, {"same": plan}, assignment=plan, **words)
+        own, other = map(str, both.values())
+        self.assertEqual(own, other)
+        self.assertEqual(str(district_audit.run(graph, assignment=plan, **words)), own)
 
     def test_make(self) -> None:
         report = district_audit.make(
@@ -180,7 +181,7 @@ class Calls(common.ProgramCase):
         of_file = district_audit.plans(
             common.EXAMPLES / "data" / "grid.json", common.EXAMPLES / "plans.csv", **words
         )
-        self.assertEqual([name for name, _ in of_file], ["CD", "blocks", "columns"])
+        self.assertEqual(list(of_file), ["CD", "blocks", "columns"])
         rows = [
             line.split(",")
             for line in (common.EXAMPLES / "plans.csv").read_text(encoding="utf-8").splitlines()[1:]
@@ -244,11 +245,11 @@ class Calls(common.ProgramCase):
         own = {node["id"]: node["d"] for node in common.example("groups.json")["nodes"]}
         found = district_audit.plans(prepared, {"own": own}, **words)
         self.assertEqual(
-            [(name, one.walks, one.rules) for name, one in found],
+            [(name, one.walks, one.rules) for name, one in found.items()],
             [(name, report.walks, report.rules) for name in ("d", "own")],
         )
-        self.assertEqual(found[0][1].source, found[1][1].source)
-        self.assertFalse(anything(found[0][1].source).is_of(prepared.data))
+        self.assertEqual(found["d"].source, found["own"].source)
+        self.assertFalse(anything(found["d"].source).is_of(prepared.data))
 
     def test_frozen_units_and_a_share(self) -> None:
         """All units of a district are frozen: it is the same in each plan of a trace, and a bad
@@ -589,7 +590,7 @@ class Progress(common.ProgramCase):
 
     def run_with(self, **words: common.Value) -> tuple[district_audit.Report, Noted]:
         bar = Noted()
-        before, progress.new_bar = progress.new_bar, lambda: bar
+        before, progress.new_bar = progress.new_bar, lambda name="": bar
         self.addCleanup(setattr, progress, "new_bar", before)
         try:
             report = district_audit.run(
@@ -636,16 +637,16 @@ class Progress(common.ProgramCase):
     def test_without_save_it_shows_the_time(self) -> None:
         stream = io.StringIO()
         clock = progress.Clock(12, stream)
-        clock()
-        self.assertEqual(stream.getvalue(), "")
-        clock.began -= 11
-        clock()
-        clock()
-        clock.began -= 5
-        clock()
+        for seconds in (0, 0.5, 0.2, 8, 1, 1, 5, 4.5, 3):
+            clock.began -= seconds
+            clock()
         clock.end()
         self.assertEqual(
-            stream.getvalue(), "walking 12 trajectories for 11 s (save=1 shows how many are done)\n"
+            stream.getvalue(),
+            "".join(
+                f"walking 12 trajectories for {seconds} s (save=1 shows how many are done)\n"
+                for seconds in (0, 10, 20)
+            ),
         )
         report = district_audit.run(CYCLE, program=self.program, progress=True, **common.WALK)
         self.assertEqual(report, district_audit.run(CYCLE, program=self.program, **common.WALK))
@@ -831,7 +832,7 @@ class Kept(common.ProgramCase):
         """The steps rise, end at the walk's, and the report is the same."""
         words = {**common.WALK, "walks": 1, "steps": 300_000}
         sent = calls.prepare_call("run", CYCLE, anything(words))
-        named = calls.trace_words(sent.named, 300_000)
+        named = running.trace_words(sent.named, 300_000)
         self.assertEqual(named["thin"], 3000)
         command = [self.program, *words_of("trace", named)]
         clock = progress.StepClock(1, 300_000, command, sent.data, io.StringIO())

@@ -636,7 +636,7 @@ class ProgramTests(ProgramCase):
             json.dumps(root).encode(), {"turned": {"w": 1, "x": 2, "y": 2, "z": 1}}, key=KEY,
             steps=8, ask="cut-length:low", length="side", program=self.program, **WORDS,
         )
-        self.assertEqual([report.rules.cut_length for _, report in plans], [10, 5])
+        self.assertEqual([report.rules.cut_length for report in plans.values()], [10, 5])
         path = self.folder / "exhibit.html"
         district_audit.exhibit_plans(path, plans, graph=json.dumps(root).encode())
         text = Page(path.read_text(encoding="utf-8")).text
@@ -733,8 +733,9 @@ class ProgramTests(ProgramCase):
         """Both plans cut two edges, so that no asked score tells them apart."""
         graph, _, plans = self.audit_turned()
         path = self.folder / "x.html"
-        read = Report.parse_plans("".join(f"plan {name}\n{report}" for name, report in plans))
-        for pairs in (list(plans), read):
+        text = "".join(f"plan {name}\n{report}" for name, report in plans.items())
+        read = Report.parse_plans(text)
+        for pairs in (list(plans.items()), read):
             with self.assertRaisesRegex(ValueError, "on plan turned, .* of plan d, .*leave graph"):
                 pairs[1][1].exhibit(path, graph=graph, columns=WORDS)
             with self.assertRaisesRegex(ValueError, "on plan turned"):

@@ -102,6 +102,20 @@ class LimitTests(ProgramCase):
         self.assertIn("max_cut=125, and the enacted plan has 125 cut edges", said)
         self.assertEqual(self.audit(max_cut=125, limits_from="law"), [])
 
+    def test_prepare_warns_too(self) -> None:
+        """The counties of groups.json have two splits in all."""
+        words: common.Words = dict(
+            population="pop", first="a", second="b", district="d", region="county",
+        )
+        kind = district_audit.warnings.LimitAtOwnNumber
+        for limit, count in ((2, 1), (3, 0)):
+            with warnings.catch_warnings():
+                warnings.simplefilter("ignore")
+                found = district_audit.prepare(
+                    str(EXAMPLES / "data" / "groups.json"), max_splits=limit, **words
+                )
+            self.assertEqual(sum(isinstance(one, kind) for one in found.warnings), count, limit)
+
     def test_where_limits_come_from_is_kept(self) -> None:
         report = district_audit.run(
             GRID, key=README_KEY, steps=9, ask="gap:low", program=self.program, max_cut=125,
@@ -140,7 +154,7 @@ class LimitTests(ProgramCase):
         )
         found = district_audit.over_limits(GRID, max_cut=[300, 140, 400_000], **words)
         self.assertEqual(found.names, ["max_cut=300", "max_cut=140", "max_cut=400000"])
-        for (_, report), limit in zip(found, (300, 140, None)):
+        for report, limit in zip(found.values(), (300, 140, None)):
             own: common.Words = {**words, "max_cut": limit or 400_000}
             alone = district_audit.run(GRID, **own)
             self.assertEqual(str(report), str(alone))

@@ -68,7 +68,7 @@ class Prepared(common.ProgramCase):
                 made = call(prepared, **anything(more))
                 found = anything(made)
                 if isinstance(found, district_audit.PlanReports):
-                    found = found[0][1]
+                    found = found["d"]
                 elif isinstance(found, district_audit.Trace):
                     found = found.head
                 shown = {name: getattr(found.rules, name) for name in rules}

@@ -59,9 +59,21 @@ class Elections(common.ProgramCase):
         self.assertEqual(prepared.elections, ELECTIONS)
         self.assertEqual(self.run_with(prepared, elections=prepared.elections), wanted)
         self.assertEqual(self.run_with(prepared, first="D2", second="R2"), wanted["SEN20"])
-        with self.assertRaises(TypeError) as caught:
-            self.run_with(prepared)
+        self.assertEqual(self.run_with(prepared), wanted)
+        self.assertEqual(prepared.kept, ["elections GOV18, SEN20"])
+        with self.assertRaises(district_audit.TypeRefused) as caught:
+            self.run_with(json.dumps(root()).encode())
         self.assertIn("the argument first is missing (or elections)", str(caught.exception))
+        checked = district_audit.check(prepared, program=self.program)
+        self.assertEqual(
+            checked, district_audit.check(json.dumps(root()).encode(), program=self.program,
+                                          first="DEM", second="REP", **columns)
+        )
+        with district_audit.trace(prepared, key=common.KEY, program=self.program) as trace:
+            self.assertEqual(trace.elections, ELECTIONS)
+        with self.assertRaises(district_audit.TypeRefused) as caught:
+            district_audit.plans(prepared, {}, key=common.KEY, ask="gap:high")
+        self.assertIn('first="DEM", second="REP" for GOV18', str(caught.exception))
 
     def test_votes_of_each_election_are_tested(self) -> None:
         bad = root()
@@ -164,11 +176,17 @@ class Named(unittest.TestCase):
     def test_names_and_places(self) -> None:
         found = PlanReports([("CD", self.report), ("new", self.other)])
         self.assertEqual(found["new"], self.other)
-        self.assertEqual(found[0], ("CD", self.report))
-        self.assertEqual(found[1:], [("new", self.other)])
-        self.assertIsInstance(found[1:], PlanReports)
-        self.assertEqual(found, [("CD", self.report), ("new", self.other)])
+        self.assertIsInstance(found, typing.Mapping)
+        self.assertEqual(list(found), ["CD", "new"])
+        self.assertEqual(list(found.items()), [("CD", self.report), ("new", self.other)])
+        self.assertEqual(list(found.values()), [self.report, self.other])
+        self.assertEqual((len(found), len(found.items()), len(found.values())), (2, 2, 2))
         self.assertEqual(dict(found), {"CD": self.report, "new": self.other})
+        self.assertEqual(found, {"CD": self.report, "new": self.other})
+        self.assertEqual(found, PlanReports(found))
+        self.assertNotEqual(found, PlanReports([("CD", self.report)]))
+        self.assertIn("CD", found)
+        self.assertIsNone(found.get("old"))
         with self.assertRaises(KeyError) as caught:
             found["old"]
         self.assertIn(
@@ -176,6 +194,9 @@ class Named(unittest.TestCase):
         )
         with self.assertRaises(KeyError):
             PlanReports([("CD", self.report), ("CD", self.other)])["CD"]
+        twice = PlanReports([("CD", self.report), ("CD", self.other)])
+        self.assertEqual(list(twice.values()), [self.report, self.other])
+        self.assertEqual(list(twice.items()), twice.pairs)
         self.assertEqual(repr(found), "<PlanReports of 2: CD, new>")
         xml.dom.minidom.parseString(f"<page>{found._repr_html_()}</page>")
 

@@ -65,7 +65,7 @@ class Studies(common.ProgramCase):
         self.assertIn("The manifest of this report is not there.", text)
 
     def test_the_page_of_a_file_is_that_of_the_report_in_memory(self) -> None:
-        for name, report in self.audit():
+        for name, report in self.audit().items():
             file = {"GOV 18": "GOV_18", "SEN/16": "SEN_16", "manifest.json": "manifest.json_"}[name]
             loaded = Report.load(self.folder / f"report.{file}")
             self.assertEqual(loaded, report)
@@ -119,7 +119,7 @@ class Studies(common.ProgramCase):
             self.exhibit(loaded, decides="ends gap:high")
 
     def test_names_of_numbers(self) -> None:
-        report = next(report for _, report in self.audit())
+        report = next(iter(self.audit().values()))
         text = self.exhibit(report, decides="walk 3 gap:high")
         self.assertIn("the bound of the outlier walk 3 on gap:high, election GOV 18", text)
         self.assertIn("said by the makers of this page, and by no manifest", text)

@@ -578,7 +578,7 @@ class Counts(UnitsCase):
             lambda: self.plans({"one": PLAN, "two": self.THREE}),
         )
         found = self.plans({"one": PLAN, "two": self.THREE}, districts="any")
-        self.assertEqual([report.districts for _, report in found], [2, 2, 3])
+        self.assertEqual([report.districts for report in found.values()], [2, 2, 3])
         self.no(
             'districts must be "same" or "any", not 3',
             lambda: self.plans({"one": PLAN}, districts=3),
