@@ -145,6 +145,8 @@ def walks() -> dict[str, Run]:
         "start_on_900_units": Run([*MADE, "--steps", "1", *cut]),
         "start_on_10000_units": Run(["make", "--size", "10", *MADE[3:], "--steps", "1", *cut]),
         "walk_cut_edges": Run([*MADE, *steps, *cut]),
+        # Its number is that of the walk without a weight: a refused flip saves the later tests.
+        "walk_with_a_weight": Run([*MADE, *steps, *cut, "--cut-weight", "24"]),
         "walk_mean_median": Run([*MADE, *steps, "--ask", "mean-median:low"]),
         "walk_gap_and_seats": Run([*MADE, *steps, "--ask", "gap:high,seats:low", "--shift", "yes"]),
         "walk_with_rules": Run(
