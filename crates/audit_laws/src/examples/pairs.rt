@@ -1,4 +1,4 @@
-//! Computed examples of pairs of walks, of a weight on cut edges in arguments, texts and digests, and of a blind report.
+//! Computed examples of pairs of walks, of weights in arguments, texts and digests, and of blind reports.
 
 ghost use Rattle.std.specs.Prelude.{◌≡◌, [], ◌∷◌, ◌++◌, codes, drop, take, Some, None, Err, true, pos};
 ghost use Rattle.audit_model.specs.declared.fault.Name.TheVariants as name;
