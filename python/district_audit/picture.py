@@ -241,7 +241,7 @@ class Ruler:
     def wrap(
         self, words: str, most: float, size: float = SMALL, is_bold: bool = False
     ) -> str:
-        """Returns a text in lines that are at most so many inches wide."""
+        """Returns a text in lines of at most a width in inches."""
         lines = measuring.wrap(words, most, lambda line: self.width(line, size, is_bold))
         return as_plain("\n".join(lines))
 

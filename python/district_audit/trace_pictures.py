@@ -1,9 +1,9 @@
 """Pictures of scores along a trace, by matplotlib: histogram, box plot, running trace.
 
 All is black, gray and white: marks, hatches and words distinguish. Each function returns a
-matplotlib figure, and with `name` it also writes a file of it, or NAME.png and NAME.svg. Values are `int`,
-`Fraction` or `float`. Each function raises MissingExtra if matplotlib is not installed, and
-ValueError if there is nothing to draw or a value is missing.
+matplotlib figure, and with `name` it also writes a file of it, or NAME.png and NAME.svg. Values
+are `int`, `Fraction` or `float`. Each function raises MissingExtra if matplotlib is not installed,
+and ValueError if there is nothing to draw or a value is missing.
 """
 from __future__ import annotations
 
@@ -78,7 +78,10 @@ def finish(figure: Figure, axes: Axes, title: str, name: PathLike | None) -> Fig
     axes.set_xlabel("\n".join(lines), fontsize=MIDDLE)
     high = 0.62 * figure.get_figheight()
     axes.set_ylabel(ruler.wrap(axes.get_ylabel(), high, MIDDLE), fontsize=MIDDLE)
-    # The room for numbers, labels and the legend, as wide as they are.
+    # The room for numbers, labels and the legend, as wide as they are; then that of the title.
+    figure.tight_layout(pad=0.8)
+    wide = figure.get_figwidth() * (1 - axes.get_position().x0) - 0.3
+    axes.set_title(ruler.wrap(title, wide, 10), fontsize=10, loc="left", pad=pad)
     figure.tight_layout(pad=0.8)
     if name is not None:
         save(figure, name)

@@ -58,6 +58,7 @@ class Pictures(common.FolderCase):
             [(bar.get_x(), bar.get_height()) for bar in axes.patches],
             [(1.5, 1), (2.5, 2), (3.5, 0), (4.5, 1)],
         )
+
     def test_texts_fit_with_extreme_names(self) -> None:
         """Each text is inside the canvas, and no two meet; axes have no powers of ten."""
         long = "The Very Long Established Progressive Conservative Union Party " * 3
