@@ -618,7 +618,7 @@ def call_program(
     if ended.status:
         error = make_error(ended, asked)
         raise job.explain(error) if isinstance(error, CheckpointRefused) else error
-    report = Report.parse(ended.text)
+    report = Report.parse(ended.unproved + ended.text)
     if asked.data:
         report = dataclasses.replace(report, audited=add_call(asked.audited, made))
     warn_of_frozen([("", report)], 4)
@@ -844,7 +844,7 @@ def plans(
     audited = add_call(audited, made)
     reports = PlanReports(
         (name, dataclasses.replace(report, audited=audited))
-        for name, report in Report.parse_plans(ended.text)
+        for name, report in Report.parse_plans(ended.unproved + ended.text)
     )
     warn_of_frozen(reports, 3)
     return reports

@@ -13,7 +13,7 @@ import shutil
 import subprocess
 import typing
 
-from .errors import ProgramMissing, WrongProgram
+from .errors import NotProved, ProgramMissing, WrongProgram
 
 PathLike = typing.Union[str, "os.PathLike[str]"]
 
@@ -106,6 +106,13 @@ def checked(path: str, which: str) -> str:
     return str(absolute)
 
 
+def refuse_unproved_program(path: str) -> None:
+    """Raises NotProved if a program says that it was built without a proof."""
+    if call(path, ["--version"], b"").unproved:
+        raise NotProved(f"the program {path} was built without a proof: use a proved one for files"
+                        " and exhibits")
+
+
 @functools.lru_cache(maxsize=64)
 def find_fault(path: str, which: str, changed: int) -> str:
     """Returns what is wrong with a program, where, and what to do; or nothing."""
@@ -140,8 +147,8 @@ class Ended(typing.NamedTuple):
     """Standard output."""
     line: str
     """Standard error, without its last line end."""
-    is_unproved: bool = False
-    """True if the program said in its first line that it was built without a proof."""
+    unproved: str = ""
+    """The line in which the program said that it was built without a proof; else empty."""
 
 
 def call(
@@ -170,7 +177,7 @@ def call(
     if front:
         line = line[front.end():]
         said = NOT_PROVED.sub("", said, count=1) if NOT_PROVED.match(said) else said
-    return Ended(process.returncode, said, line.removesuffix("\n"), front is not None)
+    return Ended(process.returncode, said, line.removesuffix("\n"), front[0] if front else "")
 
 
 def read_outputs(
