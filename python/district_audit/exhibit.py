@@ -95,7 +95,7 @@ class Options:
 
     @property
     def called(self) -> Names:
-        """What the page calls the group, the regions and lengths."""
+        """The names that the page gives the group, the regions and lengths."""
         return read_names(self.names)
 
 
