@@ -37,6 +37,7 @@ from pathlib import Path
 from typing import Any, Dict, Iterable, Iterator, List, NamedTuple, Optional, Sequence, Set, Tuple
 
 BILLION = 10 ** 9
+Json = Any  # a value of JSON; the program has judged its shape
 WORD = 2 ** 32 - 1  # a word of 32 bits that are all 1
 BATCH = 512  # the number of ChaCha20 blocks that are computed together
 SCORES = ("seats", "mean-median", "gap", "cut-edges", "cut-length")
@@ -354,24 +355,24 @@ class Map(NamedTuple):
     columns: Dict[str, List[int]]
 
 
-def read_whole(text: str) -> Any:
+def read_whole(text: str) -> Json:
     """Returns a number without a point as JSON's readers keep it: of 64 bits, or a float."""
     if text != "-0" and -2 ** 63 <= int(text) < 2 ** 64:
         return int(text)
     return float(text)
 
 
-def number_labels(labels: List[Any]) -> List[int]:
+def number_labels(labels: List[Json]) -> List[int]:
     """Numbers labels in rising order: whole numbers by value, then texts (KERNEL 1)."""
     rising = sorted(set(labels), key=lambda label: (isinstance(label, str), label))
     number = {label: place for place, label in enumerate(rising)}
     return [number[label] for label in labels]
 
 
-def read_edges(root: Any, names: Dict[str, str]) -> Tuple[List[Tuple[int, int]], List[int]]:
+def read_edges(root: Json, names: Dict[str, str]) -> Tuple[List[Tuple[int, int]], List[int]]:
     """Returns the edges in rising order, and the length of each (KERNEL 1)."""
     number = {node["id"]: unit for unit, node in enumerate(root["nodes"])}
-    lengths: Dict[Tuple[int, int], Any] = {}
+    lengths: Dict[Tuple[int, int], Json] = {}
     for unit, row in enumerate(root["adjacency"]):
         for entry in row:
             other = number[entry["id"]]
@@ -388,7 +389,7 @@ def read_map(text: str, names: Dict[str, str], labels: Dict[str, str]) -> Map:
     Labels has the districts of a plan of a table, by the units' ids, or is empty.
     """
     root = json.loads(text, parse_int=read_whole)
-    columns: Dict[str, List[Any]] = {name: [] for name in COLUMNS}
+    columns: Dict[str, List[Json]] = {name: [] for name in COLUMNS}
     for name in COLUMNS[:8]:
         if name in names:
             columns[name] = [node[names[name]] for node in root["nodes"]]
@@ -877,7 +878,7 @@ class Check:
         UNCHECKED.extend(names)
 
 
-def print_risk(found: Any, part: int, some: int, every: int) -> None:
+def print_risk(found: Json, part: int, some: int, every: int) -> None:
     """Prints with which chance ends stay hidden that carry a rank across a p-value of 1/part.
 
     Found is the ask and the rank; some of every end were recomputed.

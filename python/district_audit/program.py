@@ -46,17 +46,17 @@ def find_program(which: str, given: PathLike | None = None, unproved: bool = Fal
         path = shutil.which(named)
         if path is None:
             raise ProgramMissing(f"there is no program {named}")
-        return checked(path, which)
+        return check_program(path, which)
     if unproved:
         names = tuple(name + UNPROVED for name in names)
     else:
         beside = find_beside_package(names[0])
         if beside is not None:
-            return checked(beside, which)
+            return check_program(beside, which)
     for name in names:
         path = shutil.which(name)
         if path is not None:
-            return checked(path, which)
+            return check_program(path, which)
     raise ProgramMissing(
         f"there is no {names[0]} with this package or in the folders of PATH: install the wheel of"
         f" a release, which has it. scripts/install.sh FOLDER makes it with the toolchain, and the"
@@ -95,7 +95,7 @@ def digest(path: pathlib.Path, changed: int) -> str:
     return base64.urlsafe_b64encode(whole).decode().rstrip("=")
 
 
-def checked(path: str, which: str) -> str:
+def check_program(path: str, which: str) -> str:
     """Returns the absolute path of a program that can be used with this package.
 
     Raises WrongProgram if the program cannot be started here, or if its answer to --version is that
