@@ -1,9 +1,11 @@
 #!/bin/bash
 # The two commands for everybody who has this repository, with the toolchain or without: `make audit` and `make test` call this script.
 #
-# Usage: scripts/try.sh audit [FOLDER]   installs package and programs of the folder `release` in out/venv, audits the map of North
-#                                        Carolina, prints the report and leaves report, exhibit and picture in FOLDER, which is out/audit
-#        scripts/try.sh test             installs what the tests need, runs all tests that can run here, and the gate if the toolchain is here
+# Usage: scripts/try.sh audit [FOLDER]
+#        scripts/try.sh test
+#   audit   installs package and programs of the folder `release` in out/venv, and audits the map of North Carolina. It prints the
+#           report, and leaves report, exhibit and picture in FOLDER, or in out/audit.
+#   test    installs what the tests need, and runs all tests that can run here. With the toolchain it runs the gate, which has them all.
 # As root on Debian or Ubuntu both install missing packages, and say which. Elsewhere they print the line to type.
 # On failure, one line on standard error says what is wrong and what to do, and the status is 1.
 
@@ -35,7 +37,7 @@ need_packages() {
 check_release() {
     local wrong
     [ -d "$top/release" ] || fail "there is no folder release: scripts/release.sh release makes it with the toolchain"
-    wrong=$(cd "$top/release" && sha256sum --check --quiet SHA256SUMS 2>&1) ||
+    wrong=$(cd "$top/release" && sha256sum --check --strict --quiet SHA256SUMS 2>&1) ||
         fail "release/ is not as it was made ($(head -n 1 <<<"$wrong")): load the repository again"
     [ "$(uname -s) $(uname -m)" = "Linux x86_64" ] ||
         fail "the programs in release/ are for Linux on x86_64, and this is $(uname -s) on $(uname -m): build them with the toolchain, as docs/user/GUIDE.md says"

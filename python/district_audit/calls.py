@@ -641,7 +641,7 @@ def plans(
     audited = add_call(audited, made)
     reports = PlanReports(
         (name, dataclasses.replace(report, audited=audited))
-        for name, report in Report.parse_plans(ended.text)
+        for name, report in Report.parse_plans(ended.unproved + ended.text)
     )
     warn_of_frozen(reports.pairs, 3)
     return reports

@@ -178,6 +178,10 @@ class WrongProgram(ProgramMissing):
     """
 
 
+class NotProved(ValueError):
+    """A report of a build that was made without a proof, where only a proved one may be used."""
+
+
 class MissingExtra(ImportError):
     """An optional module that is not installed, or cannot be imported.
 

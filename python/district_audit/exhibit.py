@@ -18,6 +18,7 @@ from .custody import write_whole
 from .decimals import ROUNDED_DOWN, percent_down, round_down
 from .effect import Effect, Number
 from .district_map import maps_of
+from .errors import NotProved
 from .exhibit_counting import find_announced_for, multiply, tell_announced
 from .exhibit_custody import (
     NOT_PROVED,
@@ -141,6 +142,10 @@ def page(plans: Named, options: Options) -> str:
     if options.manifest is not None:
         plans = add_manifest_to(plans, options.manifest)
     reports = [report for _, report in plans]
+    if not all(report.proved for report in reports):
+        raise NotProved(
+            "a report of a build without a proof is not for a court: audit with a proved program"
+        )
     first = reports[0]
     refuse_other_jobs(reports)
     refuse_half_an_effect(options)

@@ -15,7 +15,7 @@ import subprocess
 import threading
 import typing
 
-from .errors import ProgramMissing, WrongProgram
+from .errors import NotProved, ProgramMissing, WrongProgram
 
 PathLike = typing.Union[str, "os.PathLike[str]"]
 
@@ -108,6 +108,13 @@ def checked(path: str, which: str) -> str:
     return str(absolute)
 
 
+def refuse_unproved_program(path: str) -> None:
+    """Raises NotProved if a program says that it was built without a proof."""
+    if call(path, ["--version"], b"").unproved:
+        raise NotProved(f"the program {path} was built without a proof: use a proved one for files"
+                        " and exhibits")
+
+
 @functools.lru_cache(maxsize=64)
 def find_fault(path: str, which: str, changed: int) -> str:
     """Returns what is wrong with a program, where, and what to do; or nothing."""
@@ -142,8 +149,8 @@ class Ended(typing.NamedTuple):
     """Standard output."""
     line: str
     """Standard error, without its last line end."""
-    is_unproved: bool = False
-    """True if the program said in its first line that it was built without a proof."""
+    unproved: str = ""
+    """The line in which the program said that it was built without a proof; else empty."""
 
 
 def call(
@@ -172,7 +179,7 @@ def call(
     if front:
         line = line[front.end():]
         said = NOT_PROVED.sub("", said, count=1) if NOT_PROVED.match(said) else said
-    return Ended(process.returncode, said, line.removesuffix("\n"), front is not None)
+    return Ended(process.returncode, said, line.removesuffix("\n"), front[0] if front else "")
 
 
 def read_outputs(

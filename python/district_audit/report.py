@@ -22,6 +22,7 @@ from . import own_limits
 from .arguments import MOST_WEIGHT, SCORES
 from .effect import Effect, Number, test_effects
 from .errors import ReportRefused, extra
+from .program import NOT_PROVED
 
 if typing.TYPE_CHECKING:
     import os
@@ -1165,6 +1166,12 @@ WHOLE_COLUMNS = (
 )
 
 
+def split_unproved(text: str) -> tuple[str, str]:
+    """Returns the line that says that there is no proof, or nothing, and the rest of a text."""
+    found = NOT_PROVED.match(text)
+    return (found[0], text[found.end():]) if found else ("", text)
+
+
 @dataclasses.dataclass(frozen=True, repr=False)
 class Report:
     """A report. `str` of it is its text, byte for byte."""
@@ -1196,6 +1203,8 @@ class Report:
     """The plans or elections among which this report is one; None if it is by itself."""
     has_pairs: bool = False
     """True if the text has lines of pairs, as `pairs=True` asks for."""
+    unproved: str = ""
+    """The first line of a text that says that its program was built without a proof."""
 
     @classmethod
     def parse(cls, text: str) -> Report:
@@ -1204,11 +1213,17 @@ class Report:
         Raises ReportRefused, with the number of the line, if its form or its arithmetic is
         impossible. A forged count passes: only a recomputation finds it.
         """
-        lines = Reader(lines_of(text))
+        front, rest = split_unproved(text)
+        lines = Reader(lines_of(rest))
         report = cls.read(lines)
         if lines.next() is not None:
             refuse(lines.number, "text follows the line `end`")
-        return report
+        return dataclasses.replace(report, unproved=front) if front else report
+
+    @property
+    def proved(self) -> bool:
+        """False if the text says that its program was built without a proof."""
+        return not self.unproved
 
     @classmethod
     def load(cls, path: PathLike, manifest: PathLike | None = None) -> Report:
@@ -1242,10 +1257,11 @@ class Report:
         Names may be equal. Raises ReportRefused, with the number of the line, if the program cannot
         have written the text.
         """
-        lines, found = Reader(lines_of(text)), []
+        front, rest = split_unproved(text)
+        lines, found = Reader(lines_of(rest)), []
         while lines.next() is not None:
             (name,) = lines.take("plan (.*)", "plan NAME")
-            found.append((name, cls.read(lines)))
+            found.append((name, dataclasses.replace(cls.read(lines), unproved=front)))
         if not found:
             refuse(1, "there is no plan")
         return join_batch("plan", found)
@@ -1288,7 +1304,7 @@ class Report:
         lines += map(str, (*self.walks, *self.pair_lines))
         lines += [] if self.shift is None else [str(self.shift)]
         lines += map(str, (*self.stops, *self.ends, *self.serial))
-        return "\n".join([*lines, "end", ""])
+        return self.unproved + "\n".join([*lines, "end", ""])
 
     @property
     def pairs(self) -> tuple[Pair, ...]:

@@ -103,7 +103,7 @@ class Running:
             if isinstance(error, WorkLeft):
                 error.part_is_done = self.is_part_done()
             raise self.job.explain(error) if isinstance(error, CheckpointRefused) else error
-        report = Report.parse(ended.text)
+        report = Report.parse(ended.unproved + ended.text)
         if asked.data:
             report = dataclasses.replace(report, audited=add_call(asked.audited, made))
         return report
@@ -304,7 +304,7 @@ def make_error(ended: Ended, asked: Given) -> Exception:
         argument = "length=.." if " in attribute " in ended.line else 'numbers="nearest"'
         error.hint = f"prepare(.., {argument}) makes fractions whole and names missing values"
     if isinstance(error, SaveFault) and ended.text:
-        error.report = Report.parse(ended.text)
+        error.report = Report.parse(ended.unproved + ended.text)
     return error
 
 

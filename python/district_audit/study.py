@@ -20,7 +20,7 @@ from .arguments import refuse
 from .custody import Call, Custody, File, PathLike, find_versions, write_whole
 from .deciding import find_announced
 from .elections import ElectionReports
-from .errors import TypeRefused
+from .errors import NotProved, TypeRefused
 from .graphs import Foreign
 from .limits import LimitReports
 from .manifest import (
@@ -32,6 +32,7 @@ from .manifest import (
     ManifestRefused,
 )
 from .preparing import Preparation
+from .program import find_program, refuse_unproved_program
 from .report import Audited, Batch, Report
 from .results import NamedReports, PlanReports
 from .warnings import read as read_warning
@@ -83,6 +84,7 @@ def audit_to_file(
     """
     path = pathlib.Path(report)
     probe(path)
+    refuse_unproved_program(find_program("audit", program))
     given: dict[str, Foreign] = {**words, "program": program}
     if table is not None:
         if elections is not None:
@@ -104,6 +106,14 @@ def probe(path: pathlib.Path) -> None:
         pass
 
 
+def refuse_unproved(reports: typing.Iterable[Report]) -> None:
+    """Raises NotProved if a report says that its program was built without a proof."""
+    if not all(report.proved for report in reports):
+        raise NotProved(
+            "a report of a build without a proof is not for files: audit with a proved program"
+        )
+
+
 def call_of(report: Report) -> Call:
     """Returns the call that made a report. Raises ValueError if it is not known."""
     call = None if report.audited is None else report.audited.call
@@ -122,6 +132,7 @@ def write_study(path: PathLike, pairs: Pairs, decides: str | None = None) -> Man
     the program, or if no number is named as `decides` says; OSError.
     """
     place = pathlib.Path(path)
+    refuse_unproved(report for _, report in pairs)
     batch = pairs[0][1].batch if pairs else None
     kind = "report" if batch is None else batch.kind
     if not pairs or len(pairs) != (1 if batch is None else len(batch.names)):

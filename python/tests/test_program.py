@@ -127,6 +127,39 @@ class ProgramsOfAWheel(common.FolderCase):
         self.refuses("of this package is missing")
 
 
+class ReportsWithoutAProof(common.ProgramCase):
+    """A report of a build without a proof says so, and is refused where it would be filed."""
+
+    def setUp(self) -> None:
+        super().setUp()
+        line = "district-audit-unproved: NOT PROVED: to try things"
+        say = f"echo '{line}'; echo '{line}' >&2; exec PROGRAM"
+        self.unproved = self.wrapper(say)
+        self.graph = common.example("cycle.json")
+        self.line = line
+
+    def test_a_report_says_so(self) -> None:
+        report = district_audit.run(self.graph, program=self.unproved, **common.WALK)
+        proved = district_audit.run(self.graph, program=self.program, **common.WALK)
+        self.assertEqual((report.proved, proved.proved), (False, True))
+        self.assertEqual(str(report), f"{self.line}\n{proved}")
+        self.assertFalse(district_audit.Report.parse(str(report)).proved)
+        self.assertEqual(district_audit.check(self.graph, program=self.unproved,
+                                              **common.WORDS).units, 4)
+
+    def test_it_is_not_filed(self) -> None:
+        report = district_audit.run(self.graph, program=self.unproved, **common.WALK)
+        with self.assertRaisesRegex(district_audit.NotProved, "not for a court"):
+            report.exhibit(self.folder / "exhibit.html")
+        with self.assertRaisesRegex(district_audit.NotProved, "not for files"):
+            report.to_files(self.folder / "report")
+        with self.assertRaisesRegex(district_audit.NotProved, "built without a proof"):
+            district_audit.audit_to_file(
+                self.folder / "report", self.graph, program=self.unproved, **common.WALK
+            )
+        self.assertEqual([one.name for one in self.folder.iterdir()], ["wrapper"])
+
+
 class TextsWithoutAProof(common.FolderCase):
     """A build without a proof is used only if it is asked for, and its first line is understood."""
 
