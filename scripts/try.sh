@@ -52,7 +52,10 @@ make_environment() {
         need_packages "Python 3.9 or later with venv is missing" python3 python3-venv
     # The picture is no reason to fail: the audit goes on without it.
     if ! python3 -c 'import matplotlib' 2>/dev/null && [ "$(id -u)" = 0 ] && command -v apt-get >/dev/null; then
-        (need_packages "matplotlib, which draws the picture, is missing" python3-matplotlib)
+        # A slow mirror shall not keep the report back: what is not loaded in half a minute is left out.
+        timeout 30 sh -c 'apt-get update; apt-get install -y --no-install-recommends --download-only python3-matplotlib' \
+            </dev/null >"$log" 2>&1 &&
+            (need_packages "matplotlib, which draws the picture, is missing" python3-matplotlib)
     fi
     rm -rf "$top/out/venv"
     mkdir -p "$top/out"

@@ -11,6 +11,7 @@ The programs must read and write nothing else.
 import os
 import pathlib
 import re
+import shutil
 import subprocess
 import sys
 import tempfile
@@ -142,6 +143,9 @@ def check_versions(checks: Checks, programs: dict[str, str]) -> None:
 
 def check_kits(checks: Checks) -> None:
     """Checks that no file names a kit. The table of the kits measured has to."""
+    if not shutil.which("git"):
+        checks.count_missing("no_file_names_a_kit", "git")
+        return
     files = run(["git", "-C", TOP, "ls-files", "-z"]).out.split("\0")
     found = [
         name

@@ -12,6 +12,7 @@ variable CI is set. Without a release all is skipped, but once one was committed
 # RUN:
 import functools
 import pathlib
+import shutil
 import sys
 import tempfile
 import typing
@@ -39,6 +40,8 @@ Builder = typing.Callable[[Stamp, pathlib.Path], None]
 def was_committed() -> bool:
     """Returns whether a release was ever committed, as far as git knows."""
     name = f"{FOLDER.name}/{SUMS}"
+    if not shutil.which("git"):
+        return False
     return bool(run(["git", "-C", TOP, "log", "-1", "--format=%h", "--", name]).out.strip())
 
 
@@ -113,6 +116,8 @@ def compare_cases(checks: Checks, release: Release) -> None:
 
 def check_commit(checks: Checks, commit: str) -> None:
     """Checks that the release is of a commit below this one, where git knows the commit."""
+    if not shutil.which("git"):
+        return
     known = run(["git", "-C", TOP, "cat-file", "-e", f"{commit}^{{commit}}"])
     if known.status == 0:
         end = run(["git", "-C", TOP, "merge-base", "--is-ancestor", commit, "HEAD"])
