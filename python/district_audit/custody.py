@@ -104,7 +104,7 @@ class Custody:
     arguments: typing.Mapping[str, Json] = dataclasses.field(default_factory=dict)
     """The arguments of `prepare` that were given, as JSON has them."""
     edits: tuple[Edit, ...] = ()
-    """What was changed, by kind."""
+    """The changes, by kind."""
     warnings: tuple[tuple[str, str], ...] = ()
     """The kind and the text of each warning."""
     versions: typing.Mapping[str, str] = dataclasses.field(default_factory=dict)
@@ -270,7 +270,7 @@ class Call:
     """When the call began, in UTC, as `2026-05-04T12:34:56+00:00`."""
     ended: str
     data: bytes | None = dataclasses.field(default=None, repr=False)
-    """What the program read; None for a report that was read from its file."""
+    """The bytes that the program read; None for a report that was read from its file."""
     path: str | None = None
     """The path of the file with these bytes, if the graph was one."""
     custody: Custody | None = None

@@ -6,7 +6,7 @@ from decimal import Decimal
 
 from .report import Report
 
-# What each test is called in a text, by the first word of its line.
+# The name of each test in a text, by the first word of its line.
 TESTS = {
     "walk": "the outlier walk", "pair": "the pair of walks", "stop": "the sequential test",
     "ends": "the parallel test", "serial": "the serial test",

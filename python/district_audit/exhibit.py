@@ -95,7 +95,7 @@ class Options:
 
     @property
     def called(self) -> Names:
-        """What the page calls the group, the regions and lengths."""
+        """The names of the group, the regions and lengths on the page."""
         return read_names(self.names)
 
 

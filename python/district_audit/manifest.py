@@ -62,7 +62,7 @@ class Manifest:
     decides: str | None
     """The number that was announced as the one that counts, as "ends seats:low"."""
     limits_from: str | None
-    """Where the limits come from, as the call said; None if it did not."""
+    """The source of the limits, as the call said; None if it did not."""
     versions: typing.Mapping[str, str]
     """The versions of Python and of the packages that were installed."""
     processors: int

@@ -16,7 +16,7 @@ ADVANCES = (
     611, 685, 390, 337, 390, 838, 500, 500, 613, 635, 550, 635, 615, 352, 635, 634, 278, 278, 579,
     278, 974, 634, 612, 635, 635, 411, 521, 392, 634, 592, 818, 592, 592, 525, 636, 337, 636, 838,
 )
-# What a bold text is wider.
+# The factor by which a bold text is wider.
 BOLD = 1.27
 # The size of the texts in a figure, in its units, and the distance of two lines.
 SIZE, LINE = 13.0, 16.0
