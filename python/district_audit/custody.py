@@ -104,7 +104,7 @@ class Custody:
     arguments: typing.Mapping[str, Json] = dataclasses.field(default_factory=dict)
     """The arguments of `prepare` that were given, as JSON has them."""
     edits: tuple[Edit, ...] = ()
-    """The changes of a preparation, by kind."""
+    """The changes, by kind."""
     warnings: tuple[tuple[str, str], ...] = ()
     """The kind and the text of each warning."""
     versions: typing.Mapping[str, str] = dataclasses.field(default_factory=dict)

@@ -44,7 +44,7 @@ class DistrictMap:
 
 @dataclasses.dataclass(frozen=True)
 class MapGraph:
-    """The parts of a graph that a map needs: the districts and the neighbors of its units."""
+    """The part of a graph that a map needs: the districts and the neighbors of its units."""
 
     districts: dict[Label, Label]
     pairs: list[tuple[Label, Label]]

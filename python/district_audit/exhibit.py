@@ -95,7 +95,7 @@ class Options:
 
     @property
     def called(self) -> Names:
-        """The names that the page gives the group, the regions and lengths."""
+        """The names of the group, the regions and lengths on the page."""
         return read_names(self.names)
 
 
