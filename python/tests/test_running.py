@@ -17,6 +17,8 @@ from district_audit import checkpoints, program, progress, running
 CYCLE = common.EXAMPLES / "data" / "cycle.json"
 ELECTIONS = {"one": ("a", "b"), "two": ("b", "a"), "three": ("a", "b")}
 PROGRAM_PATH = str(common.TOP / "python")
+# A wrapper answers the question for the version at once, as the program does.
+VERSION = "case $1 in --version) exec PROGRAM ;; esac; "
 
 
 class Noted:
@@ -106,7 +108,7 @@ class Folders(common.ProgramCase):
         place = pathlib.Path("/proc")
         with self.assertRaises(OSError):
             district_audit.run(
-                CYCLE, program=self.wrapper("exit 99"), folder=place, save=1, **common.WALK
+                CYCLE, program=self.wrapper(VERSION + "exit 99"), folder=place, save=1, **common.WALK
             )
 
     def test_elections_are_all_judged_before_one_walks(self) -> None:
@@ -231,7 +233,7 @@ class Together(common.ProgramCase):
 
     def test_they_overlap_in_time(self) -> None:
         """Each waits until another has begun: one behind the other, the first would wait alone."""
-        line = (
+        line = VERSION + (
             f"cd '{self.folder}'; touch begun.$$; for i in $(seq 600); do"
             " [ $(ls begun.* | wc -l) -ge 2 ] && break; sleep 0.05; done;"
             " [ $(ls begun.* | wc -l) -ge 2 ] || exit 9; exec PROGRAM"
@@ -266,12 +268,12 @@ class Together(common.ProgramCase):
         # Checkpoints of before do not count in a run that writes over them.
         district_audit.run(CYCLE, **self.words(
             save=1, folder=self.folder, progress=True, overwrite=True,
-            program=self.wrapper("sleep 0.5; exec PROGRAM")))
+            program=self.wrapper(VERSION + "sleep 0.5; exec PROGRAM")))
         self.assertEqual(bars[1][1].shown[0], (0, 36))
 
     def test_a_display_within_a_second(self) -> None:
         """Without `save`, too, the display comes while a slow program runs."""
-        slow = self.wrapper("sleep 2; exec PROGRAM")
+        slow = self.wrapper(VERSION + "sleep 2; exec PROGRAM")
         for elections, said in ((None, "walking 12 trajectories for"),
                                 (ELECTIONS, "one, two, three: walking 36 trajectories for")):
             words: common.Words = self.words(program=slow, progress=True, workers=1)
@@ -292,7 +294,7 @@ class Together(common.ProgramCase):
 
     def test_one_that_fails_ends_the_others(self) -> None:
         """The second election's program ends with 3, while the others would take an hour."""
-        line = (
+        line = VERSION + (
             "case \" $* \" in *' --first b '*) echo memory >&2; exit 3 ;; esac; sleep 3600 & p=$!;"
             " trap \"kill $p; exit 1\" TERM; wait"
         )
