@@ -637,7 +637,7 @@ class Progress(common.ProgramCase):
     def test_without_save_it_shows_the_time(self) -> None:
         stream = io.StringIO()
         clock = progress.Clock(12, stream)
-        for seconds in (0, 0.5, 0.2, 8, 1, 1, 5, 4.5, 3):
+        for seconds in (0, 0.4, 0.2, 8, 1, 0.7, 5, 4.9, 0.9):
             clock.began -= seconds
             clock()
         clock.end()
@@ -645,7 +645,7 @@ class Progress(common.ProgramCase):
             stream.getvalue(),
             "".join(
                 f"walking 12 trajectories for {seconds} s (save=1 shows how many are done)\n"
-                for seconds in (0, 10, 20)
+                for seconds in (0, 10, 21)
             ),
         )
         report = district_audit.run(CYCLE, program=self.program, progress=True, **common.WALK)
