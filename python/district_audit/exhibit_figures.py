@@ -259,10 +259,8 @@ def seats_figure(number: int, title: str, shift: Shift, seats: int | None, distr
         parts.append(rectangle(x + 10, bottom - height, step - 20, height, fill))
         parts.append(text(x + step / 2, bottom - height - 6, percent(count, whole), "middle"))
         parts.append(text(x + step / 2, bottom + 18, SEATS[place], "middle"))
-        if seats is not None:
-            parts.append(
-                text(x + step / 2, bottom + 38, seats_at(place, seats, districts), "middle")
-            )
+        words = "" if seats is None else seats_at(place, seats, districts)
+        parts += [text(x + step / 2, bottom + 38, words, "middle")] if words else []
     middle = left + 4.5 * step
     parts.append(f'<path d="M {middle:.1f} 24 l -6 -10 l 12 0 z" fill="#000"/>')
     said = "enacted plan" if seats is None else f"enacted plan: {seats} of {districts}"
