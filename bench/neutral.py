@@ -86,7 +86,7 @@ def flags_of(
             ask=asks, walks=0, ends=ENDS, hub_steps=steps, workers=4, program=program,
             limits_from="neutral plans", **typing.cast(dict[str, Foreign], {**columns, **more}),
         )
-        for _, report in found[:len(some)]:
+        for report in list(found.values())[:len(some)]:
             for end in report.ends:
                 ranks.setdefault(end.ask, []).append(end.rank)
     flagged = {ask: [rank <= FLAGGED for rank in found] for ask, found in ranks.items()}

@@ -24,6 +24,7 @@ report = district_audit.audit_to_file(
     out / "report", prepared, slack=1000, max_cut=120, key=key, walks=2, steps=100000, ends=99,
     hub_steps=10000, workers=4, ask=["cut-edges:low", "mean-median:high"], progress=True,
 )
+assert isinstance(report, district_audit.Report)  # several only with elections
 print(report, end="")
 report.exhibit(out / "exhibit.html", parties=("non-white births", "white births"))
 written = "report, report.manifest.json, exhibit.html"

@@ -55,8 +55,8 @@ LIMITS = {
     "uses_of_any": 8,
     "python_functions_named_by_a_participle": 0,
 }
-# Functions of more than 40 lines with one `match` or one struct, whose arms or fields are one row of
-# a table each.
+# Functions of more than 40 lines with one `match` or one struct, whose arms or fields are one row
+# of a table each.
 TABLES = {"argument_text", "check_setting", "text"}
 # Participles without `ed`, and the words that make a participle no verb: `given_by`, `led_back`.
 PARTICIPLES = set(

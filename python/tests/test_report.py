@@ -10,6 +10,7 @@ from unittest import mock
 import common
 from common import anything, find_in
 from district_audit import PlanCheck, Report, ReportRefused, Rules, Source, Start, wording
+from district_audit import arguments
 from district_audit import report as reading
 from district_audit.picture import percent
 from district_audit.report import bound_of
@@ -403,7 +404,7 @@ class Refusals(unittest.TestCase):
         text = common.readme_report().replace("seats low", "ratio low")
         with mock.patch.multiple(
             reading,
-            SCORES=(*reading.SCORES, "ratio"),
+            SCORES=(*arguments.SCORES, "ratio"),
             ASK=reading.ASK.replace("seats", "ratio|seats"),
         ), self.assertRaisesRegex(ValueError, "^unknown score ratio$"):
             Report.parse(text)

@@ -107,9 +107,8 @@ class Folders(common.ProgramCase):
         """Nothing is walked: the program that is named would fail."""
         place = pathlib.Path("/proc")
         with self.assertRaises(OSError):
-            district_audit.run(
-                CYCLE, program=self.wrapper(VERSION + "exit 99"), folder=place, save=1, **common.WALK
-            )
+            program = self.wrapper(VERSION + "exit 99")
+            district_audit.run(CYCLE, program=program, folder=place, save=1, **common.WALK)
 
     def test_elections_are_all_judged_before_one_walks(self) -> None:
         words: common.Words = dict(common.WALK, elections=ELECTIONS, save=1, folder=self.folder,

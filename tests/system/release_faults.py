@@ -145,13 +145,14 @@ def check_stale(checks: Checks, made: Made, room: pathlib.Path) -> None:
     """Compares a release with a checkout whose crates make other programs."""
     release = check_whole(Checks("stand_in"), made.folder)
     assert release is not None
+    whole = release
 
     def rebuild(stamp: Stamp, folder: pathlib.Path) -> None:
         build(stamp, folder, different=3)
 
     def compare(differ: list[str], builder: typing.Optional[test.Builder]) -> list[str]:
         return failures(
-            lambda one: test.compare_with_checkout(one, release, differ, builder)
+            lambda one: test.compare_with_checkout(one, whole, differ, builder)
         )
 
     checks.is_equal("same_programs", compare([], build), [])
