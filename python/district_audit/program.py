@@ -13,11 +13,14 @@ import re
 import shutil
 import subprocess
 import threading
+import time
 import typing
 
 from .errors import NotProved, ProgramMissing, WrongProgram
 
 PathLike = typing.Union[str, "os.PathLike[str]"]
+# A program has so many seconds to say its version.
+ANSWER = 20
 
 # For each program the variable of the environment that may name it, and its names.
 KNOWN = {
@@ -115,14 +118,26 @@ def refuse_unproved_program(path: str) -> None:
                         " and exhibits")
 
 
+class NoAnswer(Exception):
+    """A program that does not answer the question for its version in time."""
+
+
 @functools.lru_cache(maxsize=64)
 def find_fault(path: str, which: str, changed: int) -> str:
     """Returns what is wrong with a program, where, and what to do; or nothing."""
     from . import __version__
 
     name = KNOWN[which][1][0]
+    began = time.monotonic()
+
+    def give_up(_process: object) -> None:
+        if time.monotonic() - began > ANSWER:
+            raise NoAnswer
+
     try:
-        ended = call(path, ["--version"], b"")
+        ended = call(path, ["--version"], b"", None, give_up)
+    except NoAnswer:
+        return ""
     except OSError as why:
         if why.errno == errno.ENOEXEC:
             return (f"the program {path} cannot be started: it is damaged, or made for another"

@@ -140,6 +140,17 @@ class Input(common.FolderCase):
         self.assertEqual(ended.status, 4)
 
 
+    def test_a_program_that_never_says_its_version_is_left_to_the_call(self) -> None:
+        path = self.folder / "program"
+        path.write_text("#!/bin/sh\nexec sleep 600\n")
+        path.chmod(0o755)
+        before, program.ANSWER = program.ANSWER, 1
+        self.addCleanup(setattr, program, "ANSWER", before)
+        began = time.monotonic()
+        self.assertEqual(program.check_program(str(path), "audit"), str(path))
+        self.assertLess(time.monotonic() - began, 300)
+
+
 class Parts(common.ProgramCase):
     """A part that is done ends as success for a scheduler."""
 

@@ -445,7 +445,10 @@ class Programs(TextCase):
     def program(self, line: str) -> str:
         path = self.folder / "program"
         (self.folder / "text").write_text(TEXT, encoding="ascii")
-        path.write_text(f"#!/bin/sh\ncd '{self.folder}'\n{line}\n", encoding="ascii")
+        version = f"case $1 in --version) echo district-audit {district_audit.__version__}; exit 0"
+        path.write_text(
+            f"#!/bin/sh\n{version} ;; esac\ncd '{self.folder}'\n{line}\n", encoding="ascii"
+        )
         path.chmod(0o755)
         return str(path)
 
