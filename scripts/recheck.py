@@ -34,10 +34,9 @@ import sys
 from functools import lru_cache
 from itertools import chain, product, zip_longest
 from pathlib import Path
-from typing import Any, Dict, Iterable, Iterator, List, NamedTuple, Optional, Sequence, Set, Tuple
+from typing import Dict, Iterable, Iterator, List, NamedTuple, Optional, Sequence, Set, Tuple
 
 BILLION = 10 ** 9
-Json = Any  # a value of JSON; the program has judged its shape
 WORD = 2 ** 32 - 1  # a word of 32 bits that are all 1
 BATCH = 512  # the number of ChaCha20 blocks that are computed together
 SCORES = ("seats", "mean-median", "gap", "cut-edges", "cut-length")
@@ -82,6 +81,7 @@ OF_THE_RUN = (
 # of an endpoint; and the nine bins of a walk.
 Tally = Tuple[int, List[int], List[int]]
 Ask = Tuple[str, str]  # a score and a tail
+Entry = Dict[str, object]  # an object of a JSON text
 
 WRONG: List[str] = []  # the differences that were found
 UNCHECKED: List[str] = []  # what was not recomputed
@@ -355,32 +355,47 @@ class Map(NamedTuple):
     columns: Dict[str, List[int]]
 
 
-def read_whole(text: str) -> Json:
+def read_whole(text: str) -> float:
     """Returns a number without a point as JSON's readers keep it: of 64 bits, or a float."""
     if text != "-0" and -2 ** 63 <= int(text) < 2 ** 64:
         return int(text)
     return float(text)
 
 
-def number_labels(labels: List[Json]) -> List[int]:
+def whole_numbers(values: Sequence[object], or_flags: bool = False) -> List[int]:
+    """Returns values as whole numbers, if all are such numbers, or flags where these may be."""
+    numbers = [
+        int(value) for value in values
+        if isinstance(value, int) and (or_flags or not isinstance(value, bool))
+    ]
+    if len(numbers) < len(values):
+        raise ValueError("a column of counts or lengths has a value that is not a whole number")
+    return numbers
+
+
+def number_labels(labels: Sequence[object]) -> List[int]:
     """Numbers labels in rising order: whole numbers by value, then texts (KERNEL 1)."""
-    rising = sorted(set(labels), key=lambda label: (isinstance(label, str), label))
-    number = {label: place for place, label in enumerate(rising)}
-    return [number[label] for label in labels]
+    numbers = sorted({label for label in labels if isinstance(label, int)})
+    texts = sorted({label for label in labels if isinstance(label, str)})
+    rising: List[object] = [*numbers, *texts]
+    place = {label: number for number, label in enumerate(rising)}
+    return [place[label] for label in labels]
 
 
-def read_edges(root: Json, names: Dict[str, str]) -> Tuple[List[Tuple[int, int]], List[int]]:
+def read_edges(
+    nodes: List[Entry], adjacency: List[List[Entry]], names: Dict[str, str]
+) -> Tuple[List[Tuple[int, int]], List[int]]:
     """Returns the edges in rising order, and the length of each (KERNEL 1)."""
-    number = {node["id"]: unit for unit, node in enumerate(root["nodes"])}
-    lengths: Dict[Tuple[int, int], Json] = {}
-    for unit, row in enumerate(root["adjacency"]):
+    number = {node["id"]: unit for unit, node in enumerate(nodes)}
+    lengths: Dict[Tuple[int, int], object] = {}
+    for unit, row in enumerate(adjacency):
         for entry in row:
             other = number[entry["id"]]
             edge = (min(unit, other), max(unit, other))
             if unit != other:
                 lengths[edge] = entry[names["--length"]] if "--length" in names else 0
     edges = sorted(lengths)
-    return edges, [lengths[edge] for edge in edges]
+    return edges, whole_numbers([lengths[edge] for edge in edges])
 
 
 def read_map(text: str, names: Dict[str, str], labels: Dict[str, str]) -> Map:
@@ -389,19 +404,20 @@ def read_map(text: str, names: Dict[str, str], labels: Dict[str, str]) -> Map:
     Labels has the districts of a plan of a table, by the units' ids, or is empty.
     """
     root = json.loads(text, parse_int=read_whole)
-    columns: Dict[str, List[Json]] = {name: [] for name in COLUMNS}
-    for name in COLUMNS[:8]:
-        if name in names:
-            columns[name] = [node[names[name]] for node in root["nodes"]]
+    nodes: List[Entry] = root["nodes"]
+
+    def values(name: str) -> List[object]:
+        return [node[names[name]] for node in nodes] if name in names else []
+
+    columns = {name: whole_numbers(values(name)) for name in COUNTS}
+    frozen = whole_numbers(values("--freeze"), or_flags=True)
+    columns["--freeze"] = [int(number > 0) for number in frozen]
+    columns["--region"] = number_labels(values("--region"))
+    districts = values("--district")
     if labels:
-        columns["--district"] = [labels[str(node["id"])] for node in root["nodes"]]
-    edges, columns["--length"] = read_edges(root, names)
-    numbers = chain.from_iterable(columns[name] for name in (*COUNTS, "--length"))
-    if {type(n) for n in numbers} - {int} or {type(n) for n in columns["--freeze"]} - {int, bool}:
-        raise ValueError("a column of counts or lengths has a value that is not a whole number")
-    columns["--freeze"] = [int(value > 0) for value in columns["--freeze"]]
-    for name in ("--district", "--region"):
-        columns[name] = number_labels(columns[name])
+        districts = [labels[str(node["id"])] for node in nodes]
+    columns["--district"] = number_labels(districts)
+    edges, columns["--length"] = read_edges(nodes, root["adjacency"], names)
     return Map(edges, columns)
 
 
@@ -866,8 +882,9 @@ class Check:
             return
         for line in self.job.report.lines:
             found = re.match(r"ends (\S+ \S+) .* rank (\d+) of ", line)
-            for part in (20, 100, 1000) if found else ():
-                print_risk(found, part, some, every)
+            if found:
+                for part in (20, 100, 1000):
+                    print_risk(found[1], int(found[2]), part, some, every)
 
     def note_unchecked(self) -> None:
         """Notes the walks of which the report's lines were not recomputed."""
@@ -878,18 +895,18 @@ class Check:
         UNCHECKED.extend(names)
 
 
-def print_risk(found: Json, part: int, some: int, every: int) -> None:
+def print_risk(ask: str, rank: int, part: int, some: int, every: int) -> None:
     """Prints with which chance ends stay hidden that carry a rank across a p-value of 1/part.
 
-    Found is the ask and the rank; some of every end were recomputed.
+    Some of every end were recomputed.
     """
-    rank, greatest = int(found[2]), (every + 1) // part
+    greatest = (every + 1) // part
     if greatest == 0:
         return
     other = greatest if rank > greatest else greatest + 1
     wrong = abs(rank - other)
     hidden = math.comb(every - wrong, some) / math.comb(every, some)
-    print(f"report: ends {found[1]} rank {rank} of {every + 1}: rank {other}, across p = 1/{part}, "
+    print(f"report: ends {ask} rank {rank} of {every + 1}: rank {other}, across p = 1/{part}, "
           f"takes {wrong} wrong ends; that many all escaped with chance {hidden:.6f}.")
 
 

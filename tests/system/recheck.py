@@ -680,10 +680,8 @@ def risks() -> None:
     """Chances that wrong ends stay hidden, worked by hand as products of fractions."""
     for rank, part, some, wrong in ((41, 1000, 20, 40), (41, 20, 20, 10), (1, 20, 20, 50)):
         chance = math.prod(Fraction(999 - wrong - k, 999 - k) for k in range(some))
-        line = f"ends gap low start 1/1 rank {rank} of "
-        found = re.match(r"ends (\S+ \S+) .* rank (\d+) of ", line)
         with contextlib.redirect_stdout(io.StringIO()) as text:
-            recheck.print_risk(found, part, some, 999)
+            recheck.print_risk("gap low", rank, part, some, 999)
         said = f" {wrong} wrong ends; that many all escaped with chance {float(chance):.6f}."
         COUNTS.judge(f"risk of rank {rank} at 1/{part}", said in text.getvalue(), text.getvalue())
 
