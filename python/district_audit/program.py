@@ -19,7 +19,7 @@ import typing
 from .errors import NotProved, ProgramMissing, WrongProgram
 
 PathLike = typing.Union[str, "os.PathLike[str]"]
-# A program has so many seconds to say its version.
+# A program has 20 seconds to say its version.
 ANSWER = 20
 
 # For each program the variable of the environment that may name it, and its names.
