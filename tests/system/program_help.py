@@ -100,7 +100,7 @@ def check_commands(checks: Checks, auditor: str) -> None:
         text = is_answered(checks, f"{command}_help", auditor, command, "--help")
         checks.is_equal(f"{command}_arguments", shown_arguments(text), read_documented(command))
         lines = text.splitlines()
-        checks.is_true(f"{command}_lines", len(lines) <= 40, "at most 40 lines", len(lines))
+        checks.is_true(f"{command}_lines", len(lines) <= 42, "at most 42 lines", len(lines))
         longest = max(map(len, lines))
         checks.is_true(f"{command}_columns", longest <= 100, "at most 100 columns", longest)
         checks.is_true(
