@@ -139,7 +139,6 @@ class Input(common.FolderCase):
         ended = program.call("sh", ["-c", "sleep 0.3; exit 4"], b"x" * 10**6, None, lambda _: None)
         self.assertEqual(ended.status, 4)
 
-
     def test_a_program_that_never_says_its_version_is_left_to_the_call(self) -> None:
         path = self.folder / "program"
         path.write_text("#!/bin/sh\nexec sleep 600\n")
