@@ -510,7 +510,7 @@ def make(
     pairs: bool = False,
     slack: int | None = None,
     tolerance: float | None = None,
-    max_cut: int = 400_000,
+    max_cut: int | None = None,
     cut_weight: Weight = 64,
     workers: int = 1,
     save: int = 0,

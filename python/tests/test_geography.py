@@ -3,6 +3,7 @@ import contextlib
 import gzip
 import io
 import json
+import os
 import pathlib
 import random
 import typing
@@ -348,7 +349,9 @@ class Guide(common.ProgramCase):
         frame = grid(12, 5).rename(
             columns={"GEOID": "GEOID20", "pop": "TOTPOP", "a": "DEM", "b": "REP", "d": "CD"})
         frame.to_file(self.folder / "precincts.shp")
-        with common.environment(DISTRICT_AUDIT=self.program), contextlib.chdir(self.folder), \
+        self.addCleanup(os.chdir, os.getcwd())
+        os.chdir(self.folder)
+        with common.environment(DISTRICT_AUDIT=self.program), \
                 contextlib.redirect_stdout(io.StringIO()) as said:
             exec(compile(code.replace("tolerance=0.01", "tolerance=0.1"), "GUIDE", "exec"), {})
         self.assertIn("islands, units without a neighbor: none", said.getvalue())

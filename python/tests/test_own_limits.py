@@ -91,7 +91,7 @@ class Grid:
                         part.append(other)
             yield part
 
-    def chance_of_rank_one(self, limit: Score | None, factor: float, score: Score) -> float:
+    def chance_of_rank_one(self, limit: typing.Optional[Score], factor: float, score: Score) -> float:
         """Returns the probability of rank 1 of 20 in the high tail, under the null hypothesis.
 
         The limit is the drawn plan's own number times a factor, or there is none.
@@ -116,7 +116,7 @@ class Quoted(unittest.TestCase):
         grid = Grid()
         self.assertIn(f"all {len(grid.plans)} plans", text)
         rows = dict(re.findall(r"^\| (none|`max-[a-z]+`) \| (0\.\d\d \| 0\.\d\d) \|$", text, re.M))
-        limits: dict[str, Score | None] = {
+        limits: dict[str, typing.Optional[Score]] = {
             "none": None, "`max-length`": length, "`max-splits`": splits,
             "`max-cut`": lambda plan: len(cuts(plan)),
         }
