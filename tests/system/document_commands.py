@@ -16,7 +16,7 @@ from tests.checks import Checks, run
 from tests.places import TOP
 
 DOCUMENTS = ("README.md", "docs/user/GUIDE.md", "examples/README.md")
-BLOCK = re.compile(r"^```\n(.*?)^```$", re.DOTALL | re.MULTILINE)
+BLOCK = re.compile(r"^```(?:\w+)?\n(.*?)^```$", re.DOTALL | re.MULTILINE)
 CALL = re.compile(r"(?:^|[|;] )(?:rt run --|district-audit) \w", re.MULTILINE)
 OUTPUT = re.compile(r"(?:district-audit|district-trace|plan-check) \d\n|plan \S+\n")
 
