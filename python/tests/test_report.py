@@ -54,16 +54,18 @@ def texts() -> list[tuple[int, typing.Optional[str], str]]:
 
 class RoundTrip(unittest.TestCase):
     def test_all_texts_of_the_cases_are_read_and_written_again(self) -> None:
-        """Each line `end` of the cases closes one of these texts or a trace, so none is passed
-        over.
+        """Each line `end` of the cases closes one of these texts, a trace or a pilot, so none is
+        passed over.
         """
         found = texts()
         whole = outputs()
         ends, traces = whole.split("\n").count("end"), 0
         for after in whole.split("\ndistrict-trace 1\n")[1:]:
-            traces += re.split("\n(end|plan-check 1|district-audit [12])\n", after)[1:2] == ["end"]
+            traces += re.split("\n(end|[a-z]+-[a-z]+ [12])\n", after)[1:2] == ["end"]
+        pilots = whole.count("\nwalk-pilot 1\n")
         self.assertGreater(traces, 5)
-        self.assertEqual(len(found), ends - traces)
+        self.assertGreater(pilots, 1)
+        self.assertEqual(len(found), ends - traces - pilots)
         self.assertGreater(ends, 100)
         for number, _, text in found:
             kind = PlanCheck if text.startswith("plan-check") else Report
