@@ -780,7 +780,7 @@ class ProgramTests(ProgramCase):
             ["sh", "-c", command], cwd=self.folder, stdout=subprocess.PIPE, check=True,
             env=dict(os.environ, PATH=f"{self.folder}:{os.environ['PATH']}"),
         )
-        self.assertEqual(Report.parse_plans(again.stdout.decode()), list(plans))
+        self.assertEqual(Report.parse_plans(again.stdout.decode()), list(plans.items()))
 
     def test_one_of_several_elections(self) -> None:
         """Two walks and one test of ends of two asks are 6 numbers; those 3 of the gap are others
@@ -805,7 +805,7 @@ class ProgramTests(ProgramCase):
         ):
             self.assertIn(words, page.text)
         self.assertTrue(self.printed_command(page).startswith("district-audit run "))
-        with self.assertRaisesRegex(ValueError, "several elections, and not of several plans"):
+        with self.assertRaisesRegex(ValueError, "several elections or limits, and not of several plans"):
             district_audit.exhibit_plans(path, reports)
 
 
