@@ -805,7 +805,8 @@ class ProgramTests(ProgramCase):
         ):
             self.assertIn(words, page.text)
         self.assertTrue(self.printed_command(page).startswith("district-audit run "))
-        with self.assertRaisesRegex(ValueError, "several elections or limits, and not of several plans"):
+        refused = "several elections or limits, and not of several plans"
+        with self.assertRaisesRegex(ValueError, refused):
             district_audit.exhibit_plans(path, reports)
 
 
