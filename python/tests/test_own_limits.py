@@ -91,7 +91,9 @@ class Grid:
                         part.append(other)
             yield part
 
-    def chance_of_rank_one(self, limit: typing.Optional[Score], factor: float, score: Score) -> float:
+    def chance_of_rank_one(
+        self, limit: typing.Optional[Score], factor: float, score: Score
+    ) -> float:
         """Returns the probability of rank 1 of 20 in the high tail, under the null hypothesis.
 
         The limit is the drawn plan's own number times a factor, or there is none.
