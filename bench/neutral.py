@@ -1,6 +1,7 @@
 """Measures how often neutral plans are outliers: without a limit, under a limit, with a weight.
 
 Usage: python3 -m bench.neutral PROGRAM [--plans N] [--steps K] [--weighted-steps K] [--map NAME ..]
+    [--workers N]
 PROGRAM is the built program, with PYTHONPATH=python for the package. On each map N (20) neutral
 plans are drawn, by recursive bisection of random spanning trees. Each is tested as if it were the
 enacted plan, with 39 ends of K steps: 1,000,000, and 2,000,000 under a limit and with a weight. The
@@ -13,19 +14,19 @@ ten (`grid`), and a map of triangles of 36 by 35 with eleven (`triangles`), both
 from __future__ import annotations
 
 import argparse
-import itertools
+import concurrent.futures
 import json
 import random
+import statistics
 import typing
+import warnings
 
 import district_audit
 from district_audit import neutral, weighing
 from district_audit.graphs import Foreign
 
 ENDS, FLAGGED = 39, 2
-# The plans of one call, fewer than a table may have.
-BATCH = 10
-FIRST, SECOND = ["cut-edges:low", "gap:low", "gap:high"], ["mean-median:low", "mean-median:high"]
+ASKS = ["cut-edges:low", "gap:low", "mean-median:low"]
 Words = dict[str, typing.Union[str, int]]
 Plan = dict[typing.Hashable, int]
 
@@ -73,30 +74,31 @@ def maps_of() -> dict[str, tuple[bytes, Words]]:
 
 
 def flags_of(
-    graph: bytes, plans: list[Plan], words: Words, more: Words, steps: int, program: str
-) -> list[int]:
-    """Returns the plans flagged in cut edges, in the gap and in mean-median."""
+    graph: bytes, plans: list[Plan], words: Words, more: Words, steps: int,
+    args: argparse.Namespace,
+) -> list[str]:
+    """Returns the plans flagged in cut edges, in the gap and in mean-median, and the share of the
+    units that the middle end of the middle plan has in another district, in percent.
+    """
     columns = {name: value for name, value in words.items() if name != "district"}
-    ranks: dict[str, list[int]] = {}
-    batches = [plans[at:at + BATCH] for at in range(0, len(plans), BATCH)]
-    for asks, some in itertools.product((FIRST, SECOND), batches):
-        table = {f"plan-{number}": plan for number, plan in enumerate(some[1:] or some)}
-        found = district_audit.plans(
-            graph, table, assignment=some[0], key=district_audit.key_of("neutral plans"),
-            ask=asks, walks=0, ends=ENDS, hub_steps=steps, workers=4, program=program,
-            limits_from="neutral plans", **typing.cast(dict[str, Foreign], {**columns, **more}),
+    given = typing.cast(dict[str, Foreign], {**columns, **more})
+
+    def compare(plan: Plan) -> district_audit.EndsTable:
+        return district_audit.compare_ends(
+            graph, ends=ENDS, hub_steps=steps, walks=0, assignment=plan,
+            key=district_audit.key_of("neutral plans"), ask=ASKS, program=args.program, **given,
         )
-        for report in list(found.values())[:len(some)]:
-            for end in report.ends:
-                ranks.setdefault(end.ask, []).append(end.rank)
-    flagged = {ask: [rank <= FLAGGED for rank in found] for ask, found in ranks.items()}
-    return [
-        sum(flagged["cut-edges:low"]),
-        *(
-            sum(low or high for low, high in zip(flagged[f"{score}:low"], flagged[f"{score}:high"]))
-            for score in ("gap", "mean-median")
-        ),
-    ]
+
+    with concurrent.futures.ThreadPoolExecutor(args.workers) as pool:
+        tables = list(pool.map(compare, plans))
+    flagged = [0, 0, 0]
+    for table in tables:
+        for place, ask in enumerate(table.asks):
+            # All questions are about the tail `low`; the other tail has the other ends.
+            tails = [ask.more] if place == 0 else [ask.more, ask.less]
+            flagged[place] += any(ends + ask.equal + 1 <= FLAGGED for ends in tails)
+    changed = statistics.median(statistics.median(table.changed) for table in tables)
+    return [*map(str, flagged), f"{100 * changed / tables[0].units:.0f}"]
 
 
 def measure(name: str, args: argparse.Namespace) -> None:
@@ -119,8 +121,7 @@ def measure(name: str, args: argparse.Namespace) -> None:
         weight = choice.weight
         chains.append((f"weight {weight}", {"cut_weight": weight}, args.weighted_steps))
     for chain, more, steps in chains:
-        found = flags_of(graph, plans, words, more, steps, args.program)
-        flags = ' | '.join(map(str, found))
+        flags = " | ".join(flags_of(graph, plans, words, more, steps, args))
         print(f"| {name} | {shown} | {chain} | {steps} | {flags} |", flush=True)
 
 
@@ -130,12 +131,15 @@ def main() -> None:
     parser.add_argument("--plans", type=int, default=20)
     parser.add_argument("--steps", type=int, default=1_000_000)
     parser.add_argument("--weighted-steps", type=int, default=2_000_000)
+    parser.add_argument("--workers", type=int, default=4, help="the plans tested at a time")
     parser.add_argument("--map", nargs="*", default=["ny8", "grid", "triangles"])
     parser.add_argument("--no-weight", action="store_true",
                         help="leave out the weight, as for a program without one")
     args = parser.parse_args()
+    # Neutral plans are no findings, and neither are their short walks.
+    warnings.simplefilter("ignore")
     print("| map | cut edges of neutral plans | chain | steps | `cut-edges:low` | `gap` |"
-          " `mean-median` |\n|---|---|---|---|---|---|---|")
+          " `mean-median` | units changed, % |\n|---|---|---|---|---|---|---|---|")
     for name in args.map:
         measure(name, args)
 

@@ -40,6 +40,8 @@ class DistrictMap:
     areas: list[Area]
     height: float
     """The height of the map, as a part of its width."""
+    cut: int
+    """The cut edges of the plan."""
 
 
 @dataclasses.dataclass(frozen=True)
@@ -94,16 +96,18 @@ def maps_of(
     plan: object = None,
     ids: str | None = None,
 ) -> list[DistrictMap]:
-    """Returns the map of the enacted plan and, if `plan` is given, that of this plan beside it.
+    """Returns the map of the enacted plan and, if `plan` is given, those of other plans.
 
-    Raises ValueError if a unit has no shape or no district, and MissingExtra without shapely.
+    `plan` is one plan, or a list of them. Raises ValueError if a unit has no shape or no district,
+    and MissingExtra without shapely.
     """
     extra("shapely")
     found = graph_of_map(report, graph, columns)
     shapes = shapes_of(geometry, list(found.districts), ids)
     maps = [draw_districts("The enacted plan", found.districts, found.pairs, shapes)]
-    if plan is not None:
-        title, other = read_plan(plan, list(found.districts))
+    others = [] if plan is None else list(plan) if isinstance(plan, (list, tuple)) else [plan]
+    for one in others:
+        title, other = read_plan(one, list(found.districts))
         maps.append(draw_districts(title, other, found.pairs, shapes))
     return maps
 
@@ -222,7 +226,9 @@ def draw_districts(
                 place((inner.x, inner.y)), shades[label],
             )
         )
-    return DistrictMap(title, areas, (high - low) / size)
+    # The file lists each edge from both of its units.
+    cut = len({frozenset(pair) for pair in pairs if districts[pair[0]] != districts[pair[1]]})
+    return DistrictMap(title, areas, (high - low) / size, cut)
 
 
 def parts_of(shape: Foreign) -> list[Foreign]:

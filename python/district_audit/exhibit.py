@@ -350,13 +350,19 @@ def results(
 
 
 def district_maps(report: Report, options: Options) -> str:
-    """Returns the map of the enacted plan and, where there is one, of another plan beside it."""
+    """Returns the map of the enacted plan and, where given, of other plans beside it."""
     maps = maps_of(
         report, options.geometry, graph=options.graph, columns=options.columns, plan=options.plan,
         ids=options.ids,
     )
-    titles = [maps[0].title, *(one.title[0].lower() + one.title[1:] for one in maps[1:])]
-    return map_figure(maps, " and ".join(titles))
+    others = maps[1:]
+    if len(others) < 2:
+        titles = [maps[0].title, *(one.title[0].lower() + one.title[1:] for one in others)]
+        names = " and ".join(titles)
+    else:
+        names = f"{maps[0].title} and {len(others)} other plans"
+    looks = [texts.compare_looks(maps[0].cut, [one.cut for one in others])] if others else []
+    return map_figure(maps, names) + "".join(paragraphs(looks))
 
 
 def result_table(report: Report, names: Names = Names()) -> str:

@@ -290,6 +290,26 @@ def chances(report: Report) -> str:
     )
 
 
+def compare_looks(enacted: int, others: typing.Sequence[int]) -> str:
+    """Returns how winding the districts of other plans are beside those of the enacted plan."""
+    few, many, is_one = min(others), max(others), len(others) == 1
+    if few > enacted:
+        found = "The districts of the enacted plan are more compact than those of"
+    elif many < enacted:
+        found = "The districts of the enacted plan are more sprawling than those of"
+    else:
+        found = "In this respect the enacted plan is not set apart from"
+    return (
+        f"What these plans look like: the enacted plan has {plural(enacted, 'cut edge')} (pairs of"
+        " neighboring units in different districts), and the"
+        f" {'plan shown beside it has' if is_one else 'plans shown beside it have'}"
+        f" {few if few == many else f'{few} to {many}'}. The more cut edges a plan has, the longer"
+        f" and more winding are the borders of its districts. {found}"
+        f" {'this plan' if is_one else 'these plans'}. What is shown here was picked for this page;"
+        " the tests compare with all plans that were visited."
+    )
+
+
 def theorems(report: Report, alpha: object) -> list[str]:
     """Returns the theorem and the assumption behind each kind of number."""
     found = [

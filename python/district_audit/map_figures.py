@@ -5,7 +5,7 @@ import math
 import typing
 
 from . import measuring
-from .district_map import DistrictMap, Ring, place_labels
+from .district_map import DistrictMap, Point, Ring, place_labels
 from .errors import extra
 from .exhibit_figures import WIDTH, escape, text
 
@@ -13,8 +13,11 @@ if typing.TYPE_CHECKING:
     from matplotlib.axes import Axes
     from matplotlib.figure import Figure
 
-# The space between two maps, the room above a map for its title, and the greatest height of a map.
+# The space between two maps, the room above a map for a line of its title, and the greatest height
+# of a map.
 SPACE, TOP, MOST_HEIGHT = 24.0, 24.0, 760.0
+# The maps of a row, and the room for each further line of a title.
+IN_ROW, LINE = 3, 16.0
 SIZES = (13.0, 11.0, 9.0, 7.0)
 NOT_PROVED = (
     "The package drew this map from the shapes that were given with the units' ids. It is no part"
@@ -31,17 +34,25 @@ def left_out_words(labels: typing.Sequence[str]) -> str:
 
 
 def map_figure(maps: typing.Sequence[DistrictMap], names: str) -> str:
-    """Returns the maps beside each other as a figure of a page."""
-    wide = (WIDTH - SPACE * (len(maps) - 1)) / len(maps)
+    """Returns the maps in rows as a figure of a page."""
+    columns = min(len(maps), IN_ROW)
+    wide = (WIDTH - SPACE * (columns - 1)) / columns
     wide = min(wide, *(MOST_HEIGHT / max(one.height, 0.01) for one in maps))
-    high = TOP + max(one.height for one in maps) * wide + 4
+    titles = [measuring.wrap(one.title, wide) for one in maps]
+    above = TOP + LINE * (max(map(len, titles)) - 1)
+    row = above + max(one.height for one in maps) * wide + 4
     parts, missing = [], []
-    for place, one in enumerate(maps):
-        drawn, left_out = draw_map(one, place * (wide + SPACE), wide)
+    for place, (one, lines) in enumerate(zip(maps, titles)):
+        corner = (place % columns) * (wide + SPACE), (place // columns) * row
+        parts += [
+            text(corner[0], corner[1] + 15 + LINE * number, line, "start", 'font-weight="bold"')
+            for number, line in enumerate(lines)
+        ]
+        drawn, left_out = draw_map(one, (corner[0], corner[1] + above), wide)
         parts += drawn
         missing += left_out
     caption = NOT_PROVED + left_out_words(list(dict.fromkeys(missing)))
-    title = escape(names)
+    title, high = escape(names), row * -(-len(maps) // columns)
     return (
         f'<figure><figcaption class="title"><b>Map.</b> {title}</figcaption>'
         f'<svg viewBox="0 0 {WIDTH} {math.ceil(high)}" role="img" aria-label="{title}">'
@@ -49,12 +60,11 @@ def map_figure(maps: typing.Sequence[DistrictMap], names: str) -> str:
     )
 
 
-def draw_map(one: DistrictMap, left: float, wide: float) -> tuple[list[str], list[str]]:
-    """Returns the SVG of a map, and the labels that have no room."""
-    (title, *_) = measuring.wrap(one.title, wide)
-    parts = [text(left, 15, title, "start", 'font-weight="bold"')]
+def draw_map(one: DistrictMap, corner: Point, wide: float) -> tuple[list[str], list[str]]:
+    """Returns the SVG of a map below and right of a corner, and the labels that have no room."""
+    parts = []
     for area in one.areas:
-        data = " ".join(path_of(ring, left, wide) for ring in area.rings)
+        data = " ".join(path_of(ring, corner, wide) for ring in area.rings)
         parts.append(
             f'<path d="{data}" fill="{area.shade}" fill-rule="evenodd" stroke="#000"'
             ' stroke-width="1.2" stroke-linejoin="round"/>'
@@ -63,15 +73,14 @@ def draw_map(one: DistrictMap, left: float, wide: float) -> tuple[list[str], lis
     for label in labels:
         # A style of its own, since that of the page gives each text one size.
         more = f'class="at{label.size:g}" stroke="#fff" stroke-width="3" paint-order="stroke"'
-        parts.append(
-            text(left + label.x, TOP + label.y + 0.36 * label.size, label.words, "middle", more)
-        )
+        x, y = corner[0] + label.x, corner[1] + label.y + 0.36 * label.size
+        parts.append(text(x, y, label.words, "middle", more))
     return parts, left_out
 
 
-def path_of(ring: Ring, left: float, wide: float) -> str:
+def path_of(ring: Ring, corner: Point, wide: float) -> str:
     """Returns a ring as commands of a path."""
-    points = [f"{left + x * wide:.1f} {TOP + y * wide:.1f}" for x, y in ring]
+    points = [f"{corner[0] + x * wide:.1f} {corner[1] + y * wide:.1f}" for x, y in ring]
     kept = [point for place, point in enumerate(points) if place == 0 or point != points[place - 1]]
     return f"M {' L '.join(kept)} z"
 
@@ -80,7 +89,7 @@ def path_of(ring: Ring, left: float, wide: float) -> str:
 
 
 def plot_maps(maps: typing.Sequence[DistrictMap], title: str | None = None) -> Figure:
-    """Returns a matplotlib figure of maps beside each other.
+    """Returns a matplotlib figure of maps in rows.
 
     Raises MissingExtra if matplotlib is not installed.
     """
@@ -92,10 +101,14 @@ def plot_maps(maps: typing.Sequence[DistrictMap], title: str | None = None) -> F
     from .picture import WIDTH as INCHES
 
     ruler = Ruler()
-    wide = (INCHES - 2 * EDGE - 0.3 * (len(maps) - 1)) / len(maps)
+    columns = min(len(maps), IN_ROW)
+    wide = (INCHES - 2 * EDGE - 0.3 * (columns - 1)) / columns
     wide = min(wide, *(9.0 / max(one.height, 0.01) for one in maps))
+    titles = [ruler.wrap(one.title, wide, MIDDLE) for one in maps]
+    over = 0.45 + 0.16 * max(title.count("\n") for title in titles)
+    row = over + max(one.height for one in maps) * wide
     shown = "" if title is None else ruler.wrap(title, INCHES - 2 * EDGE, LARGE, True)
-    above = 0.45 + (0.08 + 0.2 * (1 + shown.count("\n")) if shown else 0.0)
+    above = 0.08 + 0.2 * (1 + shown.count("\n")) if shown else 0.0
     labelled = [
         place_labels(
             one, 72 * wide, (9.0, 8.0, 7.0, 6.0, 5.0),
@@ -106,14 +119,14 @@ def plot_maps(maps: typing.Sequence[DistrictMap], title: str | None = None) -> F
     missing = list(dict.fromkeys(label for _, left_out in labelled for label in left_out))
     notes = ruler.wrap(NOT_PROVED + left_out_words(missing), INCHES - 2 * EDGE)
     below = 0.25 + 0.14 * (1 + notes.count("\n"))
-    high = max(one.height for one in maps) * wide
-    whole = above + high + below
+    whole = above + row * -(-len(maps) // columns) + below
     figure = Figure(figsize=(INCHES, whole))
     FigureCanvasAgg(figure)
     for place, (one, (labels, _)) in enumerate(zip(maps, labelled)):
-        left = EDGE + place * (wide + 0.3)
+        left = EDGE + place % columns * (wide + 0.3)
+        top = above + place // columns * row + over
         box = (
-            left / INCHES, 1 - (above + one.height * wide) / whole, wide / INCHES,
+            left / INCHES, 1 - (top + one.height * wide) / whole, wide / INCHES,
             one.height * wide / whole,
         )
         axes = figure.add_axes(box)
@@ -123,7 +136,7 @@ def plot_maps(maps: typing.Sequence[DistrictMap], title: str | None = None) -> F
                 label.x / (72 * wide), label.y / (72 * wide), label.words.replace("$", r"\$"),
                 ha="center", va="center", fontsize=label.size,
             )
-        axes.set_title(ruler.wrap(one.title, wide, MIDDLE), fontsize=MIDDLE, loc="left")
+        axes.set_title(titles[place], fontsize=MIDDLE, loc="left")
     if shown:
         figure.text(
             EDGE / INCHES, 1 - 0.1 / whole, shown, fontsize=LARGE, va="top", weight="bold"

@@ -8,7 +8,6 @@ from __future__ import annotations
 import dataclasses
 import statistics
 import sys
-import time
 import typing
 from fractions import Fraction
 
@@ -39,7 +38,7 @@ class Pilot:
     changed: tuple[int, ...]
     """The units whose district at the end of each walk is another one than in the enacted plan."""
     seconds: float
-    """The time of one step, in seconds, on one processor of this machine."""
+    """The processor time of one step on this machine, in seconds."""
     announced: int
     """The steps of a walk whose time is asked for."""
 
@@ -71,6 +70,18 @@ def differing(sample: Sample) -> int:
     """Returns the number of units whose district is another one than in the enacted plan."""
     plan = sample.plan
     return sum(map(int.__ne__, plan.districts, plan.table.start))
+
+
+def program_seconds() -> float:
+    """Returns the processor time of all programs that this process has waited for, in seconds.
+
+    A clock would count what other processes of a busy machine do.
+    """
+    # Only Unix has this module, and other parts of the package need no program.
+    import resource
+
+    used = resource.getrusage(resource.RUSAGE_CHILDREN)
+    return used.ru_utime + used.ru_stime
 
 
 def pilot(
@@ -116,18 +127,18 @@ def pilot(
         if isinstance(value, bool) or not isinstance(value, int) or not 1 <= value <= MOST_STEPS:
             refuse(TypeRefused, "pilot", name, value, f"{name} is a whole number from 1 to 10^9")
     common: dict[str, Foreign] = {**words, "key": key_of("pilot") if key is None else key}
-    began = time.monotonic()
+    before = program_seconds()
     with trace(graph, walks=1, steps=1, thin=1, **common) as one_step:
         units = sum(1 for _ in next(one_step).assignment)
-    start = time.monotonic() - began
-    began = time.monotonic()
+    begun = program_seconds()
     moved, changed = [], []
     with trace(graph, ids="walks", walks=walks, steps=steps, thin=steps, **common) as walked:
         for sample in walked:
             if sample.is_last:
                 moved.append(sample.moves)
                 changed.append(differing(sample))
-    taken = max(0.0, time.monotonic() - began - start)
+    # The time of a walk of one step is that of the start.
+    taken = max(0.0, program_seconds() - begun - (begun - before))
     return Pilot(units, steps, tuple(moved), tuple(changed), taken / (walks * steps), announced)
 
 
@@ -204,7 +215,8 @@ def compare_ends(graph: object, *, ends: int, hub_steps: int, **words: Foreign) 
     """
     changed: list[int] = []
     counts: dict[str, list[int]] = {}
-    with trace(graph, ids="ends", ends=ends, hub_steps=hub_steps, **words) as walked:
+    common: dict[str, Foreign] = {**words, "thin": hub_steps}
+    with trace(graph, ids="ends", ends=ends, hub_steps=hub_steps, **common) as walked:
         asks = walked.head.asks
         counts = {ask.ask: [0, 0, 0] for ask in asks}
         for sample in walked:

@@ -1561,8 +1561,9 @@ class Report:
         geometry : GeoDataFrame, GeoSeries, or dict of shapely geometries by unit
             The units' areas, for a map of the enacted plan's districts. It needs shapely, and the
             graph: the report's own, of a call of this package, or `graph`.
-        plan : Sample of a trace, or dict of districts by unit
-            A plan whose map is drawn beside that of the enacted plan.
+        plan : Sample of a trace, or dict of districts by unit, or a list of these
+            Plans whose maps are drawn beside that of the enacted plan, with a sentence on how their
+            cut edges compare. Samples of a list need `frozen()`.
         ids : str
             The column of a GeoDataFrame that has the units' ids; if left out, the index or the only
             column that has all of them.
@@ -1634,7 +1635,7 @@ class Report:
         ids: str | None = None,
         title: str | None = None,
     ) -> matplotlib.figure.Figure:
-        """Draws a map of the enacted plan's districts, and of another plan's beside it.
+        """Draws a map of the enacted plan's districts, and of other plans' beside it.
 
         Parameters
         ----------
@@ -1646,8 +1647,8 @@ class Report:
             The graph that was audited; if left out, that of the call that made the report.
         columns : dict, optional
             The columns, as for `exhibit`, if the report does not name them.
-        plan : Sample of a trace, or dict of districts by unit, optional
-            The plan that is drawn beside the enacted one.
+        plan : Sample of a trace, or dict of districts by unit, or a list of these, optional
+            The plans that are drawn beside the enacted one. Samples of a list need `frozen()`.
         ids : str, optional
             The column of a GeoDataFrame that has the units' ids; if left out, the index or the only
             column that has all of them.

@@ -152,14 +152,20 @@ class WeightChoice:
             else "Walks from a compact and a sprawling start did not agree: the test is valid, and"
             " weak."
         )
+        if not self.band.inside:
+            return (
+                f"No weight was found: of {self.source}, with {self.plans[0]} to {self.plans[-1]}"
+                " cut edges, none is ordinary under any weight that was tried. Give choose_weight"
+                " more steps, or more plans."
+            )
         return (
             f"--cut-weight {self.weight}: each plan is drawn with a chance proportional to"
             f" ({self.weight}/{MOST_WEIGHT})^(cut edges). The weight was chosen from"
-            f" {len(self.plans)} {self.source} with {self.plans[0]} to {self.plans[-1]} cut edges,"
-            f" of which {self.band.inside} are ordinary under it. Neither the enacted plan nor"
-            f" votes were looked at. {steps} The run is repeated with --cut-weight"
-            f" {', '.join([*near, str(MOST_WEIGHT)])} ({MOST_WEIGHT} is no weight), and all are"
-            " reported."
+            f" {self.source} with {self.plans[0]} to {self.plans[-1]} cut edges:"
+            f" {self.band.inside} of {len(self.plans)} are ordinary under it."
+            f" Neither the enacted plan nor votes were looked at. {steps} The run is repeated with"
+            f" --cut-weight {', '.join([*near, str(MOST_WEIGHT)])} ({MOST_WEIGHT} is no weight),"
+            " and all are reported."
         )
 
     def __str__(self) -> str:

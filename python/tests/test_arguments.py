@@ -341,6 +341,13 @@ DRAWN: dict[str, list[object]] = {
     "length": ["", "l"],
     "max_length": [1717986918000000, 0, 1717986917999999, 1717986918000001],
     "source": [True, False],
+    "pairs": [True, False, "yes", "no", "maybe"],
+    "cut_weight": [
+        33, 64, 1, "64", "1", "33.25", "1.75", "63.75", 0, 65, "0.75", "64.25", "33.0", "33.50",
+        "33.1", "33.", ".25", "033", "33,25", "x", "",
+    ],
+    # With True, `run` and `make` refuse what the program takes: `pilot` is the call for it.
+    "blind": [False, "no", "maybe", ""],
     "size": [1, 30, 0, 31],
     "key": [common.KEY, common.KEY[1:], "F" * 64, "g" * 64],
     "ids": ["0", 0, "0-0", "0-1", "1", "1-0", "0-3", 100000, "00", "0-", "-0", "0-1-2", "x", ""],
@@ -404,6 +411,16 @@ class Program(common.ProgramCase):
                     with self.subTest(command=command, name=name, value=value):
                         own, line = self.verdicts(command, {**good, name: value})
                         self.assertEqual(own, line)
+
+    def test_a_blind_run(self) -> None:
+        """The program walks blind, unless it saves or resumes; the package has `pilot` for it."""
+        columns = {name: DRAWN[name][0] for name in ("pop", "first", "second", "district")}
+        good: common.Words = {**columns, "key": common.KEY, "ask": "gap:low", "blind": True}
+        bad = "words: bad value for --blind"
+        for more, wanted in (({}, ""), ({"save": 1}, bad), ({"resume": True}, bad)):
+            with self.subTest(more=more):
+                own, line = self.verdicts("run", {**good, **anything(more)})
+                self.assertEqual((own, line), (bad, wanted))
 
     def test_steps_of_a_serial_test(self) -> None:
         """Each number of steps up to 40, of which 1, 3, 7, 15 and 31 are good."""

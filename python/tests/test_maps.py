@@ -8,7 +8,7 @@ import unittest
 
 import common
 from test_exhibit import COLUMNS, Page
-from district_audit import Report, district_map, map_figures, measuring
+from district_audit import Report, district_map, exhibit_text, map_figures, measuring
 
 GRAPH = common.EXAMPLES / "data" / "grid.json"
 ROW = 20
@@ -119,14 +119,63 @@ class Maps(common.FolderCase):
         for label in ("01", "06", "one"):
             self.assertIn(f">{label}</text>", figure)
 
+    def test_several_plans_and_what_they_look_like(self) -> None:
+        """README's plan has 125 cut edges; those of the others are counted in the file."""
+        root = common.example("grid.json")
+        halves = {unit: str(place // 150) for place, unit in enumerate(self.units)}
+        mixed = {unit: str(place % 2) for place, unit in enumerate(self.units)}
+        few, many = (
+            sum(plan[node["id"]] != plan[entry["id"]] for node, entries in
+                zip(root["nodes"], root["adjacency"]) for entry in entries) // 2
+            for plan in (halves, mixed)
+        )
+        self.assertLess(few, 125)
+        self.assertGreater(many, 125)
+        plans = [halves, mixed, halves, mixed]
+        maps = self.maps(self.squares(), plan=plans)
+        self.assertEqual([one.cut for one in maps], [125, few, many, few, many])
+        path = self.folder / "page.html"
+        self.report.exhibit(
+            path, graph=GRAPH, columns=COLUMNS, geometry=self.squares(), plan=plans
+        )
+        text = path.read_text(encoding="utf-8")
+        page = Page(text)
+        self.assertEqual(page.faults, [])
+        self.assertIn("Map. The enacted plan and 4 other plans", page.text)
+        self.assertIn("the enacted plan has 125 cut edges", page.text)
+        self.assertIn(f"the plans shown beside it have {few} to {many}.", page.text)
+        (figure,) = re.findall("<figure><figcaption[^>]*><b>Map.*?</figure>", text, re.S)
+        self.assertEqual(figure.count("<path "), 6 + 4 * 2)
+        places = re.findall(r'<text x="([\d.]+)" y="([\d.]+)"[^>]*bold[^>]*>', figure)
+        self.assertEqual(len({x for x, _ in places}), 3, "three maps in a row")
+        self.assertEqual(len({y for _, y in places}), 2, "two rows")
+        height = float(re.findall(r'viewBox="0 0 [\d.]+ (\d+)"', figure)[0])
+        for number in re.findall(r"[ML] [\d.]+ ([\d.]+)", figure):
+            self.assertLessEqual(float(number), height)
+
+    def test_words_on_how_plans_look(self) -> None:
+        for others, said in (
+            ([158, 188], "have 158 to 188. "), ([158], "has 158. "),
+            ([126, 130], "more compact than those of these plans"),
+            ([124], "more sprawling than those of this plan"),
+            ([124, 126], "is not set apart from these plans"),
+            ([125, 130], "is not set apart from these plans"),
+        ):
+            with self.subTest(others=others):
+                self.assertIn(said, exhibit_text.compare_looks(125, others))
+
     def test_the_picture_has_the_map(self) -> None:
         common.needs("matplotlib")
         path = self.folder / "map.svg"
+        one = {unit: "one" for unit in self.units}
         figure = self.report.plot_map(
             self.squares(), path, graph=GRAPH, columns=COLUMNS, title="The map",
-            plan={unit: "one" for unit in self.units},
+            plan=[one, one, one],
         )
-        self.assertEqual([len(axes.patches) for axes in figure.axes], [6, 1])
+        self.assertEqual([len(axes.patches) for axes in figure.axes], [6, 1, 1, 1])
+        boxes = [axes.get_position() for axes in figure.axes]
+        for low, high in itertools.combinations(boxes, 2):
+            self.assertFalse(low.overlaps(high))
         words = re.sub("<[^>]*>", " ", path.read_text(encoding="utf-8"))
         for word in ("The map", "The enacted plan", "Another plan", "01", "06", "one"):
             self.assertIn(word, words)
@@ -147,7 +196,7 @@ class Labels(unittest.TestCase):
             )
             for place in range(count)
         ]
-        return district_map.DistrictMap("The enacted plan", areas, 1.0)
+        return district_map.DistrictMap("The enacted plan", areas, 1.0, 0)
 
     def test_labels_do_not_meet_and_none_is_lost_in_silence(self) -> None:
         for label, count in (("", 200), ("District of the long name ", 60), ("W" * 300, 3)):

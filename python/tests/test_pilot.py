@@ -41,6 +41,16 @@ class PilotTests(ProgramCase):
         changed = sum(plans[0][unit] != plans[1][unit] for unit in plans[0])
         self.assertEqual(found.changed, (changed,))
 
+    def test_the_time_is_that_of_the_processor(self) -> None:
+        """A program that sleeps between takes no time, however busy the machine is."""
+        slow = self.folder / "slow"
+        slow.write_text(f'#!/bin/sh\nsleep 1\nexec {self.program} "$@"\n', encoding="utf-8")
+        slow.chmod(0o755)
+        found = district_audit.pilot(
+            GRID, steps=1000, walks=1, program=str(slow), announced=1000, **MAP
+        )
+        self.assertLess(found.announced_seconds, 0.5)
+
     def test_questions_are_refused(self) -> None:
         wrong: list[common.Words] = [
             {"ask": "gap:low"}, {"scores": {"gap": "low"}}, {"elections": {}}, {"walks": 0},

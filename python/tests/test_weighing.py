@@ -90,7 +90,7 @@ class ChoiceTests(FolderCase):
 
     def choose(self, graph: bytes) -> district_audit.WeightChoice:
         return district_audit.choose_weight(
-            graph, neutral=4, steps=256, program=self.program, **WORDS
+            graph, neutral=4, steps=2048, program=self.program, **WORDS
         )
 
     def test_neither_the_enacted_plan_nor_votes_are_looked_at(self) -> None:
@@ -111,6 +111,13 @@ class ChoiceTests(FolderCase):
                 for cut in found.plans
             )
             self.assertEqual((row[0], row[1], row[4]), (band.weight, band.median, inside))
+
+    def test_no_weight_is_announced_that_makes_no_plan_ordinary(self) -> None:
+        walked = weighing.Walked((90,) * 64, 9, 9, {})
+        bands = [weighing.Band(weight, walked, walked, 0, 6400) for weight in (64, 33)]
+        found = district_audit.WeightChoice(33, (40, 50), tuple(bands), "older plans", 36)
+        self.assertIn("No weight was found", str(found))
+        self.assertNotIn("--cut-weight", str(found))
 
     def test_refusals(self) -> None:
         wrong: list[common.Words] = [
