@@ -6,6 +6,8 @@
 #        scripts/needs.sh python M..    prints the first python that has all of these modules, or ends with 1; here alone it is chosen
 # The last line counts: what is there as passed, and what is missing as failed where the variable CI is set, and as skipped elsewhere.
 # Ends with 1 where something failed.
+# R is optional, and not looked for: without r-base-core, r-cran-jsonlite, r-cran-testthat and r-cran-digest the test r_package is skipped.
+# With r-cran-sf, r-cran-spdep, r-cran-ggplot2 and r-cran-knitr, it tests more.
 
 # One python is to have all of these modules, and these programs are to be there; for each the Debian packages.
 modules=(networkx matplotlib pandas tqdm shapely venv ensurepip)

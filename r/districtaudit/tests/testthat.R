@@ -1,0 +1,4 @@
+library(testthat)
+library(districtaudit)
+
+test_check("districtaudit")

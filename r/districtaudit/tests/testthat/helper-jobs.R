@@ -1,0 +1,86 @@
+# What the tests need from outside of the package: the program, and the repository with its samples
+# and its Python package. A test is skipped, by name, if one of them is not here.
+
+KEY <- "2b7e151628aed2a6abf7158809cf4f3c762e7160f38b4da56a784d9045190cfe"
+
+skip_without_program <- function() {
+  if (inherits(try(find_program(), silent = TRUE), "try-error")) skip("no program district-audit")
+}
+
+# Returns a file of the repository. A copy of the package that R CMD check made is elsewhere, so a
+# variable may name the repository.
+in_repository <- function(...) {
+  top <- Sys.getenv("DISTRICTAUDIT_REPOSITORY", file.path("..", "..", "..", ".."))
+  path <- file.path(top, ...)
+  if (!file.exists(path)) skip(paste("no repository with", file.path(...)))
+  normalizePath(path)
+}
+
+sample_graph <- function(name) in_repository("examples", "data", name)
+
+# Returns a Python that has what the Python package needs for these jobs.
+find_python <- function() {
+  for (name in c(Sys.getenv("DISTRICTAUDIT_PYTHON", "python3"), "/usr/bin/python3")) {
+    path <- Sys.which(name)
+    words <- c("-c", shQuote("import networkx, pandas"))
+    if (nzchar(path) && system2(path, words, stderr = FALSE) == 0) {
+      return(path)
+    }
+  }
+  skip("no python3 with networkx and pandas")
+}
+
+# Returns the text and the frame that the Python package makes of a job.
+by_python <- function(command, graph, prepare, call = list(), table = NULL) {
+  package <- in_repository("python")
+  python <- find_python()
+  job <- tempfile("job-")
+  on.exit(unlink(paste0(job, c("", ".text", ".csv"))))
+  text <- jsonlite::toJSON(
+    list(command = command, graph = graph, prepare = prepare, call = call, table = table),
+    auto_unbox = TRUE, null = "null", digits = NA
+  )
+  writeLines(text, job)
+  end <- system2(
+    python, shQuote(c(normalizePath("python_call.py"), job)),
+    env = paste0("PYTHONPATH=", shQuote(package)), stdout = FALSE, stderr = paste0(job, ".err")
+  )
+  if (end != 0) stop(paste(readLines(paste0(job, ".err")), collapse = "\n"))
+  read <- function(path) readChar(path, file.size(path), useBytes = TRUE)
+  list(
+    text = read(paste0(job, ".text")),
+    lines = if (file.exists(paste0(job, ".csv"))) readLines(paste0(job, ".csv"))
+  )
+}
+
+GRID <- list(population = "TOTPOP", first = "DEM", second = "REP", district = "CD")
+GROUPS <- list(population = "pop", first = "a", second = "b", district = "d")
+
+# Returns a prepared map without its warnings.
+quietly <- function(...) suppressWarnings(...)
+
+# Returns six by six units in three districts of two rows each, and their neighbors.
+small_units <- function() {
+  place <- expand.grid(column = 1:6, row = 1:6)
+  data.frame(
+    place,
+    id = paste0("u", place$column, place$row), pop = 1000, a = 200 + 10 * place$row, b = 230,
+    d = (place$row + 1) %/% 2, stringsAsFactors = FALSE
+  )
+}
+
+small_neighbors <- function(units = small_units()) {
+  apart <- as.matrix(dist(units[c("column", "row")]))
+  lapply(seq_len(nrow(units)), function(unit) unname(which(apart[unit, ] == 1)))
+}
+
+# Prepares these units; `...` replaces arguments.
+prepare_small <- function(units = small_units(), ...) {
+  given <- list(
+    map = units, population = "pop", first = "a", second = "b", district = "d",
+    adjacency = small_neighbors(), slack = 2000
+  )
+  more <- list(...)
+  given[names(more)] <- more
+  do.call(audit_prepare, given)
+}
