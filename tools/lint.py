@@ -8,11 +8,12 @@ import sys
 from tests.checks import Checks, run
 from tests.places import TOP
 
-FOLDERS = ("python", "tests", "bench", "tools", "scripts", "examples")
+FOLDERS = ("python", "tests", "bench", "tools", "scripts", "examples", "r")
 # Files that mypy judges together, by the folder in which it runs.
 TYPED = {
     "python": ("district_audit", "backend"),
     "python/tests": (".",),
+    "r": ("districtaudit",),
     ".": ("tests", "bench", "tools", "scripts", "examples"),
 }
 # The folders of the modules that the tests of the package import.

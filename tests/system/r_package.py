@@ -14,8 +14,7 @@ from tests.places import TOP, package_environment, python_with
 
 PACKAGE = TOP / "r" / "districtaudit"
 NEEDED = ("jsonlite", "testthat", "digest")
-# Prints a line for each test with its numbers of expectations, failures and skips, then the texts
-# of failures and the names of skipped tests.
+# Prints a line for each expectation: its kind, the name of its test, and its message.
 RUN_TESTS = """
 library(districtaudit)
 found <- testthat::test_dir(".", reporter = "silent", stop_on_failure = FALSE,
@@ -29,7 +28,7 @@ KNIT = 'library(districtaudit); knitr::knit("districtaudit.Rmd", quiet = TRUE)'
 
 
 def call_r(words: list[object], folder: pathlib.Path, more: dict[str, str]) -> End:
-    """Calls a program of R, without the user's settings and without the network."""
+    """Calls a program of R in a folder, with these variables."""
     return run(words, folder=folder, more=more, seconds=600)
 
 
@@ -44,17 +43,29 @@ def find_missing() -> str:
     return ""
 
 
-def environment(auditor: pathlib.Path, library: pathlib.Path) -> dict[str, str]:
+def write_profile(room: pathlib.Path) -> pathlib.Path:
+    """Writes a profile of R that names an empty repository of packages, and returns its path.
+
+    R's check would ask a server for the list of all packages.
+    """
+    listed = room / "repository" / "src" / "contrib" / "PACKAGES"
+    listed.parent.mkdir(parents=True)
+    listed.touch()
+    profile = room / "profile"
+    profile.write_text(f'options(repos = c(CRAN = "{(room / "repository").as_uri()}"))\n')
+    return profile
+
+
+def environment(auditor: pathlib.Path, room: pathlib.Path) -> dict[str, str]:
     """Returns the variables with which R finds the package, the program and a Python."""
     return {
         **package_environment(),
         "DISTRICT_AUDIT": str(auditor),
         "DISTRICTAUDIT_REPOSITORY": str(TOP),
         "DISTRICTAUDIT_PYTHON": python_with("networkx", "pandas") or sys.executable,
-        "R_LIBS": str(library),
-        # R's check would ask a server for the packages that are suggested and missing.
+        "R_LIBS": str(room / "library"),
+        "R_PROFILE": str(write_profile(room)),
         "_R_CHECK_FORCE_SUGGESTS_": "false",
-        "_R_CHECK_XREFS_REPOSITORIES_": library.as_uri(),
         "LC_ALL": "C.UTF-8",
     }
 
@@ -84,11 +95,11 @@ def try_check(checks: Checks, room: pathlib.Path, more: dict[str, str]) -> None:
     words = ["R", "CMD", "check", "--no-manual", "--no-tests", "--ignore-vignettes"]
     end = call_r([*words, next(room.glob("*.tar.gz")).name], room, more)
     checks.has_status("check_ends", end)
-    found = re.findall(r"^\* (.* \.\.\. (?:ERROR|WARNING|NOTE))$", end.out, re.M)
-    wanted: list[str] = []
-    if "Package suggested but not available" in end.out or "suggested but not available" in end.out:
-        wanted = [line for line in found if line.startswith("checking package dependencies")]
-    checks.is_equal("check_is_clean", found, wanted)
+    # A suggested package that is not installed is a note, and no fault of this one.
+    wanted = "1 NOTE" if "suggested but not available" in end.out else "OK"
+    found = re.findall(r"^Status: (.*)$", end.out, re.M)
+    checks.is_equal("check_is_clean", found, [wanted])
+    checks.is_true("check_asks_no_server", "cannot open URL" not in end.out + end.note, "no URL")
 
 
 def try_vignette(checks: Checks, room: pathlib.Path, more: dict[str, str]) -> None:
@@ -116,10 +127,9 @@ def main() -> int:
         return checks.finish()
     with tempfile.TemporaryDirectory() as name:
         room = pathlib.Path(name)
-        library = room / "library"
-        library.mkdir()
-        more = environment(auditor, library)
-        end = call_r(["R", "CMD", "INSTALL", "-l", library, PACKAGE], room, more)
+        (room / "library").mkdir()
+        more = environment(auditor, room)
+        end = call_r(["R", "CMD", "INSTALL", "-l", room / "library", PACKAGE], room, more)
         if checks.has_status("installs", end):
             try_tests(checks, room, more)
             try_vignette(checks, room, more)
