@@ -8,7 +8,7 @@
 # documents only.
 # The crates of the programs are proved once more, with commit and kit in their answer to --version, over the libraries of the gate. Both
 # compilers make an object, and gcc links it statically. Each program of both compilers must give all cases of `case_output` their output.
-# The same commit, kit, C library and linker give the same bytes, in whatever folders. It takes some minutes.
+# One commit with one kit, C library and linker gives the same bytes in any folder. It takes some minutes.
 # On failure, one line on standard error says why, and the status is 1.
 
 here=$(cd "$(dirname "$0")" && pwd) || exit 1
