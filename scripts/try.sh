@@ -43,6 +43,19 @@ check_release() {
         fail "the programs in release/ are for Linux on x86_64, and this is $(uname -s) on $(uname -m): build them with the toolchain, as docs/user/GUIDE.md says"
 }
 
+# Prints the python to use: the first with matplotlib and what an environment needs, or else the first of that name. An installed
+# matplotlib belongs to Debian's python, which need not be the first.
+choose_python() {
+    local base
+    for base in python3 /usr/bin/python3; do
+        if "$base" -c 'import sys, venv, ensurepip, matplotlib; sys.exit(sys.version_info < (3, 9))' 2>/dev/null; then
+            echo "$base"
+            return
+        fi
+    done
+    echo python3
+}
+
 # Makes the virtual environment out/venv with the wheel of the release, if it is not there.
 make_environment() {
     local wheels=("$top"/release/district_audit-*.whl) python=$top/out/venv/bin/python sums
@@ -51,7 +64,7 @@ make_environment() {
     python3 -c 'import sys, venv, ensurepip; sys.exit(sys.version_info < (3, 9))' 2>/dev/null ||
         need_packages "Python 3.9 or later with venv is missing" python3 python3-venv
     # The picture is no reason to fail: the audit goes on without it.
-    if ! python3 -c 'import matplotlib' 2>/dev/null && [ "$(id -u)" = 0 ] && command -v apt-get >/dev/null; then
+    if ! "$(choose_python)" -c 'import matplotlib' 2>/dev/null && [ "$(id -u)" = 0 ] && command -v apt-get >/dev/null; then
         # A slow mirror shall not keep the report back: what is not loaded in half a minute is left out.
         timeout 30 sh -c 'apt-get update; apt-get install -y --no-install-recommends --download-only python3-matplotlib' \
             </dev/null >"$log" 2>&1 &&
@@ -59,7 +72,7 @@ make_environment() {
     fi
     rm -rf "$top/out/venv"
     mkdir -p "$top/out"
-    python3 -m venv --system-site-packages "$top/out/venv" >"$log" 2>&1 || fail "the environment out/venv cannot be made: $(tail -n 1 "$log")"
+    "$(choose_python)" -m venv --system-site-packages "$top/out/venv" >"$log" 2>&1 || fail "the environment out/venv cannot be made: $(tail -n 1 "$log")"
     "$python" -m pip install --no-index --no-deps --force-reinstall --disable-pip-version-check "${wheels[0]}" >"$log" 2>&1 ||
         fail "pip does not install ${wheels[0]}: $(grep -v '^$' "$log" | tail -n 1 | head -c 300)"
     echo "$sums" >"$top/out/venv/wheel.sha256"
