@@ -142,7 +142,9 @@ def check_versions(checks: Checks, programs: dict[str, str]) -> None:
 
 
 def check_kits(checks: Checks) -> None:
-    """Checks that no file names a kit. The table of the kits measured has to."""
+    """Checks that no file names a kit. The table of the kits measured has to, and a release names
+    the kit that made it.
+    """
     if not shutil.which("git"):
         checks.count_missing("no_file_names_a_kit", "git")
         return
@@ -151,6 +153,7 @@ def check_kits(checks: Checks) -> None:
         name
         for name in files
         if name != "tests/data/instructions.json"
+        and not name.startswith("release/")
         and (TOP / name).is_file()
         and re.search(rb"rattle-kit-\d", (TOP / name).read_bytes())
     ]
