@@ -3,7 +3,7 @@
 #
 # Usage: scripts/try.sh audit [FOLDER]
 #        scripts/try.sh test
-#   audit   installs package and programs of the folder `release` in out/venv, and audits the map of North Carolina. It prints the
+#   audit   installs package and programs of the folder `release` in an environment in the user's cache, and audits the map of North Carolina. It prints the
 #           report, and leaves report, exhibit and picture in FOLDER, or in out/audit.
 #   test    installs what the tests need, and runs all tests that can run here. With the toolchain it runs the gate, which has them all.
 # As root on Debian or Ubuntu both install missing packages, and say which. Elsewhere they print the line to type.
@@ -56,11 +56,14 @@ choose_python() {
     echo python3
 }
 
-# Makes the virtual environment out/venv with the wheel of the release, if it is not there.
+# The virtual environment. An environment has links, and `rt ci` refuses links in a checkout.
+venv=${XDG_CACHE_HOME:-${HOME:-/tmp}/.cache}/district-audit/venv
+
+# Makes the virtual environment with the wheel of the release, if it is not there.
 make_environment() {
-    local wheels=("$top"/release/district_audit-*.whl) python=$top/out/venv/bin/python sums
+    local wheels=("$top"/release/district_audit-*.whl) python=$venv/bin/python sums
     sums=$(sha256sum <"${wheels[0]}") || fail "release/ has no wheel: load the repository again"
-    if [ -x "$python" ] && [ "$(cat "$top/out/venv/wheel.sha256" 2>/dev/null)" = "$sums" ]; then return; fi
+    if [ -x "$python" ] && [ "$(cat "$venv/wheel.sha256" 2>/dev/null)" = "$sums" ]; then return; fi
     python3 -c 'import sys, venv, ensurepip; sys.exit(sys.version_info < (3, 9))' 2>/dev/null ||
         need_packages "Python 3.9 or later with venv is missing" python3 python3-venv
     # The picture is no reason to fail: the audit goes on without it.
@@ -70,19 +73,19 @@ make_environment() {
             </dev/null >"$log" 2>&1 &&
             (need_packages "matplotlib, which draws the picture, is missing" python3-matplotlib)
     fi
-    rm -rf "$top/out/venv"
-    mkdir -p "$top/out"
-    "$(choose_python)" -m venv --system-site-packages "$top/out/venv" >"$log" 2>&1 || fail "the environment out/venv cannot be made: $(tail -n 1 "$log")"
+    rm -rf "$venv"
+    mkdir -p "${venv%/*}" || fail "${venv%/*} cannot be made"
+    "$(choose_python)" -m venv --system-site-packages "$venv" >"$log" 2>&1 || fail "the environment $venv cannot be made: $(tail -n 1 "$log")"
     "$python" -m pip install --no-index --no-deps --force-reinstall --disable-pip-version-check "${wheels[0]}" >"$log" 2>&1 ||
         fail "pip does not install ${wheels[0]}: $(grep -v '^$' "$log" | tail -n 1 | head -c 300)"
-    echo "$sums" >"$top/out/venv/wheel.sha256"
+    echo "$sums" >"$venv/wheel.sha256"
 }
 
 audit() {
     check_release
     make_environment
     echo "try: auditing examples/data/nc.json"
-    exec "$top/out/venv/bin/python" "$top/examples/audit_nc.py" "${1:-$top/out/audit}"
+    exec "$venv/bin/python" "$top/examples/audit_nc.py" "${1:-$top/out/audit}"
 }
 
 tests() {

@@ -89,7 +89,17 @@ def released_program(name: str) -> typing.Optional[pathlib.Path]:
         place.mkdir(parents=True, exist_ok=True)
         words = ["tar", "xzf", str(found[-1]), "-C", str(place), "--strip-components=1"]
         subprocess.run(words, check=True)
+        replace_links(place)
     return path if os.access(path, os.X_OK) else None
+
+
+def replace_links(folder: pathlib.Path) -> None:
+    """Replaces each link below a folder by a copy of its file, since `rt ci` refuses links."""
+    links = [path for path in folder.rglob("*") if path.is_symlink()]
+    targets = [link.resolve() for link in links]
+    for link, target in zip(links, targets):
+        link.unlink()
+        shutil.copy2(target, link)
 
 
 def origin_of(path: typing.Union[str, pathlib.Path]) -> dict[str, str]:
