@@ -102,7 +102,7 @@ def check_commands(checks: Checks, auditor: str) -> None:
         lines = text.splitlines()
         checks.is_true(f"{command}_lines", len(lines) <= 42, "at most 42 lines", len(lines))
         longest = max(map(len, lines))
-        checks.is_true(f"{command}_columns", longest <= 111, "at most 111 columns", longest)
+        checks.is_true(f"{command}_columns", longest <= 100, "at most 100 columns", longest)
         checks.is_true(
             f"{command}_usage", text.startswith(f"usage: district-audit {command} "),
             f"usage: district-audit {command} ..", lines[0],

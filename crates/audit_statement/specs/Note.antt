@@ -115,7 +115,7 @@ region_note column region.Memory = codes "memory" ∷ []
 abbrev pub table_note : TableFault → List (List ℕ)
 table_note (table.Unreadable r) = codes "record " ∷ decimal r ∷ codes " is unreadable" ∷ []
 table_note table.NoHeader = codes "no header" ∷ []
-table_note (table.TooManyPlans n) = decimal n ∷ codes " plans, more than 16" ∷ []
+table_note (table.TooManyPlans n) = decimal n ∷ codes " plans, more than 4096" ∷ []
 table_note (table.BadName i) = codes "plan " ∷ decimal i ∷ codes " has no usable name" ∷ []
 table_note (table.SharedId i j) = codes "units " ∷ decimal i ∷ codes " and " ∷ decimal j ∷ codes " share an id" ∷ []
 table_note (table.UnknownId r) = codes "record " ∷ decimal r ∷ codes " names no unit" ∷ []

@@ -33,9 +33,9 @@ abbrev pub id_text : Label → List ℕ
 id_text (Whole n) = signed_decimal n
 id_text (Word t) = t
 
--- 1 to 100 visible ASCII characters
+-- 1 to 100 printable ASCII characters, spaces among them
 abbrev pub is_plan_name : List ℕ → Bool
-is_plan_name name = nat_le 1 (length name) && nat_le (length name) 100 && list_all (λ c. nat_le 33 c && nat_le c 126) name
+is_plan_name name = nat_le 1 (length name) && nat_le (length name) 100 && list_all (λ c. nat_le 32 c && nat_le c 126) name
 
 module _ (ids : List Label) (header : List (List ℕ)) (entries : List (List (List ℕ))) where
   -- the id of a unit as text
@@ -136,9 +136,9 @@ module _ (ids : List Label) (header : List (List ℕ)) (entries : List (List (Li
   abbrev pub refused_count : Option TableFault
   refused_count = option_map (λ plan. fault.DistrictCount plan (label_count plan)) (first_below plan_count is_miscounted)
 
-  -- there are more than 16 plans
+  -- there are more than 4096 plans
   abbrev pub too_many : Option TableFault
-  too_many = cond (nat_lt 16 plan_count) (Some (fault.TooManyPlans plan_count)) None
+  too_many = cond (nat_lt 4096 plan_count) (Some (fault.TooManyPlans plan_count)) None
 
   -- the header names no plan
   abbrev pub misses_header : Option TableFault

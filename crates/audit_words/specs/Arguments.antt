@@ -98,7 +98,7 @@ purpose_of Freeze = codes "the column of units that stay where they are"
 purpose_of Length = codes "the column of the edges' lengths"
 purpose_of MaxLength = codes "most total length of cut edges"
 purpose_of Pairs = codes "report the test by pairs of walks too"
-purpose_of CutWeight = codes "weight of a cut edge, in 1/64; also .25, .5, .75; 64: none"
+purpose_of CutWeight = codes "weight of a cut edge, in 64ths by .25; 64: none"
 purpose_of Blind = codes "report the moves of each walk, and no score"
 
 -- the text for the values of a kind

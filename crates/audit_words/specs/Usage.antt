@@ -59,6 +59,10 @@ usage_lines =
 abbrev pub test_lines : List (List ℕ)
 test_lines = [] ∷ codes "SCORE is seats, mean-median, gap, cut-edges or, with --length, cut-length; TAIL is low or high." ∷ []
 
+-- the same for a grid that the program makes, whose edges have no lengths
+abbrev pub grid_test_lines : List (List ℕ)
+grid_test_lines = [] ∷ codes "SCORE is seats, mean-median, gap or cut-edges; TAIL is low or high." ∷ []
+
 -- the lines before the arguments of a command
 abbrev pub head_of : Command → List (List ℕ)
 head_of command = (codes "usage: district-audit " ++ command_text command ++ codes " NAME VALUE ..") ∷ description_of command ∷ [] ∷ []
@@ -67,7 +71,7 @@ head_of command = (codes "usage: district-audit " ++ command_text command ++ cod
 abbrev pub foot_of : Command → List (List ℕ)
 foot_of Check = []
 foot_of Run = test_lines
-foot_of Make = test_lines
+foot_of Make = grid_test_lines
 foot_of Plans = test_lines
 foot_of Trace = test_lines
 

@@ -120,7 +120,7 @@ pub fn argument_text(name: Name) -> &'static str
             "  --pairs             yes or no       default no     report the test by pairs of walks too"
         }
         Name::CutWeight => {
-            "  --cut-weight        1 to 64         default 64     weight of a cut edge, in 1/64; also .25, .5, .75; 64: none"
+            "  --cut-weight        1 to 64         default 64     weight of a cut edge, in 64ths by .25; 64: none"
         }
         Name::Blind => {
             "  --blind             yes or no       default no     report the moves of each walk, and no score"

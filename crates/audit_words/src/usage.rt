@@ -67,6 +67,11 @@ const TESTS: [&str; 2] = [
     "SCORE is seats, mean-median, gap, cut-edges or, with --length, cut-length; TAIL is low or high.",
 ];
 
+const GRID_TESTS: [&str; 2] = [
+    "",
+    "SCORE is seats, mean-median, gap or cut-edges; TAIL is low or high.",
+];
+
 /// Returns the lines of the program's usage.
 pub fn usage_lines() -> &'static [&'static str]
     ensures { map (λ l. l.now) result.now ≡ definition.usage_lines }
@@ -94,6 +99,7 @@ pub fn foot_of(command: Command) -> &'static [&'static str]
 {
     match command {
         Command::Check => &[],
-        Command::Run | Command::Make | Command::Plans | Command::Trace => &TESTS,
+        Command::Make => &GRID_TESTS,
+        Command::Run | Command::Plans | Command::Trace => &TESTS,
     }
 }

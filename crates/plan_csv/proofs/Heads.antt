@@ -11,10 +11,10 @@ module _ (header : List (List ℕ)) where
   pub enough : 2 ≤ length header → misses_header [] header [] ≡ None
   enough l = cond-false (nat_lt (length header) 2) (Some fault.NoHeader) None (le-ltb (length header) 2 l)
 
-  pub few : length header - 1 ≤ 16 → too_many [] header [] ≡ None
-  few l = cond-false (nat_lt 16 (length header - 1)) (Some (fault.TooManyPlans (length header - 1))) None (le-ltb 16 (length header - 1) l)
+  pub few : length header - 1 ≤ 4096 → too_many [] header [] ≡ None
+  few l = cond-false (nat_lt 4096 (length header - 1)) (Some (fault.TooManyPlans (length header - 1))) None (le-ltb 4096 (length header - 1) l)
 
-  pub bad_here : (plan : ℕ) → 2 ≤ length header → length header - 1 ≤ 16 → plan < length header - 1 → first_below plan (λ p. not (is_plan_name (plan_name [] header [] p))) ≡ None
+  pub bad_here : (plan : ℕ) → 2 ≤ length header → length header - 1 ≤ 4096 → plan < length header - 1 → first_below plan (λ p. not (is_plan_name (plan_name [] header [] p))) ≡ None
       → is_plan_name (plan_name [] header [] plan) ≡ false
       → first_some (misses_header [] header [] ∷ too_many [] header [] ∷ bad_name [] header [] ∷ []) ≡ Some (fault.BadName plan)
   bad_here plan two most under none bad =

@@ -11,9 +11,9 @@ use audit_model::fault::TableFault;
 use csv::StringRecord;
 
 /// The maximum number of plans in a table.
-pub const MOST_PLANS: usize = 16;
+pub const MOST_PLANS: usize = 4096;
 
-/// Returns true if a text is 1 to 100 visible ASCII characters.
+/// Returns true if a text is 1 to 100 printable ASCII characters, spaces among them.
 pub fn is_plan_name(name: &str) -> bool
     ensures { result ≡ table.is_plan_name name.now }
 {
@@ -47,15 +47,15 @@ pub fn plans_of(header: &StringRecord) -> Result<usize, TableFault>
     Ok(plans)
 }
 
-/// Returns true if a byte is visible ASCII.
+/// Returns true if a byte is printable ASCII or a space.
 fn is_seen(byte: u8) -> bool
-    ensures { result ≡ (nat_le 33 byte && nat_le byte 126) }
+    ensures { result ≡ (nat_le 32 byte && nat_le byte 126) }
 {
-    byte >= 33 && byte <= 126
+    byte >= 32 && byte <= 126
 }
 
 fn are_seen(bytes: &[u8]) -> bool
-    ensures { result ≡ list_all (λ c. nat_le 33 c && nat_le c 126) bytes.now }
+    ensures { result ≡ list_all (λ c. nat_le 32 c && nat_le c 126) bytes.now }
 {
     bytes.iter().all(|c| is_seen(*c))
 }

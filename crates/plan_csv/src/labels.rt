@@ -38,7 +38,7 @@ pub fn plan_of(
     records: &[usize],
     plan: usize,
 ) -> Result<Assigned, TableFault>
-    requires few { plan < 16 }
+    requires few { plan < 4096 }
     requires under { (u : ℕ) → u < length records.now → slice_index records.now u < length entries.now }
     ensures read { MatchResult result
         (λ a. (table.is_miscounted [] [] (map fields_of entries.now) plan ≡ false) × (a ≡ assigned_by (fields_of header.now) (map fields_of entries.now) records.now plan))
@@ -66,7 +66,7 @@ fn names_of<'e>(
     entries: &'e [StringRecord],
     plan: usize,
 ) -> Result<Vec<NodeName<'e>>, Memory>
-    requires { plan < 16 }
+    requires { plan < 4096 }
     ensures { IfOk result (λ names. AreLabelsOf (map fields_of entries.now) plan (labels_from names.items)) }
 {
     let mut names = Vec::with_capacity(alloc, entries.len())?;

@@ -32,8 +32,8 @@ use std::alloc::Global;
 /// - `Unreadable`: a record with another number of fields than the first, or a field that is not
 ///   UTF-8.
 /// - `NoHeader`: there is no record, or the first has fewer than two fields.
-/// - `TooManyPlans`: more than 16 plans. It gives their number.
-/// - `BadName`: a plan name that is not 1 to 100 visible ASCII characters.
+/// - `TooManyPlans`: more than 4096 plans. It gives their number.
+/// - `BadName`: a plan name that is not 1 to 100 printable ASCII characters.
 /// - `SharedId`: two units whose ids are equal as text. It gives the first unit whose id repeats an
 ///   earlier one, and the earlier unit.
 /// - `UnknownId`: a record whose first field is no unit's id.
@@ -66,7 +66,7 @@ fn read_columns(
     records: &[usize],
     plans: usize,
 ) -> Result<AssignedList, TableFault>
-    requires few { plans ≤ 16 }
+    requires few { plans ≤ 4096 }
     requires all { plans ≡ table.plan_count [] (fields_of header.now) [] }
     requires under { (u : ℕ) → u < length records.now → slice_index records.now u < length entries.now }
     ensures read { MatchResult result

@@ -16,7 +16,7 @@ pub(crate) fn table_line(fault: &TableFault) -> Line<'static>
     match fault {
         TableFault::Unreadable(record) => numbered_line("record ", *record, " is unreadable"),
         TableFault::NoHeader => text_line("no header"),
-        TableFault::TooManyPlans(n) => count_line(*n, " plans, more than 16"),
+        TableFault::TooManyPlans(n) => count_line(*n, " plans, more than 4096"),
         TableFault::BadName(plan) => {
             numbered_line("plan ", u64::from(*plan), " has no usable name")
         }
