@@ -92,18 +92,18 @@ def page(pairs: Named, options: Options) -> str:
         )
     refuse_other_limits(reports)
     announced = find_announced_for(pairs, options.decides)
-    name, report = shown(pairs, announced)
+    name, report = find_shown(pairs, announced)
     columns = columns_of(report, options.graph, options.columns)
     parties = parties_of(options, columns)
     scores = list(dict.fromkeys(ask.split(":")[0] for ask in report.asks))
     parts = [
         f"<h1>{escape(options.title)}</h1>",
         *paragraphs([texts.subject(dataclasses.replace(report, batch=None), parties, [name])]),
-        *paragraphs([compared(pairs)]),
+        *paragraphs([tell_audits(pairs)]),
         *paragraphs(options.notes),
         *said_first(reports),
         heading("What may be concluded"),
-        *paragraphs([counted(pairs, announced), *CONCLUSION]),
+        *paragraphs([tell_count(pairs, announced), *CONCLUSION]),
         heading("What was asked"),
         list_asks(report, parties, scores),
         heading("How it was done"),
@@ -146,7 +146,7 @@ def refuse_other_limits(reports: typing.Sequence[Report]) -> None:
         )
 
 
-def shown(pairs: Named, announced: Announced | None) -> tuple[str, Report]:
+def find_shown(pairs: Named, announced: Announced | None) -> tuple[str, Report]:
     """Returns the report whose methods and command the page shows: the announced or the first."""
     for name, report in pairs:
         if announced is not None and name == announced.name:
@@ -157,7 +157,7 @@ def shown(pairs: Named, announced: Announced | None) -> tuple[str, Report]:
 # ---- words
 
 
-def compared(pairs: Named) -> str:
+def tell_audits(pairs: Named) -> str:
     """Returns what the page compares."""
     names = ", ".join(name for name, _ in pairs)
     return (
@@ -166,7 +166,7 @@ def compared(pairs: Named) -> str:
     )
 
 
-def counted(pairs: Named, announced: Announced | None) -> str:
+def tell_count(pairs: Named, announced: Announced | None) -> str:
     """Returns which number counts: the announced one, or else the least times the number of all."""
     if announced is not None:
         return tell_announced(pairs, announced)

@@ -36,7 +36,9 @@ class PageOfLimits(ProgramCase):
     def test_one_page_has_all_limits(self) -> None:
         """Two walks, a pair and a test of ends of two questions are 8 numbers of each limit."""
         found = self.audit(max_cut=[300, 140, 400_000])
-        page = self.page(found, parties=("Blue", "Green"), graph=GRID, notes=["<i>A & b"], title="<i>T")
+        page = self.page(
+            found, parties=("Blue", "Green"), graph=GRID, notes=["<i>A & b"], title="<i>T"
+        )
         numbers = [
             *(one.bound for report in found.values() for one in report.walks),
             *(one.bound for report in found.values() for one in report.pairs),
@@ -46,7 +48,8 @@ class PageOfLimits(ProgramCase):
         least = min(numbers)
         for words in (
             "3 audits of this plan, which differ in one limit alone: max_cut=300, max_cut=140,"
-            " max_cut=400000", "<i>A & b", "<i>T", "Table 1.", "older plans", "What may be concluded",
+            " max_cut=400000", "<i>A & b", "<i>T", "Table 1.", "older plans",
+            "What may be concluded",
             f"all 24 bounds and p-values under all limits count: the least, {least:f}, times 24 is"
             f" {min(Decimal(1), 24 * least):f}", "(sensitivity)", "Is the efficiency gap",
         ):
