@@ -168,7 +168,7 @@ def make_module() -> types.ModuleType:
 
 
 @contextlib.contextmanager
-def installed() -> typing.Iterator[None]:
+def install() -> typing.Iterator[None]:
     """Lets `import gerrychain` find the stand-in, for a while."""
     before = sys.modules.get("gerrychain")
     sys.modules["gerrychain"] = make_module()

@@ -154,7 +154,7 @@ class Guide(common.FolderCase):
         before = os.getcwd()
         os.chdir(self.folder)
         try:
-            with common.environment(DISTRICT_AUDIT=program), gerrychain_model.installed():
+            with common.environment(DISTRICT_AUDIT=program), gerrychain_model.install():
                 for kind, block in blocks:
                     if kind == "text":
                         wanted.append(block)
