@@ -31,7 +31,7 @@ from .districts import Plan, plan_of, slips_in
 from .elections import ElectionReports, each_election
 from .errors import GraphChanged, GraphRefused, PrepareRefused, TypeRefused
 from .geography import FILES
-from .graphs import Foreign
+from .graphs import Foreign, refuse_form
 from .preparing import Preparation, Prepared, prepare_map
 from .program import PathLike, call, find_program
 from .report import Audited, PlanCheck, Report, Rules, join_batch
@@ -246,7 +246,13 @@ def bytes_of_graph(graph: PathLike | bytes | bytearray | memoryview) -> bytes:
                 f"{name} is not what the program reads: prepare it first, prepare({way}, ..)"
             )
         with open(graph, "rb") as file:
-            return file.read()
+            data = file.read()
+        if data[:2] == b"\x1f\x8b":
+            raise PrepareRefused(
+                f"{name} is compressed by gzip, which prepare({name!r}, ..) reads: prepare it first"
+            )
+        refuse_form(data, name)
+        return data
     return bytes(graph)
 
 
@@ -509,8 +515,8 @@ def prepare_once(
     """
     if isinstance(graph, Prepared) or not must_prepare(graph, words):
         return graph, dict(words)
-    votes = elections or {"": (words.get("first"), words.get("second"))}
-    for one, other in votes.values():
+    votes: list[tuple[object, object]] = [*(elections or {}).values()]
+    for one, other in votes or [(words.get("first"), words.get("second"))]:
         named = plain_words("run", {**words, "first": one, "second": other})
         own_limits.source_of_limits("run", named.pop("limits_from", None))
         taken = {name: named.pop(name) for name in PREPARING if name in named}

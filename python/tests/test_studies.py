@@ -189,7 +189,10 @@ class Studies(common.ProgramCase):
         made = manifest.preparation
         assert made is not None
         wanted = {name: list(both) for name, both in elections.items()}
-        self.assertEqual(made.arguments["elections"], wanted)
+        self.assertEqual(made.arguments, {
+            "population": "TOTPOP", "district": "CD", "slack": 1000, "numbers": "nearest",
+            "elections": wanted,
+        })
         self.assertEqual({entry.graph.name for entry in manifest.reports}, {"report.graph.json"})
         kinds = {edit.kind.split(":")[0] for edit in made.edits if edit.count}
         self.assertEqual(kinds, {"column REP", "column TOTPOP"})

@@ -648,8 +648,8 @@ def samples(room: Path) -> None:
     says("walks of a sample", 0, "report: walks: 2 of 2 walked again; ", *both, *CYCLE, "--sample",
          "3", *seed)
     # The least of printf 'a public text trajectory 2' | sha256sum and so on, to 20.
-    says("a sample is named", 0, "trajectories to ends: 3 of 19 walked again (3, 16, 17);", *both, *CYCLE,
-         "--sample", "3", *seed)
+    says("a sample is named", 0, "trajectories to ends: 3 of 19 walked again (3, 16, 17);", *both,
+         *CYCLE, "--sample", "3", *seed)
     for name in ("--sample", "--segments"):
         said = f"cannot be checked: {name} without --seed"
         says(f"{name} without a seed", 2, said, *both, *CYCLE, name, "3")
