@@ -14,7 +14,7 @@ audit_trace(graph, key, ask, ids = 0, thin = 1000, ..., last = FALSE)
 \item{ask}{The questions: texts such as \code{"seats:low"}, or a named vector, \code{c(seats = "low")}.}
 
 \item{ids}{The trajectories: an id or a range such as \code{0:3}. Walks have the ids from 0, and the
-endpoint trajectories those behind.}
+trajectories to ends those behind.}
 
 \item{thin}{The number of steps between two plans.}
 
