@@ -59,7 +59,6 @@ h1 { font-size: 1.6em; margin-bottom: 0; } h2 { font-size: 1.2em; margin-top: 1.
 table { border-collapse: collapse; margin: 0.8em 0; font-size: 0.9em; }
 th, td { border: 1px solid #888; padding: 0.2em 0.5em; text-align: left; vertical-align: top; }
 .results td:nth-child(2) { white-space: nowrap; }
-.hashes td:first-child { width: 25%; }
 td.n, th.n { text-align: right; font-variant-numeric: tabular-nums; }
 thead { display: table-header-group; } tr, figure, pre { break-inside: avoid; }
 h2, h3, .title { break-after: avoid; }
@@ -70,7 +69,7 @@ svg text.at11 { font-size: 11px; } svg text.at9 { font-size: 9px; }
 svg text.at7 { font-size: 7px; }
 pre, code { font: 12px/1.4 'DejaVu Sans Mono', 'Courier New', monospace; }
 pre { white-space: pre-wrap; overflow-wrap: anywhere; border: 1px solid #888; padding: 0.6em; }
-code { overflow-wrap: anywhere; }
+code { overflow-wrap: anywhere; } .hashes td:first-child { width: 25%; }
 @media print { body { font-size: 10.5pt; max-width: none; margin: 0; padding: 0; } }
 """
 
