@@ -13,6 +13,7 @@ from .report import Report, join_batch
 from .results import NamedReports
 
 if typing.TYPE_CHECKING:
+    from .custody import PathLike
     from .graphs import Foreign
 
 # The limits that may be varied.
@@ -25,10 +26,45 @@ class LimitReports(NamedReports):
 
     All have the same key. Each number is a test: announce one limit as the one that decides, or
     multiply the least number by how many there are. `to_frame()` is one table, `plot()` one
-    picture, and `Report.exhibit` of each report names the others and counts so.
+    picture, and `exhibit()` one page for a court.
     """
 
     what = "limit"
+
+    def exhibit(
+        self,
+        path: PathLike,
+        *,
+        title: str = "Outlier test of a districting plan under several limits",
+        parties: tuple[str, str] | None = None,
+        graph: object = None,
+        columns: typing.Mapping[str, str] | None = None,
+        command: str | None = None,
+        notes: typing.Sequence[str] = (),
+        decides: str | None = None,
+        manifest: PathLike | None = None,
+        names: typing.Mapping[str, str] | None = None,
+        geometry: object = None,
+        ids: str | None = None,
+    ) -> None:
+        """Writes one page on all limits, with one table and picture, and what may be concluded.
+
+        The options are those of `Report.exhibit`. `decides` names the limit, too, as "max_cut=280
+        ends gap:high": its row is marked as announced, and all others as sensitivity. Without it,
+        the page multiplies the least of all numbers by how many there are.
+
+        Raises what `Report.exhibit` raises, and ValueError if the reports differ in more than one
+        limit.
+        """
+        # An exhibit reads limits of reports, which are loaded as a study.
+        from .exhibit import Options
+        from .exhibit_limits import write
+
+        options = Options(
+            title, parties, graph, columns, command, notes, None, None, decides, manifest, names,
+            geometry, None, ids,
+        )
+        write(path, self.pairs, options)
 
 
 def over_limits(graph: object, **words: Foreign) -> LimitReports:
