@@ -644,7 +644,7 @@ class Progress(common.ProgramCase):
         self.assertEqual(
             stream.getvalue(),
             "".join(
-                f"walking 12 trajectories for {seconds} s (save=1 shows how many are done)\n"
+                f"walking 12 trajectories for {seconds} s (save=1 shows how many are walked)\n"
                 for seconds in (0, 10, 21)
             ),
         )
@@ -672,14 +672,14 @@ class Progress(common.ProgramCase):
         for done in (0, 37, 37, 101):
             bar.show(done, 101)
         bar.end()
-        self.assertEqual(stream.getvalue(), "done 0 of 101\ndone 37 of 101\ndone 101 of 101\n")
+        self.assertEqual(stream.getvalue(), "walked 0 of 101\nwalked 37 of 101\nwalked 101 of 101\n")
         stream = io.StringIO()
         stream.isatty = lambda: True  # type: ignore[assignment]
         bar = progress.PlainBar(stream)
         bar.show(50, 100)
         bar.end()
         drawn = "#" * 20 + "." * 20
-        self.assertEqual(stream.getvalue(), f"\r[{drawn}] done 50 of 100 \n")
+        self.assertEqual(stream.getvalue(), f"\r[{drawn}] walked 50 of 100 \n")
 
     def test_tqdm_where_it_is(self) -> None:
         tqdm = common.needs("tqdm")
