@@ -124,8 +124,7 @@ class Calls(common.ProgramCase):
             workers=4,
             ask=["seats:low", "gap:high", "cut-edges:low"],
         )
-        text = (common.TOP / "README.md").read_text(encoding="utf-8")
-        self.assertIn(f"```\n{report}```", text, "the report is not the one that the README prints")
+        self.assertEqual(str(report), common.readme_report())
 
     def test_an_assignment_stands_for_a_column(self) -> None:
         root = common.example("grid.json")
