@@ -59,6 +59,7 @@ h1 { font-size: 1.6em; margin-bottom: 0; } h2 { font-size: 1.2em; margin-top: 1.
 table { border-collapse: collapse; margin: 0.8em 0; font-size: 0.9em; }
 th, td { border: 1px solid #888; padding: 0.2em 0.5em; text-align: left; vertical-align: top; }
 .results td:nth-child(2), .limits td:nth-child(3) { white-space: nowrap; }
+.hashes td:first-child { width: 25%; }
 td.n, th.n { text-align: right; font-variant-numeric: tabular-nums; }
 thead { display: table-header-group; } tr, figure, pre { break-inside: avoid; }
 h2, h3, .title { break-after: avoid; }
@@ -593,7 +594,7 @@ def provenance(
         *paragraphs([texts.REPEATED]),
         *paragraphs(about_command(plans, options, columns)),
         f"<pre>{lines(command)}</pre>",
-        f"<table><tbody>{''.join(rows)}</tbody></table>",
+        f'<table class="hashes"><tbody>{"".join(rows)}</tbody></table>',
         *reports_in_full(text),
     ]
 

@@ -4,9 +4,11 @@ from __future__ import annotations
 import typing
 from fractions import Fraction
 
-from .arguments import refuse
-from .calls import run
+from .arguments import refuse, tested_elections
+from .calls import NO_WORDS, prepare_once, run, words_in
+from .elections import each_election
 from .errors import AuditError, TypeRefused
+from .preparing import Prepared
 from .report import Report, join_batch
 from .results import NamedReports
 
@@ -96,17 +98,28 @@ def over_limits(graph: object, **words: Foreign) -> LimitReports:
             TypeRefused, "over_limits", next(iter(lists), "max_cut"), lists or words.get("max_cut"),
             f"one limit is a list, of {', '.join(VARIED)}",
         )
-    for name in ("elections", "folder", "save", "resume"):
+    elections = words.get("elections")
+    if elections is None and isinstance(graph, Prepared) and words.get("first") is None:
+        elections = graph.elections or None
+    if elections is not None:
+        ways = each_election(tested_elections(elections, False, "over_limits"))
+        refuse(
+            TypeRefused, "over_limits", "elections", elections,
+            f"over_limits takes one election: call it for each, with {ways}",
+        )
+    for name in ("folder", "save", "resume"):
         if words.get(name):
             refuse(TypeRefused, "over_limits", name, words[name], f"over_limits has no {name}")
     (limit, values), = lists.items()
     given = list(dict.fromkeys(values))
     if not given:
         refuse(TypeRefused, "over_limits", limit, values, "the list of limits is empty")
+    shared, kept = prepare_once(graph, words_in({**words, limit: None, "unknown": {}}))
+    words = {**{name: words[name] for name in words if name in NO_WORDS}, **kept}
     found: dict[object, Report] = {}
     for value in sorted(given, key=lambda one: Fraction(str(one))):
         try:
-            found[value] = run(graph, **{**words, limit: value})
+            found[value] = run(shared, **{**words, limit: value})
         except AuditError as error:
             error.args = (f"{limit}={value}: {error}", *error.args[1:])
             raise

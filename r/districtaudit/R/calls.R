@@ -15,11 +15,33 @@ input_of <- function(graph) {
 ask_program <- function(command, graph, options, input = input_of(graph), folder = NULL) {
   if (!identical(input, graph)) on.exit(unlink(input))
   end <- call_program(words_of(command, options), input, folder)
+  if (grepl("NOT PROVED", sub("\n.*", "", end$out), fixed = TRUE)) {
+    refuse("NotProved", "the program was built without a proof: install one that is proved")
+  }
   if (end$status != 0) {
     report <- if (end$status == 9 && nzchar(end$out)) audit_report(end$out)
     stop_for_status(end$status, end$note, named_in(end$note, graph), report)
   }
   end$out
+}
+
+# Calls a command and returns its text with the record of the call, as a manifest keeps it. `text` is
+# what the program reads, if it is not the map's own graph.
+record_program <- function(command, graph, options, folder = NULL, text = NULL) {
+  started <- read_clock()
+  program <- program_of(find_program())
+  if (is.null(text) && inherits(graph, "audit_map")) text <- graph$json
+  input <- if (is.null(text)) input_of(graph) else write_text(text, tempfile("audit-graph-"))
+  if (!identical(input, graph)) on.exit(unlink(input))
+  read <- file_of(input)
+  out <- ask_program(command, graph, options, input, folder)
+  is_map <- inherits(graph, "audit_map")
+  list(out = out, call = list(
+    words = words_of(command, options), program = program, started = started, ended = read_clock(),
+    read = read, text = text, path = if (!is_map) normalizePath(graph),
+    map_sha256 = if (is_map) sha256_of_text(graph$json) else read$sha256,
+    custody = if (is_map) graph$custody
+  ))
 }
 
 # Returns what the numbers of an error line stand for, in the user's labels.
@@ -49,32 +71,39 @@ named_in <- function(line, graph) {
 #' @param ... The program's options by name, with `_` in place of `-`: `slack` or `tolerance`,
 #'   `max_cut`, `region`, `max_split`, `group`, `group_districts`, `freeze`, `source` and so on. NULL
 #'   drops an option that the prepared map has.
+#' @param limits_from Where the limits come from, as `"law"` or `"older plans"`. Left out, a limit that
+#'   is the enacted plan's own number, or nearly, gives the warning `LimitAtOwnNumber`.
 #' @return An object of class `audit_plan_check`: a list with `text` and `lines`, and for a prepared
 #'   map `districts`, a data frame with a row for each district. Raises an error of class
 #'   `GraphRefused` if the plan is illegal.
 #' @export
-audit_check <- function(graph, ...) {
+audit_check <- function(graph, ..., limits_from = NULL) {
   options <- options_of(graph, list(...))
+  if (inherits(graph, "audit_map") && !is.null(graph$elections) && is.null(options$first)) {
+    # Whether a plan is legal does not depend on votes.
+    options[c("first", "second")] <- as.list(graph$elections[[1]])
+  }
+  call_warnings(graph, options, list(...), limits_from)
   text <- ask_program("check", graph, options)
   lines <- lines_of(text)
   if (lines[1] != "plan-check 1") {
     refuse("ProgramFailed", "the program printed no check: ", lines[1])
   }
   structure(class = "audit_plan_check", list(
-    text = text, lines = lines, districts = if (inherits(graph, "audit_map")) districts_of(graph)
+    text = text, lines = lines, districts = if (inherits(graph, "audit_map")) districts_of(graph, options)
   ))
 }
 
 # Returns the people and votes of each district.
-districts_of <- function(map) {
-  labels <- map$data[[map$columns$district]]
+districts_of <- function(map, options) {
+  labels <- map$data[[options$district]]
   ordered <- in_order(labels)
   total <- function(values) vapply(ordered, function(one) sum(values[labels == one]), 0)
-  first <- unname(total(map$data[[map$columns$first]]))
-  second <- unname(total(map$data[[map$columns$second]]))
+  first <- unname(total(map$data[[options$first]]))
+  second <- unname(total(map$data[[options$second]]))
   data.frame(
     district = ordered, units = unname(total(rep(1, length(labels)))),
-    population = unname(total(map$data[[map$columns$pop]])), first = first, second = second,
+    population = unname(total(map$data[[options$pop]])), first = first, second = second,
     first_share = ifelse(first + second > 0, first / (first + second), NA),
     stringsAsFactors = FALSE
   )
@@ -90,24 +119,81 @@ print.audit_plan_check <- function(x, ...) {
 #' Runs an audit
 #'
 #' Calls the program's command `run`, which walks from the enacted plan and reports how extreme the
-#' plan is among the plans visited.
+#' plan is among the plans visited. With several elections it is called once for each, with the same
+#' key and so with the same plans.
 #'
 #' @inheritParams audit_check
 #' @param key The key of all draws: 64 hexadecimal digits, as [audit_key()] makes them.
 #' @param ask The questions: texts such as `"seats:low"`, or a named vector, `c(seats = "low")`.
 #' @param ... The program's options by name, with `_` in place of `-`: `walks`, `steps`, `ends`,
-#'   `hub_steps`, `workers`, `pairs`, `stop`, `serial`, `shift`, `save`, `resume`, `budget` and so on,
-#'   and those of [audit_check()].
-#' @param folder The folder of the checkpoints of a run with `save`.
+#'   `hub_steps`, `workers`, `pairs`, `stop`, `serial`, `shift`, `cut_weight`, `save`, `resume`,
+#'   `budget` and so on, and those of [audit_check()].
+#' @param elections Several elections, as [audit_prepare()] takes them. Left out, they are those of
+#'   the prepared map, if it has any and `first` and `second` are not given.
+#' @param folder The folder of the checkpoints of a run with `save`. Each of several elections has a
+#'   folder of its name in it.
 #' @param overwrite Whether a run may start anew in a folder that has checkpoints.
-#' @return An object of class `audit_report`; see [audit_report()]. Raises an error of class
-#'   `WorkLeft`, with `done` and `total`, if the budget ends before the run; the same call with
-#'   `resume = TRUE` goes on.
+#' @return An object of class `audit_report`; see [audit_report()]. With several elections an object
+#'   of class `audit_reports`: a list of reports by name, for `as.data.frame`, `autoplot` and
+#'   [audit_to_files()]. Raises an error of class `WorkLeft`, with `done` and `total`, if the budget
+#'   ends before the run; the same call with `resume = TRUE` goes on. Warns with class `FrozenWalk` of
+#'   walks that changed the plan fewer times than there are units.
 #' @export
-audit_run <- function(graph, key, ask, ..., folder = NULL, overwrite = FALSE) {
-  options <- options_of(graph, list(key = key, ask = ask, ...))
-  saves <- !is.null(options$save) && options$save != "0"
-  if (saves && !identical(options$resume, "yes") && !overwrite) {
+audit_run <- function(graph, key, ask, ..., elections = NULL, limits_from = NULL, folder = NULL,
+                      overwrite = FALSE) {
+  given <- list(key = key, ask = ask, ...)
+  if (!is.null(given$blind)) {
+    refuse("ArgumentRefused", "a blind run shows no report: call audit_pilot()")
+  }
+  chosen <- chosen_elections(graph, elections, given)
+  pairs <- if (is.null(chosen)) list(NULL) else chosen
+  asked <- lapply(pairs, function(pair) {
+    options_of(graph, c(given, if (!is.null(pair)) list(first = pair[1], second = pair[2])))
+  })
+  folders <- folders_of(asked, folder, names(chosen))
+  Map(function(options, place) test_folder(options, place, overwrite), asked, folders)
+  found <- call_warnings(graph, asked[[1]], given, limits_from)
+  reports <- Map(function(options, place) {
+    made <- record_program("run", graph, options, place)
+    new_report(audit_report(made$out), made$call, found, limits_from)
+  }, asked, folders)
+  if (is.null(chosen)) {
+    warn_of_frozen(unname(reports))
+    return(reports[[1]])
+  }
+  warn_of_frozen(reports, "election")
+  new_reports(reports, names(chosen), "election")
+}
+
+# Returns the elections of a call, or NULL if it has one without a name.
+chosen_elections <- function(graph, elections, given) {
+  if (!is.null(elections)) {
+    return(elections_in(elections, given$first, given$second))
+  }
+  if (inherits(graph, "audit_map") && is.null(given$first) && is.null(given$second)) graph$elections
+}
+
+saves_of <- function(options) !is.null(options$save) && options$save != "0"
+
+# Returns the folder of each run. Those of several elections are made, if the runs save.
+folders_of <- function(asked, folder, names) {
+  if (is.null(names) || !saves_of(asked[[1]])) {
+    return(rep(list(folder), length(asked)))
+  }
+  if (any(grepl("[/\\\\]", names)) || any(names %in% c(".", ".."))) {
+    refuse("ArgumentRefused", "with save, each election has a folder of its name: ", shown(names))
+  }
+  places <- file.path(if (is.null(folder)) "." else folder, names)
+  for (place in places) dir.create(place, showWarnings = FALSE)
+  as.list(places)
+}
+
+# Refuses a folder that is not there, or that has the checkpoints of another run.
+test_folder <- function(options, folder, overwrite) {
+  if (!is.null(folder) && !dir.exists(folder)) {
+    refuse("ArgumentRefused", "there is no folder ", folder)
+  }
+  if (saves_of(options) && !identical(options$resume, "yes") && !overwrite) {
     found <- file.path(if (is.null(folder)) "." else folder, c("audit-0.ckpt", "audit-1.ckpt"))
     if (any(file.exists(found))) {
       refuse(
@@ -116,95 +202,4 @@ audit_run <- function(graph, key, ask, ..., folder = NULL, overwrite = FALSE) {
       )
     }
   }
-  found <- c(question_warnings(options), if (!is.null(list(...)$group_share)) share_warnings(options))
-  warn_all(found)
-  report <- audit_report(ask_program("run", graph, options, folder = folder))
-  report$warnings <- c(if (inherits(graph, "audit_map")) graph$warnings, found)
-  report
-}
-
-#' Audits several plans on one map
-#'
-#' @inheritParams audit_run
-#' @param graph What [audit_prepare()] returned.
-#' @param plans A matrix with a row for each unit in the map's order and a plan in each column, such
-#'   as redist's, or a data frame of this form. Row names that are not just 1, 2, .. are ids.
-#' @param districts `"same"` refuses a plan with another number of districts than the enacted plan.
-#' @return A named list of reports: the enacted plan's, named as its column, then each plan's.
-#' @export
-audit_plans <- function(graph, plans, key, ask, ..., districts = c("same", "any")) {
-  if (!inherits(graph, "audit_map")) {
-    refuse("ArgumentRefused", "graph must be what audit_prepare() returned")
-  }
-  table <- table_of(graph, plans, match.arg(districts))
-  options <- options_of(graph, list(key = key, ask = ask, ...))
-  warn_all(question_warnings(options))
-  input <- write_text(paste0(graph$json, table), tempfile("audit-plans-"))
-  split_plans(ask_program("plans", graph, options, input))
-}
-
-# Returns the reports of a text of the command `plans`, by the names of the plans.
-split_plans <- function(text) {
-  lines <- lines_of(text)
-  heads <- grep("^plan ", lines)
-  ends <- c(heads[-1] - 1, length(lines))
-  reports <- mapply(function(from, to) {
-    audit_report(paste0(lines[seq(from + 1, to)], "\n", collapse = ""))
-  }, heads, ends, SIMPLIFY = FALSE)
-  named(reports, sub("^plan ", "", lines[heads]))
-}
-
-# Returns the table of plans as the program reads it.
-table_of <- function(graph, plans, districts) {
-  if (inherits(plans, "redist_plans")) {
-    plans <- attr(plans, "plans")
-  }
-  if (!is.matrix(plans) && !is.data.frame(plans)) {
-    refuse("ArgumentRefused", "plans must be a matrix or a data frame, units by plans")
-  }
-  if (is.null(colnames(plans))) {
-    colnames(plans) <- paste0("plan", seq_len(ncol(plans)))
-  }
-  ids <- row_ids(graph, plans)
-  columns <- lapply(seq_len(ncol(plans)), function(place) {
-    labels <- labels_of(plans[, place, drop = TRUE], colnames(plans)[place], ids)
-    count <- length(unique(labels))
-    wanted <- length(unique(graph$data[[graph$columns$district]]))
-    if (districts == "same" && count != wanted) {
-      refuse(
-        "PrepareRefused", "plan ", colnames(plans)[place], " has ", count, " districts, and the",
-        " enacted plan ", wanted, " (districts = \"any\" allows this)"
-      )
-    }
-    labels
-  })
-  field <- function(values) {
-    text <- if (is.numeric(values)) sprintf("%.0f", values) else enc2utf8(as.character(values))
-    paste0("\"", gsub("\"", "\"\"", text, fixed = TRUE), "\"")
-  }
-  head <- paste(field(c("id", colnames(plans))), collapse = ",")
-  rows <- do.call(paste, c(list(field(ids)), lapply(columns, field), sep = ","))
-  paste0(paste(c(head, rows), collapse = "\n"), "\n")
-}
-
-# Returns the ids of a table's rows. Units are matched by row names, or else by their places.
-row_ids <- function(graph, plans) {
-  names <- rownames(plans)
-  if (is.null(names) || identical(names, as.character(seq_len(nrow(plans))))) {
-    if (nrow(plans) != length(graph$ids)) {
-      refuse(
-        "PrepareRefused", "plans has ", nrow(plans), " rows, and the map ", length(graph$ids), " units"
-      )
-    }
-    return(graph$ids)
-  }
-  known <- if (is.numeric(graph$ids)) sprintf("%.0f", graph$ids) else graph$ids
-  strange <- setdiff(names, known)
-  if (length(strange) > 0 || length(names) != length(known)) {
-    refuse(
-      "PrepareRefused", "the row names of plans are not the map's ids: ",
-      if (length(strange) > 0) shown(strange) else paste("missing", shown(setdiff(known, names)))
-    )
-  }
-  names
 }

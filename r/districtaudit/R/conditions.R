@@ -46,6 +46,13 @@ warn_all <- function(found) {
 
 # Returns the first of some labels as one text, and says how many more there are.
 shown <- function(labels, most = 5) {
+  labels <- as_plain(labels)
   text <- paste(labels[seq_len(min(most, length(labels)))], collapse = ", ")
   if (length(labels) > most) paste0(text, " and ", length(labels) - most, " more") else text
+}
+
+# Returns a change of a preparation: its kind in words, the ids of its units (none: it is of the
+# whole map), the change of its column's sum, and whether values or edges became others.
+new_change <- function(kind, units = integer(), moved = 0, is_of_values = FALSE) {
+  list(kind = kind, units = units, moved = moved, is_of_values = is_of_values)
 }

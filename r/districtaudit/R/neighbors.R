@@ -2,13 +2,13 @@
 
 # Returns neighbors from what a caller gives: NULL (from polygons), spdep's `nb`, sf's `sgbp`,
 # redist's lists (places from 0), or any list of places.
-neighbors_of <- function(map, adjacency, queen) {
+neighbors_of <- function(map, adjacency, queen, ids) {
   count <- nrow(map)
-  if (is.null(adjacency) && !is.null(attr(map, "adj_col"))) {
-    adjacency <- map[[attr(map, "adj_col")]]
-  }
   if (is.null(adjacency)) {
-    return(touching(map, queen))
+    if (!inherits(map, "sf")) {
+      refuse("PrepareRefused", "adjacency is missing: without it, map must be a data frame of sf")
+    }
+    return(touching(map, queen, ids))
   }
   if (!is.list(adjacency) || length(adjacency) != count) {
     refuse(
@@ -16,21 +16,19 @@ neighbors_of <- function(map, adjacency, queen) {
       " units, not ", if (is.list(adjacency)) paste("of", length(adjacency)) else class(adjacency)[1]
     )
   }
-  test_symmetric(from_one(adjacency, count))
+  test_symmetric(from_one(adjacency, count), ids)
 }
 
 # Returns the neighbors of polygons: a common line, or with `queen` also a common point.
-touching <- function(map, queen) {
-  if (!inherits(map, "sf")) {
-    refuse("PrepareRefused", "adjacency is missing: without it, map must be a data frame of sf")
+#
+# Only the boundaries count, so that polygons that overlap a little keep their common line.
+touching <- function(map, queen, ids) {
+  shapes <- shapes_of(map, ids)
+  sharing <- if (queen) {
+    sf::st_intersects(shapes, shapes)
+  } else {
+    sf::st_relate(shapes, shapes, pattern = "****1****")
   }
-  if (!requireNamespace("sf", quietly = TRUE)) {
-    refuse("PrepareRefused", "the package sf is missing: install it, or give adjacency")
-  }
-  shapes <- sf::st_geometry(map)
-  # Neighbors are a matter of shared points, and the same in any plane.
-  shapes <- suppressWarnings(sf::st_set_crs(shapes, NA))
-  sharing <- sf::st_relate(shapes, shapes, pattern = if (queen) "F***T****" else "F***1****")
   lapply(seq_along(sharing), function(unit) setdiff(sharing[[unit]], unit))
 }
 
@@ -53,20 +51,91 @@ from_one <- function(adjacency, count) {
       " from 1"
     )
   }
-  if (any(every == 0)) lapply(rows, function(row) row + 1) else rows
-}
-
-# Refuses a neighbor that does not list the unit in turn: such a list is mostly shifted by one.
-test_symmetric <- function(rows) {
-  from <- rep(seq_along(rows), lengths(rows))
-  to <- unlist(rows)
-  one_way <- !(paste(to, from) %in% paste(from, to))
-  if (any(one_way)) {
-    at <- which(one_way)[1]
+  moved <- lapply(rows, function(row) row + 1)
+  if (is_from_one || length(every) == 0 || any(every == count)) {
+    return(rows)
+  }
+  if (any(every == 0)) {
+    return(moved)
+  }
+  # The first or last unit has no neighbor. A list that is shifted by one is mostly not symmetric.
+  if (is_symmetric(rows) && is_symmetric(moved)) {
     refuse(
-      "PrepareRefused", "adjacency: unit ", from[at], " lists unit ", to[at],
-      ", which does not list it (counted from 1)"
+      "PrepareRefused", "adjacency has neither 0 nor ", count, ", so its places may count from 0 or",
+      " from 1: structure(adjacency, class = \"nb\") counts from 1"
     )
   }
+  if (is_symmetric(moved)) moved else rows
+}
+
+is_symmetric <- function(rows) {
+  from <- rep(seq_along(rows), lengths(rows))
+  to <- unlist(rows)
+  all(paste(to, from) %in% paste(from, to))
+}
+
+# Refuses a neighbor that does not list the unit in turn: such a list is mostly shifted by one. A
+# unit that lists itself, or another one twice, is refused, too.
+test_symmetric <- function(rows, ids) {
+  from <- rep(seq_along(rows), lengths(rows))
+  to <- unlist(rows)
+  say <- function(bad, what) {
+    if (any(bad)) {
+      at <- which(bad)[1]
+      refuse(
+        "PrepareRefused", "adjacency: unit ", shown(ids[from[at]]), " lists unit ",
+        shown(ids[to[at]]), what
+      )
+    }
+  }
+  say(from == to, ", which is itself")
+  say(duplicated(paste(from, to)), " twice")
+  say(!(paste(to, from) %in% paste(from, to)), ", which does not list it")
   rows
+}
+
+# Returns neighbors and lengths with the pairs of units that are to be joined, and the changes.
+join_units <- function(rows, long, join, ids) {
+  if (length(join) == 2 && !is.list(join)) join <- list(join)
+  changes <- list()
+  for (pair in join) {
+    at <- match(as_plain(unlist(pair)), as_plain(ids))
+    if (length(at) != 2 || anyNA(at)) {
+      refuse(
+        "PrepareRefused", "join must be a list of pairs of ids, and ", shown(unlist(pair)),
+        " are not two ids of units"
+      )
+    }
+    if (at[1] == at[2]) {
+      refuse("PrepareRefused", "unit ", as_plain(ids[at[1]]), " cannot be joined to itself")
+    }
+    are_neighbors <- at[2] %in% rows[[at[1]]]
+    for (ends in if (are_neighbors) list() else list(at, rev(at))) {
+      rows[[ends[1]]] <- c(rows[[ends[1]]], ends[2])
+      if (!is.null(long)) long[[ends[1]]] <- c(long[[ends[1]]], 0)
+    }
+    names <- as_json(ids[at])
+    done <- if (are_neighbors) "were neighbors already" else "made neighbors"
+    changes <- c(changes, list(new_change(
+      paste("units", names[1], "and", names[2], done), is_of_values = !are_neighbors
+    )))
+  }
+  list(rows = rows, long = long, changes = changes)
+}
+
+# Returns the number of the part of the graph in which each unit lies.
+parts_of <- function(rows) {
+  part <- integer(length(rows))
+  for (start in seq_along(rows)) {
+    if (part[start] == 0) {
+      count <- max(part) + 1L
+      todo <- start
+      while (length(todo) > 0) {
+        part[todo] <- count
+        todo <- unique(unlist(rows[todo]))
+        todo <- todo[part[todo] == 0]
+      }
+    }
+  }
+  part
 }

@@ -3,16 +3,21 @@
 #' A method of ggplot2's generic `autoplot`. It shows each bound of a walk or pair and each p-value
 #' by its question, on a logarithmic axis. Bounds above 1 say nothing and stand at 1.
 #'
-#' @param object An `audit_report`.
+#' @param object An `audit_report`, or `audit_reports` with a panel for each.
 #' @param ... Not used.
 #' @return An object of ggplot2.
 #' @exportS3Method ggplot2::autoplot
-autoplot.audit_report <- function(object, ...) {
-  tests <- object$tests
-  shown <- data.frame(
-    ask = tests$ask, test = tests$test,
-    number = pmin(ifelse(is.na(tests$p), tests$bound, tests$p), 1)
-  )
+autoplot.audit_report <- function(object, ...) draw_tests(object$tests)
+
+#' @rdname autoplot.audit_report
+#' @exportS3Method ggplot2::autoplot
+autoplot.audit_reports <- function(object, ...) {
+  frame <- as.data.frame(object)
+  draw_tests(frame) + ggplot2::facet_wrap(stats::as.formula(paste("~", attr(object, "kind"))), ncol = 1)
+}
+
+draw_tests <- function(tests) {
+  shown <- cbind(tests, number = pmin(ifelse(is.na(tests$p), tests$bound, tests$p), 1))
   # In aes() this stands for the data; it is set here for checkers, which find no such variable.
   .data <- NULL
   # A bound is rounded up, so it is never 0.

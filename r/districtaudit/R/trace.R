@@ -5,7 +5,7 @@
 #' @inheritParams audit_run
 #' @param graph What [audit_prepare()] returned.
 #' @param ids The trajectories: an id or a range such as `0:3`. Walks have the ids from 0, and the
-#'   endpoint trajectories those behind.
+#'   trajectories to ends those behind.
 #' @param thin The number of steps between two plans.
 #' @param last Whether the last plan of each trajectory is there even if the number of its steps is
 #'   no multiple of `thin`.
@@ -14,11 +14,15 @@
 #'   their labels. `as.data.frame` gives a row for each plan: its trajectory, step, number of moves,
 #'   and score for each question.
 #' @export
-audit_trace <- function(graph, key, ask, ids = 0, thin = 1000, ..., last = FALSE) {
+audit_trace <- function(graph, key, ask, ids = 0, thin = 1000, ..., last = FALSE,
+                        limits_from = NULL) {
   if (!inherits(graph, "audit_map")) {
     refuse("ArgumentRefused", "graph must be what audit_prepare() returned")
   }
-  options <- options_of(graph, list(key = key, ask = ask, ids = ids, thin = thin, ...))
+  given <- list(key = key, ask = ask, ids = ids, thin = thin, ...)
+  options <- options_of(graph, given)
+  need_election(graph, options, "audit_trace")
+  call_warnings(graph, options, given, limits_from)
   lines <- lines_of(ask_program("trace", graph, options))
   if (lines[1] != "district-trace 1" || lines[length(lines)] != "end") {
     refuse("ReportRefused", "the text does not begin with district-trace 1 and end with end")
@@ -53,8 +57,6 @@ read_trace <- function(lines, graph, multiple) {
   rownames(plans) <- as.character(as_plain(graph$ids))
   structure(plans, class = c("audit_trace", class(plans)), districts = districts, plans = table)
 }
-
-as_plain <- function(ids) if (is.numeric(ids)) sprintf("%.0f", ids) else ids
 
 # Returns the plans of one trajectory: each line changes the plan of the line before.
 read_section <- function(lines, id, plan, asks) {

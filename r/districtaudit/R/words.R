@@ -14,17 +14,24 @@ audit_key <- function(text) {
   if (!is.character(text) || length(text) != 1 || is.na(text)) {
     refuse("ArgumentRefused", "text must be one text")
   }
-  bytes <- charToRaw(enc2utf8(text))
+  path <- write_text(text, tempfile())
+  on.exit(unlink(path))
+  found <- sha256_of(path)
+  if (is.na(found)) {
+    refuse("ArgumentRefused", "SHA-256 needs the package digest, or R 4.5")
+  }
+  found
+}
+
+# Returns the SHA-256 of a file's bytes; NA if nothing here computes it.
+sha256_of <- function(path) {
   if (requireNamespace("digest", quietly = TRUE)) {
-    return(digest::digest(bytes, algo = "sha256", serialize = FALSE))
+    return(digest::digest(path, algo = "sha256", file = TRUE))
   }
   tools <- asNamespace("tools")
   if (!exists("sha256sum", tools)) {
-    refuse("ArgumentRefused", "SHA-256 needs the package digest, or R 4.5")
+    return(NA_character_)
   }
-  path <- tempfile()
-  on.exit(unlink(path))
-  writeBin(bytes, path)
   unname(get("sha256sum", tools)(path))
 }
 
@@ -75,12 +82,26 @@ rules_of <- function(given) {
   names(given)[renamed] <- other[names(given)[renamed]]
   is_tolerance <- names(given) == "tolerance"
   given[is_tolerance] <- lapply(given[is_tolerance], slack_of)
+  test_percent(given)
   names(given)[is_tolerance] <- "slack"
   twice <- names(given)[duplicated(names(given))]
   if (length(twice) > 0) {
     refuse("ArgumentRefused", twice[1], " is given twice")
   }
   mapply(word_of, names(given), given, SIMPLIFY = FALSE)
+}
+
+# Refuses parts where the program counts hundredths of a percent.
+test_percent <- function(given) {
+  for (name in intersect(names(given), c("slack", "group_share"))) {
+    value <- given[[name]]
+    if (is.numeric(value) && length(value) == 1 && !is.na(value) && value > 0 && value < 1) {
+      refuse(
+        "ArgumentRefused", name, " counts hundredths of a percent: for ", 100 * value,
+        " percent write ", name, " = ", 10000 * value
+      )
+    }
+  }
 }
 
 # Returns hundredths of a percent.
@@ -95,16 +116,34 @@ slack_of <- function(tolerance) {
   round(slack)
 }
 
+# The rules that say nothing without a column.
+NEED <- list(
+  region = c("max_split", "max_splits", "max_split_regions"),
+  group = c("group_of", "group_districts", "group_share"), length = "max_length"
+)
+
 # Returns the options of a call: those of the prepared map, and over them those of the call.
 options_of <- function(graph, given) {
   dropped <- names(given)[vapply(given, is.null, NA)]
+  dropped <- c(dropped, unlist(NEED[intersect(names(NEED), dropped)]))
   given <- rules_of(given)
   if (!inherits(graph, "audit_map")) {
     return(given)
   }
   kept <- c(graph$columns, graph$rules)
   kept <- kept[setdiff(names(kept), dropped)]
-  c(kept[setdiff(names(kept), names(given))], given)
+  options <- c(kept[setdiff(names(kept), names(given))], given)
+  for (role in intersect(COLUMNS, names(given))) {
+    name <- given[[role]]
+    known <- if (role == "length") graph$columns$length else names(graph$data)
+    if (nzchar(name) && !name %in% known) {
+      refuse(
+        "ArgumentRefused", "the prepared map has no column ", name, " (", role,
+        "): name it in audit_prepare()"
+      )
+    }
+  }
+  options
 }
 
 words_of <- function(command, options) {

@@ -4,7 +4,7 @@
 \alias{audit_check}
 \title{Checks an enacted plan}
 \usage{
-audit_check(graph, ...)
+audit_check(graph, ..., limits_from = NULL)
 }
 \arguments{
 \item{graph}{What \code{\link[=audit_prepare]{audit_prepare()}} returned, or the path of a graph in JSON. With a path the
@@ -13,6 +13,9 @@ columns are arguments: \code{population}, \code{first}, \code{second}, \code{dis
 \item{...}{The program's options by name, with \verb{_} in place of \code{-}: \code{slack} or \code{tolerance},
 \code{max_cut}, \code{region}, \code{max_split}, \code{group}, \code{group_districts}, \code{freeze}, \code{source} and so on. NULL
 drops an option that the prepared map has.}
+
+\item{limits_from}{Where the limits come from, as \code{"law"} or \code{"older plans"}. Left out, a limit that
+is the enacted plan's own number, or nearly, gives the warning \code{LimitAtOwnNumber}.}
 }
 \value{
 An object of class \code{audit_plan_check}: a list with \code{text} and \code{lines}, and for a prepared

@@ -7,23 +7,29 @@
 audit_prepare(
   map,
   population = attr(map, "pop_col"),
-  first,
-  second,
+  first = NULL,
+  second = NULL,
   district = attr(map, "existing_col"),
   adjacency = NULL,
   ...,
+  elections = NULL,
   id = NULL,
   region = NULL,
   group = NULL,
   group_of = NULL,
   freeze = NULL,
+  length = NULL,
+  lengths = NULL,
+  join = NULL,
   numbers = c("error", "nearest"),
-  queen = FALSE
+  queen = FALSE,
+  files = NULL
 )
 }
 \arguments{
 \item{map}{A data frame with a row for each unit: of \code{sf}, a plain one with \code{adjacency}, or a
-\code{redist_map}, whose neighbors, populations and existing plan are used if no others are named.}
+\code{redist_map}. Of the last its neighbors, populations, existing plan and tolerance are used, if
+no others are named.}
 
 \item{population, first, second, district}{The names of the columns of people, of both parties'
 votes, and of the enacted plan's districts.}
@@ -32,25 +38,45 @@ votes, and of the enacted plan's districts.}
 from 0, as redist has them, are recognized. NULL finds neighbors by the polygons' common lines.}
 
 \item{...}{Rules for every call: \code{slack} or \code{tolerance}, \code{max_cut}, \code{max_split} and so on, as
-\code{\link[=audit_run]{audit_run()}} takes them.}
+\code{\link[=audit_run]{audit_run()}} takes them. \code{slack} and \code{group_share} count hundredths of a percent.}
 
-\item{id}{The name of the column of ids; NULL numbers the units from 0.}
+\item{elections}{Several elections in place of \code{first} and \code{second}: a list of pairs of columns by
+name, \code{list(GOV18 = c("G18D", "G18R"), SEN20 = c("S20D", "S20R"))}.}
+
+\item{id}{The name of the column of ids; NULL takes the numbers of the rows.}
 
 \item{region, group, group_of, freeze}{The names of further columns; NULL if there is none.}
+
+\item{length}{The name of the edges' lengths, as \code{"shared_perim"}, for the question \code{cut-length}
+and the rule \code{max_length}; NULL if there are none. Of polygons they are the common borders, in
+the units of the coordinates. They are made whole, so give meters and not kilometers.}
+
+\item{lengths}{The lengths, if they are not those of the polygons: a list as \code{adjacency}, with a
+length for each neighbor.}
+
+\item{join}{Pairs of ids of units to be made neighbors, as an island and its ferry's port:
+\code{list(c("A", "B"))}. Their edge has a length of 0.}
 
 \item{numbers}{\code{"error"} or \code{"nearest"}.}
 
 \item{queen}{TRUE makes polygons with only a common point neighbors, too.}
+
+\item{files}{The paths of the files from which the map was read. A manifest keeps their SHA-256.}
 }
 \value{
 An object of class \code{audit_map}, a list with \code{json} (the graph), \code{ids}, \code{data} (the
-columns), \code{adjacency} (places from 1), \code{columns}, \code{rules}, \code{changes} and \code{warnings}. Raises an
-error of class \code{PrepareRefused}.
+columns), \code{adjacency} (places from 1), \code{lengths}, \code{columns}, \code{elections}, \code{rules}, \code{changes},
+\code{islands} (the ids of units without a neighbor), \code{parts} (the number of the part of the graph in
+which each unit lies), \code{warnings} and \code{custody}. Raises an error of class \code{PrepareRefused}.
 }
 \description{
 Checks the columns of a map and writes the graph that the program reads. Values that are missing
 are refused by unit. Values that are not whole are refused, too, or rounded with
 \code{numbers = "nearest"} (halves to even); \code{changes} of the answer lists each of these.
+}
+\details{
+Factors are labels for districts and regions, and are refused as numbers. The order of the rows
+is that of the units in \code{\link[=audit_trace]{audit_trace()}} and in plans without row names.
 }
 \examples{
 units <- data.frame(

@@ -4,12 +4,14 @@
 \alias{audit_read}
 \title{Reads a graph of GerryChain or networkx}
 \usage{
-audit_read(path, ...)
+audit_read(path, ..., length = NULL)
 }
 \arguments{
 \item{path}{The file.}
 
-\item{...}{The arguments of \code{\link[=audit_prepare]{audit_prepare()}} other than \code{map}, \code{adjacency} and \code{id}.}
+\item{...}{The arguments of \code{\link[=audit_prepare]{audit_prepare()}} other than \code{map}, \code{adjacency}, \code{lengths} and \code{id}.}
+
+\item{length}{The name of the edges' lengths, as \code{"shared_perim"}; NULL if there are none.}
 }
 \value{
 What \code{\link[=audit_prepare]{audit_prepare()}} returns.

@@ -4,7 +4,16 @@
 \alias{audit_run}
 \title{Runs an audit}
 \usage{
-audit_run(graph, key, ask, ..., folder = NULL, overwrite = FALSE)
+audit_run(
+  graph,
+  key,
+  ask,
+  ...,
+  elections = NULL,
+  limits_from = NULL,
+  folder = NULL,
+  overwrite = FALSE
+)
 }
 \arguments{
 \item{graph}{What \code{\link[=audit_prepare]{audit_prepare()}} returned, or the path of a graph in JSON. With a path the
@@ -15,19 +24,29 @@ columns are arguments: \code{population}, \code{first}, \code{second}, \code{dis
 \item{ask}{The questions: texts such as \code{"seats:low"}, or a named vector, \code{c(seats = "low")}.}
 
 \item{...}{The program's options by name, with \verb{_} in place of \code{-}: \code{walks}, \code{steps}, \code{ends},
-\code{hub_steps}, \code{workers}, \code{pairs}, \code{stop}, \code{serial}, \code{shift}, \code{save}, \code{resume}, \code{budget} and so on,
-and those of \code{\link[=audit_check]{audit_check()}}.}
+\code{hub_steps}, \code{workers}, \code{pairs}, \code{stop}, \code{serial}, \code{shift}, \code{cut_weight}, \code{save}, \code{resume},
+\code{budget} and so on, and those of \code{\link[=audit_check]{audit_check()}}.}
 
-\item{folder}{The folder of the checkpoints of a run with \code{save}.}
+\item{elections}{Several elections, as \code{\link[=audit_prepare]{audit_prepare()}} takes them. Left out, they are those of
+the prepared map, if it has any and \code{first} and \code{second} are not given.}
+
+\item{limits_from}{Where the limits come from, as \code{"law"} or \code{"older plans"}. Left out, a limit that
+is the enacted plan's own number, or nearly, gives the warning \code{LimitAtOwnNumber}.}
+
+\item{folder}{The folder of the checkpoints of a run with \code{save}. Each of several elections has a
+folder of its name in it.}
 
 \item{overwrite}{Whether a run may start anew in a folder that has checkpoints.}
 }
 \value{
-An object of class \code{audit_report}; see \code{\link[=audit_report]{audit_report()}}. Raises an error of class
-\code{WorkLeft}, with \code{done} and \code{total}, if the budget ends before the run; the same call with
-\code{resume = TRUE} goes on.
+An object of class \code{audit_report}; see \code{\link[=audit_report]{audit_report()}}. With several elections an object
+of class \code{audit_reports}: a list of reports by name, for \code{as.data.frame}, \code{autoplot} and
+\code{\link[=audit_to_files]{audit_to_files()}}. Raises an error of class \code{WorkLeft}, with \code{done} and \code{total}, if the budget
+ends before the run; the same call with \code{resume = TRUE} goes on. Warns with class \code{FrozenWalk} of
+walks that changed the plan fewer times than there are units.
 }
 \description{
 Calls the program's command \code{run}, which walks from the enacted plan and reports how extreme the
-plan is among the plans visited.
+plan is among the plans visited. With several elections it is called once for each, with the same
+key and so with the same plans.
 }

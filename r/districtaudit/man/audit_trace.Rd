@@ -4,7 +4,16 @@
 \alias{audit_trace}
 \title{Reads the plans that a run visits}
 \usage{
-audit_trace(graph, key, ask, ids = 0, thin = 1000, ..., last = FALSE)
+audit_trace(
+  graph,
+  key,
+  ask,
+  ids = 0,
+  thin = 1000,
+  ...,
+  last = FALSE,
+  limits_from = NULL
+)
 }
 \arguments{
 \item{graph}{What \code{\link[=audit_prepare]{audit_prepare()}} returned.}
@@ -14,16 +23,19 @@ audit_trace(graph, key, ask, ids = 0, thin = 1000, ..., last = FALSE)
 \item{ask}{The questions: texts such as \code{"seats:low"}, or a named vector, \code{c(seats = "low")}.}
 
 \item{ids}{The trajectories: an id or a range such as \code{0:3}. Walks have the ids from 0, and the
-endpoint trajectories those behind.}
+trajectories to ends those behind.}
 
 \item{thin}{The number of steps between two plans.}
 
 \item{...}{The program's options by name, with \verb{_} in place of \code{-}: \code{walks}, \code{steps}, \code{ends},
-\code{hub_steps}, \code{workers}, \code{pairs}, \code{stop}, \code{serial}, \code{shift}, \code{save}, \code{resume}, \code{budget} and so on,
-and those of \code{\link[=audit_check]{audit_check()}}.}
+\code{hub_steps}, \code{workers}, \code{pairs}, \code{stop}, \code{serial}, \code{shift}, \code{cut_weight}, \code{save}, \code{resume},
+\code{budget} and so on, and those of \code{\link[=audit_check]{audit_check()}}.}
 
 \item{last}{Whether the last plan of each trajectory is there even if the number of its steps is
 no multiple of \code{thin}.}
+
+\item{limits_from}{Where the limits come from, as \code{"law"} or \code{"older plans"}. Left out, a limit that
+is the enacted plan's own number, or nearly, gives the warning \code{LimitAtOwnNumber}.}
 }
 \value{
 A matrix of class \code{audit_trace} with a row for each unit and a column for each plan, as

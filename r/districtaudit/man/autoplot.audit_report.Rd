@@ -2,12 +2,15 @@
 % Please edit documentation in R/plots.R
 \name{autoplot.audit_report}
 \alias{autoplot.audit_report}
+\alias{autoplot.audit_reports}
 \title{Draws a report}
 \usage{
 autoplot.audit_report(object, ...)
+
+autoplot.audit_reports(object, ...)
 }
 \arguments{
-\item{object}{An \code{audit_report}.}
+\item{object}{An \code{audit_report}, or \code{audit_reports} with a panel for each.}
 
 \item{...}{Not used.}
 }

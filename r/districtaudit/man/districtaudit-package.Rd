@@ -6,9 +6,10 @@
 \alias{districtaudit-package}
 \title{Audits districting plans with the program district-audit}
 \description{
-The functions prepare a map (\code{\link[=audit_prepare]{audit_prepare()}}), call the installed program (\code{\link[=audit_check]{audit_check()}},
-\code{\link[=audit_run]{audit_run()}}, \code{\link[=audit_plans]{audit_plans()}}, \code{\link[=audit_trace]{audit_trace()}}), and read what it prints. They compute no test
-themselves: every number of a report is the program's.
+The functions prepare a map (\code{\link[=audit_prepare]{audit_prepare()}}), try walks without a score (\code{\link[=audit_pilot]{audit_pilot()}}), call
+the installed program (\code{\link[=audit_check]{audit_check()}}, \code{\link[=audit_run]{audit_run()}}, \code{\link[=audit_plans]{audit_plans()}}, \code{\link[=audit_trace]{audit_trace()}}), and read
+what it prints. They compute no test themselves: every number of a report is the program's.
+\code{\link[=audit_to_files]{audit_to_files()}} writes reports with a manifest, and says how to make an exhibit of them.
 }
 \section{The program}{
 
@@ -22,12 +23,17 @@ Errors have the class \code{AuditError} and one of these classes, with the field
 (the program's line on standard error): \code{WordsRefused} (1), \code{GraphRefused} (2), \code{MemoryRefused}
 (3), \code{ReadFault} (4), \code{WriteFault} (5), \code{CheckpointUnreadable} (6), \code{WorkLeft} (7),
 \code{CheckpointRefused} (8), \code{SaveFault} (9), and \code{ProgramFailed} for any other end. What is refused
-before a call is of class \code{PrepareRefused} (the map) or \code{ArgumentRefused}. The field \code{labels} has
+before a call is of class \code{PrepareRefused} (the map) or \code{ArgumentRefused}; \code{ReportRefused},
+\code{ManifestRefused} and \code{NotProved} are of texts that are no report, no manifest, or made by a program
+without a proof. The field \code{labels} has
 the labels of the units and districts that the line names by numbers.
 
 Warnings have the class \code{MapWarning} and one of these: \code{NoPeople}, \code{DistrictWithoutPeople},
 \code{DistrictWithoutVotes}, \code{MoreVotesThanPeople}, \code{SharesNotCounts}, \code{PercentagesNotCounts},
-\code{ColumnRounded}, \code{DistrictRounded}, \code{SmallGroupShare}, \code{NoCompactnessLimit}.
+\code{ColumnRounded}, \code{DistrictRounded}, \code{LengthsRounded}, \code{SmallGroupShare}, \code{NoCompactnessLimit},
+\code{LimitAtOwnNumber}, \code{BordersNotShared}, \code{CoordinatesInDegrees}, \code{AllUnitsFrozen}, \code{DistrictFrozen},
+\code{DistrictCannotChange}, \code{FrozenWalk}. They are the Python package's, which has two more:
+\code{GraphChanged}, since its calls may prepare a map, and \code{HeadNotCompared}, of a trace in a file.
 }
 
 \keyword{internal}

@@ -18,39 +18,55 @@ in_repository <- function(...) {
 
 sample_graph <- function(name) in_repository("examples", "data", name)
 
+FOUND <- new.env()
+
 # Returns a Python that has what the Python package needs for these jobs.
 find_python <- function() {
-  for (name in c(Sys.getenv("DISTRICTAUDIT_PYTHON", "python3"), "/usr/bin/python3")) {
-    path <- Sys.which(name)
-    words <- c("-c", shQuote("import networkx, pandas"))
-    if (nzchar(path) && system2(path, words, stderr = FALSE) == 0) {
-      return(path)
+  if (is.null(FOUND$python)) {
+    FOUND$python <- ""
+    for (name in c(Sys.getenv("DISTRICTAUDIT_PYTHON", "python3"), "/usr/bin/python3")) {
+      path <- Sys.which(name)
+      words <- c("-c", shQuote("import networkx, pandas"))
+      if (!nzchar(FOUND$python) && nzchar(path) && system2(path, words, stderr = FALSE) == 0) {
+        FOUND$python <- path
+      }
     }
   }
-  skip("no python3 with networkx and pandas")
+  if (!nzchar(FOUND$python)) skip("no python3 with networkx and pandas")
+  FOUND$python
 }
 
-# Returns the text and the frame that the Python package makes of a job.
-by_python <- function(command, graph, prepare, call = list(), table = NULL) {
+# Returns the text and the lines that the Python package makes of each job, in one call.
+by_python_all <- function(jobs) {
   package <- in_repository("python")
   python <- find_python()
-  job <- tempfile("job-")
-  on.exit(unlink(paste0(job, c("", ".text", ".csv"))))
-  text <- jsonlite::toJSON(
-    list(command = command, graph = graph, prepare = prepare, call = call, table = table),
-    auto_unbox = TRUE, null = "null", digits = NA
-  )
-  writeLines(text, job)
+  file <- tempfile("jobs-")
+  on.exit(unlink(paste0(file, "*")))
+  whole <- lapply(unname(jobs), function(job) {
+    lapply(c(command = "command", graph = "graph", prepare = "prepare", call = "call", table = "table"), function(name) {
+      if (name == "call" && length(job$call) == 0) structure(list(), names = character()) else job[[name]]
+    })
+  })
+  writeLines(jsonlite::toJSON(whole, auto_unbox = TRUE, null = "null", digits = NA), file)
+  err <- paste0(file, ".err")
   end <- system2(
-    python, shQuote(c(normalizePath("python_call.py"), job)),
-    env = paste0("PYTHONPATH=", shQuote(package)), stdout = FALSE, stderr = paste0(job, ".err")
+    python, shQuote(c(normalizePath("python_call.py"), file)),
+    env = paste0("PYTHONPATH=", shQuote(package)), stdout = FALSE, stderr = err
   )
-  if (end != 0) stop(paste(readLines(paste0(job, ".err")), collapse = "\n"))
-  read <- function(path) readChar(path, file.size(path), useBytes = TRUE)
-  list(
-    text = read(paste0(job, ".text")),
-    lines = if (file.exists(paste0(job, ".csv"))) readLines(paste0(job, ".csv"))
-  )
+  if (end != 0) stop(paste(readLines(err), collapse = "\n"))
+  read <- function(path) if (file.size(path) > 0) readChar(path, file.size(path), useBytes = TRUE) else ""
+  found <- lapply(seq_along(jobs), function(place) {
+    list(
+      text = read(paste0(file, ".", place, ".text")), lines = readLines(paste0(file, ".", place, ".csv"))
+    )
+  })
+  names(found) <- names(jobs)
+  found
+}
+
+# Returns the text and the lines that the Python package makes of a job.
+by_python <- function(command, graph, prepare, call = list(), table = NULL) {
+  by_python_all(list(list(command = command, graph = graph, prepare = prepare, call = call, table = table)))[[1]]
 }
 
 GRID <- list(population = "TOTPOP", first = "DEM", second = "REP", district = "CD")

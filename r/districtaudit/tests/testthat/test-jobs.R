@@ -22,6 +22,13 @@ JOBS <- list(
   weight = list("grid.json", c(GRID, tolerance = 0.1), list(
     walks = 2, steps = 2000, cut_weight = 33.25, max_cut = 300, ask = c("seats:low", "cut-edges:high")
   )),
+  lengths = list("grid.json", c(GRID, slack = 1000, length = "shared_perim"), list(
+    walks = 2, steps = 2000, max_length = 150, pairs = TRUE, ask = c("cut-length:low", "seats:low")
+  )),
+  # Half a mile becomes 0, which is even.
+  lengths_made_whole = list("counties.json", c(GROUPS, slack = 5000, length = "shared_perim"), list(
+    steps = 500, ask = c("cut-length:high", "cut-edges:low")
+  )),
   rounded = list("ny8.json", list(
     population = "POP8", first = "OWNING", second = "OTHERS", district = "PLAN8", numbers = "nearest",
     slack = 1000
@@ -31,9 +38,19 @@ JOBS <- list(
   ))
 )
 
-test_that("there are ten jobs", {
-  expect_length(JOBS, 10)
+test_that("there are twelve jobs", {
+  expect_length(JOBS, 12)
 })
+
+# Returns the Python package's answer to a job; all are made in one call.
+python_job <- function(name) {
+  if (is.null(FOUND$jobs)) {
+    FOUND$jobs <- by_python_all(lapply(JOBS, function(job) {
+      list(command = "run", graph = sample_graph(job[[1]]), prepare = job[[2]], call = c(job[[3]], key = KEY))
+    }))
+  }
+  FOUND$jobs[[name]]
+}
 
 for (name in names(JOBS)) {
   test_that(paste("a report is that of the Python package:", name), {
@@ -41,7 +58,7 @@ for (name in names(JOBS)) {
     job <- JOBS[[name]]
     path <- sample_graph(job[[1]])
     call <- c(job[[3]], key = KEY)
-    python <- by_python("run", path, job[[2]], call)
+    python <- python_job(name)
     map <- quietly(do.call(audit_read, c(path, job[[2]])))
     report <- quietly(do.call(audit_run, c(list(map), call)))
     expect_identical(report$text, python$text)
