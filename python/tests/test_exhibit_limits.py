@@ -14,6 +14,7 @@ from test_exhibit import Page, check_alone
 
 import district_audit
 from district_audit import LimitReports, Report, exhibit_custody
+from district_audit.report import Pair, Walk
 
 GRID = str(EXAMPLES / "data" / "grid.json")
 MAP: common.Words = dict(pop="TOTPOP", first="DEM", second="REP", district="CD", slack=1000)
@@ -59,7 +60,8 @@ class PageOfLimits(ProgramCase):
             rows[word] = rows.get(word, "") + " ".join(page.words[place + 2:place + 7]) + "\n"
         for name, report in found.items():
             self.assertEqual(page.words.count(name), 8, name)
-            for one in (*report.walks, *report.pairs):
+            ones: typing.Tuple[typing.Union[Walk, Pair], ...] = (*report.walks, *report.pairs)
+            for one in ones:
                 self.assertIn(
                     f"{one.ask} {'-1.000 %' if one.ask == 'gap:low' else '125'} {one.start}"
                     f" {one.count} of {one.of} bound {one.bound:f}",

@@ -1,11 +1,11 @@
 """Compares the command `plans` with the plain model, on random graphs and tables.
 
 Usage: python3 -m tests.differential.compare_plans PROGRAM [COUNT [SEED]]
-Makes COUNT (1000) graphs of 4 to 9 units with a table of up to nine plans, seldom forty, from SEED (1): many
-good, and others broken in each of the ways that a table can be, with quotes, empty lines, each line
-end, byte order marks and ids of each kind. Compares status, output and note with what `model.py`
-answers, for a random number of workers. Prints how many tables ended how, and ends with 1 at the
-first that did not end as it has to. Nothing is needed but Python.
+Makes COUNT (1000) graphs of 4 to 9 units with a table of up to nine plans, seldom forty, from SEED
+(1): many good, and others broken in each of the ways that a table can be, with quotes, empty lines,
+each line end, byte order marks and ids of each kind. Compares status, output and note with what
+`model.py` answers, for a random number of workers. Prints how many tables ended how, and ends with
+1 at the first that did not end as it has to. Nothing is needed but Python.
 """
 # RUN: {auditor} 20 3
 # QUICK
@@ -126,7 +126,8 @@ def break_records(
     elif broken == 3:
         records[at][0] = chance.choice(("other", "", "00"))
     elif broken == 4 and count:
-        records[0][chance.randint(1, count)] = chance.choice(("", "a b", " ", "a\tb", "é", "n" * 101, "n" * 100))
+        names = ("", "a b", " ", "a\tb", "é", "n" * 101, "n" * 100)
+        records[0][chance.randint(1, count)] = chance.choice(names)
     elif broken == 5 and count:
         column = chance.randint(1, count)
         for record in records[1:]:
