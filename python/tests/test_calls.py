@@ -694,7 +694,9 @@ class Progress(common.ProgramCase):
         for done in (0, 37, 37, 101):
             bar.show(done, 101)
         bar.end()
-        self.assertEqual(stream.getvalue(), "walked 0 of 101\nwalked 37 of 101\nwalked 101 of 101\n")
+        self.assertEqual(
+            stream.getvalue(), "walked 0 of 101\nwalked 37 of 101\nwalked 101 of 101\n"
+        )
         stream = io.StringIO()
         stream.isatty = lambda: True  # type: ignore[assignment]
         bar = progress.PlainBar(stream)
