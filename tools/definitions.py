@@ -121,6 +121,8 @@ PREMISES = {
     "note": ("audit_words", "DueAnswers", "LetsAnyLine"),
 }
 CLAUSE = re.compile(r"^    (requires|ensures) (\w+) \{", re.M)
+# The law by which a keeper and sinks that permit everything meet the premises: its file and its name.
+LAW = ("premises.rt", "premises_hold_if_all_is_permitted")
 BOX = re.compile(r"^```text$.*?^```$", re.M | re.S)
 
 
@@ -188,7 +190,7 @@ QUOTING = [
     os.path.join(TOP, "docs", "claims", name)
     for name in ("THE_CLAIM.md", "CLAIMS.md", "DEFINITIONS.md")
 ]
-MARK = re.compile(r"<!-- (quote|counts|crates|contract)(?: (.*?))? -->$")
+MARK = re.compile(r"<!-- (quote|counts|crates|contract|law)(?: (.*?))? -->$")
 TABLES = {"counts": count_table, "crates": crate_table}
 
 
@@ -227,6 +229,17 @@ def contract() -> list[str]:
     return ["```text"] + text[: text.index("\n{\n")].split("\n") + ["```"]
 
 
+def law() -> list[str]:
+    """The contract of the law by which files and standard streams meet the premises."""
+    file, name = LAW
+    text = text_of("audit_run", "src", file)
+    text = text[text.index(f"pub fn {name}<"):]
+    return ["```text"] + text[: text.index("\n{}")].split("\n") + ["```"]
+
+
+BOXES = {"contract": contract, "law": law}
+
+
 def update_text(text: str) -> str:
     """The document with what its marks ask for written anew."""
     out: list[str] = []
@@ -236,7 +249,8 @@ def update_text(text: str) -> str:
         found = MARK.match(lines[at])
         at += 1
         if found and found.group(1) not in TABLES:
-            out.extend(quote(found.group(2)) if found.group(1) == "quote" else contract())
+            kind = found.group(1)
+            out.extend(quote(found.group(2)) if kind == "quote" else BOXES[kind]())
             at = lines.index("```", at) + 1 if lines[at:at + 1] == ["```text"] else at
         elif found:
             out.extend(TABLES[found.group(1)]())
@@ -285,8 +299,11 @@ def find_unnamed() -> typing.Iterator[str]:
     for _, name in clauses:
         if f"`{name}`" not in words:
             yield f"docs/claims/THE_CLAIM.md says nothing of the clause {name}"
-    for name in sorted({name for kind, name in clauses if kind == "requires"} ^ set(PREMISES)):
+    premises = {name for kind, name in clauses if kind == "requires"}
+    for name in sorted(premises ^ set(PREMISES)):
         yield f"tools/definitions.py does not count the premise {name}"
+    for name in sorted(premises ^ {name for _, name in CLAUSE.findall("\n".join(law()))}):
+        yield f"the law {LAW[1]} says nothing of the premise {name}"
 
 
 # ---- the list of modules

@@ -3,6 +3,7 @@ mod Ending
 mod Following
 mod Likeness
 mod Pairing
+mod Permitting
 mod Placing
 mod Preparing
 mod Surely

@@ -4,7 +4,8 @@
 //! the job and writes the diagnostic. In between it writes the text of a check, runs the job (`run`) or writes a trace
 //! (`trace`). For several plans, `plan_jobs` makes the jobs and `judge_sets` their constraints. Then `plan_reports`
 //! allocates all memory, and walks and reports one plan after the other. `plain` and `sure` are the same call with
-//! stronger contracts for special cases.
+//! stronger contracts for special cases, and `premises` has the law by which files and standard streams meet the
+//! premises.
 #![tactic(auto)]
 
 pub mod audit;
@@ -12,6 +13,7 @@ pub mod judge_sets;
 pub mod plain;
 pub mod plan_jobs;
 pub mod plan_reports;
+pub mod premises;
 pub mod run;
 pub mod several;
 pub mod single;

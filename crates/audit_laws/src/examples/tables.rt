@@ -48,7 +48,7 @@ pub fn small_tables()
     ensures short_row { table_reading (codes "id,p" ++ 10 ∷ codes "0" ++ 10 ∷ []) four_ids ≡ Err (table.Unreadable 1) }
     ensures no_text { table_reading (codes "id,p" ++ 10 ∷ codes "0," ++ 255 ∷ 10 ∷ []) four_ids ≡ Err (table.Unreadable 1) }
     ensures no_plan { table_reading (codes "id" ++ 10 ∷ []) four_ids ≡ Err table.NoHeader }
-    ensures no_name { table_reading (codes "id,p,q r" ++ 10 ∷ []) four_ids ≡ Err (table.BadName 1) }
+    ensures no_name { table_reading (codes "id,p,q" ++ 127 ∷ 10 ∷ []) four_ids ≡ Err (table.BadName 1) }
     ensures unknown { table_reading (codes "id,p" ++ 10 ∷ codes "00,A" ++ 10 ∷ []) four_ids ≡ Err (table.UnknownId 1) }
     ensures shared { table_reading (codes "id,p" ++ 10 ∷ []) (Whole (pos 1) ∷ Word (codes "1") ∷ []) ≡ Err (table.SharedId 0 1) }
     ensures one_label { table_reading (codes "id,p" ++ 10 ∷ codes "0,A" ++ 10 ∷ codes "1,A" ++ 10 ∷ codes "2,A" ++ 10 ∷ codes "3,A" ++ 10 ∷ []) four_ids ≡ Err (table.DistrictCount 0 1) }
