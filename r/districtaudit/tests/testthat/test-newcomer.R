@@ -39,8 +39,7 @@ test_that("polygons that mislead are refused, or have a warning", {
   expect_warning(prepare_map(degrees, length = "long", numbers = "nearest"), class = "CoordinatesInDegrees") |>
     suppressWarnings()
   apart <- small_map()
-  apart$geometry <- (sf::st_geometry(apart) * 0.999)
-  shrunk <- lapply(sf::st_geometry(small_map()), function(one) (one - sf::st_centroid(one)) * 0.99 + sf::st_centroid(one))
+  shrunk <- lapply(sf::st_geometry(small_map()), function(one) (one - sf::st_centroid(one)) * 0.995 + sf::st_centroid(one))
   sf::st_geometry(apart) <- sf::st_sfc(shrunk, crs = 26918)
   expect_warning(prepare_map(apart), class = "BordersNotShared")
   kilometers <- small_map(side = 0.7)
