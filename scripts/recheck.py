@@ -10,7 +10,7 @@ Those of columns are needed if the report has no line `columns`, and --size for 
 
 All is recomputed, unless one of these words is given:
   --id          recomputes these trajectories
-  --sample      recomputes the walks, the serial test, and K endpoint trajectories
+  --sample      recomputes the walks, the serial test, and K trajectories to ends
   --trace       recomputes the segments of a trace: all, or with --segments K of each trajectory
   --checkpoints recomputes the outcomes of checkpoints: all, those of --id, or as by --sample
   --walks-unchecked yes   leaves out the walks and the serial test that no --id names
@@ -78,7 +78,7 @@ OF_THE_RUN = (
 )
 
 # The findings of a trajectory (KERNEL 6): its moves; for each ask the count of a walk, or the value
-# of an endpoint; and the nine bins of a walk.
+# of an end; and the nine bins of a walk.
 Tally = Tuple[int, List[int], List[int]]
 Ask = Tuple[str, str]  # a score and a tail
 Entry = Dict[str, object]  # an object of a JSON text
@@ -267,7 +267,7 @@ class Report:
         return words
 
     def count_ends(self) -> int:
-        """Returns how many endpoint trajectories count: with --stop, those up to the last place."""
+        """Returns how many trajectories to ends count: with --stop, those up to the last place."""
         if self.is_pilot:
             return 0
         places = [number_in(line, "place") for line in self.lines if
@@ -522,7 +522,7 @@ class Job:
         return value >= self.values[ask]
 
     def way(self, trajectory: int) -> Tuple[int, int, int]:
-        """Returns the stream of a walk or an endpoint, and its first and last step (KERNEL 2)."""
+        """Returns the stream of a walk or an end, and its first and last step (KERNEL 2)."""
         if trajectory < self.n["walks"]:
             return 2 * trajectory, 0, self.n["steps"]
         return 2 * (trajectory - self.n["walks"]) + 3, 0, self.n["hub-steps"]
@@ -868,7 +868,7 @@ class Check:
             if number not in every:
                 raise ValueError(f"there is no trajectory {number} that counts")
             self.known[number] = self.find(number)
-        for what, some in (("walks", self.walks), ("endpoint trajectories", list(self.ends))):
+        for what, some in (("walks", self.walks), ("trajectories to ends", list(self.ends))):
             if some:
                 print_sample(f"report: {what}", [n for n in some if n in self.walked], some)
 
@@ -1082,7 +1082,7 @@ class TraceCheck:
         """Checks the section of a trajectory: its title, and the line of each plan.
 
         The first, the last, and some inner segments are recomputed. The first line of an
-        endpoint's section is the hub, which is recomputed unless --skip-hub is given.
+        end's section is the hub, which is recomputed unless --skip-hub is given.
         """
         number = number_in(title, "id")
         thin = number_in(title, "thin")

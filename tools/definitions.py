@@ -121,7 +121,7 @@ PREMISES = {
     "note": ("audit_words", "DueAnswers", "LetsAnyLine"),
 }
 CLAUSE = re.compile(r"^    (requires|ensures) (\w+) \{", re.M)
-# The law by which a keeper and sinks that permit everything meet the premises: its file and its name.
+# The law by which a keeper and sinks that permit everything meet the premises: file and name.
 LAW = ("premises.rt", "premises_hold_if_all_is_permitted")
 BOX = re.compile(r"^```text$.*?^```$", re.M | re.S)
 

@@ -171,7 +171,7 @@ TABLE = {
             0,
             MOST_TRAJECTORIES,
             0,
-            "The number of endpoint trajectories of the parallel test: 0 to 100000.",
+            "The number of trajectories to ends of the parallel test: 0 to 100000.",
         ),
         count(
             "hub_steps",
@@ -181,7 +181,7 @@ TABLE = {
             1000,
             (
                 "The steps from the enacted plan to the hub, and of"
-                " each endpoint trajectory: 1 to 10^9."
+                " each trajectory to an end: 1 to 10^9."
             ),
         ),
         Argument(
@@ -327,7 +327,7 @@ TABLE = {
             ("trace",),
             "The trajectories of that run, one after the other: an id, a pair of the first and the"
             ' last, a range, or a text as "0-3", "walks" or "ends". The walks have the ids from 0,'
-            " the endpoint trajectories those behind.",
+            " the trajectories to ends those behind.",
             default=0,
         ),
         count(
@@ -554,8 +554,8 @@ OF_CALLS: dict[str, dict[str, tuple[str, str]]] = {
         "thin": (
             "int, optional",
             "N: the plans after 0, N, 2N, .. steps are shown. 1 to 10^9. Left out it is 1000, and"
-            ' with ids="ends" `hub_steps`, so that each endpoint trajectory shows its hub and its'
-            " endpoint.",
+            ' with ids="ends" `hub_steps`, so that each trajectory to an end shows its hub and its'
+            " end.",
         ),
         "progress": ("bool, default False", "Whether a bar shows how many steps are walked."),
     },
@@ -1018,7 +1018,7 @@ def stop_beside(named: Words) -> Why:
     if number(named, "stop") in (None, 0):
         return None
     if number(named, "ends") == 0:
-        return "stop needs a parallel test", "ends=99 makes one of 99 endpoint trajectories"
+        return "stop needs a parallel test", "ends=99 makes one of 99 trajectories to ends"
     if number(named, "save") != 0 or flag(named, "resume"):
         return "a test that stops early saves nothing", "leave out save and resume"
     return None
@@ -1079,7 +1079,7 @@ def ids_beside(named: Words) -> Why:
     if 0 <= first <= last < walks + ends:
         return None
     known = [f"{walks} walks (0 to {walks - 1})"] if walks else ["no walks"]
-    known += [f"{ends} endpoint trajectories ({walks} to {walks + ends - 1})"] if ends else []
+    known += [f"{ends} trajectories to ends ({walks} to {walks + ends - 1})"] if ends else []
     return f"ids are those of {' and '.join(known)}, the first one first", ""
 
 

@@ -28,10 +28,10 @@ from .arguments import (
 )
 from .custody import Custody
 from .districts import Plan, plan_of, slips_in
-from .elections import ElectionReports
+from .elections import ElectionReports, each_election
 from .errors import GraphChanged, GraphRefused, PrepareRefused, TypeRefused
 from .geography import FILES
-from .graphs import Foreign
+from .graphs import Foreign, refuse_form
 from .preparing import Preparation, Prepared, prepare_map
 from .program import PathLike, call, find_program
 from .report import Audited, PlanCheck, Report, Rules, join_batch
@@ -121,10 +121,7 @@ def prepare_call(command: str, graph: object, words: Words) -> Given:
     limits_from = own_limits.source_of_limits(command, named.pop("limits_from", None))
     taken = {name: named.pop(name) for name in PREPARING if name in named}
     rules = typing.cast(Preparation, taken)
-    if "assignment" in rules and "district" in named:
-        raise PrepareRefused(
-            "district and assignment are both given: give only one of them"
-        )
+    test_districts(named, rules)
     known: list[MapWarning] | None = None
     if isinstance(graph, Prepared):
         named = {**find_kept(command, graph, words, named), **named}
@@ -150,6 +147,20 @@ def prepare_call(command: str, graph: object, words: Words) -> Given:
     return Given(
         data, words_of(command, named), named, rules, "", path, made, tuple(found), limits_from
     )
+
+
+def must_prepare(graph: object, words: Words) -> bool:
+    """Returns whether a graph has to be prepared before the program can read it."""
+    is_bytes = isinstance(graph, (bytes, bytearray, memoryview, str, os.PathLike))
+    return not is_bytes or any(words.get(name) is not None for name in PREPARING)
+
+
+def test_districts(named: Words, rules: Preparation) -> None:
+    """Refuses districts that are given twice."""
+    if "assignment" in rules and "district" in named:
+        raise PrepareRefused(
+            "district and assignment are both given: give only one of them"
+        )
 
 
 def tested_words(command: str, named: Words, rules: Preparation) -> dict[str, object]:
@@ -235,16 +246,31 @@ def bytes_of_graph(graph: PathLike | bytes | bytearray | memoryview) -> bytes:
                 f"{name} is not what the program reads: prepare it first, prepare({way}, ..)"
             )
         with open(graph, "rb") as file:
-            return file.read()
+            data = file.read()
+        if data[:2] == b"\x1f\x8b":
+            raise PrepareRefused(
+                f"{name} is compressed by gzip, which prepare({name!r}, ..) reads: prepare it first"
+            )
+        refuse_form(data, name)
+        return data
     return bytes(graph)
 
 
-def prepare_graph(graph: object, named: Words, rules: Preparation) -> Prepared:
-    """Prepares a graph for a call, and warns of values that are others then."""
+def prepare_graph(
+    graph: object, named: Words, rules: Preparation, elections: Elections | None = None
+) -> Prepared:
+    """Prepares a graph for a call, and warns of values that are others then.
+
+    With elections, the columns of all are prepared, and `first` and `second` do not count.
+    """
     for name in ("pop", "first", "second"):
         if name not in named:
             raise TypeError(f"the column {name!r} is missing")
-    columns = {name: text_in(named, name) for name in COLUMNS if name != "pop"}
+    columns: dict[str, object] = {
+        name: text_in(named, name) for name in COLUMNS if name != "pop"
+    }
+    if elections is not None:
+        columns.update(first=None, second=None, elections=elections)
     limits = {name: count_in(named, name) for name in RULES}
     prepared = prepare_map(
         graph, {"population": str(named["pop"]), **columns, **limits, **rules}
@@ -469,13 +495,37 @@ def run(
             "first and second are given too: each election has its own columns",
         )
     saves = str(save) != "0" or resume not in (False, None, "no")
-    asked = {}
-    for name, columns in tested_elections(chosen, saves).items():
-        asked[name] = prepare_call(
-            "run", graph, {**words, "first": columns[0], "second": columns[1]}
-        )
+    named = tested_elections(chosen, saves)
+    graph, words = prepare_once(graph, words, named)
+    asked = {
+        name: prepare_call("run", graph, {**words, "first": one, "second": other})
+        for name, (one, other) in named.items()
+    }
     reports = Together(asked, way, saves).execute()
     return ElectionReports(join_batch("election", share_warnings(reports)))
+
+
+def prepare_once(
+    graph: object, words: Words, elections: Elections | None = None
+) -> tuple[object, dict[str, object]]:
+    """Returns a graph that several runs share, prepared where it has to be, and their words.
+
+    So all runs read the same bytes, and one record says how these were made. The words that the
+    preparation took are left out.
+    """
+    if isinstance(graph, Prepared) or not must_prepare(graph, words):
+        return graph, dict(words)
+    votes: list[tuple[object, object]] = [*(elections or {}).values()]
+    for one, other in votes or [(words.get("first"), words.get("second"))]:
+        named = plain_words("run", {**words, "first": one, "second": other})
+        own_limits.source_of_limits("run", named.pop("limits_from", None))
+        taken = {name: named.pop(name) for name in PREPARING if name in named}
+        rules = typing.cast(Preparation, taken)
+        test_districts(named, rules)
+        named = tested_words("run", named, rules)
+    prepared = prepare_graph(graph, named, rules, elections)
+    emit(prepared.warnings, 3)
+    return prepared, {name: value for name, value in words.items() if name not in PREPARING}
 
 
 def share_warnings(pairs: list[tuple[str, Report]]) -> list[tuple[str, Report]]:
@@ -621,11 +671,10 @@ def plans(
     if districts not in ("same", "any"):
         raise PrepareRefused(f'districts must be "same" or "any", not {districts!r}')
     if isinstance(graph, Prepared) and graph.elections and first is second is None:
-        ways = [f'first="{one}", second="{other}" for {name}'
-                for name, (one, other) in graph.elections.items()]
         refuse(
             TypeRefused, "plans", "graph", graph,
-            f"the map was prepared with elections, and plans takes one: give {' or '.join(ways)}",
+            "the map was prepared with elections, and plans takes one: give"
+            f" {each_election(graph.elections)}",
         )
     asked = prepare_call("plans", graph, words_in(locals()))
     audited = asked.audited

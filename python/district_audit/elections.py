@@ -2,6 +2,7 @@
 from __future__ import annotations
 
 import pathlib
+import typing
 
 from .errors import WorkLeft
 from .program import PathLike
@@ -24,6 +25,14 @@ class ElectionReports(NamedReports):
     """
 
     what = "election"
+
+
+def each_election(elections: typing.Mapping[str, tuple[str, str]]) -> str:
+    """Returns the arguments of a call for each election, in words."""
+    return " or ".join(
+        f'first="{one}", second="{other}" for {name}'
+        for name, (one, other) in elections.items()
+    )
 
 
 def folder_of(folder: PathLike | None, name: str) -> pathlib.Path:

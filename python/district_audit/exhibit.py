@@ -58,7 +58,8 @@ h1 { font-size: 1.6em; margin-bottom: 0; } h2 { font-size: 1.2em; margin-top: 1.
   border-bottom: 1px solid #000; } h3 { font-size: 1.05em; }
 table { border-collapse: collapse; margin: 0.8em 0; font-size: 0.9em; }
 th, td { border: 1px solid #888; padding: 0.2em 0.5em; text-align: left; vertical-align: top; }
-.results td:nth-child(2) { white-space: nowrap; }
+.results td:nth-child(2), .limits td:nth-child(3) { white-space: nowrap; }
+.hashes td:first-child { width: 25%; }
 td.n, th.n { text-align: right; font-variant-numeric: tabular-nums; }
 thead { display: table-header-group; } tr, figure, pre { break-inside: avoid; }
 h2, h3, .title { break-after: avoid; }
@@ -175,11 +176,16 @@ def page(plans: Named, options: Options) -> str:
         heading("How to repeat it"),
         *provenance(plans, options, columns, graph),
     ]
+    return whole_page(options.title, parts)
+
+
+def whole_page(title: str, parts: typing.Iterable[str]) -> str:
+    """Returns the page that has these parts."""
     body = "\n".join(parts)
     return (
         '<!DOCTYPE html>\n<html lang="en"><head><meta charset="utf-8">'
         '<meta http-equiv="Content-Security-Policy" content="default-src \'none\'; '
-        f"style-src 'unsafe-inline'\"><title>{escape(options.title)}</title>"
+        f"style-src 'unsafe-inline'\"><title>{escape(title)}</title>"
         f"<style>{STYLE}</style></head><body>\n{body}\n</body></html>\n"
     )
 
@@ -209,7 +215,8 @@ def refuse_other_jobs(reports: typing.Sequence[Report]) -> None:
     if len(reports) > 1 and any(one.batch and one.batch.kind != "plan" for one in reports):
         raise ValueError(
             "the reports are those of several elections or limits, and not of several plans: make"
-            " an exhibit of each, which names the others"
+            " an exhibit of each, which names the others; LimitReports.exhibit is one page on all"
+            " limits"
         )
 
     def job(report: Report) -> tuple[object, ...]:
@@ -365,7 +372,17 @@ def district_maps(report: Report, options: Options) -> str:
     return map_figure(maps, names) + "".join(paragraphs(looks))
 
 
+RESULT_TITLES = (
+    "test", "ask", "enacted value", "exact fraction", "at least as extreme", "result",
+)
+
+
 def result_table(report: Report, names: Names = Names()) -> str:
+    """Returns the table of results of one report."""
+    return table(RESULT_TITLES, result_rows(report, names), plain=2, kind="results")
+
+
+def result_rows(report: Report, names: Names = Names()) -> list[tuple[object, ...]]:
     """Returns a row for each line of a test, with the enacted value as a decimal and as written."""
     rows: list[tuple[object, ...]] = []
 
@@ -432,12 +449,7 @@ def result_table(report: Report, names: Names = Names()) -> str:
                 f"rank {one.rank} of {one.of}", f"p {one.p:f}",
             )
         )
-    return table(
-        ("test", "ask", "enacted value", "exact fraction", "at least as extreme", "result"),
-        rows,
-        plain=2,
-        kind="results",
-    )
+    return rows
 
 
 def effect_table(found: typing.Mapping[str, Effect]) -> list[str]:
@@ -582,7 +594,7 @@ def provenance(
         *paragraphs([texts.REPEATED]),
         *paragraphs(about_command(plans, options, columns)),
         f"<pre>{lines(command)}</pre>",
-        f"<table><tbody>{''.join(rows)}</tbody></table>",
+        f'<table class="hashes"><tbody>{"".join(rows)}</tbody></table>',
         *reports_in_full(text),
     ]
 

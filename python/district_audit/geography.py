@@ -49,11 +49,15 @@ class MapReport:
     """
     shared: float
     """The part of the borders between neighbors that both polygons have."""
+    nearest: dict[Label, Label] = dataclasses.field(default_factory=dict)
+    """The unit that is nearest to each island."""
 
     def __str__(self) -> str:
         """Returns a line for each kind."""
         pairs = [("slivers", self.slivers), ("overlaps", self.overlaps)]
-        lines = [f"islands, units without a neighbor: {describe(self.islands)}",
+        apart = [f"{one} (nearest {self.nearest[one]})" if one in self.nearest else one
+                 for one in self.islands]
+        lines = [f"islands, units without a neighbor: {describe(apart)}",
                  f"units of several polygons: {describe(self.pieces)}"]
         for what, found in pairs:
             names = [f"{one} - {other} ({size:.4g})" for (one, other), size in found]
@@ -176,7 +180,12 @@ def read_map(name: str, layer: str | None) -> Foreign:
             return geopandas.read_parquet(name)
         return geopandas.read_file(name, **({} if layer is None else {"layer": layer}))
     except Exception as error:  # geopandas and its readers have many
-        raise PrepareRefused(f"{name} cannot be read by geopandas: {error}") from error
+        why = f"{name} cannot be read by geopandas: {error}"
+        if layer is not None:
+            why += f" (layer={layer!r} names a layer of the file; without it the first is read)"
+        elif name.lower().endswith(".zip"):
+            why += " (a zip archive has to hold a shapefile: unpack another file first)"
+        raise PrepareRefused(why) from error
 
 
 def ids_of(map: Foreign, id: str | None, files: typing.Sequence[str]) -> list[Label]:
@@ -319,7 +328,20 @@ def report_of(
               if shape.geom_type == "MultiPolygon" and len(shape.geoms) > 1]
     islands = [unit for unit, others in borders.items() if not others]
     shared = measure_shared(shapes, pairs_near(shapes, width_of(shapes)))
-    return MapReport(islands, pieces, slivers, overlaps, gaps_of(shapes), shared)
+    return MapReport(islands, pieces, slivers, overlaps, gaps_of(shapes), shared,
+                     nearest_of(shapes, islands))
+
+
+def nearest_of(
+    shapes: typing.Mapping[Label, Foreign], islands: typing.Iterable[Label]
+) -> dict[Label, Label]:
+    """Returns the unit that is nearest to each of some units, of equal ones the first."""
+    return {
+        one: min((other for other in shapes if other != one),
+                 key=lambda other: float(shapes[one].distance(shapes[other])))
+        for one in islands
+        if len(shapes) > 1
+    }
 
 
 def as_key(unit: Label) -> tuple[bool, str]:

@@ -163,13 +163,18 @@ FORMS = (
 )
 
 
+def refuse_form(data: bytes, name: str) -> None:
+    """Refuses a file that is compressed, in another encoding or a map, and says what to do."""
+    for start, why in FORMS:
+        if data.startswith(start):
+            raise PrepareRefused(f"{name} {why}")
+
+
 def parse(data: bytes, name: str) -> object:
     """Returns the JSON in bytes, which may be compressed by gzip."""
     try:
         data = gzip.decompress(data) if data[:2] == b"\x1f\x8b" else data
-        for start, why in FORMS:
-            if data.startswith(start):
-                raise PrepareRefused(f"{name} {why}")
+        refuse_form(data, name)
         root = json.loads(data.decode("utf-8-sig"))
     except UnicodeDecodeError as error:
         raise PrepareRefused(

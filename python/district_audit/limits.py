@@ -4,13 +4,16 @@ from __future__ import annotations
 import typing
 from fractions import Fraction
 
-from .arguments import refuse
-from .calls import run
+from .arguments import refuse, tested_elections
+from .calls import NO_WORDS, prepare_once, run, words_in
+from .elections import each_election
 from .errors import AuditError, TypeRefused
+from .preparing import Prepared
 from .report import Report, join_batch
 from .results import NamedReports
 
 if typing.TYPE_CHECKING:
+    from .custody import PathLike
     from .graphs import Foreign
 
 # The limits that may be varied.
@@ -23,10 +26,45 @@ class LimitReports(NamedReports):
 
     All have the same key. Each number is a test: announce one limit as the one that decides, or
     multiply the least number by how many there are. `to_frame()` is one table, `plot()` one
-    picture, and `Report.exhibit` of each report names the others and counts so.
+    picture, and `exhibit()` one page for a court.
     """
 
     what = "limit"
+
+    def exhibit(
+        self,
+        path: PathLike,
+        *,
+        title: str = "Outlier test of a districting plan under several limits",
+        parties: tuple[str, str] | None = None,
+        graph: object = None,
+        columns: typing.Mapping[str, str] | None = None,
+        command: str | None = None,
+        notes: typing.Sequence[str] = (),
+        decides: str | None = None,
+        manifest: PathLike | None = None,
+        names: typing.Mapping[str, str] | None = None,
+        geometry: object = None,
+        ids: str | None = None,
+    ) -> None:
+        """Writes one page on all limits, with one table and picture, and what may be concluded.
+
+        The options are those of `Report.exhibit`. `decides` names the limit, too, as "max_cut=280
+        ends gap:high": its row is marked as announced, and all others as sensitivity. Without it,
+        the page multiplies the least of all numbers by how many there are.
+
+        Raises what `Report.exhibit` raises, and ValueError if the reports differ in more than one
+        limit.
+        """
+        # An exhibit reads limits of reports, which are loaded as a study.
+        from .exhibit import Options
+        from .exhibit_limits import write
+
+        options = Options(
+            title, parties, graph, columns, command, notes, None, None, decides, manifest, names,
+            geometry, None, ids,
+        )
+        write(path, self.pairs, options)
 
 
 def over_limits(graph: object, **words: Foreign) -> LimitReports:
@@ -60,17 +98,28 @@ def over_limits(graph: object, **words: Foreign) -> LimitReports:
             TypeRefused, "over_limits", next(iter(lists), "max_cut"), lists or words.get("max_cut"),
             f"one limit is a list, of {', '.join(VARIED)}",
         )
-    for name in ("elections", "folder", "save", "resume"):
+    elections = words.get("elections")
+    if elections is None and isinstance(graph, Prepared) and words.get("first") is None:
+        elections = graph.elections or None
+    if elections is not None:
+        ways = each_election(tested_elections(elections, False, "over_limits"))
+        refuse(
+            TypeRefused, "over_limits", "elections", elections,
+            f"over_limits takes one election: call it for each, with {ways}",
+        )
+    for name in ("folder", "save", "resume"):
         if words.get(name):
             refuse(TypeRefused, "over_limits", name, words[name], f"over_limits has no {name}")
     (limit, values), = lists.items()
     given = list(dict.fromkeys(values))
     if not given:
         refuse(TypeRefused, "over_limits", limit, values, "the list of limits is empty")
+    shared, kept = prepare_once(graph, words_in({**words, limit: None, "unknown": {}}))
+    words = {**{name: words[name] for name in words if name in NO_WORDS}, **kept}
     found: dict[object, Report] = {}
     for value in sorted(given, key=lambda one: Fraction(str(one))):
         try:
-            found[value] = run(graph, **{**words, limit: value})
+            found[value] = run(shared, **{**words, limit: value})
         except AuditError as error:
             error.args = (f"{limit}={value}: {error}", *error.args[1:])
             raise

@@ -13,7 +13,7 @@ from fractions import Fraction
 
 from .graphs import Foreign, is_missing
 from .report import TAILS, bound_of, round_up
-from .trace_rows import endpoints_of, refuse_no_walk, values_of
+from .trace_rows import ends_of, refuse_no_walk, values_of
 
 
 @dataclasses.dataclass(frozen=True)
@@ -45,9 +45,9 @@ class RankTest:
     tail: str
     """low or high."""
     rank: int
-    """One more than the number of endpoint plans in the tail."""
+    """One more than the number of ends in the tail."""
     of: int
-    """One more than the number of endpoint plans."""
+    """One more than the number of ends."""
     p: Decimal
     """rank/of, rounded up at nine places."""
 
@@ -100,8 +100,8 @@ def outlier_test(values: Foreign, tail: str, score: Foreign = None) -> OutlierTe
 
     Returns an `OutlierTest`: the exact count c of q plans, and the square root of 2c/q, rounded up
     at nine places. Raises ValueError for a missing value or fewer than two values, and of a trace
-    or its frame for samples that the theorem does not cover: those of several walks, of an endpoint
-    trajectory, without the walk's beginning or end, or with a further last plan.
+    or its frame for samples that the theorem does not cover: those of several walks, of a
+    trajectory to an end, without the walk's beginning or end, or with a further last plan.
 
     Theorem 1.1 of M. Chikina, A. Frieze, W. Pegden, "Assessing significance in a Markov chain
     without mixing", PNAS 114 (2017): let X0, X1, .. be a reversible Markov chain with a stationary
@@ -118,7 +118,7 @@ def outlier_test(values: Foreign, tail: str, score: Foreign = None) -> OutlierTe
     - **Stationary start.** This is the null hypothesis: the enacted plan was drawn at random from
       the legal plans, all equally likely. (Then it is as likely among those that the walk can
       reach, which is enough.) No limit may come from the enacted plan. The walk must begin at the
-      enacted plan, so the samples are those of one walk, and not of an endpoint trajectory.
+      enacted plan, so the samples are those of one walk, and not of a trajectory to an end.
     - **A fixed label.** The score would be the same function of plans whichever legal plan had been
       enacted. "Units whose district differs from the enacted plan's" is no such score: it is 0 for
       the enacted plan alone, so every plan would be an outlier. The score, the tail, the number of
@@ -135,32 +135,32 @@ def outlier_test(values: Foreign, tail: str, score: Foreign = None) -> OutlierTe
 
 
 def rank_test(values: Foreign, tail: str, score: Foreign = None) -> RankTest:
-    """Applies the parallel test of Besag and Clifford to the values of endpoint plans.
+    """Applies the parallel test of Besag and Clifford to the values of ends.
 
     Parameters
     ----------
     values
-        A `Trace` of all endpoint trajectories (`ids="ends"`), or its frame. Or the enacted plan's
-        score, and then that of each endpoint plan: any values that compare.
+        A `Trace` of all trajectories to ends (`ids="ends"`), or its frame. Or the enacted plan's
+        score, and then that of each end: any values that compare.
     tail
-        "low" counts the endpoints whose score is at most the enacted plan's, "high" those whose
+        "low" counts the ends whose score is at most the enacted plan's, "high" those whose
         score is at least that. Equal scores count against the finding.
     score
         The score of a trace, by its name or as a function of a sample; or the column of a frame.
 
     Returns a `RankTest`: the enacted plan's exact rank among all these plans, 1 for the most
     extreme, and rank/of, rounded up at nine places. Raises ValueError for a missing value or fewer
-    than two values, and for a trace or frame that has a walk or lacks an endpoint.
+    than two values, and for a trace or frame that has a walk or lacks an end.
 
     J. Besag, P. Clifford, "Generalized Monte Carlo significance tests", Biometrika 76 (1989): the
-    hub lies some number of steps from the enacted plan, and each endpoint lies as many steps from
+    hub lies some number of steps from the enacted plan, and each end lies as many steps from
     the hub, on walks with draws of their own. If the chain is reversible and the enacted plan was
     drawn from its stationary distribution (the null hypothesis), then the enacted plan and the
-    endpoints are exchangeable, and a rank of g or less has probability at most g/of. The number of
-    endpoints, the steps, the score and the tail must be fixed before anybody looked, all
-    endpoints must be used. The score must be the same function of plans whichever legal plan had
+    ends are exchangeable, and a rank of g or less has probability at most g/of. The number of
+    ends, the steps, the score and the tail must be fixed before anybody looked, all
+    ends must be used. The score must be the same function of plans whichever legal plan had
     been enacted, and no limit may come from the enacted plan.
     """
     found = values_of(values, score, needs_enacted=True)
-    rank, total = count_tail(endpoints_of(found), tail)
+    rank, total = count_tail(ends_of(found), tail)
     return RankTest(tail, rank, total, round_up(rank, total))

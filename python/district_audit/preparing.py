@@ -334,12 +334,20 @@ def prepare_map(graph: object, given: typing.Mapping[str, Foreign]) -> Prepared:
     arguments = {
         name: value
         for name, value in given.items()
-        if name in DEFAULTS and value is not DEFAULTS[name] or name == "population"
+        if name in DEFAULTS and not is_default(value, DEFAULTS[name]) or name == "population"
     }
     told = [(one.kind, str(one)) for one in prepared.warnings]
     files = raw.files if isinstance(raw, MapGraph) else []
     made = custody.record(graph, arguments, prepared.changes, told, files)
     return dataclasses.replace(prepared, custody=made)
+
+
+def is_default(value: object, default: object) -> bool:
+    """Returns whether an argument says what holds without it."""
+    if value is default:
+        return True
+    return isinstance(value, (str, int, tuple)) and type(value) is type(default) \
+        and value == default
 
 
 def test_columns(named: typing.Mapping[str, object]) -> None:
@@ -692,7 +700,9 @@ def unit_named(
     for name in candidates:
         if name in units:
             return name
-    raise PrepareRefused(f"{as_json(said)}, which is to be joined, is not a unit")
+    raise PrepareRefused(
+        f"{as_json(said)}, which is to be joined, is not a unit: the ids are {list_ids(units)}"
+    )
 
 
 def join(

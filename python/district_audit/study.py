@@ -16,10 +16,10 @@ import tempfile
 import typing
 
 from . import calls
-from .arguments import refuse
+from .arguments import refuse, tested_elections
 from .custody import Call, Custody, File, PathLike, find_versions, write_whole
 from .deciding import find_announced
-from .elections import ElectionReports
+from .elections import ElectionReports, each_election
 from .errors import NotProved, TypeRefused
 from .graphs import Foreign
 from .limits import LimitReports
@@ -88,9 +88,12 @@ def audit_to_file(
     given: dict[str, Foreign] = {**words, "program": program}
     if table is not None:
         if elections is not None:
+            ways = each_election(tested_elections(elections, False, "audit_to_file"))
             refuse(
                 TypeRefused, "audit_to_file", "table", table,
-                "elections are given too: audit the plans under each election by itself",
+                "elections are given too, and a study has plans or elections: write a study of the"
+                f" plans for each election, with {ways}, and announce one number of all (decides),"
+                " since each page counts the numbers of its own study",
             )
         found: Report | NamedReports = calls.plans(graph, table, **given)
     else:
@@ -142,9 +145,14 @@ def write_study(path: PathLike, pairs: Pairs, decides: str | None = None) -> Man
     made = [call_of(report) for _, report in pairs]
     if any(call.program != made[0].program for call in made):
         raise ValueError("the reports were made by several builds of the program: audit again")
+    custody = made[0].custody
+    if any(call.custody != custody for call in made):
+        raise ValueError(
+            "the reports were made of several preparations: prepare the graph once, and audit what"
+            " prepare answered"
+        )
     graphs = write_graphs(place, pairs, made)
     entries = write_reports(place, kind, pairs, made, graphs)
-    custody = made[0].custody
     changes = None if custody is None else write_changes(place, custody)
     warned = [one for _, report in pairs for one in report.warnings]
     audited = pairs[0][1].audited

@@ -12,7 +12,7 @@ from .errors import PrepareRefused
 from .graphs import as_json, as_text, is_missing, plain, list_ids
 from .values import faults_in, kind_of, find_missing, find_repeated
 
-MOST_PLANS = 16
+MOST_PLANS = 4096
 
 
 @dataclasses.dataclass
@@ -119,10 +119,10 @@ def test_name(name: object) -> None:
     if is_missing(name) or kind_of(name) not in ("text", "whole number"):
         raise PrepareRefused(f"a plan's name must be a text, not {as_json(name)}")
     text = str(name)
-    if not 1 <= len(text) <= 100 or not all("!" <= letter <= "~" for letter in text):
+    if not 1 <= len(text) <= 100 or not all(" " <= letter <= "~" for letter in text):
         raise PrepareRefused(
-            f"the plan's name {as_json(text)} is not usable: a name must have 1 to 100 of the"
-            " ASCII characters from ! to ~, and so no spaces"
+            f"the plan's name {as_json(text)} is not usable: a name must have 1 to 100 ASCII"
+            " characters from the space to ~"
         )
 
 

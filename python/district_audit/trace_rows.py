@@ -31,7 +31,7 @@ class Samples:
     hub_steps: int
     thin: int
     enacted: typing.Mapping[str, object]
-    """The enacted plan's cells; empty where the trace has no endpoint trajectory."""
+    """The enacted plan's cells; empty where the trace has no trajectory to an end."""
 
     def __deepcopy__(self, _memo: object) -> Samples:
         """Returns itself: pandas copies the attributes of a frame again and again."""
@@ -142,8 +142,8 @@ def refuse_no_walk(found: Values) -> None:
         )
     if samples is not None and ids[0] >= samples.walks:
         raise ValueError(
-            f"trajectory {ids[0]} leads from the hub to an endpoint, and does not begin at the"
-            " enacted plan: its endpoint belongs into rank_test"
+            f"trajectory {ids[0]} leads from the hub to an end, and does not begin at the"
+            " enacted plan: its end belongs into rank_test"
         )
     steps = [step for _, step in rows]
     if steps[0] != 0:
@@ -166,25 +166,25 @@ def refuse_no_walk(found: Values) -> None:
         )
 
 
-def endpoints_of(found: Values) -> typing.Iterable[Foreign]:
-    """Returns the enacted plan's value and that of each endpoint, of a trace or its frame.
+def ends_of(found: Values) -> typing.Iterable[Foreign]:
+    """Returns the enacted plan's value and that of each end, of a trace or its frame.
 
     Values whose samples are not known are returned as they are. Raises ValueError unless the
-    samples have each endpoint once, and the enacted plan is known.
+    samples have each end once, and the enacted plan is known.
     """
     rows, samples = found.rows, found.samples
     if rows is None:
         return found.values
     if samples is None:
         raise ValueError(
-            "this frame does not say which of its rows are endpoints: give the trace itself, or the"
+            "this frame does not say which of its rows are ends: give the trace itself, or the"
             " values, the enacted plan's first"
         )
     walks = sorted({one for one, _ in rows if one < samples.walks})
     if walks or not rows:
         raise ValueError(
             f"trajectory {walks[0] if walks else 0} is a walk from the enacted plan: the rank test"
-            ' is on the endpoints (ids="ends")'
+            ' is on the ends (ids="ends")'
         )
     values = [
         (one, value)
@@ -194,7 +194,7 @@ def endpoints_of(found: Values) -> typing.Iterable[Foreign]:
     wanted = list(range(samples.walks, samples.walks + samples.ends))
     if [one for one, _ in values] != wanted:
         raise ValueError(
-            f"{len(values)} of {samples.ends} endpoints are there: the rank test is on all of them,"
+            f"{len(values)} of {samples.ends} ends are there: the rank test is on all of them,"
             ' in order (ids="ends", and thin=hub_steps or last=True)'
         )
     if found.enacted is None:

@@ -87,7 +87,7 @@ class Sample:
     def __init__(self, trace: Trace, plan: Plan, trajectory: Trajectory, shown: Shown) -> None:
         self.trace = trace
         self.id: int = trajectory.number
-        """The trajectory: 0 to walks - 1 for the walks, then those of the endpoints."""
+        """The trajectory: 0 to walks - 1 for the walks, then those of the ends."""
         self.step = shown.step
         """The number of steps from the first plan of the trajectory."""
         self.moves = shown.moves
@@ -328,7 +328,7 @@ class Trace(typing.Iterator[Sample]):
         most = made
         if self.place == 0 and one.number >= self.head.setting.walks:
             self.hub = self.hub or shown
-            ask_that(shown == self.hub, "all endpoint trajectories begin at one hub")
+            ask_that(shown == self.hub, "all trajectories to ends begin at one hub")
             most = one.steps
         ask_that(len(units) <= most, "more units changed than steps changed the plan")
         ask_that(bool(units) or bool(made) or shown.numerators == before.numerators,

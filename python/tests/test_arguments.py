@@ -196,7 +196,7 @@ class Refusals(common.ProgramCase):
                 ValueError,
                 (
                     "run(stop=2): stop needs a parallel test; ends=99 makes one of"
-                    " 99 endpoint trajectories"
+                    " 99 trajectories to ends"
                 ),
             ),
             (

@@ -131,38 +131,39 @@ def with_call(text: str) -> Report:
     return dataclasses.replace(Report.parse(text), audited=audited)
 
 
-class ExhibitTests(FolderCase):
-    def check_alone(self, text: str) -> Page:
-        """Tests that the page is complete, and refers to nothing outside of it."""
-        page = Page(text)
-        self.assertEqual(page.faults, [])
-        self.assertFalse(
-            set(page.tags)
-            & {
-                "script", "link", "img", "image", "iframe", "object", "embed", "base", "form", "a",
-                "use", "video", "audio", "source", "foreignobject",
-            }
+def check_alone(case: unittest.TestCase, text: str) -> Page:
+    """Tests that the page is complete, and refers to nothing outside of it."""
+    page = Page(text)
+    case.assertEqual(page.faults, [])
+    case.assertFalse(
+        set(page.tags)
+        & {
+            "script", "link", "img", "image", "iframe", "object", "embed", "base", "form", "a",
+            "use", "video", "audio", "source", "foreignobject",
+        }
+    )
+    for name, value in page.attributes:
+        case.assertNotIn(
+            name,
+            (
+                "src", "href", "xlink:href", "srcset", "action", "data", "background", "poster",
+                "style",
+            ),
         )
-        for name, value in page.attributes:
-            self.assertNotIn(
-                name,
-                (
-                    "src", "href", "xlink:href", "srcset", "action", "data", "background", "poster",
-                    "style",
-                ),
-            )
-            self.assertFalse(name.startswith("on"), name)
-            self.assertNotRegex(value or "", "url\\((?!#hatch\\))")
-        self.assertNotRegex(text, "(?i)://|@import|javascript:|<!ENTITY")
-        self.assertNotRegex(text, "url\\((?!#hatch\\))")
-        self.assertIn(("content", "default-src 'none'; style-src 'unsafe-inline'"), page.attributes)
-        return page
+        case.assertFalse(name.startswith("on"), name)
+        case.assertNotRegex(value or "", "url\\((?!#hatch\\))")
+    case.assertNotRegex(text, "(?i)://|@import|javascript:|<!ENTITY")
+    case.assertNotRegex(text, "url\\((?!#hatch\\))")
+    case.assertIn(("content", "default-src 'none'; style-src 'unsafe-inline'"), page.attributes)
+    return page
 
+
+class ExhibitTests(FolderCase):
     def test_each_kind_of_report(self) -> None:
         for name, text in TEXTS.items():
             with self.subTest(name):
                 report = Report.parse(text)
-                page = self.check_alone(page_of(text))
+                page = check_alone(self, page_of(text))
                 for heading in (
                     "What was asked", "How it was done", "Results", "What the numbers mean",
                     "What this exhibit does not say", "How to repeat it",
@@ -263,7 +264,7 @@ class ExhibitTests(FolderCase):
         data = json.dumps(graph).encode("utf-8")
         options = exhibit.Options(graph=data, columns=columns)
         text = exhibit.page([(bad, report), (bad + "2", report)], options)
-        page = self.check_alone(text)
+        page = check_alone(self, text)
         # The one element b that the page has itself: it names the warnings.
         self.assertEqual(page.tags[page.tags.index("body"):page.tags.index("h2")].count("b"), 1)
         self.assertEqual(page.text.count("Plan " + bad), 2)
@@ -277,7 +278,7 @@ class ExhibitTests(FolderCase):
         report.exhibit(
             path, graph=EXAMPLES / "data" / "grid.json", columns=COLUMNS, parties=("X", "Y")
         )
-        page = self.check_alone(path.read_text(encoding="utf-8"))
+        page = check_alone(self, path.read_text(encoding="utf-8"))
         for label in sorted({node["CD"] for node in graph["nodes"]}):
             nodes = [node for node in graph["nodes"] if node["CD"] == label]
             people, first, second = (

@@ -9,6 +9,7 @@ import random
 import typing
 import unittest
 import warnings
+import zipfile
 
 import common
 from common import anything
@@ -110,6 +111,8 @@ class Neighbors(unittest.TestCase):
         self.assertEqual(set(edges_of(graph)), self.brute(frame, False))
         self.assertEqual(edges_of(graph)["ring", "inner"], 12)
         self.assertEqual((graph.report.islands, graph.report.pieces), (["far"], ["two"]))
+        self.assertEqual(graph.report.nearest, {"far": "two"})
+        self.assertIn('without a neighbor: 1: "far (nearest two)"', str(graph.report))
         self.assertEqual(graph.rows["ring"]["boundary_perim"], 36 + 12 - 12 - 4 - 2)
 
     def test_lengths_of_a_grid(self) -> None:
@@ -314,6 +317,14 @@ class Files(common.FolderCase):
             with self.assertRaises(PrepareRefused) as caught:
                 district_audit.prepare(path, **common.COLUMNS)
             self.assertIn(f"{path} {why}", str(caught.exception))
+            if "compressed" in why or "UTF-16" in why or "GeoPackage" in why:
+                with self.assertRaises(PrepareRefused) as caught:
+                    district_audit.check(path, **common.COLUMNS)
+                self.assertIn(f"{path} {why}", str(caught.exception))
+        packed = self.folder / "packed"
+        packed.write_bytes(gzip.compress(b"{}"))
+        with self.assertRaisesRegex(PrepareRefused, "compressed by gzip, which prepare"):
+            district_audit.check(packed, **common.COLUMNS)
         for name in ("none.shp", "none.json"):
             with self.assertRaises(PrepareRefused) as caught:
                 district_audit.prepare(self.folder / name, **common.COLUMNS)
@@ -322,6 +333,14 @@ class Files(common.FolderCase):
         with self.assertRaises(PrepareRefused) as caught:
             graph_from(self.folder / "bad.shp", id="GEOID")
         self.assertIn("bad.shp cannot be read by geopandas", str(caught.exception))
+        with self.assertRaises(PrepareRefused) as caught:
+            graph_from(self.folder / "bad.shp", id="GEOID", layer="x")
+        self.assertIn("layer='x' names a layer of the file", str(caught.exception))
+        with zipfile.ZipFile(self.folder / "g.zip", "w") as archive:
+            archive.writestr("g.json", "{}")
+        with self.assertRaises(PrepareRefused) as caught:
+            graph_from(self.folder / "g.zip", id="GEOID")
+        self.assertIn("a zip archive has to hold a shapefile", str(caught.exception))
 
     def test_without_geopandas(self) -> None:
         def fail(module: str) -> None:

@@ -207,7 +207,7 @@ class Manifests(common.ProgramCase):
         (entry,) = value["reports"]
         program = {name: value["program"][name] for name in ("name", "sha256", "bytes")}
         before = {
-            "format": "district-audit manifest 1", "package": "0.1.0", "program": program,
+            "format": "district-audit manifest 1", "package": "0.2.0", "program": program,
             "processors": 2,
             **{name: entry[name] for name in ("command", "graph", "report", "started", "ended")},
         }

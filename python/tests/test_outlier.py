@@ -122,7 +122,7 @@ class OfTraces(common.ProgramCase):
                     self.assertEqual(found, wanted)
 
     def test_ranks_of_a_trace(self) -> None:
-        """The enacted plan and the five endpoints, by the trace, its frame and by hand."""
+        """The enacted plan and the five ends, by the trace, its frame and by hand."""
         common.needs("pandas")
         trace = self.trace(ids="ends", thin=None)
         values = [district_audit.scores.cut_edges(trace.enacted)]
@@ -190,15 +190,15 @@ class OfTraces(common.ProgramCase):
         for why, frame in (
             ("trajectory 0 is a walk from the enacted plan", walks),
             ("trajectory 0 is a walk from the enacted plan", every),
-            ("4 of 5 endpoints are there", ends[ends.id != 3]),
-            ("0 of 5 endpoints are there", ends[ends.step == 0]),
-            ("10 of 5 endpoints are there", pandas.concat([ends, ends])),
+            ("4 of 5 ends are there", ends[ends.id != 3]),
+            ("0 of 5 ends are there", ends[ends.step == 0]),
+            ("10 of 5 ends are there", pandas.concat([ends, ends])),
         ):
             self.refuse(why, rank(frame))
             self.refuse(why, rank(anything(frame)["cut_edges"], None))
         self.refuse("trajectory 0 is a walk", rank(self.trace(ids="walks")))
-        self.refuse("0 of 5 endpoints", rank(self.trace(ids="ends", thin=7)))
-        self.refuse("does not say which of its rows are endpoints",
+        self.refuse("0 of 5 ends", rank(self.trace(ids="ends", thin=7)))
+        self.refuse("does not say which of its rows are ends",
                     rank(pandas.DataFrame(ends.to_dict("list"))))
 
     def test_what_is_no_score(self) -> None:

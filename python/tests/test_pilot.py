@@ -184,6 +184,18 @@ class LimitTests(ProgramCase):
         for limits in wrong:
             with self.subTest(limits=limits), self.assertRaises(district_audit.TypeRefused):
                 district_audit.over_limits(GRID, **{**words, **limits})
+        votes = {"GOV": ("DEM", "REP"), "SEN": ("REP", "DEM")}
+        columns: common.Words = dict(population="TOTPOP", district="CD")
+        prepared = district_audit.prepare(GRID, elections=votes, **columns)
+        shared: common.Words = dict(key=README_KEY, ask="gap:low", max_cut=[300, 400])
+        calls: list[tuple[object, common.Words]] = [
+            (GRID, {**columns, "elections": votes}), (prepared, {}),
+        ]
+        for graph, more in calls:
+            with self.assertRaises(district_audit.TypeRefused) as refused:
+                district_audit.over_limits(graph, **{**shared, **more})
+            self.assertIn('call it for each, with first="DEM", second="REP" for GOV or first="REP"',
+                          str(refused.exception))
 
 
 if __name__ == "__main__":

@@ -8,6 +8,7 @@ import os
 import pathlib
 import unittest
 import unittest.mock
+import warnings
 
 import common
 from common import anything, readme_report
@@ -35,10 +36,8 @@ class Studies(common.ProgramCase):
             COLUMNS, elections=ELECTIONS, key=common.KEY, ask=ASKS, walks=6, steps=40, ends=199,
             hub_steps=60, program=self.program,
         )
-        graph = common.EXAMPLES / "data" / "grid.json"
-        found = district_audit.audit_to_file(
-            self.folder / "report", graph, **{**given, **words}
-        )
+        given["graph"] = common.EXAMPLES / "data" / "grid.json"
+        found = district_audit.audit_to_file(self.folder / "report", **{**given, **words})
         assert isinstance(found, district_audit.NamedReports)
         return found
 
@@ -170,8 +169,66 @@ class Studies(common.ProgramCase):
         run.assert_not_called()
 
     def test_elections_and_a_table_are_refused_together(self) -> None:
-        with self.assertRaisesRegex(district_audit.TypeRefused, "elections are given too"):
+        with self.assertRaises(district_audit.TypeRefused) as caught:
             self.audit(table={"one": {}})
+        for said in ("elections are given too", 'first="REP", second="DEM" for SEN/16', "decides"):
+            self.assertIn(said, str(caught.exception))
+
+    def test_a_graph_in_memory_is_prepared_once_for_all_elections(self) -> None:
+        """The manifest had the preparation of the first election alone, and a graph for each."""
+        root = common.example("grid.json")
+        for node in root["nodes"]:
+            node["REP"], node["TOTPOP"] = str(node["REP"]), node["TOTPOP"] + 0.25
+        elections = {"GOV": ("DEM", "REP"), "SEN": ("REP", "DEM"), "PEO": ("DEM", "TOTPOP")}
+        with warnings.catch_warnings(record=True) as caught:
+            warnings.simplefilter("always")
+            reports = self.audit(graph=root, elections=elections, numbers="nearest")
+        said = [str(one.message) for one in caught if "no rule limits" not in str(one.message)]
+        self.assertEqual(len(said), len(set(said)), said)
+        manifest = study.load_manifest(self.folder / "report.manifest.json")
+        made = manifest.preparation
+        assert made is not None
+        wanted = {name: list(both) for name, both in elections.items()}
+        self.assertEqual(made.arguments, {
+            "population": "TOTPOP", "district": "CD", "slack": 1000, "numbers": "nearest",
+            "elections": wanted,
+        })
+        self.assertEqual({entry.graph.name for entry in manifest.reports}, {"report.graph.json"})
+        kinds = {edit.kind.split(":")[0] for edit in made.edits if edit.count}
+        self.assertEqual(kinds, {"column REP", "column TOTPOP"})
+        given: common.Words = dict(
+            COLUMNS, key=common.KEY, ask=ASKS, walks=6, steps=40, ends=199, hub_steps=60,
+            numbers="nearest", program=self.program,
+        )
+        for name, (first, second) in elections.items():
+            with warnings.catch_warnings():
+                warnings.simplefilter("ignore")
+                alone = district_audit.run(root, first=first, second=second, **given)
+            self.assertEqual(str(reports[name]), str(alone))
+        checked = district_audit.verify(
+            self.folder / "report.manifest.json", program=self.program
+        )
+        self.assertEqual([one for one in checked if one.agrees is False], [])
+
+    def test_a_graph_in_memory_is_prepared_once_for_all_limits(self) -> None:
+        words: common.Words = dict(
+            COLUMNS, first="DEM", second="REP", key=common.KEY, ask="gap:high", steps=40,
+            program=self.program, limits_from="older plans",
+        )
+        found = district_audit.over_limits(
+            common.example("grid.json"), max_cut=[300, 200], **words
+        )
+        found.to_files(self.folder / "limits")
+        made = study.load_manifest(self.folder / "limits.manifest.json").preparation
+        assert made is not None
+        self.assertNotIn("max_cut", made.arguments)
+        one = found["max_cut=300"]
+        assert one.audited is not None and one.audited.call is not None
+        call = dataclasses.replace(one.audited.call, custody=None)
+        two = dataclasses.replace(found["max_cut=200"],
+                                  audited=dataclasses.replace(one.audited, call=call))
+        with self.assertRaisesRegex(ValueError, "several preparations"):
+            study.write_study(self.folder / "x", [("max_cut=300", one), ("max_cut=200", two)])
 
 
 class Whole(common.FolderCase):

@@ -9,6 +9,7 @@ import unittest
 from fractions import Fraction
 
 import common
+import gerrychain_model
 import test_pictures
 from common import anything
 import district_audit
@@ -153,7 +154,7 @@ class Guide(common.FolderCase):
         before = os.getcwd()
         os.chdir(self.folder)
         try:
-            with common.environment(DISTRICT_AUDIT=program):
+            with common.environment(DISTRICT_AUDIT=program), gerrychain_model.install():
                 for kind, block in blocks:
                     if kind == "text":
                         wanted.append(block)
@@ -165,9 +166,34 @@ class Guide(common.FolderCase):
         finally:
             os.chdir(before)
         self.assertEqual(said, wanted)
-        for name in ("boxes", "histogram", "running"):
+        for name in ("boxes", "histogram", "running", "flips", "recom"):
             for end in (".png", ".svg"):
                 self.assertGreater((self.folder / (name + end)).stat().st_size, 1000)
+        self.check_ensemble(names)
+
+    def check_ensemble(self, names: typing.Mapping[str, common.Value]) -> None:
+        """Flips and ReCom are scored by one function, begin with the enacted plan, and differ."""
+        found, beside = names["found"], names["beside"]
+        self.assertEqual({way: len(plans) for way, plans in found.items()},
+                         {"flips": 201, "recom": 200})
+        self.assertEqual(found["flips"][0], found["recom"][0])
+        self.assertEqual(dict(beside.sum()), {"flips": 201, "recom": 200})
+        self.assertEqual(set(beside.index), {seats for plans in found.values()
+                                             for seats, _ in plans})
+        for plans in found.values():
+            self.assertGreater(len({tuple(shares) for _, shares in plans}), 30)
+            for seats, shares in plans:
+                self.assertEqual(seats, sum(share > 0.5 for share in shares))
+                self.assertEqual(shares, sorted(shares))
+        # The updater's values of a plan of the trace are those of the package's exact scores.
+        with district_audit.trace(
+            common.EXAMPLES / "data" / "grid.json", steps=200_000, thin=1000, cut_weight=24,
+            program=tracing_program(), **names["run"],
+        ) as trace:
+            for sample, (seats, shares) in zip(trace, found["flips"]):
+                self.assertEqual(seats, district_audit.scores.seats(sample, "GOV18"))
+                exact = district_audit.scores.ordered_shares(sample, "GOV18")
+                self.assertEqual([float(share) for share in exact], shares)
 
     def test_it_names_what_there_is(self) -> None:
         text = GUIDE.read_text(encoding="utf-8")

@@ -459,10 +459,10 @@ class Units(UnitsCase):
 
     def test_plans_that_are_none(self) -> None:
         self.no("this seems to be one assignment", lambda: self.plans(PLAN))
-        self.no("a table must have 1 to 16 plans, not 0", lambda: self.plans({}))
+        self.no("a table must have 1 to 4096 plans, not 0", lambda: self.plans({}))
         self.no(
-            "a table must have 1 to 16 plans, not 17",
-            lambda: self.plans({f"p{place}": PLAN for place in range(17)}),
+            "a table must have 1 to 4096 plans, not 4097",
+            lambda: self.plans({f"p{place}": PLAN for place in range(4097)}),
         )
         self.no("a table of plans must be a dict", lambda: self.plans(7))
         self.no(
@@ -474,8 +474,8 @@ class Units(UnitsCase):
         )
         for name in (None, float("nan"), True, 1.5):
             self.no("a plan's name must be a text", lambda: self.plans({name: PLAN}))
-        for word in ("Plan A", "\u00e9", "x" * 101, "a\nb"):
-            self.no("and so no spaces", lambda: self.plans({word: PLAN}))
+        for word in ("", "\u00e9", "x" * 101, "a\nb", "a\tb"):
+            self.no("100 ASCII characters from the space to ~", lambda: self.plans({word: PLAN}))
 
     def test_an_assignment_is_one_column(self) -> None:
         frame = common.anything(common.StandInAssignment({"one": PLAN}))

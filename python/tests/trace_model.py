@@ -15,7 +15,7 @@ SCORES = list(model.SCORES[:4])
 COLUMNS: Words = dict(pop="pop", first="a", second="b", district="d")
 
 # A path of four units in two districts: a walk of five steps, in two of which unit 1 moves there
-# and back, and two endpoint trajectories, whose hub has unit 2 moved. The scores are worked by
+# and back, and two trajectories to ends, whose hub has unit 2 moved. The scores are worked by
 # hand. In ppqq both districts are tied, 4 to 4, and so are the second party's: twice the gap's
 # votes are (4 - 12) + (4 - 12) = -16. In pqqq they are (6 - 3) + (6 - 15) = -6, and in pppq
 # (6 - 12) + (6 - 4) = -4.

@@ -1,11 +1,11 @@
 """Compares the command `plans` with the plain model, on random graphs and tables.
 
 Usage: python3 -m tests.differential.compare_plans PROGRAM [COUNT [SEED]]
-Makes COUNT (1000) graphs of 4 to 9 units with a table of up to four plans, from SEED (1): many
-good, and others broken in each of the ways that a table can be, with quotes, empty lines, each line
-end, byte order marks and ids of each kind. Compares status, output and note with what `model.py`
-answers, for a random number of workers. Prints how many tables ended how, and ends with 1 at the
-first that did not end as it has to. Nothing is needed but Python.
+Makes COUNT (1000) graphs of 4 to 9 units with a table of up to nine plans, seldom forty, from SEED
+(1): many good, and others broken in each of the ways that a table can be, with quotes, empty lines,
+each line end, byte order marks and ids of each kind. Compares status, output and note with what
+`model.py` answers, for a random number of workers. Prints how many tables ended how, and ends with
+1 at the first that did not end as it has to. Nothing is needed but Python.
 """
 # RUN: {auditor} 20 3
 # QUICK
@@ -84,11 +84,11 @@ def quote(chance: random.Random, field: str) -> str:
 
 def table_of(chance: random.Random, ids: Sequence[int | str]) -> bytes:
     """Returns a table of some plans, at random broken."""
-    count = chance.randint(1, 4) if chance.random() < 0.97 else chance.choice((0, 16, 17))
+    count = chance.randint(1, 9) if chance.random() < 0.97 else chance.choice((0, 16, 17, 40))
     labels = [
         chance.choice((["A", "B", "C"], ["1", "10", "9"], ["x y", "é", ""])) for _ in range(count)
     ]
-    records = [["id", *(f"plan{at}" for at in range(count))]]
+    records = [["id", *(chance.choice(("plan", "plan ", " ")) + str(at) for at in range(count))]]
     plans = [plan_of(chance, len(ids)) for _ in range(count)]
     for unit, one in enumerate(ids):
         records.append([str(one), *(labels[at][plans[at][unit]] for at in range(count))])
@@ -126,7 +126,8 @@ def break_records(
     elif broken == 3:
         records[at][0] = chance.choice(("other", "", "00"))
     elif broken == 4 and count:
-        records[0][chance.randint(1, count)] = chance.choice(("", "a b", "é", "n" * 101, "n" * 100))
+        names = ("", "a b", " ", "a\tb", "é", "n" * 101, "n" * 100)
+        records[0][chance.randint(1, count)] = chance.choice(names)
     elif broken == 5 and count:
         column = chance.randint(1, count)
         for record in records[1:]:
@@ -138,7 +139,7 @@ def words_of(chance: random.Random) -> list[str]:
         "plans", "--pop", "pop", "--first", "a", "--second", "b", "--district", "d", "--slack",
         chance.choice(("10000", "5000")), "--walks", str(chance.randint(0, 2)), "--steps",
         chance.choice(("7", "15", "20")), "--ends", str(chance.randrange(4)), "--hub-steps", "5",
-        "--ask", chance.choice(ASKS), "--workers", str(chance.choice((1, 2, 5))), "--key",
+        "--ask", chance.choice(ASKS), "--workers", str(chance.randint(1, 8)), "--key",
         f"{chance.getrandbits(256):064x}",
     ]
     for more in (

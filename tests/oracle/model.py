@@ -687,10 +687,10 @@ def names_of(records: Sequence[list[bytes]]) -> list[bytes]:
     if not records or len(records[0]) < 2:
         refuse_table("no header")
     names = records[0][1:]
-    if len(names) > 16:
-        refuse_table(f"{len(names)} plans, more than 16")
+    if len(names) > 4096:
+        refuse_table(f"{len(names)} plans, more than 4096")
     for plan, name in enumerate(names):
-        if not re.fullmatch(rb"[!-~]{1,100}", name):
+        if not re.fullmatch(rb"[ -~]{1,100}", name):
             refuse_table(f"plan {plan} has no usable name")
     return names
 

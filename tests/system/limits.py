@@ -4,7 +4,8 @@ in 5000 regions, with rules on regions and a group, of which about every second 
 look at all units at each move it would not end in time. So is a parallel test of 100,000 ends that
 stops at the last of them: with a look at all ends for each end it would not end in time. And a run
 of a million steps in 5000 regions takes hardly more of a processor than the same run in five: with
-a look at all regions at each move it would take many times as much.
+a look at all regions at each move it would take many times as much. A table of 4,096 plans is
+audited, and one of 4,097 is not.
 
 Usage: python3 -m tests.system.limits PROGRAM
        python3 -m tests.system.limits walk
@@ -231,6 +232,25 @@ def cases() -> Iterator[tuple[str, list[str], bytes, End]]:
         [[{"id": 1}], [{"id": 0}]],
     ), expect_stop()
     yield "three million steps", walk("r", STEPS), two_hubs(), expect_walk()
+    yield from plan_cases()
+
+
+def plan_cases() -> Iterator[tuple[str, list[str], bytes, End]]:
+    """Yields tables with as many plans as there may be, and with one more. All plans are the
+    graph's own, so that each has its report.
+    """
+    given, more = path(2, lambda at: at), ["--key", KEY, "--steps", "1", "--ask", "gap:low"]
+    words = [*COLUMNS, "5000", *more]
+    report = model.audit(["run", *words], given, [None, None]).out
+    for count in (4096, 4097):
+        names = [f"plan {number}" for number in range(count)]
+        rows = [["id", *names], *([str(at)] * (count + 1) for at in range(2))]
+        table = "".join(",".join(row) + "\n" for row in rows).encode()
+        text = "".join(f"plan {name}\n{report}" for name in ("d", *names))
+        end = End(0, text, "")
+        if count > 4096:
+            end = End(2, "", f"table: {count} plans, more than 4096\n")
+        yield f"{count} plans", ["plans", *words, "--workers", "3"], given + b"\n" + table, end
 
 
 def walk(region: str, steps: int) -> list[str]:

@@ -590,7 +590,7 @@ def faults(auditor: str, room: Path) -> None:
     plans_faults(auditor, room)
     status, text = call_recheck(room / "graph", room / "right", *CYCLE, "--id", "0,8")
     COUNTS.judge("a trajectory that is not there", status == 2, text)
-    # An endpoint alone: the rank has to be possible.
+    # An end alone: the rank has to be possible.
     bad = re.sub(r"rank \d+ of 7 p .*", "rank 8 of 7 p 1.142857143", report)
     (room / "bad").write_text(bad)
     differs(
@@ -635,7 +635,7 @@ SAMPLED = [
 
 
 def samples(room: Path) -> None:
-    """Samples leave out endpoint trajectories only, and tell what they leave out."""
+    """Samples leave out trajectories to ends only, and tell what they leave out."""
     graph = wheel().encode()
     report = model.audit(["run", *SAMPLED], graph, [None, None]).out
     both = room / "graph", room / "right"
@@ -648,8 +648,8 @@ def samples(room: Path) -> None:
     says("walks of a sample", 0, "report: walks: 2 of 2 walked again; ", *both, *CYCLE, "--sample",
          "3", *seed)
     # The least of printf 'a public text trajectory 2' | sha256sum and so on, to 20.
-    says("a sample is named", 0, "trajectories: 3 of 19 walked again (3, 16, 17);", *both, *CYCLE,
-         "--sample", "3", *seed)
+    says("a sample is named", 0, "trajectories to ends: 3 of 19 walked again (3, 16, 17);", *both,
+         *CYCLE, "--sample", "3", *seed)
     for name in ("--sample", "--segments"):
         said = f"cannot be checked: {name} without --seed"
         says(f"{name} without a seed", 2, said, *both, *CYCLE, name, "3")

@@ -15,17 +15,22 @@ any_text lets free start text = record { permits = λ now done next rest whole t
 
 pub all_text : (lets : LetsBytes) → ((s : Stream) (bytes : List ℕ) → lets s bytes) → (build : Build) (words : List (List ℕ)) (before : World) → LetsAnswerOrText lets build words before
 all_text lets free build words before = record {
-    answers = λ question asked. any_text lets free _ _;
-    audits = λ unasked. record {
-        one = λ is job accepted. record {
-            check = λ is. any_text lets free _ _;
-            report = λ is outcomes initial whole. any_text lets free _ _;
-            trace = λ is. any_text lets free _ _ };
-        several = λ is setting bytes jobs input judged. any_text lets free _ _ } }
+  answers = λ question asked. any_text lets free _ _;
+  audits = λ unasked. record {
+    one = λ is job accepted. record {
+      check = λ is. any_text lets free _ _;
+      report = λ is outcomes initial whole. any_text lets free _ _;
+      trace = λ is. any_text lets free _ _;
+    };
+    several = λ is setting bytes jobs input judged. any_text lets free _ _;
+  };
+}
 
 pub all_lines : (lets : LetsBytes) → ((s : Stream) (bytes : List ℕ) → lets s bytes) → (words : List (List ℕ)) (before : World) (start : Stream) → LetsAnyLine lets words before start
 all_lines lets free words before start = record {
-    answers = λ question asked. any_text lets free _ _;
-    audits = λ unasked. record {
-        one = λ is after reason cause untouched. any_text lets free _ _;
-        several = λ is keeper after reason cause left. any_text lets free _ _ } }
+  answers = λ question asked. any_text lets free _ _;
+  audits = λ unasked. record {
+    one = λ is after reason cause untouched. any_text lets free _ _;
+    several = λ is keeper after reason cause left. any_text lets free _ _;
+  };
+}

@@ -5,7 +5,7 @@
 #' @inheritParams audit_run
 #' @param graph What [audit_prepare()] returned.
 #' @param ids The trajectories: an id or a range such as `0:3`. Walks have the ids from 0, and the
-#'   endpoint trajectories those behind.
+#'   trajectories to ends those behind.
 #' @param thin The number of steps between two plans.
 #' @param last Whether the last plan of each trajectory is there even if the number of its steps is
 #'   no multiple of `thin`.

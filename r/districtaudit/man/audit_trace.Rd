@@ -23,7 +23,7 @@ audit_trace(
 \item{ask}{The questions: texts such as \code{"seats:low"}, or a named vector, \code{c(seats = "low")}.}
 
 \item{ids}{The trajectories: an id or a range such as \code{0:3}. Walks have the ids from 0, and the
-endpoint trajectories those behind.}
+trajectories to ends those behind.}
 
 \item{thin}{The number of steps between two plans.}
 
