@@ -97,8 +97,11 @@ test_that("the Python package verifies studies, and makes exhibits that name all
   found <- by_python_all(jobs)
   for (at in seq_along(names)) {
     lines <- found[[at]]$lines
-    # Versions of R's packages are not installed in Python, so they are not checked.
-    expect_equal(unique(sub(".* ", "", lines[!grepl("^versions", lines)])), "True", info = names[at])
+    # R's packages are not installed in Python, so versions are not checked; and the origin of a
+    # program is so only if it lies beside it.
+    has_origin <- file.exists(paste0(find_program(), ".origin"))
+    checked <- lines[!grepl(if (has_origin) "^versions" else "^(versions|origin)", lines)]
+    expect_equal(unique(sub(".* ", "", checked)), "True", info = names[at])
     expect_true(all(c("report True", "words True", "graph True", "program True") %in% lines), info = names[at])
     mine <- audit_verify(place(paste0(names[at], ".manifest.json")))
     expect_true(all(mine$agrees), info = names[at])
@@ -226,4 +229,23 @@ test_that("a build without a proof makes no report", {
   on.exit(options(before))
   expect_error(audit_check(two_elections()), "without a proof", class = "NotProved")
   expect_error(do.call(audit_run, c(list(two_elections()), RUN)), class = "NotProved")
+})
+
+test_that("many plans whose names have spaces are those of the Python package", {
+  skip_without_program()
+  map <- quietly(do.call(audit_read, c(sample_graph("grid.json"), GRID, slack = 1000)))
+  plan <- map$data$CD
+  # The plans of a short walk, twenty of them.
+  trace <- quietly(audit_trace(map, KEY, "cut-edges:low", steps = 1900, thin = 100))
+  labels <- matrix(attr(trace, "districts")[trace], nrow(trace))
+  colnames(labels) <- paste("plan", seq_len(20), "of a walk")
+  table <- tempfile(fileext = ".csv")
+  rows <- data.frame(id = map$ids, labels, check.names = FALSE, stringsAsFactors = FALSE)
+  utils::write.csv(rows, table, row.names = FALSE)
+  call <- list(key = KEY, ask = "cut-edges:low", steps = 200)
+  python <- by_python("plans", sample_graph("grid.json"), c(GRID, slack = 1000), call, table)
+  reports <- quietly(do.call(audit_plans, c(list(map, labels), call)))
+  expect_equal(names(reports), c("CD", colnames(labels)))
+  text <- paste0("plan ", names(reports), "\n", vapply(reports, as.character, ""), collapse = "")
+  expect_identical(text, python$text)
 })
