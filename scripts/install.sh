@@ -135,18 +135,20 @@ leave() {
 
 # ---- a build that is not proved
 
-# Keeps in the folder $2 the executable that `rt try` builds and runs below $1, and removes afterwards. Each executable there gets a second name, so
-# that it stays; once a process runs one, which has much to do, that one is named `ran`, and the process is ended.
+# Keeps in the folder $2 what `rt try` makes below $1 and removes afterwards: the module for its compiler, named `module`, and its executables. Each
+# gets a second name, so that it stays; once a process runs an executable, which has much to do, that one is named `ran`, and the process is ended.
 keep_build() {
     local file process
     until [ -e "$2/ran" ]; do
         sleep 0.1
+        find "$1" -name module.bc -exec ln -f {} "$2/module" \;
         while IFS= read -r -d '' file; do
             ln "$file" "$2/$(stat -c %i "$file")"
         done < <(find "$1" -type f -perm -u+x -size +100k -print0)
         for process in /proc/[0-9]*; do
             for file in "$2"/*; do
                 if [ "$process/exe" -ef "$file" ]; then
+                    find "$1" -name module.bc -exec ln -f {} "$2/module" \;
                     mv "$file" "$2/ran"
                     kill -9 "${process#/proc/}"
                     return
@@ -154,6 +156,15 @@ keep_build() {
             done
         done
     done 2>/dev/null
+}
+
+# Compiles and links as $2 the module $1 that was kept, without the checks of memory that `rt try` adds. The kit's own compiler reads it.
+compile_module() {
+    local kit
+    kit=$(rt doc </dev/null 2>/dev/null | tail -n 1)
+    kit=${kit%/*}
+    "$kit/toolchain/bin/clang" -O2 -c -Wno-override-module -x ir "$1" -o "$room/module.o" </dev/null >"$room/compiled" 2>&1 &&
+        gcc "$room/module.o" "$kit/c/libos_c.a" "$kit/c/liblibc_c.a" -lpthread -o "$2" >"$room/compiled" 2>&1
 }
 
 # Builds the program of the crate $1 by `rt try` and leaves the executable as $2. The other words are those of a run that takes long.
@@ -173,6 +184,8 @@ build_unproved() {
     # How its run ended is of no account, since it may have been ended here: the program runs again before it is left.
     for file in "$room"/kept/*; do
         if [ "$(head -c 4 "$file" 2>/dev/null | tail -c 3)" = ELF ]; then
+            [ -s "$room/kept/module" ] && compile_module "$room/kept/module" "$built" && return
+            echo "install: this build of $crate is slow: no module was compiled: $(head -n 1 "$room/compiled" 2>/dev/null | head -c 200)"
             mv "$file" "$built" || fail "$built cannot be written"
             return
         fi

@@ -13,8 +13,8 @@
 modules=(networkx matplotlib pandas tqdm shapely venv ensurepip)
 declare -A package=([networkx]=python3-networkx [matplotlib]=python3-matplotlib [pandas]=python3-pandas [tqdm]=python3-tqdm [shapely]=python3-shapely
     [venv]=python3-venv [ensurepip]=python3-venv [strace]=strace [gcc]="gcc libc6-dev"
-    [parallel]=parallel [flake8]=flake8 [mypy]=mypy [valgrind]=valgrind)
-programs=(strace gcc parallel flake8 mypy valgrind)
+    [git]=git [parallel]=parallel [flake8]=flake8 [mypy]=mypy [valgrind]=valgrind)
+programs=(git strace gcc parallel flake8 mypy valgrind)
 
 # Succeeds if a python is of 3.9 or later and has all of some modules.
 has() {

@@ -329,6 +329,9 @@ class Files(common.FolderCase):
             with self.assertRaises(PrepareRefused) as caught:
                 district_audit.prepare(self.folder / name, **common.COLUMNS)
             self.assertIn(f"{self.folder / name} cannot be read", str(caught.exception))
+
+    def test_maps_that_cannot_be_read_are_named(self) -> None:
+        common.needs("geopandas")
         (self.folder / "bad.shp").write_bytes(b"x" * 200)
         with self.assertRaises(PrepareRefused) as caught:
             graph_from(self.folder / "bad.shp", id="GEOID")

@@ -212,7 +212,10 @@ class Manifests(common.ProgramCase):
             **{name: entry[name] for name in ("command", "graph", "report", "started", "ended")},
         }
         path.write_text(json.dumps(before), encoding="utf-8")
-        status, text = self.verify(path, "--graph", CYCLE, "--program", self.program)
+        # A program of a release has an origin beside it, of which that manifest says nothing.
+        program_alone = self.folder / "alone"
+        shutil.copy(self.program, program_alone)
+        status, text = self.verify(path, "--graph", CYCLE, "--program", program_alone)
         self.assertEqual(status, 0, text)
         self.assertIn("NOT PROVED", text)
         path.write_text(json.dumps({**before, "more": 1}), encoding="utf-8")

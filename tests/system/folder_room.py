@@ -107,10 +107,11 @@ class Room:
     def __init__(self, top: pathlib.Path, folders: str) -> None:
         self.top, self.here = top, top / "here"
         self.tools = {}
-        for tool in ("audit_slots", "audit_gather"):
+        # By each name: a program of a release lies under that of one of both tools.
+        for tool in ("audit_slots", "audit_gather", "audit_folders"):
             self.tools[tool] = str(top / tool)
             os.symlink(folders, top / tool)
-        self.folders_program = folders
+        self.folders_program = self.tools["audit_folders"]
         self.wrong: list[str] = []
 
     def path(self, name: str) -> pathlib.Path:

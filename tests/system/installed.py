@@ -4,6 +4,7 @@ The script runs in a tree of its own, whose crates have the programs that are te
 without the word `built` is not tried.
 """
 # RUN: {auditor}
+# NEEDS: git
 # QUICK
 import argparse
 import hashlib

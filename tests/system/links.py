@@ -4,6 +4,7 @@ Paths that a text names in code marks, such as `docs/user/GUIDE.md`, are checked
 document shows that each kind of fault is found.
 """
 # RUN:
+# NEEDS: git
 # QUICK
 import pathlib
 import re
