@@ -116,7 +116,8 @@ def plans_of(table: object) -> list[Named]:
 
 def test_name(name: object) -> None:
     """Refuses a name that the program cannot write on a line of its own."""
-    if is_missing(name) or kind_of(name) not in ("text", "whole number"):
+    is_empty = isinstance(name, str) and not name
+    if not is_empty and (is_missing(name) or kind_of(name) not in ("text", "whole number")):
         raise PrepareRefused(f"a plan's name must be a text, not {as_json(name)}")
     text = str(name)
     if not 1 <= len(text) <= 100 or not all(" " <= letter <= "~" for letter in text):

@@ -105,8 +105,8 @@ def check_words(manifest: Manifest, entry: Entry, path: pathlib.Path) -> Checked
 # ---- the program and the packages
 
 
-def check_origin(wanted: Program, path: pathlib.Path | None) -> Checked:
-    """Compares a program's origin, the file beside it, with the manifest."""
+def check_origin(wanted: Program, path: pathlib.Path | None, is_told: bool) -> Checked:
+    """Compares a program's origin, the file beside it, with the manifest, if this tells it."""
     said = f"commit {wanted.commit or 'unknown'}, toolchain {wanted.toolchain or 'unknown'}"
     said += f", {wanted.proof}"
     if path is None or not path.is_file():
@@ -114,6 +114,9 @@ def check_origin(wanted: Program, path: pathlib.Path | None) -> Checked:
     found = read_program(path)
     if not found.file.is_same(wanted.file):
         return Checked("origin", None, f"origin: not checked: {path} is another program")
+    if not is_told:
+        line = f"origin: not checked: a manifest of format 1 tells no build, so it counts as {said}"
+        return Checked("origin", None, line)
     if found == Program(found.file):
         line = f"origin: not checked: no origin of {path} lies beside it; the manifest says {said}"
         return Checked("origin", None, line)
@@ -226,7 +229,8 @@ def verify(
         found.append(compare("graph", file, path))
     tool = None if program is None else pathlib.Path(program)
     found.append(compare("program", made.program.file, tool))
-    found.append(check_origin(made.program, tool))
+    # Only a manifest of format 1 has no version of Python.
+    found.append(check_origin(made.program, tool, "python" in made.versions))
     found += check_preparation(made, place, None if raw is None else pathlib.Path(raw))
     return [*found, check_versions(made.versions)]
 
