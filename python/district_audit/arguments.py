@@ -214,7 +214,7 @@ TABLE = {
             0,
             (
                 "A checkpoint is saved each time that so many more"
-                " trajectories are done: 0 to 100000. 0 saves nothing."
+                " trajectories are walked: 0 to 100000. 0 saves nothing."
             ),
         ),
         Argument(
@@ -492,7 +492,7 @@ OTHERS = {
     ),
     "progress": (
         'bool or "steps", default False',
-        "Whether a bar shows how many trajectories are done, which needs `save`; without it, how"
+        "Whether a bar shows how many trajectories are walked, which needs `save`; without it, how"
         ' long the run has taken. With "steps" it shows the steps of the first trajectory, which a'
         " second process walks again: it takes one more processor for the time of one trajectory.",
     ),

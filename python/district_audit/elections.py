@@ -49,7 +49,7 @@ def name_election(
 ) -> WorkLeft:
     """Names the election in which work is left, number `ended` + 1 of `count`.
 
-    `done` trajectories of all elections are done; left out, those of the elections before it and
+    `done` trajectories of all elections are walked; left out, those of the elections before it and
     its own.
     """
     done = ended * error.total + error.done if done is None else done

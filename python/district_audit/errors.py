@@ -114,7 +114,7 @@ class CheckpointUnreadable(AuditError):
 
 
 class WorkLeft(AuditError):
-    """Status 7: the budget is used up, and `done` of `total` trajectories are done.
+    """Status 7: the budget is used up, and `done` of `total` trajectories are walked.
 
     The same call with resume=True goes on. `election` is the name of the election that these are
     of, or is empty without `elections`. `part_is_done` is true where the run's own part (`parts`,

@@ -127,8 +127,10 @@ def refuse_other_limits(reports: typing.Sequence[Report]) -> None:
     """Raises ValueError unless the reports are of one question, and differ in one limit alone."""
 
     def job(report: Report) -> tuple[object, ...]:
-        fields = {field: None for names in CHANGED.values() for field in names}
-        rules = dataclasses.replace(report.rules, **typing.cast(typing.Any, fields))
+        rules = dataclasses.replace(
+            report.rules, slack=0, low=0, high=0, max_cut=None, max_length=None, max_split=None,
+            max_splits=None, max_split_regions=None, cut_weight=None, pieces=None,
+        )
         return (
             report.key, report.units, report.edges, report.population, rules, report.setting,
             report.asks, report.source, report.has_pairs, bool(report.serial), starts_of(report),

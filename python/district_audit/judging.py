@@ -127,6 +127,16 @@ class Judged:
                     f" {len(part)} units: no walk can change it"
                 )
 
+    def name_size(self, label: Label) -> str:
+        """Returns the name of a district; of one with a tenth of the usual units or fewer, whose
+        label may be a slip, also its units.
+        """
+        name, members = self.name_district(label), self.members[label]
+        if 10 * len(members) * len(self.members) > len(self.rows):
+            return name
+        many = f"{len(members)} unit{'' if len(members) == 1 else 's'}"
+        return f"a {name} of {many} ({self.shown(self.sort_units(members))})"
+
     def judge_districts(self) -> None:
         choices = self.choices
         for label, members in self.members.items():
@@ -147,7 +157,7 @@ class Judged:
                 people = sum(self.rows[unit][choices.population] for unit in members)
                 if not low <= people <= high:
                     self.refusals.append(
-                        f"{self.name_district(label)} has {people} people, outside {low} to {high}"
+                        f"{self.name_size(label)} has {people} people, outside {low} to {high}"
                         f" (slack={choices.slack}){self.number_of(label)}"
                     )
         edges = sum(len(those) for those in self.neighbours.values()) // 2

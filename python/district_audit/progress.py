@@ -48,7 +48,7 @@ class PlainBar:
         if (done, total) == self.last:
             return
         self.last = done, total
-        text = f"{self.name}done {done} of {total}"
+        text = f"{self.name}walked {done} of {total}"
         if self.is_terminal:
             full = WIDTH * done // max(total, 1)
             bar = "#" * full + "." * (WIDTH - full)
@@ -84,7 +84,7 @@ class TqdmBar:
 
     def show(self, done: int, total: int) -> None:
         if self.bar is None:
-            self.bar = self.tqdm(total=total, unit="walk", desc=self.name or "done")
+            self.bar = self.tqdm(total=total, unit="walk", desc=self.name or "walked")
         self.bar.n = done
         self.bar.refresh()
 
@@ -147,7 +147,7 @@ class Clock:
     def describe(self, seconds: float) -> str:
         return (
             f"{self.name}walking {self.total} trajectories for {seconds:.0f} s (save=1 shows how"
-            " many are done)"
+            " many are walked)"
         )
 
     def __call__(self, _process: object = None) -> None:

@@ -12,7 +12,7 @@ import typing
 import warnings
 
 from .arguments import MOST_WEIGHT, refuse, weight_of
-from .calls import NO_WORDS, prepare_call
+from .calls import NO_WORDS, add_first_election, prepare_call
 from .districts import table_of
 from .errors import AuditError, GraphRefused, TypeRefused, extra
 from .graphs import Foreign
@@ -312,6 +312,7 @@ def choose_weight(
     if steps < SAMPLES:
         raise ValueError(f"steps={steps}: choose_weight needs at least {SAMPLES}")
     key = key_of(seed) if key is None else key
+    words = add_first_election(graph, {"first": None, "second": None, **words})
     chooser = Chooser(graph, steps, key, dict(words))
     whole, districts = map_of(graph, dict(words), key)
     source = "older plans" if plans is not None else f"neutral plans (seed {seed!r})"

@@ -154,8 +154,8 @@ def blocks_of(text: str) -> typing.Iterator[str]:
 
 
 def readme_report() -> str:
-    """Returns the report that the README prints, which a court's reader would copy."""
-    text = (TOP / "README.md").read_text(encoding="utf-8")
+    """Returns the report on grid.json in examples/README.md, which READING_A_REPORT explains."""
+    text = (EXAMPLES / "README.md").read_text(encoding="utf-8")
     return next(block for block in blocks_of(text) if "ends seats" in block)
 
 

@@ -1,8 +1,10 @@
 """Calls of the real program: what they answer, each exception, progress, and Ctrl-C."""
+import contextlib
 import io
 import json
 import os
 import pathlib
+import re
 import signal
 import subprocess
 import sys
@@ -124,8 +126,28 @@ class Calls(common.ProgramCase):
             workers=4,
             ask=["seats:low", "gap:high", "cut-edges:low"],
         )
+        self.assertEqual(str(report), common.readme_report())
+
+    def test_the_lines_of_python_in_the_readme(self) -> None:
+        """They choose the weight of the command for a shell, and make what it prints."""
+        common.needs("pandas")
+        common.needs("matplotlib")
         text = (common.TOP / "README.md").read_text(encoding="utf-8")
-        self.assertIn(f"```\n{report}```", text, "the report is not the one that the README prints")
+        lines = text.partition("```python\n")[2].partition("```")[0]
+        lines = lines.replace('"examples/', f'"{common.EXAMPLES}/')
+        lines = lines.replace('"picture"', repr(str(self.folder / "picture")))
+        made: typing.Dict[str, common.Value] = {}
+        with common.environment(DISTRICT_AUDIT=self.program), warnings.catch_warnings(), \
+                contextlib.redirect_stdout(io.StringIO()) as said:
+            warnings.simplefilter("ignore")
+            exec(lines, made)
+        self.assertEqual(made["choice"].weight, 32)
+        self.assertIn("--cut-weight 32:", said.getvalue())
+        wanted = text.partition("\nprints\n\n```\n")[2].partition("```")[0]
+        whole = "".join(f"plan {name}\n{one}" for name, one in made["reports"].items())
+        shown = re.findall("^(?:plan|walk|pair|ends) .*\n", whole, re.MULTILINE)
+        self.assertEqual("".join(shown), wanted)
+        self.assertTrue((self.folder / "picture.png").exists())
 
     def test_an_assignment_stands_for_a_column(self) -> None:
         root = common.example("grid.json")
@@ -644,7 +666,7 @@ class Progress(common.ProgramCase):
         self.assertEqual(
             stream.getvalue(),
             "".join(
-                f"walking 12 trajectories for {seconds} s (save=1 shows how many are done)\n"
+                f"walking 12 trajectories for {seconds} s (save=1 shows how many are walked)\n"
                 for seconds in (0, 10, 21)
             ),
         )
@@ -672,14 +694,16 @@ class Progress(common.ProgramCase):
         for done in (0, 37, 37, 101):
             bar.show(done, 101)
         bar.end()
-        self.assertEqual(stream.getvalue(), "done 0 of 101\ndone 37 of 101\ndone 101 of 101\n")
+        self.assertEqual(
+            stream.getvalue(), "walked 0 of 101\nwalked 37 of 101\nwalked 101 of 101\n"
+        )
         stream = io.StringIO()
         stream.isatty = lambda: True  # type: ignore[assignment]
         bar = progress.PlainBar(stream)
         bar.show(50, 100)
         bar.end()
         drawn = "#" * 20 + "." * 20
-        self.assertEqual(stream.getvalue(), f"\r[{drawn}] done 50 of 100 \n")
+        self.assertEqual(stream.getvalue(), f"\r[{drawn}] walked 50 of 100 \n")
 
     def test_tqdm_where_it_is(self) -> None:
         tqdm = common.needs("tqdm")

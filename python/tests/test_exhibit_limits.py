@@ -98,7 +98,7 @@ class PageOfLimits(ProgramCase):
             *(hashlib.sha256(str(one).encode()).hexdigest() for one in found.values()),
         ):
             self.assertIn(digest, page.words)
-        self.assertRegex(page.text, "proof of the program (proved|not proved)")
+        self.assertRegex(page.text, "proof of the program (proved|NOT PROVED)")
         printed = next(words for words in page.words if words.startswith("district-audit "))
         self.assertIn("have --max-cut 300 in the place of --max-cut 140", page.text)
         for name, limit in (("max_cut=140", "140"), ("max_cut=300", "300")):

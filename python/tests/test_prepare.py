@@ -218,6 +218,18 @@ class Changes(unittest.TestCase):
         self.refuse('"9", which is to be joined, is not a unit', root, join=[("9", "1")])
         self.refuse("1 cannot be joined to itself", root, join=[(1, 1)])
 
+    def test_a_stray_label_is_told_with_its_units(self) -> None:
+        root = common.example("grid.json")
+        for node in root["nodes"][7:9]:
+            node["CD"] = "99"
+        ids = [node["id"] for node in root["nodes"][7:9]]
+        found = prepare(
+            root, population="TOTPOP", first="DEM", second="REP", district="CD", slack=1000
+        ).refusals
+        said = f'a district "99" of 2 units ({ids[0]}, {ids[1]}) has 200 people, outside'
+        self.assertEqual([line.startswith(said) for line in found].count(True), 1, found)
+        self.assertFalse(any(line.startswith('a district "0') for line in found))
+
     def test_real_maps(self) -> None:
         """Counties of North Carolina with whole floats, and tracts of upstate New York with
         fractions; what is changed is counted here.

@@ -112,6 +112,18 @@ class ChoiceTests(FolderCase):
             )
             self.assertEqual((row[0], row[1], row[4]), (band.weight, band.median, inside))
 
+    def test_a_map_of_several_elections(self) -> None:
+        """GUIDE prepares its map with elections, and chooses a weight for it."""
+        prepared = district_audit.prepare(
+            grid(True, 3), population="people", district="d", slack=2000,
+            elections={"one": ("a", "b"), "two": ("b", "a")},
+        )
+        found = district_audit.choose_weight(
+            prepared, neutral=4, steps=2048, program=self.program
+        )
+        wanted = self.choose(grid(True, 3))
+        self.assertEqual((found.plans, found.rows()), (wanted.plans, wanted.rows()))
+
     def test_no_weight_is_announced_that_makes_no_plan_ordinary(self) -> None:
         walked = weighing.Walked((90,) * 64, 9, 9, {})
         bands = [weighing.Band(weight, walked, walked, 0, 6400) for weight in (64, 33)]

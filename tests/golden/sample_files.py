@@ -10,7 +10,7 @@ import sys
 
 from tests.checks import Checks, run
 from tests.oracle import model
-from tests.places import DATA, EXAMPLES, python_with
+from tests.places import DATA, EXAMPLES, TOP, python_with
 
 KEY = "0" * 64
 CYCLE_DIGEST = "65748cd4f1dd8b36f1023bc495f442a19a59dd57bedbd5bfcdf045bc050c2449"
@@ -20,7 +20,7 @@ GRID = "--pop TOTPOP --first DEM --second REP --district CD --slack 1000 --steps
 
 def check_written(checks: Checks, python: str, module: str, path: pathlib.Path) -> None:
     """A file has to be what this module writes."""
-    end = run([python, "-m", module])
+    end = run([python, "-m", module], more={"PYTHONPATH": f"{TOP / 'python'}:{TOP}"})
     checks.has_status(f"{module.rpartition('.')[2]}_ends", end)
     checks.is_same_text(
         f"{module.rpartition('.')[2]}_writes_{path.name}", end.out, path.read_text()
@@ -43,6 +43,9 @@ def main() -> int:
     checks = Checks("sample_files")
     for name in ("grid", "rough"):
         check_written(checks, sys.executable, f"tests.golden.write_{name}", DATA / f"{name}.json")
+    check_written(
+        checks, sys.executable, "tests.golden.write_tilted", EXAMPLES / "ny8_plans.csv"
+    )
     pandas = python_with("pandas")
     if pandas:
         check_written(checks, pandas, "tests.golden.write_plans", EXAMPLES / "plans.csv")

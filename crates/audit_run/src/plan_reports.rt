@@ -1,5 +1,5 @@
-//! The walks and reports of several plans: all memory is allocated, then the plans are walked in rounds and reported in
-//! order.
+//! The walks and reports of several plans: all memory is allocated, then one plan after the other is walked and
+//! reported.
 
 ghost use Rattle.std.specs.Prelude.{◌≡◌, ◌<◌, ℕ, [], List, length, All, slice_index_or};
 ghost use Rattle.plan_csv.specs.declared.named.Named.{Named as NamedOf};
@@ -15,7 +15,6 @@ use claim_counter::workers::Runtime;
 use plan_core::job::Job;
 use plan_csv::named::Named;
 use plan_runs::plans::report_plans;
-use plan_runs::sharing::Sharing;
 use report::ended::Ended;
 use std::thread::Threads;
 
@@ -43,12 +42,12 @@ fn report_cut<R: Threads + Sync, K: Sink, G: Gate + Sync>(
     let first = first_of(plans.as_slice());
     let rules = first.rules();
     let max_cut = rules.max_cut;
-    let sharing = Sharing::of(plans.as_slice());
+    let workers = first.setting().workers;
     match cut_judge_sets(
         rt.alloc,
         move |sums: &SumsView| sums.cut <= max_cut,
         rules,
-        sharing,
+        workers + 1,
         plans.as_slice(),
     ) {
         Ok(judge_sets) => report_plans(rt, plans, judge_sets, out),
@@ -70,13 +69,13 @@ fn report_ruled<R: Threads + Sync, K: Sink, G: Gate + Sync>(
     let rules = first.rules();
     let cut_limit = rules.max_cut;
     let split_limit = rules.max_split;
-    let sharing = Sharing::of(plans.as_slice());
+    let workers = first.setting().workers;
     match ruled_judge_sets(
         rt.alloc,
         move |sums: &SumsView| sums.cut <= cut_limit,
         move |width: u32| width <= split_limit,
         rules,
-        sharing,
+        workers + 1,
         plans.as_slice(),
     ) {
         Ok(judge_sets) => report_plans(rt, plans, judge_sets, out),
@@ -84,7 +83,7 @@ fn report_ruled<R: Threads + Sync, K: Sink, G: Gate + Sync>(
     }
 }
 
-/// Allocates the memory of all plans, then walks them in rounds and writes their names and reports in order.
+/// Allocates the memory of all plans, then walks one plan after the other and writes its name and report.
 pub fn report_all<R: Threads + Sync, K: Sink, G: Gate + Sync>(
     rt: &Runtime<'_, R, G>,
     plans: Vec<Named>,

@@ -52,7 +52,7 @@ fn walk_all<R: Threads + Sync, J: Judge + Send, G: Gate + Sync>(
     pool: WorkerPool<J>,
     book: &mut Book,
 )
-    requires pool { (seats : ℕ) × IsPool job.now (length todo.now) seats pool }
+    requires pool { IsPool job.now (length todo.now) job.now.setting.workers pool }
     requires todo { MissesIds job.now book.old todo.now }
     ensures total { book.new.total ≡ book.old.total }
     ensures outcomes { IsPermutation book.new.outcomes (book.old.outcomes ++ map (found job.now) todo.now) }
@@ -77,7 +77,7 @@ pub fn walk_run<R: Threads + Sync, J: Judge + Send, G: Gate + Sync>(
     book: &mut Book,
     out: &mut OutcomeList,
 )
-    requires pool { (seats : ℕ) × IsPool job.now (length todo.now) seats pool }
+    requires pool { IsPool job.now (length todo.now) job.now.setting.workers pool }
     requires todo { MissesIds job.now book.old todo.now }
     requires room { book.old.total ≤ length out.old.items + out.old.spare }
     ensures total { book.new.total ≡ book.old.total }

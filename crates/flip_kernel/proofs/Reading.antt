@@ -26,3 +26,25 @@ module _ (g h : Graph) (p q : List ℕ) (m n : ℕ) (graphs : h ≡ g) (plans : 
   opened_for table is =
       subst (λ (x : Graph). MarksOpenPairs x q n table) (sym graphs)
       (subst (λ (x : List ℕ). MarksOpenPairs g x n table) (sym plans) (subst (λ (x : ℕ). MarksOpenPairs g p x table) (sym numbers) is))
+
+-- a legal plan of a sound job can be summed up, for an equal graph, equal counts and an equal number of districts
+pub inputs_for : (job : Job) (plan : List ℕ) (g : Graph) (counts : Counts) (n : ℕ) → IsJob job → IsLegal job plan → g ≡ job.graph → counts ≡ job.counts → n ≡ job.districts
+    → AreInputs g counts n plan
+inputs_for job plan g counts n sound legal graphs columns numbers =
+    let input = sound.within.input in
+    subst (λ (x : Graph). AreInputs x counts n plan) (sym graphs)
+    (subst (λ (x : Counts). AreInputs job.graph x n plan) (sym columns)
+    (subst (λ (x : ℕ). AreInputs job.graph job.counts x plan) (sym numbers)
+    (record {
+      population = input.population;
+      first = input.first;
+      second = input.second;
+      complete = legal.complete;
+      in_range = legal.in_range;
+      lengths = input.lengths;
+    })))
+
+-- the sums, for an equal graph and equal counts
+pub stands_for : (g h : Graph) (counts columns : Counts) (plan : List ℕ) (sums : Following) → h ≡ g → columns ≡ counts → StandsFor g counts plan sums → StandsFor h columns plan sums
+stands_for g h counts columns plan sums graphs same is =
+    subst (λ (x : Graph). StandsFor x columns plan sums) (sym graphs) (subst (λ (x : Counts). StandsFor g x plan sums) (sym same) is)

@@ -1,5 +1,4 @@
 pub mod Blocks
-pub mod Fitting
 pub mod Flags
 pub mod ChainState
 pub mod Judged

@@ -22,10 +22,9 @@ use crate::nearby::NeighborCounts;
 use crate::open_pairs::OpenPairs;
 use crate::permission::{is_permitted, is_short};
 use crate::proposal::Pairs;
-use crate::replacing::{Target, replace_units};
 use crate::start::{start_of, tables_of};
 use crate::weight::is_taken_by;
-use crate::writing::shift;
+use crate::writing::{put_plan, shift};
 use audit_model::lists::UnitList;
 use audit_model::memory::Memory;
 use audit_model::outcome::SumsView;
@@ -154,7 +153,7 @@ impl Board {
         self.plan.as_slice() == plan
     }
 
-    /// Does the work of `set`: updates the tables for each unit that is in another district.
+    /// Does the work of `set`: recomputes all tables.
     fn replace_plan(&mut self, job: &Job, plan: &[u32])
         requires made { self.old.job ≡ job.now }
         requires legal { IsLegal job.now plan.now }
@@ -162,21 +161,11 @@ impl Board {
     {
         let graph = job.graph();
         let districts = self.pairs.districts;
-        let target = Target {
-            graph,
-            columns: job.counts(),
-            faces: &self.faces,
-            districts,
-            plan,
-        };
-        replace_units(
-            target,
-            &mut self.plan,
-            &mut self.sums,
-            &mut self.near,
-            &mut self.counts,
-        );
+        put_plan(&mut self.plan, plan);
+        self.sums.refill(graph, job.counts(), plan);
+        self.near.refill(graph, plan, districts);
         self.open_pairs.refill(graph, plan, districts, &self.near);
+        self.counts.reset(graph, &self.faces, plan);
         self.fillers.clear();
     }
 

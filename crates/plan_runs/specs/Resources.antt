@@ -2,7 +2,6 @@
 use Rattle.std.specs.Prelude.{◌≡◌, ℕ, ◌+◌, ◌≤◌, length, Vec, vec_len}
 use Rattle.flip_guard.specs.Judging.{Judging}
 use Rattle.audit_model.specs.Job.{Job}
-use Rattle.audit_model.specs.Limits.{most_workers}
 use Rattle.claim_counter.specs.declared.pool.WorkerPool.{WorkerPool}
 use Rattle.claim_counter.specs.Pools.{IsPool}
 use Rattle.sequential_test.specs.Pools.{IsStoppingPool}
@@ -19,26 +18,18 @@ pub record IsJudgeSet {J A : Type 0} (by : J → Judging) (job : Job) (judges : 
   pub judges_are : AreJudges job by judges.items
   pub count_is : vec_len judges ≡ job.setting.workers + 1
 
--- constraints for one worker of the job or more, and one for its serial test
-pub record HasJudges {J A : Type 0} (by : J → Judging) (job : Job) (judges : Vec J A) : Type 0 where
-  pub judges_are : AreJudges job by judges.items
-  pub some : 2 ≤ vec_len judges
-  pub few : vec_len judges ≤ most_workers + 1
-
 module _ {J : Type 0} where
   -- the workers of a run of all trajectories, with `count` of them pending
   pub record AreWorkersForAll (job : Job) (count : ℕ) (c : WorkerPool J) : Type 0 where
     pub plain : job.setting.stop ≡ 0
-    pub seats : ℕ
-    pub pool : IsPool job count seats c
+    pub pool : IsPool job count job.setting.workers c
 
   -- the workers of a run whose tests stop early
   pub record AreWorkersForStops (job : Job) (c : StoppingPool J) : Type 0 where
     pub early : 1 ≤ job.setting.stop
-    pub seats : ℕ
-    pub pool : IsStoppingPool job seats c
+    pub pool : IsStoppingPool job job.setting.workers c
 
-  -- the workers of the job, with `count` trajectories pending
+  -- the workers that the job requires, with `count` trajectories pending
   abbrev pub AreWorkersFor : Job → ℕ → Workers J → Type 0
   AreWorkersFor job count (workers.All c) = AreWorkersForAll job count c
   AreWorkersFor job count (workers.Early c) = AreWorkersForStops job c

@@ -4,8 +4,8 @@
 //! walks. A run that saves walks with the work queue of `tally_desk` (`saving`). Any other run walks all pending
 //! trajectories at once, or in rounds until its tests have stopped (`walking`). The outcomes are a `Found` in each
 //! case. Finally it ends (`ending`). If no trajectory is pending, it makes the serial test and writes the report. Runs
-//! of several plans (`plans`) allocate the memory of all plans before the first walk, walk as many plans beside each
-//! other as there are workers (`sharing`), and report them in order. A trace (`tracing`) writes the plans of a range of trajectories at every N-th step.
+//! of several plans (`plans`) allocate the memory of all plans before the first walk, and report one plan after the
+//! other. A trace (`tracing`) writes the plans of a range of trajectories at every N-th step.
 #![tactic(auto)]
 
 pub mod buffers;
@@ -17,7 +17,6 @@ pub mod plans;
 pub mod resources;
 pub mod saving;
 pub mod serially;
-pub mod sharing;
 pub mod todo;
 pub mod tracing;
 pub mod walking;
@@ -30,6 +29,5 @@ pub use plans::report_plans;
 pub use resources::{Resources, Workers, make_resources};
 pub use saving::{SavedResources, make_saved_resources, run_saved};
 pub use serially::{make_tester, test_serially};
-pub use sharing::Sharing;
 pub use tracing::{TraceRange, trace};
 pub use walking::{run_unsaved, walk};

@@ -1,9 +1,8 @@
 //! The resources of a run that saves nothing, allocated before it walks.
 
-ghost use Rattle.std.specs.Prelude.{◌≡◌, ◌≤◌, IfOk, length, vec_len};
-ghost use Rattle.audit_model.specs.Limits.{most_workers};
+ghost use Rattle.std.specs.Prelude.{◌≡◌, IfOk, length, vec_len};
 ghost use Rattle.walker.specs.Judges.{AreJudges};
-ghost use Rattle.plan_runs.specs.Resources.{AreWorkersFor, HasJudges, IsResourcesFor};
+ghost use Rattle.plan_runs.specs.Resources.{AreWorkersFor, IsJudgeSet, IsResourcesFor};
 ghost use Rattle.plan_runs.specs.RunBuffers.{AreBuffersFor, IsStartOf};
 ghost use Rattle.plan_runs.specs.Serially.{IsTester};
 
@@ -44,7 +43,7 @@ fn make_workers<J: Judge>(
 ) -> Result<Workers<J>, Memory>
     requires buffers { AreBuffersFor job.now buffers.now }
     requires judges { AreJudges job.now J.judging judges.items }
-    requires workers { (1 ≤ vec_len judges) × (vec_len judges ≤ most_workers) }
+    requires workers { vec_len judges ≡ job.now.setting.workers }
     ensures { IfOk result (AreWorkersFor job.now (length buffers.now.todo)) }
 {
     if job.setting().stop > 0 {
@@ -64,7 +63,7 @@ fn make_buffers_and_workers<J: Judge>(
 ) -> Result<(RunBuffers, Workers<J>), Memory>
     requires start { IsStartOf job.now outcomes.now }
     requires judges { AreJudges job.now J.judging judges.items }
-    requires workers { (1 ≤ vec_len judges) × (vec_len judges ≤ most_workers) }
+    requires workers { vec_len judges ≡ job.now.setting.workers }
     ensures buffers { IfOk result (λ r. AreBuffersFor job.now r.0) }
     ensures workers { IfOk result (λ r. AreWorkersFor job.now (length r.0.todo) r.1) }
     ensures outcomes { IfOk result (λ r. r.0.book.outcomes ≡ outcomes.now) }
@@ -89,7 +88,7 @@ fn make_with<J: Judge>(
 ) -> Result<Resources<J>, Memory>
     requires start { IsStartOf job.now outcomes.now }
     requires judges { AreJudges job.now J.judging judges.items }
-    requires workers { (1 ≤ vec_len judges) × (vec_len judges ≤ most_workers) }
+    requires workers { vec_len judges ≡ job.now.setting.workers }
     requires tester { IsTester job.now tester }
     ensures resources { IfOk result (IsResourcesFor job.now) }
     ensures outcomes { IfOk result (λ m. m.buffers.book.outcomes ≡ outcomes.now) }
@@ -105,7 +104,7 @@ fn make_with<J: Judge>(
 }
 
 /// Makes the resources of a run that starts with these outcomes and saves nothing. `judges` has a constraint for each
-/// worker, whatever their number, and one for the serial test. The only error is out of memory.
+/// worker and one for the serial test. The only error is out of memory.
 pub fn make_resources<J: Judge>(
     alloc: Global,
     job: &Job,
@@ -113,7 +112,7 @@ pub fn make_resources<J: Judge>(
     mut judges: Vec<J>,
 ) -> Result<Resources<J>, Memory>
     requires start { IsStartOf job.now outcomes.now }
-    requires judges { HasJudges J.judging job.now judges }
+    requires judges { IsJudgeSet J.judging job.now judges }
     ensures resources { IfOk result (IsResourcesFor job.now) }
     ensures outcomes { IfOk result (λ m. m.buffers.book.outcomes ≡ outcomes.now) }
 {

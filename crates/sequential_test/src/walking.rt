@@ -1,6 +1,6 @@
 //! The walk of the outlier trajectories, and then of endpoint trajectories in rounds.
 
-ghost use Rattle.std.specs.Prelude.{◌≡◌, ℕ, ◌+◌, ◌-◌, ◌≤◌, [], length, take, vec_len};
+ghost use Rattle.std.specs.Prelude.{◌≡◌, ◌+◌, ◌-◌, ◌≤◌, [], length, take, vec_len};
 ghost use Rattle.std.specs.List.{AllPairs};
 ghost use Rattle.audit_model.specs.Below.{map_below};
 ghost use Rattle.audit_model.specs.Run.{total};
@@ -129,7 +129,7 @@ pub fn walk_to_stops<R: Threads + Sync, J: Judge + Send, G: Gate + Sync>(
     requires ids { todo.now ≡ map_below (total job.now) (λ id. id) }
     requires some { 1 ≤ job.now.setting.stop }
     requires some_ends { 1 ≤ job.now.setting.ends }
-    requires pool { (seats : ℕ) × IsStoppingPool job.now seats pool }
+    requires pool { IsStoppingPool job.now job.now.setting.workers pool }
     requires empty { book.old.outcomes ≡ [] }
     requires total { book.old.total ≡ total job.now }
     requires room { total job.now ≤ length sorted.old.items + sorted.old.spare }

@@ -36,11 +36,10 @@ common_lengths <- function(lines, others = lines) {
 # Returns the lengths of the borders to each unit's neighbors, in the order of `rows`.
 lengths_of_borders <- function(shapes, rows) {
   found <- common_lengths(sf::st_boundary(shapes))
-  length_of <- named(found$length, paste(found$one, found$other))
-  lapply(seq_along(rows), function(unit) {
-    long <- unname(length_of[paste(unit, rows[[unit]])])
-    ifelse(is.na(long), 0, long)
-  })
+  unit <- factor(rep(seq_along(rows), lengths(rows)), seq_along(rows))
+  long <- found$length[match(paste(unit, unlist(rows)), paste(found$one, found$other))]
+  long[is.na(long)] <- 0
+  unname(split(long[seq_along(unit)], unit))
 }
 
 # Returns the part of the borders between neighbors that both polygons have.

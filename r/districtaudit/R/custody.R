@@ -64,7 +64,8 @@ custody_of <- function(map, others, of_edges, numbers, id, join, queen, files) {
   }
   names <- map$columns
   names(names)[names(names) == "pop"] <- "population"
-  arguments <- c(names, map$rules)
+  rules <- lapply(map$rules, function(word) if (grepl("^[0-9]+$", word)) as.numeric(word) else word)
+  arguments <- c(names, rules)
   if (!is.null(map$elections)) arguments$elections <- lapply(map$elections, as.list)
   if (!is.null(id)) arguments$id <- id
   if (numbers != "error") arguments$numbers <- numbers

@@ -85,7 +85,8 @@ table_of <- function(graph, plans, districts) {
 # texts of a table by their bytes, and so a plan has its districts in the order of their numbers.
 padded <- function(labels) {
   texts <- as_plain(labels)
-  if (all(grepl("^(0|[1-9][0-9]*)$", texts))) formatC(texts, width = max(nchar(texts)), flag = "0") else texts
+  is_whole <- all(grepl("^(0|[1-9][0-9]*)$", texts))
+  if (is_whole) paste0(strrep("0", max(nchar(texts)) - nchar(texts)), texts) else texts
 }
 
 # Returns the names of the plans; a plan without a name gets one.

@@ -116,10 +116,10 @@ test_columns <- function(columns, elections, lengths) {
       " or votes"
     )
   }
-  if (!is.null(columns$group_of) && is.null(columns$group)) {
+  if (!is.null(columns$group_of) && is.null(columns[["group"]])) {
     refuse("ArgumentRefused", "group_of is given without group: name the column of the group")
   }
-  if (!is.null(lengths) && is.null(columns$length)) {
+  if (!is.null(lengths) && is.null(columns[["length"]])) {
     refuse("ArgumentRefused", "lengths is given without length: name it, as \"shared_perim\"")
   }
 }

@@ -18,7 +18,7 @@ map_warnings <- function(map) {
     people_warnings(people, district, name$pop),
     unlist(of_votes, recursive = FALSE),
     rounding_warnings(map),
-    if (!is.null(name$group)) share_warnings(map$rules),
+    if (!is.null(name[["group"]])) share_warnings(map$rules),
     limit_warnings(map, c(map$columns, map$rules))
   )
 }
@@ -214,10 +214,10 @@ own_numbers <- function(map, options) {
     found$max_splits <- sum(regions) - length(regions)
     found$max_split_regions <- sum(regions > 1)
   }
-  if (!is.null(options$group)) {
+  if (!is.null(options[["group"]])) {
     of <- if (is.null(options$group_of)) options$pop else options$group_of
     share <- as.numeric(if (is.null(options$group_share)) 5000 else options$group_share)
-    sums <- rowsum(cbind(map$data[[options$group]], map$data[[of]]), as_plain(district))
+    sums <- rowsum(cbind(map$data[[options[["group"]]]], map$data[[of]]), as_plain(district))
     found$group_districts <- sum(10000 * sums[, 1] > share * sums[, 2])
   }
   found

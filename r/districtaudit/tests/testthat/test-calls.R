@@ -56,11 +56,13 @@ test_that("each end of the program is a condition", {
   fails(do.call(audit_check, c(broken, GRID)), "GraphRefused", 2L, "graph: not JSON")
   folder <- tempfile()
   dir.create(folder)
-  run <- function(...) audit_run(map, KEY, "cut-edges:low", walks = 3, steps = 50, save = 1, folder = folder, ...)
+  run <- function(...) {
+    quietly(audit_run(map, KEY, "cut-edges:low", walks = 3, steps = 50, save = 1, folder = folder, ...))
+  }
   end <- fails(run(budget = 2), "WorkLeft", 7L, "stopped: 2 of 3 done")
   expect_equal(c(end$done, end$total), c(2, 3))
   expect_error(run(), "resume = TRUE goes on", class = "ArgumentRefused")
-  whole <- audit_run(map, KEY, "cut-edges:low", walks = 3, steps = 50)
+  whole <- quietly(audit_run(map, KEY, "cut-edges:low", walks = 3, steps = 50))
   expect_identical(run(resume = TRUE)$text, whole$text)
   expect_identical(run(overwrite = TRUE)$text, whole$text)
   other <- tryCatch(run(resume = TRUE, max_cut = 30), error = identity)

@@ -99,7 +99,7 @@ test_that("check and plans are those of the Python package", {
   given <- as.matrix(plans[-1])
   rownames(given) <- plans$id
   # Units are matched by their ids, so the order of the rows does not count.
-  reports <- audit_plans(map, given[rev(seq_len(nrow(given))), ], KEY, "cut-edges:low", steps = 500)
+  reports <- quietly(audit_plans(map, given[rev(seq_len(nrow(given))), ], KEY, "cut-edges:low", steps = 500))
   text <- paste0("plan ", names(reports), "\n", vapply(reports, as.character, ""), collapse = "")
   expect_identical(text, python$text)
 })
@@ -110,12 +110,12 @@ test_that("a trace has the plans of the Python package", {
   call <- list(key = KEY, ask = c("seats:low", "cut-edges:low"), steps = 2500, ends = 2, walks = 1, hub_steps = 900)
   python <- by_python("trace", path, c(GRID, slack = 1000), c(call, list(ids = "0-2", thin = 500)))
   map <- quietly(do.call(audit_read, c(path, GRID, slack = 1000)))
-  trace <- do.call(audit_trace, c(list(map), call, list(ids = 0:2, thin = 500)))
+  trace <- quietly(do.call(audit_trace, c(list(map), call, list(ids = 0:2, thin = 500))))
   labels <- vapply(python$lines, function(line) strsplit(line, " ")[[1]], character(300), USE.NAMES = FALSE)
   expect_equal(matrix(attr(trace, "districts")[trace], 300), labels)
   # Walk 0 has plans after 0, 500, .., 2500 steps; each of the two others after 0 and 500.
   expect_equal(ncol(trace), 6 + 2 * 2)
-  every <- do.call(audit_trace, c(list(map), call, list(ids = 0:2, thin = 500, last = TRUE)))
+  every <- quietly(do.call(audit_trace, c(list(map), call, list(ids = 0:2, thin = 500, last = TRUE))))
   expect_equal(as.data.frame(every)$step[7:12], c(0, 500, 900, 0, 500, 900))
   frame <- as.data.frame(trace)
   expect_equal(frame$step[frame$trajectory == 0], c(0, 500, 1000, 1500, 2000, 2500))

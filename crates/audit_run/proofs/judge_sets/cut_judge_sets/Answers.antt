@@ -29,7 +29,7 @@ guards-requires-clause-no_frozen g c =
 
 pub loop-plan-preserved : goal.loop-plan-preserved
 loop-plan-preserved g c =
-    let judge_set = IsCutJudgeSet c.args.test in
+    let judge_set = IsCutJudgeSet c.args.test c.args.count in
     let taken = take_more c.args.plans.now c.loop-plan.plan-index c.plan-item.result (omega arith) in
     let same = ap (λ (n : Named). take c.loop-plan.plan-index c.args.plans.now ++ n ∷ []) (sym c.plan-item.is) in
     subst (λ (plans : List Named). ArePaired judge_set plans c.push.new.self.items) (sym (taken ∙ same))
@@ -37,6 +37,5 @@ loop-plan-preserved g c =
     (paired_push judge_set (take c.loop-plan.plan-index c.args.plans.now) c.loop-plan.judge_sets.items c.plan-item.result _ c.loop-plan.invariant
     (record {
       each = rw (← c.rules.ensures.value) c.in_ok-judges.ensures.each;
-      some = omega (arith, c.in_ok-judges.ensures.count, c.workers_at.ensures.some);
-      few = omega (arith, c.in_ok-judges.ensures.count, c.workers_at.ensures.few);
+      count_is = c.in_ok-judges.ensures.count;
     })))

@@ -3,4 +3,4 @@ use Rattle.audit_run.specs.JudgeSets.{AreCutJudgeSets}
 use Rattle.audit_run.proofs.judge_sets.cut_judge_sets.Given as goal
 
 abbrev pub invariant-loop-plan : goal.invariant-loop-plan
-invariant-loop-plan g l = AreCutJudgeSets l.test (take l.plan-index l.plans) l.judge_sets.items
+invariant-loop-plan g l = AreCutJudgeSets l.test l.count (take l.plan-index l.plans) l.judge_sets.items

@@ -1,20 +1,10 @@
-use Rattle.std.proofs.Common.{List, arith, sym, subst}
+use Rattle.std.proofs.Common.{List, sym, subst}
 use Rattle.audit_model.specs.declared.outcome.Outcome.{Outcome}
 use Rattle.report.specs.declared.ended.Ended.{Ended}
 use Rattle.audit_statement.specs.Endings.{AreInitialOutcomes}
 use Rattle.audit_laws.specs.Calls.{Finishes}
 use Rattle.audit_statement.specs.DueText.{LetsReport}
-use Rattle.audit_laws.proofs.Running.{run_setting}
 use Rattle.audit_run.proofs.run.run_without_saves.Goals as goal
-
-pub make_resources-requires-clause-judges : goal.make_resources-requires-clause-judges
-make_resources-requires-clause-judges g c =
-    let of = run_setting c.args.job.now c.requires.start.run in
-    record {
-      judges_are = c.requires.judges.judges_are;
-      some = omega (arith, c.requires.judges.count_is, of.some_workers);
-      few = omega (arith, c.requires.judges.count_is, of.few_workers);
-    }
 
 pub returns-in-Ok : goal.returns-in-Ok
 returns-in-Ok g c = λ k opened.

@@ -3,23 +3,23 @@ use Rattle.std.proofs.lemmas.List.{append-nil, nil_from_length}
 use Rattle.std.proofs.lemmas.List.Elements.{All-push}
 use Rattle.plan_csv.specs.declared.named.Named.{Named}
 use Rattle.plan_csv.specs.Named.{jobs_of, pair_of}
-use Rattle.plan_runs.specs.Resources.{HasJudges}
+use Rattle.plan_runs.specs.Resources.{IsJudgeSet}
 use Rattle.plan_runs.specs.Plans.{IsWalkOf, RunsAlone, walk_pair}
 use Rattle.plan_runs.proofs.Turning.{moved_on, next_of, seat_taken, seat_there}
 use Rattle.plan_runs.proofs.plans.make_walks.Goals as goal
 
 pub remove-here-requires : goal.remove-here-requires
-remove-here-requires g c = omega (arith, seat_there (λ (n : Named) judges. HasJudges g.J.Judge.judging n.job judges) _ _ c.in-Some.plan c.loop-plan.judges.items c.loop-plan.invariant.judge_sets c.in-Some.ensures.steps.0, c.loop-plan.judges.ok.0)
+remove-here-requires g c = omega (arith, seat_there (λ (n : Named) judges. IsJudgeSet g.J.Judge.judging n.job judges) _ _ c.in-Some.plan c.loop-plan.judges.items c.loop-plan.invariant.judge_sets c.in-Some.ensures.steps.0, c.loop-plan.judges.ok.0)
 
 pub make_walk-requires-clause-run : goal.make_walk-requires-clause-run
 make_walk-requires-clause-run g c = (next_of (λ (n : Named). RunsAlone n.job) _ _ c.in-Some.plan c.loop-plan.invariant.runs c.in-Some.ensures.steps.0).0
 
 pub make_walk-requires-clause-judges : goal.make_walk-requires-clause-judges
-make_walk-requires-clause-judges g c = (seat_taken (λ (n : Named) judges. HasJudges g.J.Judge.judging n.job judges) _ _ c.in-Some.plan c.loop-plan.judges.items c.remove-here.new.self.items c.remove-here.result c.loop-plan.invariant.judge_sets c.in-Some.ensures.steps.0 c.remove-here.ensures.items c.remove-here.ensures.value).0
+make_walk-requires-clause-judges g c = (seat_taken (λ (n : Named) judges. IsJudgeSet g.J.Judge.judging n.job judges) _ _ c.in-Some.plan c.loop-plan.judges.items c.remove-here.new.self.items c.remove-here.result c.loop-plan.invariant.judge_sets c.in-Some.ensures.steps.0 c.remove-here.ensures.items c.remove-here.ensures.value).0
 
 pub loop-plan-preserved : goal.loop-plan-preserved
 loop-plan-preserved g c = record {
-  judge_sets = (seat_taken (λ (n : Named) judges. HasJudges g.J.Judge.judging n.job judges) _ _ c.in-Some.plan c.loop-plan.judges.items c.remove-here.new.self.items c.remove-here.result c.loop-plan.invariant.judge_sets c.in-Some.ensures.steps.0 c.remove-here.ensures.items c.remove-here.ensures.value).1;
+  judge_sets = (seat_taken (λ (n : Named) judges. IsJudgeSet g.J.Judge.judging n.job judges) _ _ c.in-Some.plan c.loop-plan.judges.items c.remove-here.new.self.items c.remove-here.result c.loop-plan.invariant.judge_sets c.in-Some.ensures.steps.0 c.remove-here.ensures.items c.remove-here.ensures.value).1;
   runs = (next_of (λ (n : Named). RunsAlone n.job) _ _ c.in-Some.plan c.loop-plan.invariant.runs c.in-Some.ensures.steps.0).1;
   pairs = moved_on pair_of walk_pair (jobs_of c.args.plans.items) c.loop-plan.walks.items _ _ _ c.in-Some.plan _ c.loop-plan.invariant.pairs c.in-Some.ensures.steps.0 c.in_ok-push.ensures.items c.in_ok-walk.ensures.pair;
   each = subst (All (IsWalkOf)) (sym c.in_ok-push.ensures.items) (All-push (IsWalkOf) c.loop-plan.walks.items _ c.loop-plan.invariant.each c.in_ok-walk.ensures.walk);

@@ -10,4 +10,4 @@ pub make_with-requires-clause-judges : goal.make_with-requires-clause-judges
 make_with-requires-clause-judges g c = popped_rest (λ judge. IsJudgeFor c.args.job.now (g.J.Judge.judging judge)) _ _ c.in-Some.judge c.requires.judges.judges_are c.in-Some.ensures.items
 
 pub make_with-requires-clause-workers : goal.make_with-requires-clause-workers
-make_with-requires-clause-workers g c = (omega (arith, c.in-Some.ensures.len, c.requires.judges.some), omega (arith, c.in-Some.ensures.len, c.requires.judges.few))
+make_with-requires-clause-workers g c = omega (arith, c.in-Some.ensures.len, c.requires.judges.count_is)

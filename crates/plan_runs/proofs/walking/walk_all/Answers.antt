@@ -24,6 +24,3 @@ walk_run-requires-clause-todo g c κs within = record {
   ids = subst (IsTodo c.args.job.now c.args.buffers.book.outcomes) (sym c.as_slice.ensures) c.requires.buffers.todo;
   whole = c.requires.buffers.total_is;
 }
-
-pub walk_run-requires-clause-pool : goal.walk_run-requires-clause-pool
-walk_run-requires-clause-pool g c κs within = (c.requires.workers.seats, rw c.as_slice.ensures c.requires.workers.pool)

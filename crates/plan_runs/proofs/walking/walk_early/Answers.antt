@@ -21,6 +21,3 @@ returns g c =
     (ap (λ (s : Setting). s.walks) c.setting-setting.ensures.value)
     (c.len.ensures ∙ ap (λ (s : Setting). length s.asks) c.setting-setting.ensures.value)
     walked.stops walked.parts walked.four buffers.blank buffers.report_room
-
-pub walk_to_stops-stops-requires-clause-pool : goal.walk_to_stops-stops-requires-clause-pool
-walk_to_stops-stops-requires-clause-pool g c κs within = (c.requires.workers.seats, c.requires.workers.pool)

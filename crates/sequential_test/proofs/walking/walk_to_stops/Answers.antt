@@ -32,7 +32,7 @@ walk_to-requires-clause-walked g c κs within = record {
 pub walk_rounds-requires-clause-rounds : goal.walk_rounds-requires-clause-rounds
 walk_rounds-requires-clause-rounds g c κs within =
     subst (λ (n : ℕ). AreRounds c.args.job.now.setting.ends n 0 c.args.pool.rounds.items)
-    (sym (c.walk_to.ensures.walked.batch_workers.count ∙ c.find_hub.ensures.batch_workers.count ∙ c.requires.pool.1.batch_workers.count)) c.requires.pool.1.rounds
+    (sym (c.walk_to.ensures.walked.batch_workers.count ∙ c.find_hub.ensures.batch_workers.count ∙ c.requires.pool.batch_workers.count)) c.requires.pool.rounds
 
 pub walk_rounds-requires-clause-walked : goal.walk_rounds-requires-clause-walked
 walk_rounds-requires-clause-walked g c κs within =
