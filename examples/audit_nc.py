@@ -1,11 +1,13 @@
 #!/usr/bin/env python3
 """Audits the map of North Carolina in data/nc.json. Usage: python3 audit_nc.py [FOLDER].
 
-Prints the report, and writes report, manifest, exhibit.html and, with matplotlib, picture.png and
-picture.svg to the folder, which is the working folder if none is given. `make audit` calls it with
-the package and the programs of the release. It takes some seconds.
+Prints the report, and writes report, manifest, exhibit.html, and the picture to the folder, which
+is the working folder if none is given. matplotlib draws picture.png and picture.svg; without it
+picture-1.svg and so on are the figures of the exhibit. `make audit` calls it with the package and
+the programs of the release. It takes some seconds.
 """
 import pathlib
+import re
 import sys
 
 import district_audit
@@ -32,5 +34,12 @@ try:
     report.plot(str(out / "picture"))
     written += ", picture.png, picture.svg"
 except district_audit.MissingExtra:
-    written += "; no picture, which needs matplotlib (apt-get install python3-matplotlib)"
+    page = (out / "exhibit.html").read_text("utf-8")
+    style = "".join(re.findall("^svg text.*$", page, re.MULTILINE))
+    for number, figure in enumerate(re.findall("<svg(.*?</svg>)", page, re.DOTALL), 1):
+        text = f'<svg xmlns="http://www.w3.org/2000/svg"{figure}\n'
+        text = text.replace(">", f"><style>{style}</style>", 1)
+        (out / f"picture-{number}.svg").write_text(text, "utf-8")
+        written += f", picture-{number}.svg"
+    written += " (matplotlib draws one picture: apt-get install python3-matplotlib)"
 print(f"in {out}: {written}")

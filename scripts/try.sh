@@ -66,13 +66,6 @@ make_environment() {
     if [ -x "$python" ] && [ "$(cat "$venv/wheel.sha256" 2>/dev/null)" = "$sums" ]; then return; fi
     python3 -c 'import sys, venv, ensurepip; sys.exit(sys.version_info < (3, 9))' 2>/dev/null ||
         need_packages "Python 3.9 or later with venv is missing" python3 python3-venv
-    # The picture is no reason to fail: the audit goes on without it.
-    if ! "$(choose_python)" -c 'import matplotlib' 2>/dev/null && [ "$(id -u)" = 0 ] && command -v apt-get >/dev/null; then
-        # A slow mirror shall not keep the report back: what is not loaded in half a minute is left out.
-        timeout 30 sh -c 'apt-get update; apt-get install -y --no-install-recommends --download-only python3-matplotlib' \
-            </dev/null >"$log" 2>&1 &&
-            (need_packages "matplotlib, which draws the picture, is missing" python3-matplotlib)
-    fi
     rm -rf "$venv"
     mkdir -p "${venv%/*}" || fail "${venv%/*} cannot be made"
     "$(choose_python)" -m venv --system-site-packages "$venv" >"$log" 2>&1 || fail "the environment $venv cannot be made: $(tail -n 1 "$log")"

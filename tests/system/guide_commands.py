@@ -196,7 +196,7 @@ def check_installed(checks: Checks, reader: Reader) -> None:
     place = pathlib.Path(shutil.which("python3") or "").parent
     for name in ("district-audit", "audit_slots", "audit_gather"):
         checks.is_equal(f"{name}_beside_python", shutil.which(name), str(place / name))
-    code = "import district_audit as one; print(one.__file__, one.find_program('audit'))"
+    code = "from district_audit import program as p; print(p.__file__, p.find_program('audit'))"
     end = run(["python3", "-c", code], folder=reader.room)
     checks.is_true("own_package", str(TOP) not in end.out and not end.status, place, end)
 
