@@ -14,7 +14,7 @@ import typing
 from . import labels as naming
 from .calls import Given
 from .errors import ReportRefused, error_of
-from .program import stop
+from .program import NOT_PROVED, stop
 from .report import ASK, BILLION, Line, Reader, Rules, Setting, Source, Start, head_of
 from .report import setting_of, source_of
 
@@ -103,7 +103,9 @@ class ProgramLines:
         if status == 0:
             return
         self.note.seek(0)
-        line = self.note.read().decode("utf-8", "surrogateescape").removesuffix("\n")
+        line = self.note.read().decode("utf-8", "surrogateescape")
+        line = NOT_PROVED.sub("", line, count=1) if NOT_PROVED.match(line) else line
+        line = line.removesuffix("\n")
         said = naming.translate(line, naming.labels_of(self.sent.data, self.sent.named))
         raise error_of(status, line, said)
 
@@ -154,6 +156,8 @@ class Text:
         self.lines = lines
         self.number = 0
         """The number of the line that was read last, from 1."""
+        self.unproved = ""
+        """The first line, in which the program said that it was built without a proof; or empty."""
 
     def refuse(self, why: str) -> typing.NoReturn:
         """Raises TraceRefused at the line that was read last."""
@@ -188,6 +192,9 @@ class Text:
             line = self.line("a line `trace id i steps S thin N`")
             if line.startswith("trace "):
                 break
+            if self.number == 1 and NOT_PROVED.fullmatch(line):
+                self.unproved = line
+                continue
             said.append(line)
             self.ask_that(len(said) < MOST_HEAD_LINES, "no line `trace` ends the head")
             self.ask_that(said[0] == "district-trace 1", "it is not `district-trace 1`")

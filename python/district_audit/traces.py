@@ -212,6 +212,11 @@ class Trace(typing.Iterator[Sample]):
         self.is_closed = False
         self.begin(self.trajectory)
 
+    @property
+    def proved(self) -> bool:
+        """False if the program said that it was built without a proof."""
+        return not self.text.unproved
+
     def read_columns(self, named: Words) -> tuple[str, str]:
         """Returns the columns of both parties' votes that the program read; '' if unknown."""
         if self.head.source is not None:

@@ -147,6 +147,19 @@ class ReportsWithoutAProof(common.ProgramCase):
         self.assertEqual(district_audit.check(self.graph, program=self.unproved,
                                               **common.WORDS).units, 4)
 
+    def test_a_trace_says_so(self) -> None:
+        words: common.Words = dict(common.WORDS, key=common.KEY, steps=8, ids=0)
+        found = []
+        for program in (self.unproved, self.program):
+            with district_audit.trace(self.graph, program=program, **words) as trace:
+                found.append((trace.proved, [sample.moves for sample in trace]))
+        self.assertEqual(found, [(False, found[1][1]), (True, found[1][1])])
+        say = f"echo '{self.line}'; echo '{self.line}' >&2"
+        fails = self.wrapper(f"{say}; echo 'write fault' >&2; exit 5")
+        with self.assertRaises(district_audit.AuditError) as caught:
+            district_audit.trace(self.graph, program=fails, **words)
+        self.assertEqual(str(caught.exception), "write fault")
+
     def test_it_is_not_filed(self) -> None:
         report = district_audit.run(self.graph, program=self.unproved, **common.WALK)
         with self.assertRaisesRegex(district_audit.NotProved, "not for a court"):
