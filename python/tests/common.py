@@ -39,8 +39,9 @@ def fail_or_skip(what: str) -> typing.NoReturn:
 
 def needs(module: str) -> types.ModuleType:
     """Returns the module, or does what `fail_or_skip` does."""
-    if importlib.util.find_spec(module) is None:
-        fail_or_skip(module)
+    whole = module.split(".")[0]
+    if importlib.util.find_spec(whole) is None:
+        fail_or_skip(whole)
     return importlib.import_module(module)
 
 
