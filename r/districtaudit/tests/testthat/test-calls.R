@@ -43,7 +43,7 @@ test_that("each end of the program is a condition", {
   fails(audit_check(map, wrong = 1), "WordsRefused", 1L, "words: unknown name --wrong")
   fails(audit_run(map, "zz", "cut-edges:low"), "WordsRefused", 1L, "words: bad value for --key")
   fails(audit_run(map, KEY, "cut-edges:low", pairs = TRUE), "WordsRefused", 1L, "words: pairs need two walks")
-  # The columns of rows 1 and 2, of 3 and 4, and of 5 and 6 touch along six sides each.
+  # Each district is two lines of six squares, so its border with the next one has six sides.
   fails(audit_check(map, max_cut = 11), "GraphRefused", 2L, "plan: 12 cut edges, more than 11")
   units <- small_units()
   units$pop[1] <- 9000
@@ -113,7 +113,7 @@ test_that("the table of districts has their people and votes", {
   expect_equal(table$district, 1:3)
   expect_equal(table$units, rep(12, 3))
   expect_equal(table$population, rep(12000, 3))
-  # Six units in each of the rows 1 and 2 have 210 and 220 votes, and so on.
+  # The votes of a unit rise by ten from one line of six squares to the next, from 210 on.
   expect_equal(table$first, c(2580, 2820, 3060))
   expect_equal(table$second, rep(2760, 3))
 })
