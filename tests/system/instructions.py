@@ -140,6 +140,7 @@ def walks() -> dict[str, Run]:
     rules = [*"--region county --max-splits 30 --group a --group-of b --group-districts 0".split()]
     cut, steps = ["--ask", "cut-edges:low"], ["--steps", "200000"]
     stopping = "--walks 0 --ends 999 --hub-steps 100 --stop 20 --ask cut-edges:high".split()
+    short = "--walks 0 --ends 99 --hub-steps 1000".split()
     return {
         "check_a_grid": Run(["check", *GRID[1:11]], example("grid.json")),
         "start_on_900_units": Run([*MADE, "--steps", "1", *cut]),
@@ -157,6 +158,9 @@ def walks() -> dict[str, Run]:
             [*MADE, *"--walks 0 --ends 99 --hub-steps 1000".split(), "--ask", "seats:high"]
         ),
         "parallel_test_that_stops": Run([*MADE, *stopping]),
+        "ends_of_100_steps": Run([*MADE, *"--walks 0 --ends 999 --hub-steps 100".split(), *cut]),
+        "short_ends_on_2500_units": Run(["make", "--size", "5", *MADE[3:], *short, *cut]),
+        "short_ends_on_10000_units": Run(["make", "--size", "10", *MADE[3:], *short, *cut]),
         "several_plans": Run(
             ["plans", *SMALL[1:], "--steps", "1000", "--ask", "gap:low"],
             several_plans(square(40, False)),

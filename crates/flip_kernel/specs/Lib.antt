@@ -1,4 +1,5 @@
 pub mod Blocks
+pub mod Fitting
 pub mod Flags
 pub mod ChainState
 pub mod Judged

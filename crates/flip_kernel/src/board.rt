@@ -22,9 +22,10 @@ use crate::nearby::NeighborCounts;
 use crate::open_pairs::OpenPairs;
 use crate::permission::{is_permitted, is_short};
 use crate::proposal::Pairs;
+use crate::replacing::{Target, replace_units};
 use crate::start::{start_of, tables_of};
 use crate::weight::is_taken_by;
-use crate::writing::{put_plan, shift};
+use crate::writing::shift;
 use audit_model::lists::UnitList;
 use audit_model::memory::Memory;
 use audit_model::outcome::SumsView;
@@ -63,8 +64,7 @@ pub struct Board {
     high: u64,
 }
 
-/// Drops the fields one by one. Written by hand so that a caller's proof sees one call. The calls of `drop` keep this
-/// proof short.
+/// Drops the fields one by one. Written by hand so that a caller's proof sees one call.
 impl Drop for Board {
     fn drop(self) {
         let Board {
@@ -153,7 +153,7 @@ impl Board {
         self.plan.as_slice() == plan
     }
 
-    /// Does the work of `set`: recomputes all tables.
+    /// Does the work of `set`: updates the tables for each unit that is in another district.
     fn replace_plan(&mut self, job: &Job, plan: &[u32])
         requires made { self.old.job ≡ job.now }
         requires legal { IsLegal job.now plan.now }
@@ -161,11 +161,21 @@ impl Board {
     {
         let graph = job.graph();
         let districts = self.pairs.districts;
-        put_plan(&mut self.plan, plan);
-        self.sums.refill(graph, job.counts(), plan);
-        self.near.refill(graph, plan, districts);
+        let target = Target {
+            graph,
+            columns: job.counts(),
+            faces: &self.faces,
+            districts,
+            plan,
+        };
+        replace_units(
+            target,
+            &mut self.plan,
+            &mut self.sums,
+            &mut self.near,
+            &mut self.counts,
+        );
         self.open_pairs.refill(graph, plan, districts, &self.near);
-        self.counts.reset(graph, &self.faces, plan);
         self.fillers.clear();
     }
 
@@ -199,8 +209,7 @@ impl Board {
         self.open_pairs.has(place, &self.near)
     }
 
-    /// Returns the pair that a draw proposes, if the pair is open. Otherwise the step of the draw does not change the
-    /// plan, and the result is `None`.
+    /// Returns the pair that a draw proposes, if the pair is open. Otherwise the step does not change the plan.
     #[inline]
     pub(crate) fn proposal_of(&self, draw: u64) -> Option<(u32, u32)>
         ensures { MatchOption result (next self.now.job self.now.plan draw ≡ self.now.plan)
@@ -248,8 +257,7 @@ impl Board {
         is_taken_by(flip, draw, &self.pairs, sums, &self.near, &self.plan)
     }
 
-    /// Returns true if the constraint permits the plan after the flip. A constraint that limits
-    /// nothing is not asked.
+    /// Returns true if the constraint permits the plan after the flip. One that limits nothing is not asked.
     #[inline]
     fn permits<J: Judge>(&mut self, judge: &J, flip: Flip) -> bool
         requires made { self.old.job ≡ flip.job.now }
@@ -259,7 +267,6 @@ impl Board {
             result ≡ meets_rules (rules flip.entry.job.now) (cut_edges flip.entry.job.now.graph after) after }
         ensures same { self.new ≡ self.old }
     {
-        // Reading a field makes the type's invariant known to the prover.
         let _ = &self.sums;
         if judge.limits_nothing() {
             return true;
@@ -267,15 +274,13 @@ impl Board {
         is_permitted(judge, flip, &self.near, &mut self.sums, &mut self.plan)
     }
 
-    /// Returns true if the total length of the cut edges after the flip is at most the limit. If edges have no lengths,
-    /// it is 0 and needs no test.
+    /// Returns true if the total length of the cut edges after the flip is at most the limit.
     #[inline]
     fn keeps_length(&self, flip: Flip) -> bool
         requires made { self.now.job ≡ flip.job.now }
         ensures { result ≡ nat_le (cut_length flip.entry.job.now.graph flip.entry.job.now.counts.lengths (slice_set self.now.plan flip.entry.unit flip.entry.district))
             flip.entry.job.now.setting.max_length }
     {
-        // Reading a field makes the type's invariant known to the prover.
         let sums = &self.sums;
         if flip.job.counts().lengths.len() == 0 {
             return true;
@@ -369,8 +374,7 @@ impl Board {
         decided
     }
 
-    /// Returns true if the unit may leave its district. The district is searched only if filling its holes does not
-    /// decide. `steps` counts the search.
+    /// Returns true if the unit may leave its district. It is searched only if filling its holes does not decide.
     fn can_leave<L: Ledger>(&mut self, job: &Job, unit: u32, steps: &mut Steps<L>) -> bool
         requires made { self.old.job ≡ job.now }
         requires unit { unit < job.now.graph.units }

@@ -37,6 +37,7 @@ mod nearby;
 mod open_pairs;
 mod permission;
 pub mod proposal;
+mod replacing;
 mod start;
 pub mod state;
 mod weight;

@@ -37,11 +37,3 @@ pub(crate) fn shift(flip: Flip, mates: (u64, u64), sums: &mut Sums, plan: &mut U
     sums.follow(member, flip.job.counts(), flip.district, mates);
     put_unit(plan, flip.unit, flip.district);
 }
-
-/// Overwrites the plan with another one, without updating the sums.
-pub(crate) fn put_plan(plan: &mut UnitList, other: &[u32])
-    requires { length plan.old ≡ length other.now }
-    ensures { plan.new ≡ other.now }
-{
-    plan.as_mut_slice().copy_from_slice(other);
-}
