@@ -1,9 +1,11 @@
 pub mod Bridge
 pub mod Counted
 pub mod Edging
+pub mod Facts
 pub mod Identified
 pub mod Indexed
 pub mod Joined
+pub mod Keeping
 pub mod Listed
 pub mod Measured
 pub mod Named
@@ -13,3 +15,4 @@ pub mod Scalars
 pub mod Shapes
 pub mod Started
 pub mod Turns
+pub mod Wanting

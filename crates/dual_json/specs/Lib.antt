@@ -1,6 +1,7 @@
 pub mod Columns
 pub mod Districts
 pub mod Edges
+pub mod Kept
 pub mod Lengths
 pub mod Names
 pub mod Numbered

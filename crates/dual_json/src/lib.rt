@@ -17,6 +17,7 @@ mod required;
 mod scalar;
 mod shape;
 mod value;
+mod wanted;
 
 pub use crate::ids::read_ids;
 pub use crate::read::read_graph;

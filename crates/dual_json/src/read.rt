@@ -1,8 +1,9 @@
 //! Reading a graph and the data of its units.
 
-ghost use Rattle.std.specs.Prelude.{◌≡◌, ◌≤◌, ◌⊎◌, true, None, Some, Ok, Err, cond, length, codes, IfOk, MatchResult};
+ghost use Rattle.std.specs.Prelude.{◌≡◌, ◌≤◌, ◌⊎◌, true, None, Some, Ok, Err, cond, length, codes, option_map, IfOk, MatchResult};
 ghost use Rattle.std.specs.Str.{is_utf8};
 ghost use Rattle.serde_json.specs.Read.{read};
+ghost use Rattle.dual_json.specs.Kept.{is_wanted, keep};
 ghost use Rattle.dual_json.specs.Values.{value_data};
 ghost use Rattle.audit_model.specs.declared.fault.GraphFault.TheVariants as fault;
 ghost use Rattle.audit_model.specs.Graph.{IsGraph, count_edges};
@@ -25,6 +26,7 @@ use crate::parse::parse;
 use crate::required::{Required, check_entries};
 use crate::shape::{RootParts, check_frame, parts_of};
 use crate::value::Value;
+use crate::wanted::Wanted;
 use audit_model::fault::GraphFault;
 use audit_model::lists::{LabelList, UnitList};
 use audit_model::memory::Memory;
@@ -47,10 +49,23 @@ pub(crate) fn value_of<'t>(
     ensures { MatchResult result (λ root. cond (is_utf8 bytes.now) (read bytes.now) None ≡ Some (value_data root))
         (λ f. (f ≡ fault.Memory) ⊎ ((f ≡ fault.NotJson) × (cond (is_utf8 bytes.now) (read bytes.now) None ≡ None))) }
 {
+    parse_wanted(alloc, bytes, scratch, Wanted::All)
+}
+
+/// Does the work of [`value_of`], and keeps the wanted members alone.
+fn parse_wanted<'t>(
+    alloc: Global,
+    bytes: &'t [u8],
+    scratch: &'t mut Scratch,
+    wanted: Wanted<'_>,
+) -> Result<Value<'t>, GraphFault>
+    ensures { MatchResult result (λ root. option_map (keep (is_wanted wanted.entry)) (cond (is_utf8 bytes.now) (read bytes.now) None) ≡ Some (value_data root))
+        (λ f. (f ≡ fault.Memory) ⊎ ((f ≡ fault.NotJson) × (cond (is_utf8 bytes.now) (read bytes.now) None ≡ None))) }
+{
     let Ok(text) = from_utf8(bytes) else {
         return Err(GraphFault::NotJson);
     };
-    match parse(alloc, text, scratch) {
+    match parse(alloc, text, scratch, wanted) {
         Ok(value) => Ok(value),
         Err(Error::Invalid) => Err(GraphFault::NotJson),
         Err(_) => Err(GraphFault::Memory),
@@ -135,7 +150,7 @@ fn read_beside<'t>(
     ensures group { IfOk result (λ p. IsGroup p.graph.units p.group) }
     ensures frozen { IfOk result (λ p. AreFrozen p.graph.units p.frozen) }
 {
-    let root = value_of(alloc, bytes, scratch)?;
+    let root = parse_wanted(alloc, bytes, scratch, Wanted::Of(cols))?;
     match parts_of(&root) {
         Ok(parts) => {
             let parsed = read_parts(alloc, &parts, cols);

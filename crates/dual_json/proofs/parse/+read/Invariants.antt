@@ -1,8 +1,10 @@
 use Rattle.std.proofs.Common.{◌≡◌, ℕ, ◌+◌, ◌*◌, ◌≤◌, length}
 use Rattle.json.specs.Json.{items, members, value, parse_map}
-use Rattle.serde_json.specs.Data.{no_members}
+use Rattle.serde_json.specs.Data.{Members, no_members}
 use Rattle.serde_json.specs.Read.{of_items, of_members, converted}
+use Rattle.dual_json.specs.Kept.{is_wanted, keep_items, keep_members}
 use Rattle.dual_json.specs.Values.{members_data}
+use Rattle.dual_json.proofs.Keeping.{AreInOrder}
 use Rattle.dual_json.proofs.Parsing.{items_before}
 use Rattle.dual_json.proofs.parse.+read.Given as goal
 
@@ -18,7 +20,8 @@ decreases-read_members l = 2 * l.depth + 1
 abbrev pub invariant-read_items-items : goal.invariant-read_items-items
 invariant-read_items-items l =
     (n : ℕ) × (length l.reader ≤ n)
-    × (converted of_items (items (value l.depth) (length l.initial.reader) l.initial.reader) ≡ parse_map (items_before l.found.items) (converted of_items (items (value l.depth) n l.reader)))
+    × (parse_map (keep_items (is_wanted l.wanted)) (converted of_items (items (value l.depth) (length l.initial.reader) l.initial.reader))
+    ≡ parse_map (items_before l.found.items) (parse_map (keep_items (is_wanted l.wanted)) (converted of_items (items (value l.depth) n l.reader))))
     × (length l.reader ≤ length l.initial.reader)
 
 abbrev pub decreases-read_items-items : goal.decreases-read_items-items
@@ -26,9 +29,11 @@ decreases-read_items-items l = length l.reader
 
 abbrev pub invariant-read_members-members : goal.invariant-read_members-members
 invariant-read_members-members l =
-    (n : ℕ) × (length l.reader ≤ n)
-    × (converted (λ ms. of_members ms no_members) (members (value l.depth) (length l.initial.reader) l.initial.reader) ≡ converted (λ ms. of_members ms (members_data l.found.items)) (members (value l.depth) n l.reader))
+    (n : ℕ) × (old : Members) × (length l.reader ≤ n)
+    × (converted (λ ms. of_members ms no_members) (members (value l.depth) (length l.initial.reader) l.initial.reader) ≡ converted (λ ms. of_members ms old) (members (value l.depth) n l.reader))
     × (length l.reader ≤ length l.initial.reader)
+    × AreInOrder old
+    × (keep_members (is_wanted l.wanted) old ≡ members_data l.found.items)
 
 abbrev pub decreases-read_members-members : goal.decreases-read_members-members
 decreases-read_members-members l = length l.reader

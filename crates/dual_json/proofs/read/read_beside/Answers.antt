@@ -6,7 +6,8 @@ use Rattle.audit_model.proofs.Results.{match_map, err_at}
 use Rattle.dual_json.specs.Values.{value_data}
 use Rattle.audit_statement.specs.Reading.{Document, reading, of_root, accepted_or, parsed, refusal}
 use Rattle.dual_json.specs.Shape.{document_of_parts}
-use Rattle.dual_json.proofs.Bridge.{reading_of, reading_none}
+use Rattle.dual_json.proofs.Bridge.{reading_none}
+use Rattle.dual_json.proofs.Wanting.{reading_kept}
 use Rattle.dual_json.proofs.read.read_beside.Goals as goal
 
 pub returns-in_err-root-clause-read : goal.returns-in_err-root-clause-read
@@ -25,7 +26,7 @@ returns-in-Ok-clause-read c =
     let columns = c.args.cols.now in
     let root = value_data c.in_ok-root.root in
     let d : Document = document_of_parts c.in-Ok.parts in
-    let read = reading_of c.args.bytes.now columns root c.in_ok-root.ensures ∙ ap (of_root columns root) c.in-Ok.ensures.0
+    let read = reading_kept columns c.args.bytes.now root c.in_ok-root.ensures ∙ ap (of_root columns root) c.in-Ok.ensures.0
     ∙ ap (λ (x : Document). accepted_or (parsed x columns) (refusal x columns)) c.in-Ok.ensures.1 in
     match_map c.read_parts-parsed.result _ _ _ _ c.read_parts-parsed.ensures.read
     (λ p h. read ∙ ap (accepted_or (parsed d columns)) h.0 ∙ ap Ok h.1)
@@ -38,4 +39,4 @@ pub returns-in-Err-clause-read : goal.returns-in-Err-clause-read
 returns-in-Err-clause-read c =
     let columns = c.args.cols.now in
     let root = value_data c.in_ok-root.root in
-    inr (reading_of c.args.bytes.now columns root c.in_ok-root.ensures ∙ ap (of_root columns root) c.in-Err.ensures)
+    inr (reading_kept columns c.args.bytes.now root c.in_ok-root.ensures ∙ ap (of_root columns root) c.in-Err.ensures)

@@ -1,19 +1,13 @@
-use Rattle.std.proofs.Common.{◌≡◌, Bool, true, false, None, refl, sym, ap, ◌∙◌, inr, cond}
+use Rattle.std.proofs.Common.{None, cond}
 use Rattle.std.specs.Str.{is_utf8}
-use Rattle.std.proofs.lemmas.Bool.{cond-true, cond-false}
-use Rattle.std.proofs.lemmas.Str.{IsUtf8-from_is_utf8, is_utf8-from_IsUtf8}
 use Rattle.serde_json.specs.Read.{read}
+use Rattle.audit_model.proofs.Results.{match_map}
+use Rattle.dual_json.specs.Values.{value_data}
+use Rattle.dual_json.proofs.Keeping.{all_kept}
 use Rattle.dual_json.proofs.read.value_of.Goals as goal
 
-pub returns-in_default : goal.returns-in_default
-returns-in_default c =
-    inr (refl, by (is_utf8 c.args.bytes.now) refl)
-  where
-    by : (b : Bool) → is_utf8 c.args.bytes.now ≡ b → cond (is_utf8 c.args.bytes.now) (read c.args.bytes.now) None ≡ None
-    by true e = absurd (c.in_default.ensures.cases.0 (IsUtf8-from_is_utf8 c.args.bytes.now e))
-    by false e = cond-false (is_utf8 c.args.bytes.now) (read c.args.bytes.now) None e
-
-pub returns-in-Ok-parse : goal.returns-in-Ok-parse
-returns-in-Ok-parse c =
-    cond-true (is_utf8 c.args.bytes.now) (read c.args.bytes.now) None (is_utf8-from_IsUtf8 c.args.bytes.now c.in-Ok.ensures.cases.1)
-    ∙ ap read (sym c.in-Ok.ensures.cases.0) ∙ c.in-Ok-parse.ensures.ok
+pub returns : goal.returns
+returns c =
+    match_map c.parse_wanted.result _ _ _ _ c.parse_wanted.ensures
+    (λ root h. all_kept (cond (is_utf8 c.args.bytes.now) (read c.args.bytes.now) None) (value_data root) h)
+    (λ f h. h)
