@@ -11,7 +11,7 @@ use Rattle.audit_model.specs.JobOf.{job_from, job_of}
 use Rattle.audit_model.specs.Parsed.{Parsed}
 use Rattle.audit_model.specs.Run.{has_id, pending_ids, part_ids, run_ids, total}
 use Rattle.audit_statement.specs.Accepted.{from_bytes, from_job, from_parsed, from_regions, input_by, judged, most_bytes}
-use Rattle.audit_statement.specs.Origin.{origin_if, origin_of, with_origin}
+use Rattle.audit_statement.specs.Origin.{origin_of, with_origin}
 use Rattle.audit_statement.specs.Regions.{regions_by}
 use Rattle.audit_statement.specs.Causes.{HasBudget}
 use Rattle.audit_statement.specs.Endings.{StartsFrom, is_walking, pending, leaves_work, to_walk}
@@ -24,21 +24,21 @@ use Rattle.audit_model.proofs.Below.{length-filter_below}
 use Rattle.audit_model.proofs.Parts.{only_part}
 use Rattle.audit_laws.proofs.Taking.{given_jobs_are_taken}
 use Rattle.audit_laws.proofs.Plainly.{input_is}
-use Rattle.audit_laws.proofs.Saying.{IsPlain, one_part, run_words, silent_is_plain}
+use Rattle.audit_laws.proofs.Saying.{IsPlain, one_part, run_words, saves_nothing, silent_is_plain}
 use Rattle.audit_statement.specs.PlainlyEnded.{EndsPlainly}
 use Rattle.audit_laws.specs.Promised.{PromisedCallsEndPlainly}
 use Rattle.audit_statement.specs.Words.{setting_of}
 
 -- input that is read and accepted and is not too long gives this job
-judged_from : (setting : Setting) (bytes : List ℕ) (p : Parsed) → setting.region ≡ [] → setting.source ≡ false → length bytes ≤ most_bytes
-    → reading bytes setting.columns ≡ Ok p → job_of p setting [] ≡ Ok (job_from p setting []) → judged setting bytes ≡ Ok (job_from p setting [])
+judged_from : (setting : Setting) (bytes : List ℕ) (p : Parsed) → setting.region ≡ [] → length bytes ≤ most_bytes
+    → reading bytes setting.columns ≡ Ok p → job_of p setting [] ≡ Ok (job_from p setting [])
+    → judged setting bytes ≡ Ok (with_origin (origin_of setting bytes) (job_from p setting []))
 unfolding judged
-judged_from setting bytes p none no_source few is made =
+judged_from setting bytes p none few is made =
     ap (from_bytes setting bytes) (le-ltb most_bytes (length bytes) few)
     ∙ ap (from_parsed setting bytes) is
     ∙ ap (λ (region : List ℕ). from_regions setting (origin_of setting bytes) p (regions_by region bytes)) none
     ∙ ap (from_job (origin_of setting bytes)) made
-    ∙ ap (λ (b : Bool). Ok (with_origin (origin_if b bytes) (job_from p setting []))) no_source
 
 -- a budget for all ids leaves nothing pending in a run of one part
 nothing_left : (job : Job) (outcomes : List Outcome) → (job.setting.parts ≡ 1) × (job.setting.part ≡ 0) → total job ≤ job.setting.budget
@@ -70,16 +70,16 @@ has_budget job before plain whole enough =
 -- a call that meets its contract ends with status 0 or 3, if its input is valid and nothing failed
 plain_ends : (words : List (List ℕ)) (before after : World) (n m : Stream) (status : ℕ) → KeepsItsPromise words before after n m status
     → EndsPlainly words before after status
-plain_ends words before after n m status k rest bytes run silent observed fit none =
+plain_ends words before after n m status k rest bytes run silent unsaved observed fit none =
     let setting = fit.job.setting in
     let words_run : setting_of (codes "run" ∷ rest) ≡ Ok setting = subst (λ (ws : List (List ℕ)). setting_of ws ≡ Ok setting) run fit.words_are in
     let said_so = run_words rest setting words_run in
-    let argument_bytes = silent_is_plain rest said_so.0 silent in
-    let plain = subst IsPlain said_so.1 argument_bytes in
-    let whole = subst (λ (s : Setting). (s.parts ≡ 1) × (s.part ≡ 0)) said_so.1 (one_part rest said_so.0 argument_bytes.no_saves) in
+    let plain = subst IsPlain said_so.1 (silent_is_plain rest said_so.0 silent) in
+    let none_saved = saves_nothing rest unsaved in
+    let whole = subst (λ (s : Setting). (s.parts ≡ 1) × (s.part ≡ 0)) said_so.1 (one_part rest said_so.0 none_saved) in
     let taken = given_jobs_are_taken bytes fit.root fit.job fit.is_text fit.is_json fit.given fit.start fit.allowed
     (record { no_group = plain.no_group; none_due = plain.none_due; no_frozen = plain.no_frozen; no_lengths = plain.no_lengths; any_cut = plain.any_cut }) in
-    let made = job_from taken.parsed setting [] in
+    let made = with_origin (origin_of setting bytes) (job_from taken.parsed setting []) in
     k.complete (record {
       job = made;
       bytes = bytes;
@@ -87,9 +87,10 @@ plain_ends words before after n m status k rest bytes run silent observed fit no
         words_are = fit.words_are;
         input = ap (input_by setting.command setting) observed ∙ input_is setting.command setting bytes plain.run;
       };
-      accepted = judged_from setting bytes taken.parsed plain.no_regions plain.no_source fit.few_bytes taken.read_so taken.accepted;
+      accepted = judged_from setting bytes taken.parsed plain.no_regions fit.few_bytes taken.read_so taken.accepted;
       budget = has_budget made before plain whole
-          (accepted_words_cover words setting fit.words_are (ap is_walking plain.run) plain.no_saves);
+          (accepted_words_cover words setting fit.words_are (ap is_walking plain.run)
+          (subst (λ (s : Setting). s.save_every ≡ 0) said_so.1 none_saved));
       reads = none.reads;
       writes = none.writes;
       loads = none.loads;
@@ -98,5 +99,5 @@ plain_ends words before after n m status k rest bytes run silent observed fit no
 
 -- the law on each call that meets its contract
 pub promised_calls_end_plainly : PromisedCallsEndPlainly
-promised_calls_end_plainly words before after n m status k rest bytes run silent observed fit none =
-    plain_ends words before after n m status (k.one (ap names_plans run)) rest bytes run silent observed fit none
+promised_calls_end_plainly words before after n m status k rest bytes run silent unsaved observed fit none =
+    plain_ends words before after n m status (k.one (ap names_plans run)) rest bytes run silent unsaved observed fit none

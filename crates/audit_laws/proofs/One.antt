@@ -1,10 +1,12 @@
 -- Arguments and JSON determine one report.
-use Rattle.std.proofs.Common.{◌≡◌, ℕ, zero, suc, ◌+◌, ◌-◌, ◌*◌, ◌<◌, ◌≤◌, Bool, true, cond, not, ◌&&◌, List, [], ◌∷◌, ◌++◌, Result, Ok, refl, sym, ap, ◌∙◌, subst, arith}
+use Rattle.std.proofs.Common.{◌≡◌, ℕ, zero, suc, ◌+◌, ◌-◌, ◌*◌, ◌<◌, ◌≤◌, Bool, true, cond, not, ◌&&◌, List, [], ◌∷◌, ◌++◌, length, Result, Ok, refl, sym, ap, ◌∙◌, subst, arith}
 use Rattle.std.specs.Prelude.{◌==◌, ◌/◌, ◌%◌, ◌^◌, nat_lt, slice_index, slice_set, flat_map, ℤ, decimal, codes, bytes_eq, sum, unwrap_or}
 use Rattle.std.proofs.Math.Path.{fun_ext}
 use Rattle.std.proofs.lemmas.Fmt.{decimal_injective}
 use Rattle.serde_json.specs.Data.{Data}
 use Rattle.hex.specs.Hex.{encode_lower}
+use Rattle.json.specs.Print.{quoted}
+use Rattle.sha2.specs.Sha256.{sha256}
 use Rattle.audit_model.specs.declared.outcome.Counts.{Counts}
 use Rattle.audit_model.specs.declared.setting.Ask.{Ask}
 use Rattle.audit_model.specs.declared.setting.Score.{Score}
@@ -31,7 +33,7 @@ use Rattle.audit_laws.proofs.Taking.{connected_same}
 use Rattle.audit_laws.specs.Determined.{AreOfOneGraph, ReadAlike}
 use Rattle.audit_statement.specs.Valid.{IsValid}
 use Rattle.audit_laws.specs.One.{IsSuch, ReportsAreOne}
-use Rattle.audit_statement.specs.Plain.{each_below, plain_report, plan_after, after_step}
+use Rattle.audit_statement.specs.Plain.{each_below, plain_report, plan_after, after_step, source_lines}
 use Rattle.audit_statement.specs.PlainArguments.{SettingMatches, IsNotGiven, IsSpelled}
 use Rattle.audit_statement.specs.Names.{score_name, tail_name}
 use Rattle.audit_statement.specs.Report.{billionths, fraction, line}
@@ -85,7 +87,7 @@ module _ (words : List (List ℕ)) (a b : Setting) (s : SettingMatches words a) 
 abbrev Visits : Type 0
 Visits = (ℕ → ℕ) → List ℕ → ℕ → List ℕ
 
-module _ (edges units districts : ℕ) (counts : Counts) (slack : ℕ) (key : List ℕ) (walks steps ends hub_steps : ℕ) (asks : List Ask)
+module _ (origin : List ℕ) (edges units districts : ℕ) (counts : Counts) (slack : ℕ) (key : List ℕ) (walks steps ends hub_steps : ℕ) (asks : List Ask)
     (start : List ℕ) (score : List ℕ → Score → ℤ) (visits : Visits) (draws : Draws) where
   abbrev ask_said : Ask → List (List ℕ)
   ask_said ask =
@@ -104,6 +106,7 @@ module _ (edges units districts : ℕ) (counts : Counts) (slack : ℕ) (key : Li
   whole : List ℕ
   whole =
       line (codes "district-audit 1" ∷ [])
+      ++ origin
       ++ line (codes "key" ∷ encode_lower key ∷ [])
       ++ line (codes "units" ∷ decimal units ∷ codes "edges" ∷ decimal edges ∷ codes "districts" ∷ decimal districts ∷ [])
       ++ line (codes "population" ∷ decimal (sum counts.population) ∷ codes "slack" ∷ decimal slack
@@ -121,12 +124,12 @@ module _ (edges units districts : ℕ) (counts : Counts) (slack : ℕ) (key : Li
       ∷ codes "p" ∷ billionths (p_value (rank ask) (ends + 1)) ∷ [])) asks)
       ++ line (codes "end" ∷ [])
 
--- the plain report of a job is a function of its graph, its counts and its setting
-report_is : (job : Job) (valid : List ℕ → Bool) (draws : Draws) → plain_report job valid draws
-    ≡ whole (count_edges job.graph (λ u v. true)) job.graph.units job.districts job.counts job.setting.slack job.setting.key job.setting.walks job.setting.steps
+-- the plain report of a job is a function of its graph, its counts, its setting and the lines on its source
+report_is : (job : Job) (valid : List ℕ → Bool) (draws : Draws) (bytes : List ℕ) → plain_report job valid draws bytes
+    ≡ whole (source_lines job.setting.source job.setting.columns bytes) (count_edges job.graph (λ u v. true)) job.graph.units job.districts job.counts job.setting.slack job.setting.key job.setting.walks job.setting.steps
     job.setting.ends job.setting.hub_steps job.setting.asks job.start (plan_value job) (plan_after job valid) draws
 unfolding plain_report whole
-report_is job valid draws = refl
+report_is job valid draws bytes = refl
 
 -- ---- one graph and one setting
 
@@ -221,8 +224,28 @@ module _ (words : List (List ℕ)) (root : Data) (a b : Job) (p q : List ℕ →
   same_key_said : a.setting.key ≡ b.setting.key
   same_key_said = same_key _ a.setting.key b.setting.key s.set.key t.set.key
 
-  same_report : plain_report a p (draw a.setting.key) ≡ plain_report b q (draw b.setting.key)
-  same_report =
+  -- the same words ask for the same lines on the source
+  same_source : (bytes : List ℕ) → source_lines a.setting.source a.setting.columns bytes ≡ source_lines b.setting.source b.setting.columns bytes
+  same_source bytes =
+      let asked = s.set.source ∙ sym t.set.source in
+      let population = s.set.population ∙ sym t.set.population in
+      let first = s.set.first ∙ sym t.set.first in
+      let second = s.set.second ∙ sym t.set.second in
+      let district = s.set.district ∙ sym t.set.district in
+      ap (λ (b : Bool). said b a.setting.columns.population a.setting.columns.first a.setting.columns.second a.setting.columns.district) asked
+      ∙ ap (λ (x : List ℕ). said b.setting.source x a.setting.columns.first a.setting.columns.second a.setting.columns.district) population
+      ∙ ap (λ (x : List ℕ). said b.setting.source b.setting.columns.population x a.setting.columns.second a.setting.columns.district) first
+      ∙ ap (λ (x : List ℕ). said b.setting.source b.setting.columns.population b.setting.columns.first x a.setting.columns.district) second
+      ∙ ap (λ (x : List ℕ). said b.setting.source b.setting.columns.population b.setting.columns.first b.setting.columns.second x) district
+    where
+      said : Bool → List ℕ → List ℕ → List ℕ → List ℕ → List ℕ
+      said asked population first second district = cond asked (
+          line (codes "source" ∷ codes "sha256" ∷ encode_lower (sha256 bytes) ∷ codes "bytes" ∷ decimal (length bytes) ∷ [])
+          ++ line (codes "columns" ∷ quoted population ∷ quoted first ∷ quoted second ∷ quoted district ∷ [])) []
+
+  same_report : (bytes : List ℕ) → plain_report a p (draw a.setting.key) bytes ≡ plain_report b q (draw b.setting.key) bytes
+  same_report bytes =
+      let origin = same_source bytes in
       let edges = count_edges_same a.graph b.graph (λ u v. true) one.units one.edges in
       let units = one.units in
       let districts = one.districts in
@@ -238,10 +261,10 @@ module _ (words : List (List ℕ)) (root : Data) (a b : Job) (p q : List ℕ →
       let scores = same_scores in
       let visits = same_visits in
       let draws : draw a.setting.key ≡ draw b.setting.key = ap draw key in
-      let first = report_is a p (draw a.setting.key) in
-      let second = report_is b q (draw b.setting.key) in
+      let first = report_is a p (draw a.setting.key) bytes in
+      let second = report_is b q (draw b.setting.key) bytes in
       cc
 
 -- two jobs of one graph and one setting have the same plain report
 pub reports_are_one : ReportsAreOne
-reports_are_one words root a b p q s t = same_report words root a b p q s t
+reports_are_one words root a b p q s t bytes = same_report words root a b p q s t bytes

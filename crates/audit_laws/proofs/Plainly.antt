@@ -7,6 +7,7 @@ use Rattle.audit_model.specs.declared.setting.Command.{Command}
 use Rattle.audit_model.specs.declared.setting.Command.TheVariants.{Run}
 use Rattle.audit_model.specs.declared.setting.Setting.{Setting}
 use Rattle.audit_model.specs.Job.{Job}
+use Rattle.audit_model.specs.JobOf.{job_from}
 use Rattle.audit_model.specs.Limits.{IsRunSetting, IsSettingOf, most_edges}
 use Rattle.audit_model.specs.Plan.{is_legal}
 use Rattle.audit_statement.specs.Draw.{draw}
@@ -17,6 +18,7 @@ use Rattle.audit_statement.specs.Accepted.{input_by, judged}
 use Rattle.audit_statement.specs.Causes.{IsTheJob}
 use Rattle.audit_statement.specs.Endings.{Cause, IsDone, StartsFrom, is_walking}
 use Rattle.audit_statement.specs.Headline.{StartsWith}
+use Rattle.audit_statement.specs.Origin.{origin_of}
 use Rattle.audit_statement.specs.Note.{Ending, bad_words, too_many_bytes, bad_graph, bad_regions, bad_table, bad_plan, bad_plan_named, no_memory, read_fault, write_fault, load_fault, folder_taken, stopped, damaged, other_job, save_fault}
 use Rattle.audit_statement.specs.Status.{status_of}
 use Rattle.audit_statement.specs.Promise.{KeepsItsPromise}
@@ -32,7 +34,7 @@ use Rattle.audit_laws.proofs.Saying.{IsPlain, run_words, silent_is_plain, words_
 use Rattle.audit_laws.proofs.Read.{no_frozen_read, no_group_read, no_lengths_read, read_jobs_are_given}
 use Rattle.audit_statement.specs.Valid.{IsValid}
 use Rattle.audit_statement.specs.Plain.{Decides, plain_report}
-use Rattle.audit_laws.proofs.Judged.{IsJudged, judged_is}
+use Rattle.audit_laws.proofs.Judged.{IsJudged, given_with, judged_is}
 use Rattle.audit_laws.proofs.Reported.{AsksPlainly, HasNoRules, Visits, legal_is_valid, plain_report_is, valid_is_legal, visit_is, visits_are}
 
 -- a setting of the run command is that of a run
@@ -100,7 +102,7 @@ module _ (words : List (List ℕ)) (before after : World) (done : IsDone words b
   }
 
   judged_so : IsJudged setting bytes job
-  judged_so = judged_is setting bytes job plain.no_regions plain.no_source accepted
+  judged_so = judged_is setting bytes job plain.no_regions accepted
 
   no_rules : HasNoRules job
   no_rules =
@@ -116,7 +118,7 @@ module _ (words : List (List ℕ)) (before after : World) (done : IsDone words b
         no_weight = ap (λ (s : Setting). s.cut_weight) set ∙ plain.no_weight;
       }
 
-  asks : AsksPlainly job
+  asks : AsksPlainly job bytes
   asks = record {
     no_stop = ap (λ (s : Setting). s.stop) set ∙ plain.no_stop;
     no_serial = ap (λ (s : Setting). s.serial) set ∙ plain.no_serial;
@@ -129,7 +131,10 @@ module _ (words : List (List ℕ)) (before after : World) (done : IsDone words b
     no_weight = ap (λ (s : Setting). s.cut_weight) set ∙ plain.no_weight;
     no_pairs = ap (λ (s : Setting). s.pairs) set ∙ plain.no_pairs;
     not_blind = ap (λ (s : Setting). s.blind) set ∙ plain.not_blind;
-    no_origin = ap (λ (j : Job). j.origin) (sym judged_so.made);
+    no_regions = ap (λ (s : Setting). s.region) set ∙ plain.no_regions;
+    no_members = ap (λ (s : Setting). s.columns.group) set ∙ plain.no_group;
+    no_frozen = ap (λ (s : Setting). s.columns.frozen) set ∙ plain.no_frozen;
+    origin = ap (λ (j : Job). j.origin) (sym judged_so.made) ∙ ap (λ (s : Setting). origin_of s bytes) (sym set);
     few_asks = (run_asks job.setting.command job.setting (ap (λ (s : Setting). s.command) set ∙ plain.run) done.prepared.sound.within.setting.command).few_asks;
   }
 
@@ -166,7 +171,7 @@ plain_calls words before after n m status k rest bytes old run silent observed k
       is_json = gives.is_json;
       job = j;
       set = subst (SettingMatches rest) said_so.1 (words_say rest said_so.0);
-      given = subst (IsGiven gives.root) is.made gives.given;
+      given = subst (IsGiven gives.root) is.made (given_with gives.root (origin_of setting bytes) (job_from is.parsed setting []) gives.given);
       start = legal_is_valid j j.start done.prepared.sound.legal;
       valid = is_legal j;
       decides = decided;
@@ -177,9 +182,9 @@ plain_calls words before after n m status k rest bytes old run silent observed k
           (ap (λ (v : Visits). v (draw j.setting.key stream) (v (draw j.setting.key 1) j.start j.setting.hub_steps) i)
           (visits_are j free (is_legal j) decided))
           (legal_is_valid j _ (k.legal.from_hub j done.prepared.accepted stream i));
-      written = grown old before.out.bytes after.out.bytes (plain_report j (is_legal j) (draw j.setting.key)) kept
+      written = grown old before.out.bytes after.out.bytes (plain_report j (is_legal j) (draw j.setting.key) bytes) kept
           (subst (Appends before.out.bytes after.out.bytes)
-          (plain_report_is j free (asks words before after done setting bytes words_are plain observed) (is_legal j) decided (draw j.setting.key)) wrote);
+          (plain_report_is j free bytes (asks words before after done setting bytes words_are plain observed) (is_legal j) decided (draw j.setting.key)) wrote);
     }
 
 -- the law on each call that meets its contract

@@ -4,6 +4,8 @@ use Rattle.std.specs.Prelude.{◌==◌, ◌/◌, ◌%◌, nat_lt, nat_le, slice_
 use Rattle.std.specs.Fmt.{signed_decimal}
 use Rattle.std.specs.List.{slice_index_or, enumerate_from}
 use Rattle.hex.specs.Hex.{encode_lower}
+use Rattle.json.specs.Print.{quoted}
+use Rattle.sha2.specs.Sha256.{sha256}
 use Rattle.std.proofs.Math.Path.{fun_ext}
 use Rattle.std.proofs.lemmas.Bool.{cond-true, cond-false, lt-ltb, le-ltb, le-leb, lt-leb, ne_eqb}
 use Rattle.std.proofs.lemmas.Grind.{flat_map-append}
@@ -31,9 +33,10 @@ use Rattle.audit_model.proofs.Legal.{legal_passes, passes_legal}
 use Rattle.audit_model.proofs.Meeting.{default_meets}
 use Rattle.audit_model.proofs.Weighing.{even_next}
 use Rattle.audit_laws.proofs.Lengthless.{cut_length_none}
-use Rattle.audit_statement.specs.Report.{ask_words, billionths, cut_length_line, ends_line, ends_lines, frozen_line, graph_line, group_line, length_line, length_lines, line, origin_lines, pair_lines, population_line, report, report_by, rule_lines, serial_lines, setting_line, share_line, shift_line, split_line, splits_line, start_length_line, stop_line, test_lines, thread_report, title_by, title_line, walk_line, walk_lines, weight_by, weight_line}
+use Rattle.audit_statement.specs.Origin.{origin_if, origin_of}
+use Rattle.audit_statement.specs.Report.{ask_words, billionths, columns_line, cut_length_line, ends_line, ends_lines, frozen_line, frozen_words, graph_line, group_line, group_words, length_line, length_lines, length_words, line, origin_lines, pair_lines, population_line, region_words, report, report_by, rule_lines, serial_lines, setting_line, share_line, shift_line, split_line, splits_line, start_length_line, stop_line, test_lines, thread_report, title_by, title_line, walk_line, walk_lines, weight_by, weight_line}
 use Rattle.audit_statement.specs.Valid.{IsValid}
-use Rattle.audit_statement.specs.Plain.{Decides, after_step, plan_after, each_below, is_extreme, end, start_rank, outlier_line, parallel_line, plain_report}
+use Rattle.audit_statement.specs.Plain.{Decides, after_step, plan_after, each_below, is_extreme, end, start_rank, outlier_line, parallel_line, plain_report, source_lines}
 
 -- a job without rules beyond legality: all edges may be cut, there are no regions, no majorities are required, no unit
 -- is frozen, edges have no lengths, and cut edges have no weight
@@ -210,8 +213,8 @@ over_asks (a ∷ b ∷ c ∷ d ∷ e ∷ rest) by_place text few same = absurd (
 
 -- ---- the lines
 
--- the settings of a job without optional features
-pub record AsksPlainly (job : Job) : Type 0 where
+-- the settings of a job without optional features, and its origin in the bytes
+pub record AsksPlainly (job : Job) (bytes : List ℕ) : Type 0 where
   pub no_stop : job.setting.stop ≡ 0
   pub no_serial : job.setting.serial ≡ false
   pub no_shift : job.setting.shift ≡ false
@@ -222,7 +225,10 @@ pub record AsksPlainly (job : Job) : Type 0 where
   pub no_weight : job.setting.cut_weight ≡ 256
   pub no_pairs : job.setting.pairs ≡ false
   pub not_blind : job.setting.blind ≡ false
-  pub no_origin : job.origin ≡ None
+  pub no_regions : job.setting.region ≡ []
+  pub no_members : job.setting.columns.group ≡ []
+  pub no_frozen : job.setting.columns.frozen ≡ []
+  pub origin : job.origin ≡ origin_of job.setting bytes
   pub few_asks : length job.setting.asks ≤ 4
 
 -- the line of an outlier walk, by its numbers
@@ -271,9 +277,10 @@ parts_by job draws title origin rules weight stop walks two shift stops serial =
     ++ serial_lines job (serial_by serial job draws)
     ++ line (codes "end" ∷ [])
 
-abbrev plain_by : Job → List ℕ → List ℕ → List ℕ
-plain_by job walks ends =
+abbrev plain_by : Job → List ℕ → List ℕ → List ℕ → List ℕ
+plain_by job origin walks ends =
     line (codes "district-audit 1" ∷ [])
+    ++ origin
     ++ line (codes "key" ∷ encode_lower job.setting.key ∷ [])
     ++ graph_line job
     ++ population_line job
@@ -282,7 +289,7 @@ plain_by job walks ends =
     ++ ends
     ++ line (codes "end" ∷ [])
 
-module _ (job : Job) (free : HasNoRules job) (plain : AsksPlainly job) (valid : List ℕ → Bool) (decides : Decides job valid) (draws : Draws) where
+module _ (job : Job) (free : HasNoRules job) (bytes : List ℕ) (plain : AsksPlainly job bytes) (valid : List ℕ → Bool) (decides : Decides job valid) (draws : Draws) where
   visits : visit job ≡ plan_after job valid
   visits = visits_are job free valid decides
 
@@ -369,8 +376,22 @@ module _ (job : Job) (free : HasNoRules job) (plain : AsksPlainly job) (valid : 
       part_line : List ℕ → List ℕ
       part_line members = share_line job.setting.group_share members
 
-  origin_lines_are : origin_lines job job.origin ≡ []
-  origin_lines_are = ap (origin_lines job) plain.no_origin
+  columns_are : columns_line job.setting.columns job.setting.region
+      ≡ line (codes "columns" ∷ quoted job.setting.columns.population ∷ quoted job.setting.columns.first ∷ quoted job.setting.columns.second ∷ quoted job.setting.columns.district ∷ [])
+  columns_are =
+      let cs = job.setting.columns in
+      let names = codes "columns" ∷ quoted cs.population ∷ quoted cs.first ∷ quoted cs.second ∷ quoted cs.district ∷ [] in
+      ap (λ (region : List ℕ). line (names ++ region_words region ++ group_words cs.group cs.whole ++ frozen_words cs.frozen ++ length_words cs.length)) plain.no_regions
+      ∙ ap (λ (group : List ℕ). line (names ++ group_words group cs.whole ++ frozen_words cs.frozen ++ length_words cs.length)) plain.no_members
+      ∙ ap (λ (frozen : List ℕ). line (names ++ frozen_words frozen ++ length_words cs.length)) plain.no_frozen
+      ∙ ap (λ (length : List ℕ). line (names ++ length_words length)) plain.no_lengths
+
+  origin_lines_are : origin_lines job job.origin ≡ source_lines job.setting.source job.setting.columns bytes
+  origin_lines_are = ap (origin_lines job) plain.origin ∙ by job.setting.source
+    where
+      by : (asked : Bool) → origin_lines job (origin_if asked bytes) ≡ source_lines asked job.setting.columns bytes
+      by true = ap (λ (columns : List ℕ). line (codes "source" ∷ codes "sha256" ∷ encode_lower (sha256 bytes) ∷ codes "bytes" ∷ decimal (length bytes) ∷ []) ++ columns) columns_are
+      by false = refl
 
   weight_line_is : weight_line job ≡ []
   weight_line_is = ap (λ (weight : ℕ). weight_by weight (largest_change (job.graph.units * job.districts))) plain.no_weight
@@ -378,10 +399,10 @@ module _ (job : Job) (free : HasNoRules job) (plain : AsksPlainly job) (valid : 
   title_is : title_by job.setting.blind job.setting.shift ≡ line (codes "district-audit 1" ∷ [])
   title_is = ap (λ (b : Bool). title_by b job.setting.shift) plain.not_blind ∙ ap (λ (b : Bool). title_line b) plain.no_shift
 
-  emptied : (walks : List ℕ) (stops : List (List ℕ))
-      → parts_by job draws (line (codes "district-audit 1" ∷ [])) [] [] [] 0 walks [] false stops false ≡ plain_by job walks (ends_lines job.setting.ends job (sequence job draws))
-  emptied walks stops =
-      let head = line (codes "district-audit 1" ∷ []) ++ line (codes "key" ∷ encode_lower job.setting.key ∷ []) ++ graph_line job ++ population_line job in
+  emptied : (origin walks : List ℕ) (stops : List (List ℕ))
+      → parts_by job draws (line (codes "district-audit 1" ∷ [])) origin [] [] 0 walks [] false stops false ≡ plain_by job origin walks (ends_lines job.setting.ends job (sequence job draws))
+  emptied origin walks stops =
+      let head = line (codes "district-audit 1" ∷ []) ++ origin ++ line (codes "key" ∷ encode_lower job.setting.key ∷ []) ++ graph_line job ++ population_line job in
       let ends = ends_lines job.setting.ends job (sequence job draws) in
       let last = line (codes "end" ∷ []) in
       ap (λ (xs : List ℕ). xs ++ [] ++ setting_line job ++ [] ++ walks ++ [] ++ [] ++ ends ++ [] ++ last) (append-nil head)
@@ -391,13 +412,14 @@ module _ (job : Job) (free : HasNoRules job) (plain : AsksPlainly job) (valid : 
       ∙ ap (λ (xs : List ℕ). xs ++ ends ++ [] ++ last) (append-nil (head ++ setting_line job ++ walks))
       ∙ ap (λ (xs : List ℕ). xs ++ last) (append-nil (head ++ setting_line job ++ walks ++ ends))
 
-  pub plain_report_is : thread_report job draws ≡ plain_report job valid draws
+  pub plain_report_is : thread_report job draws ≡ plain_report job valid draws bytes
   unfolding thread_report report plain_report
   plain_report_is =
       let outcomes = sequence job draws in
       let title = title_by job.setting.blind job.setting.shift in
       let first = line (codes "district-audit 1" ∷ []) in
       let origin = origin_lines job job.origin in
+      let asked = source_lines job.setting.source job.setting.columns bytes in
       let rules = rule_lines job in
       let weight = weight_line job in
       let walks = walk_lines job outcomes in
@@ -408,11 +430,11 @@ module _ (job : Job) (free : HasNoRules job) (plain : AsksPlainly job) (valid : 
       ∙ ap (λ (t : List ℕ). parts_by job draws t origin rules weight job.setting.stop walks two job.setting.shift stops job.setting.serial) title_is
       ∙ ap (λ (b : Bool). parts_by job draws first origin rules weight job.setting.stop walks two b stops job.setting.serial) plain.no_shift
       ∙ ap (λ (t : List ℕ). parts_by job draws first t rules weight job.setting.stop walks two false stops job.setting.serial) origin_lines_are
-      ∙ ap (λ (t : List ℕ). parts_by job draws first [] t weight job.setting.stop walks two false stops job.setting.serial) rule_lines_are
-      ∙ ap (λ (t : List ℕ). parts_by job draws first [] [] t job.setting.stop walks two false stops job.setting.serial) weight_line_is
-      ∙ ap (λ (n : ℕ). parts_by job draws first [] [] [] n walks two false stops job.setting.serial) plain.no_stop
-      ∙ ap (λ (b : Bool). parts_by job draws first [] [] [] 0 walks two false stops b) plain.no_serial
-      ∙ ap (λ (b : Bool). parts_by job draws first [] [] [] 0 walks (pair_lines b job outcomes) false stops false) plain.no_pairs
-      ∙ ap (λ (t : List ℕ). parts_by job draws first [] [] [] 0 t [] false stops false) walk_lines_are
-      ∙ emptied each stops
-      ∙ ap (plain_by job each) (ends_lines_are job.setting.ends)
+      ∙ ap (λ (t : List ℕ). parts_by job draws first asked t weight job.setting.stop walks two false stops job.setting.serial) rule_lines_are
+      ∙ ap (λ (t : List ℕ). parts_by job draws first asked [] t job.setting.stop walks two false stops job.setting.serial) weight_line_is
+      ∙ ap (λ (n : ℕ). parts_by job draws first asked [] [] n walks two false stops job.setting.serial) plain.no_stop
+      ∙ ap (λ (b : Bool). parts_by job draws first asked [] [] 0 walks two false stops b) plain.no_serial
+      ∙ ap (λ (b : Bool). parts_by job draws first asked [] [] 0 walks (pair_lines b job outcomes) false stops false) plain.no_pairs
+      ∙ ap (λ (t : List ℕ). parts_by job draws first asked [] [] 0 t [] false stops false) walk_lines_are
+      ∙ emptied asked each stops
+      ∙ ap (plain_by job asked each) (ends_lines_are job.setting.ends)

@@ -104,7 +104,6 @@ ok_back (Err f) e = cc
 -- the setting of a plain run
 pub record IsPlain (setting : Setting) : Type 0 where
   pub run : setting.command ≡ Run
-  pub no_saves : setting.save_every ≡ 0
   pub fresh : setting.resume ≡ false
   pub no_stop : setting.stop ≡ 0
   pub no_serial : setting.serial ≡ false
@@ -119,7 +118,6 @@ pub record IsPlain (setting : Setting) : Type 0 where
   pub no_pairs : setting.pairs ≡ false
   pub no_weight : setting.cut_weight ≡ 256
   pub not_blind : setting.blind ≡ false
-  pub no_source : setting.source ≡ false
 
 -- ---- the whole setting
 
@@ -152,7 +150,17 @@ module _ (rest : List (List ℕ)) (faultless : fault_of Run (pairs rest) ≡ Non
         (and_parts (is_some (asks_of (parts_between 44 (text_of Run words Ask)))) _
         (and_parts _ _ (and_parts _ _ (good Run words 10 Ask faultless refl)).0).0).0
         ∙ ap (parts_between 44) (text Ask);
+    source = ap (λ (t : List ℕ). bytes_eq t (codes "yes")) (text Source);
   }
+
+-- an argument that is not given has its default
+silent_text : (rest : List (List ℕ)) (name : Name) → IsNotGiven rest (name_text name) → text_of Run (pairs rest) name ≡ unwrap_or (default_of name) []
+silent_text rest name silent = value_or (name_text name) (default_of name) rest ∙ silent (unwrap_or (default_of name) [])
+
+-- arguments without saves give a run that saves nothing
+pub saves_nothing : (rest : List (List ℕ)) → IsNotGiven rest (codes "--save") → number_named Run (pairs rest) Save ≡ 0
+unfolding digits
+saves_nothing rest silent = ap (λ (t : List ℕ). unwrap_or (number_of t) 0) (silent_text rest Save silent)
 
 -- a run that saves nothing has one part
 pub one_part : (rest : List (List ℕ)) → fault_of Run (pairs rest) ≡ None → number_named Run (pairs rest) Save ≡ 0
@@ -167,10 +175,6 @@ one_part rest faultless none =
       | inr e ↦ absurd (omega (arith, none, leb-true 1 (number_named Run words Save) e))
     ] in
     (one, omega (arith, one, ltb-true (number_named Run words Part) (number_named Run words Parts) below))
-
--- an argument that is not given has its default
-silent_text : (rest : List (List ℕ)) (name : Name) → IsNotGiven rest (name_text name) → text_of Run (pairs rest) name ≡ unwrap_or (default_of name) []
-silent_text rest name silent = value_or (name_text name) (default_of name) rest ∙ silent (unwrap_or (default_of name) [])
 
 -- if no group is named, no majorities are required
 none_due : (rest : List (List ℕ)) → fault_of Run (pairs rest) ≡ None → text_of Run (pairs rest) Group ≡ [] → number_named Run (pairs rest) GroupDistricts ≡ 0
@@ -199,20 +203,18 @@ pub silent_is_plain : (rest : List (List ℕ)) → fault_of Run (pairs rest) ≡
 unfolding digits
 silent_is_plain rest faultless h = record {
   run = refl;
-  no_saves = ap (λ (t : List ℕ). unwrap_or (number_of t) 0) (silent_text rest Save (h 0 [] (omega arith)));
-  fresh = ap (λ (t : List ℕ). bytes_eq t (codes "yes")) (silent_text rest Resume (h 1 [] (omega arith)));
-  no_stop = ap (λ (t : List ℕ). unwrap_or (number_of t) 0) (silent_text rest Stop (h 2 [] (omega arith)));
-  no_serial = ap (λ (t : List ℕ). bytes_eq t (codes "yes")) (silent_text rest Serial (h 3 [] (omega arith)));
-  no_shift = ap (λ (t : List ℕ). bytes_eq t (codes "yes")) (silent_text rest Shift (h 4 [] (omega arith)));
-  no_regions = silent_text rest Region (h 5 [] (omega arith));
-  any_cut = ap (λ (t : List ℕ). unwrap_or (number_of t) 0) (silent_text rest MaxCut (h 6 [] (omega arith)));
-  no_group = silent_text rest Group (h 7 [] (omega arith));
-  none_due = none_due rest faultless (silent_text rest Group (h 7 [] (omega arith)));
-  no_frozen = silent_text rest Freeze (h 9 [] (omega arith));
-  no_lengths = silent_text rest Length (h 10 [] (omega arith));
-  any_length = any_length rest faultless (silent_text rest Length (h 10 [] (omega arith)));
-  no_source = ap (λ (t : List ℕ). bytes_eq t (codes "yes")) (silent_text rest Source (h 8 [] (omega arith)));
-  no_pairs = ap (λ (t : List ℕ). bytes_eq t (codes "yes")) (silent_text rest Pairs (h 11 [] (omega arith)));
-  no_weight = ap (λ (t : List ℕ). unwrap_or (weight_of t) 256) (silent_text rest CutWeight (h 12 [] (omega arith)));
-  not_blind = ap (λ (t : List ℕ). bytes_eq t (codes "yes")) (silent_text rest Blind (h 13 [] (omega arith)));
+  fresh = ap (λ (t : List ℕ). bytes_eq t (codes "yes")) (silent_text rest Resume (h 0 [] (omega arith)));
+  no_stop = ap (λ (t : List ℕ). unwrap_or (number_of t) 0) (silent_text rest Stop (h 1 [] (omega arith)));
+  no_serial = ap (λ (t : List ℕ). bytes_eq t (codes "yes")) (silent_text rest Serial (h 2 [] (omega arith)));
+  no_shift = ap (λ (t : List ℕ). bytes_eq t (codes "yes")) (silent_text rest Shift (h 3 [] (omega arith)));
+  no_regions = silent_text rest Region (h 4 [] (omega arith));
+  any_cut = ap (λ (t : List ℕ). unwrap_or (number_of t) 0) (silent_text rest MaxCut (h 5 [] (omega arith)));
+  no_group = silent_text rest Group (h 6 [] (omega arith));
+  none_due = none_due rest faultless (silent_text rest Group (h 6 [] (omega arith)));
+  no_frozen = silent_text rest Freeze (h 7 [] (omega arith));
+  no_lengths = silent_text rest Length (h 8 [] (omega arith));
+  any_length = any_length rest faultless (silent_text rest Length (h 8 [] (omega arith)));
+  no_pairs = ap (λ (t : List ℕ). bytes_eq t (codes "yes")) (silent_text rest Pairs (h 9 [] (omega arith)));
+  no_weight = ap (λ (t : List ℕ). unwrap_or (weight_of t) 256) (silent_text rest CutWeight (h 10 [] (omega arith)));
+  not_blind = ap (λ (t : List ℕ). bytes_eq t (codes "yes")) (silent_text rest Blind (h 11 [] (omega arith)));
 }

@@ -20,4 +20,4 @@ pub record IsSuch (words : List (List ℕ)) (root : Data) (job : Job) (valid : L
 -- the law that two such jobs have the same report
 abbrev pub ReportsAreOne : Type 0
 ReportsAreOne = (words : List (List ℕ)) (root : Data) (a b : Job) (p q : List ℕ → Bool) → IsSuch words root a p → IsSuch words root b q
-    → plain_report a p (draw a.setting.key) ≡ plain_report b q (draw b.setting.key)
+    → (bytes : List ℕ) → plain_report a p (draw a.setting.key) bytes ≡ plain_report b q (draw b.setting.key) bytes

@@ -13,7 +13,7 @@ use Rattle.audit_statement.specs.PlainArguments.{ArePlain, SettingMatches}
 
 -- The arguments give the job's setting, and the bytes are JSON that gives the job. The start plan is valid, and so is
 -- each plan visited on any stream after any number of steps. `valid` is a test that passes exactly the valid plans. The
--- output is what it was before, followed by the plain report for this test.
+-- output is what it was before, followed by the plain report for this test and the bytes.
 pub record IsAudited (words : List (List ℕ)) (bytes old : List ℕ) (out_after : Option (List ℕ)) : Type 0 where
   pub job : Job
   pub set : SettingMatches words job.setting
@@ -26,7 +26,7 @@ pub record IsAudited (words : List (List ℕ)) (bytes old : List ℕ) (out_after
   pub decides : Decides job valid
   pub from_start : (stream i : ℕ) → IsValid job (plan_after job valid (draw job.setting.key stream) job.start i)
   pub from_hub : (stream i : ℕ) → IsValid job (plan_after job valid (draw job.setting.key stream) (hub job valid (draw job.setting.key)) i)
-  pub written : out_after ≡ Some (old ++ plain_report job valid (draw job.setting.key))
+  pub written : out_after ≡ Some (old ++ plain_report job valid (draw job.setting.key) bytes)
 
 -- a call with the word `run` and plain arguments, over an observable source and output, has done this if it ended with
 -- status 0

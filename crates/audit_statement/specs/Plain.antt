@@ -1,9 +1,12 @@
 -- A plain run: its plans, its trajectories and its report. Chikina, Frieze and Pegden 2017 for the walks, Besag and
 -- Clifford 1989 for the hub and the endpoints. The report is defined directly on the plans, without outcomes, workers
 -- or checkpoints.
-use Rattle.std.specs.Prelude.{◌↔◌, ℕ, zero, suc, ◌+◌, ◌*◌, ◌/◌, ◌%◌, ◌^◌, ◌==◌, ◌&&◌, Bool, IsTrue, cond, not, nat_lt, List, [], ◌∷◌, ◌++◌, slice_set, bytes_eq, codes, decimal, flat_map}
+use Rattle.std.specs.Prelude.{◌↔◌, ℕ, zero, suc, ◌+◌, ◌*◌, ◌/◌, ◌%◌, ◌^◌, ◌==◌, ◌&&◌, Bool, IsTrue, cond, not, nat_lt, List, [], ◌∷◌, ◌++◌, length, slice_set, bytes_eq, codes, decimal, flat_map}
 use Rattle.hex.specs.Hex.{encode_lower}
+use Rattle.json.specs.Print.{quoted}
+use Rattle.sha2.specs.Sha256.{sha256}
 use Rattle.audit_model.specs.declared.setting.Ask.{Ask}
+use Rattle.audit_model.specs.declared.setting.Columns.{Columns}
 use Rattle.audit_model.specs.Below.{count_below}
 use Rattle.audit_model.specs.Job.{Job}
 use Rattle.audit_model.specs.Test.{bound, p_value}
@@ -19,6 +22,13 @@ Decides job valid = (plan : List ℕ) → IsTrue (valid plan) ↔ IsValid job pl
 abbrev pub each_below : ℕ → (ℕ → List ℕ) → List ℕ
 each_below zero text = []
 each_below (suc n) text = each_below n text ++ text n
+
+-- the digest and the number of the bytes that were read, and the names of the columns as JSON texts, if these lines are
+-- asked for
+abbrev pub source_lines : Bool → Columns → List ℕ → List ℕ
+source_lines asked columns bytes = cond asked (
+    line (codes "source" ∷ codes "sha256" ∷ encode_lower (sha256 bytes) ∷ codes "bytes" ∷ decimal (length bytes) ∷ [])
+    ++ line (codes "columns" ∷ quoted columns.population ∷ quoted columns.first ∷ quoted columns.second ∷ quoted columns.district ∷ [])) []
 
 -- a plan is at least as extreme as the start plan
 abbrev pub is_extreme : Job → Ask → List ℕ → Bool
@@ -74,10 +84,11 @@ module _ (job : Job) (valid : List ℕ → Bool) where
         ++ codes "rank" ∷ decimal (start_rank ask) ∷ codes "of" ∷ decimal (job.setting.ends + 1)
         ∷ codes "p" ∷ billionths (p_value (start_rank ask) (job.setting.ends + 1)) ∷ [])
 
-    -- the whole report
-    unfoldable pub plain_report : List ℕ
-    plain_report =
+    -- the whole report on the bytes that were read
+    unfoldable pub plain_report : List ℕ → List ℕ
+    plain_report bytes =
         line (codes "district-audit 1" ∷ [])
+        ++ source_lines job.setting.source job.setting.columns bytes
         ++ line (codes "key" ∷ encode_lower job.setting.key ∷ [])
         ++ graph_line job
         ++ population_line job

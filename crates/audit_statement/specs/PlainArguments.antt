@@ -15,14 +15,13 @@ given_or (word ∷ value ∷ rest) name other = cond (bytes_eq word name) value 
 abbrev pub IsNotGiven : List (List ℕ) → List ℕ → Type 0
 IsNotGiven words name = (other : List ℕ) → given_or words name other ≡ other
 
--- The arguments give none of the optional features: saves, resuming, early stopping, the serial test, histograms,
--- regions, a limit on cut edges, a group, frozen units, lengths of edges, the origin, pairs of walks, a weight on cut
--- edges, a text without scores. A run that saves nothing walks all its trajectories, so parts need no mention.
+-- The arguments give none of the optional features: resuming, early stopping, the serial test, histograms, regions, a
+-- limit on cut edges, a group, frozen units, lengths of edges, pairs of walks, a weight on cut edges, a text without
+-- scores. Saves and parts need no mention: a run ends with status 0 only if all its trajectories are walked.
 abbrev pub ArePlain : List (List ℕ) → Type 0
 ArePlain words = All (IsNotGiven words) (
-    codes "--save" ∷ codes "--resume" ∷ codes "--stop" ∷ codes "--serial" ∷ codes "--shift" ∷ codes "--region" ∷ codes "--max-cut"
-    ∷ codes "--group" ∷ codes "--source" ∷ codes "--freeze" ∷ codes "--length"
-    ∷ codes "--pairs" ∷ codes "--cut-weight" ∷ codes "--blind" ∷ [])
+    codes "--resume" ∷ codes "--stop" ∷ codes "--serial" ∷ codes "--shift" ∷ codes "--region" ∷ codes "--max-cut"
+    ∷ codes "--group" ∷ codes "--freeze" ∷ codes "--length" ∷ codes "--pairs" ∷ codes "--cut-weight" ∷ codes "--blind" ∷ [])
 
 -- the text is the digits of the number; `decimal` keeps the last 64 digits only
 abbrev pub IsSpelled : List ℕ → ℕ → Type 0
@@ -42,4 +41,5 @@ pub record SettingMatches (words : List (List ℕ)) (setting : Setting) : Type 0
   pub steps : IsSpelled (given_or words (codes "--steps") (codes "1000")) setting.steps
   pub ends : IsSpelled (given_or words (codes "--ends") (codes "0")) setting.ends
   pub hub_steps : IsSpelled (given_or words (codes "--hub-steps") (codes "1000")) setting.hub_steps
+  pub source : setting.source ≡ bytes_eq (given_or words (codes "--source") (codes "no")) (codes "yes")
   pub asks : map ask_text setting.asks ≡ parts_between 44 (given_or words (codes "--ask") [])

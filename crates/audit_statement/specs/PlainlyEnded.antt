@@ -10,7 +10,7 @@ use Rattle.audit_statement.specs.Accepted.{most_bytes}
 use Rattle.audit_statement.specs.World.{World}
 use Rattle.audit_statement.specs.Given.{IsGiven}
 use Rattle.audit_statement.specs.Valid.{IsValid}
-use Rattle.audit_statement.specs.PlainArguments.{ArePlain}
+use Rattle.audit_statement.specs.PlainArguments.{ArePlain, IsNotGiven}
 use Rattle.audit_statement.specs.Words.{setting_of}
 use Rattle.std.specs.List.{All}
 use Rattle.serde_json.specs.Find.{get}
@@ -56,8 +56,8 @@ pub record NoneFailed (before after : World) : Type 0 where
   pub loads : Rose before.keeper.load_faults.all after.keeper.load_faults.all → ⊥
   pub saves : Rose before.keeper.save_faults after.keeper.save_faults → ⊥
 
--- a call with the word `run` and plain arguments over an observable, well-formed source, in which nothing failed, ends
--- with status 0, or with 3 if memory ran out
+-- a call with the word `run` and plain arguments that saves nothing, over an observable, well-formed source, in which
+-- nothing failed, ends with status 0, or with 3 if memory ran out
 abbrev pub EndsPlainly : List (List ℕ) → World → World → ℕ → Type 0
 EndsPlainly words before after status = (rest : List (List ℕ)) (bytes : List ℕ) → words ≡ codes "run" ∷ rest → ArePlain rest
-    → before.source.bytes ≡ Some bytes → AreWellFormed words bytes → NoneFailed before after → (status ≡ 0) ⊎ (status ≡ 3)
+    → IsNotGiven rest (codes "--save") → before.source.bytes ≡ Some bytes → AreWellFormed words bytes → NoneFailed before after → (status ≡ 0) ⊎ (status ≡ 3)
