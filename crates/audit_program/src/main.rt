@@ -10,7 +10,7 @@ use audit_io::file_keeper::FileKeeper;
 use audit_io::gate::FreeGate;
 use audit_io::retry_on_would_block::RetryOnWouldBlock;
 use audit_io::std_adapters::{ReadSource, WriteSink};
-use audit_run::Runtime;
+use audit_run::Lender;
 use audit_run::plain::audit_plainly;
 use std::process::ExitCode;
 use std::rt::Env;
@@ -48,13 +48,9 @@ fn main(rt: HostRuntime) -> ExitCode {
     let mut out = WriteSink::new(RetryOnWouldBlock::of_writer(rt.stdout(), &rt));
     let mut note = WriteSink::new(RetryOnWouldBlock::of_writer(rt.stderr(), &rt));
     let gate = FreeGate::new();
-    let lent = Runtime {
-        threads: &rt,
-        alloc: rt.alloc(),
-        gate: &gate,
-    };
+    let mut lender = Lender::new(&rt, rt.alloc(), &gate);
     let (status, _keeper) = audit_plainly(
-        &lent,
+        &mut lender,
         &THIS_BUILD,
         words.as_slice(),
         &mut graph,

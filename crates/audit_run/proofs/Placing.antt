@@ -6,7 +6,7 @@ use Rattle.audit_model.specs.declared.outcome.Outcome.{Outcome}
 use Rattle.audit_statement.specs.Endings.{AreInitialOutcomes, initial_outcomes_from}
 use Rattle.audit_laws.specs.Runs.{IsRunJob}
 use Rattle.report.specs.declared.ended.Ended.{Ended}
-use Rattle.audit_start.specs.declared.resume_state.Target.{Target}
+use Rattle.audit_start.specs.declared.resume_state.SaveTarget.{SaveTarget}
 use Rattle.audit_start.specs.declared.resume_state.ResumeState.{ResumeState}
 use Rattle.audit_start.specs.ResumeState.{IsOpened, IsTargetFor, IsTarget}
 use Rattle.plan_runs.specs.RunBuffers.{IsStartOf}
@@ -14,16 +14,16 @@ use Rattle.audit_laws.specs.Calls.{Finishes}
 use Rattle.audit_model.specs.State.{KeeperState, Stream}
 
 -- without a place to save, the run saves nothing
-pub no_target_observed : (b : Bool) (job : Job) (slots : Option Pair) (o : Option Target) → o ≡ None → IsTarget b job slots o → b ≡ false
+pub no_target_observed : (b : Bool) (job : Job) (slots : Option Pair) (o : Option SaveTarget) → o ≡ None → IsTarget b job slots o → b ≡ false
 no_target_observed false job slots o e is = refl
 no_target_observed true job slots None e is = absurd is
 no_target_observed true job slots (Some t) e is = cc
 
 -- with a place to save, the run saves there
-pub target_observed : (b : Bool) (job : Job) (slots : Option Pair) (o : Option Target) (t : Target) → o ≡ Some t → IsTarget b job slots o → (b ≡ true) × IsTargetFor job slots t
+pub target_observed : (b : Bool) (job : Job) (slots : Option Pair) (o : Option SaveTarget) (t : SaveTarget) → o ≡ Some t → IsTarget b job slots o → (b ≡ true) × IsTargetFor job slots t
 target_observed b job slots None t e is = cc
 target_observed false job slots (Some x) t e is = absurd is
-target_observed true job slots (Some x) t e is = let same : x ≡ t = cc in (refl, subst (λ (y : Target). IsTargetFor job slots y) same is)
+target_observed true job slots (Some x) t e is = let same : x ≡ t = cc in (refl, subst (λ (y : SaveTarget). IsTargetFor job slots y) same is)
 
 -- a run from the keeper before a look is one from the keeper after it, if the look changed nothing
 pub goes_on : (job : Job) (out later : Stream) (k l m : KeeperState) (why : Ended) → l ≡ k → Finishes job out later l m why → Finishes job out later k m why

@@ -17,7 +17,7 @@ use audit_io::keeper::Keeper;
 use audit_io::sink::Sink;
 use audit_io::source::Source;
 use audit_words::{Build, answer, question_of};
-use claim_counter::workers::Runtime;
+use claim_counter::workers::Lender;
 use std::sync::Wait;
 use std::thread::Threads;
 
@@ -40,7 +40,7 @@ fn audit_asked<
     C: Keeper + Send,
     G: Gate + Sync,
 >(
-    rt: &Runtime<'_, R, G>,
+    rt: &mut Lender<'_, R, G>,
     words: &[String],
     graph: &mut S,
     out: &mut K,
@@ -50,9 +50,10 @@ fn audit_asked<
     requires lets { LetsDueSaves C.lets (argument_bytes words.now) (world (S.state graph.old) (K.state out.old) (C.state keeper)) }
     requires text { LetsDueText K.lets (argument_bytes words.now) (world (S.state graph.old) (K.state out.old) (C.state keeper)) }
     requires note { LetsDueLine N.lets (argument_bytes words.now) (world (S.state graph.old) (K.state out.old) (C.state keeper)) (N.state note.old) }
-    ensures { let before = world (S.state graph.old) (K.state out.old) (C.state keeper) in
+    ensures kept { let before = world (S.state graph.old) (K.state out.old) (C.state keeper) in
         let after = world (S.state graph.new) (K.state out.new) (C.state result.1) in
         KeepsEachPromise (argument_bytes words.now) before after (N.state note.old) (N.state note.new) result.0 }
+    ensures memory { result.0 ≡ 3 → rt.new ≡ rt.old }
 {
     if names_plans(words) {
         let status = audit_plans(rt, words, graph, out, note);
@@ -81,8 +82,9 @@ fn audit_asked<
 /// - 8: slots from which a run cannot resume
 /// - 9: a failed save
 ///
-/// `rt` lends the threads, the allocator and the gate. The gate is called with the id of each
-/// trajectory before the trajectory is walked. `build` is the build that `--version` reports.
+/// `rt` lends the threads and the gate once all memory of the walks is allocated: never before a call ends with
+/// status 3. The gate is called with the id of each trajectory before the trajectory is walked. `build` is the build
+/// that `--version` reports.
 pub fn audit<
     R: Threads + Wait + Sync,
     S: Source,
@@ -91,7 +93,7 @@ pub fn audit<
     C: Keeper + Send,
     G: Gate + Sync,
 >(
-    rt: &Runtime<'_, R, G>,
+    rt: &mut Lender<'_, R, G>,
     build: &Build<'_>,
     words: &[String],
     graph: &mut S,
@@ -102,9 +104,10 @@ pub fn audit<
     requires lets { LetsDueSaves C.lets (argument_bytes words.now) (world (S.state graph.old) (K.state out.old) (C.state keeper)) }
     requires text { LetsAnswerOrText K.lets build.now (argument_bytes words.now) (world (S.state graph.old) (K.state out.old) (C.state keeper)) }
     requires note { LetsAnyLine N.lets (argument_bytes words.now) (world (S.state graph.old) (K.state out.old) (C.state keeper)) (N.state note.old) }
-    ensures { let before = world (S.state graph.old) (K.state out.old) (C.state keeper) in
+    ensures kept { let before = world (S.state graph.old) (K.state out.old) (C.state keeper) in
         let after = world (S.state graph.new) (K.state out.new) (C.state result.1) in
         AnswersOrAudits build.now (argument_bytes words.now) before after (N.state note.old) (N.state note.new) result.0 }
+    ensures memory { result.0 ≡ 3 → rt.new ≡ rt.old }
 {
     match question_of(words) {
         Some(question) => (answer(build, question, out, note), keeper),

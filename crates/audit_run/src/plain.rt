@@ -7,7 +7,7 @@ ghost use Rattle.audit_statement.specs.Audited.{AuditsPlainly};
 ghost use Rattle.audit_statement.specs.PlainlyEnded.{EndsPlainly};
 ghost use Rattle.audit_words.specs.DueAnswers.{LetsAnswerOrText, LetsAnyLine};
 ghost use Rattle.audit_words.specs.Answers.{AnswersOrAudits};
-ghost use Rattle.std.specs.Prelude.{◌≢◌, ◌∷◌, [], codes};
+ghost use Rattle.std.specs.Prelude.{◌≡◌, ◌≢◌, ◌∷◌, [], codes};
 
 use crate::audit::audit;
 use audit_io::gate::Gate;
@@ -17,7 +17,7 @@ use audit_io::source::Source;
 use audit_laws::plain_laws::{promised_calls_audit_plainly, promised_calls_end_plainly};
 use audit_words::Build;
 use audit_words::laws::questions_were_refused;
-use claim_counter::workers::Runtime;
+use claim_counter::workers::Lender;
 use std::sync::Wait;
 use std::thread::Threads;
 
@@ -33,7 +33,7 @@ pub fn audit_plainly<
     C: Keeper + Send,
     G: Gate + Sync,
 >(
-    rt: &Runtime<'_, R, G>,
+    rt: &mut Lender<'_, R, G>,
     build: &Build<'_>,
     words: &[String],
     graph: &mut S,
@@ -51,6 +51,7 @@ pub fn audit_plainly<
     ensures kept { let before = world (S.state graph.old) (K.state out.old) (C.state keeper) in
         let after = world (S.state graph.new) (K.state out.new) (C.state result.1) in
         AnswersOrAudits build.now (argument_bytes words.now) before after (N.state note.old) (N.state note.new) result.0 }
+    ensures memory { result.0 ≡ 3 → rt.new ≡ rt.old }
 {
     promised_calls_audit_plainly();
     promised_calls_end_plainly();

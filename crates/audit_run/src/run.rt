@@ -8,6 +8,7 @@ ghost use Rattle.audit_laws.specs.Calls.{Finishes};
 ghost use Rattle.audit_laws.specs.Runs.{IsRunJob};
 ghost use Rattle.audit_start.specs.ResumeState.{IsOpened};
 ghost use Rattle.audit_statement.specs.DueText.{LetsReport, LetsReportFrom};
+ghost use Rattle.plan_runs.specs.Memory.{EndsBeforeWalks};
 ghost use Rattle.plan_runs.specs.Resources.{IsJudgeSet};
 ghost use Rattle.plan_runs.specs.RunBuffers.{IsStartOf};
 
@@ -16,7 +17,7 @@ use audit_io::keeper::Keeper;
 use audit_io::sink::Sink;
 use audit_model::outcome::{Outcome, SumsView};
 use audit_start::resume_state::{ResumeState, open};
-use claim_counter::workers::Runtime;
+use claim_counter::workers::Lender;
 use flip_guard::judge::Judge;
 use plan_core::job::Job;
 use plan_runs::judges::guards;
@@ -30,7 +31,7 @@ use std::thread::Threads;
 
 // Allocates the memory of a run that starts with these outcomes and saves nothing, and runs it.
 fn run_without_saves<R: Threads + Sync, K: Sink, J: Judge + Send, G: Gate + Sync>(
-    rt: &Runtime<'_, R, G>,
+    rt: &mut Lender<'_, R, G>,
     job: &Job,
     outcomes: &[Outcome],
     judges: Vec<J>,
@@ -40,9 +41,10 @@ fn run_without_saves<R: Threads + Sync, K: Sink, J: Judge + Send, G: Gate + Sync
     requires unsaved { saves job.now.setting ≡ false }
     requires judges { IsJudgeSet J.judging job.now judges }
     requires text { LetsReport K.lets job.now (K.state out.old) outcomes.now }
-    ensures { (k : KeeperState) → AreInitialOutcomes job.now k.slots outcomes.now → Finishes job.now (K.state out.old) (K.state out.new) k k result }
+    ensures finishes { (k : KeeperState) → AreInitialOutcomes job.now k.slots outcomes.now → Finishes job.now (K.state out.old) (K.state out.new) k k result }
+    ensures memory { EndsBeforeWalks result rt.old rt.new }
 {
-    match make_resources(rt.alloc, job, outcomes, judges) {
+    match make_resources(rt.alloc(), job, outcomes, judges) {
         Ok(resources) => run_unsaved(rt, job, resources, out).ended(),
         Err(_) => Ended::NoMemory,
     }
@@ -56,7 +58,7 @@ fn run_with_judges<
     J: Judge + Send,
     G: Gate + Sync,
 >(
-    rt: &Runtime<'_, R, G>,
+    rt: &mut Lender<'_, R, G>,
     job: &Job,
     resume_state: ResumeState,
     judges: Vec<J>,
@@ -67,8 +69,9 @@ fn run_with_judges<
     requires judges { IsJudgeSet J.judging job.now judges }
     requires lets { LetsSavesOf C.lets job.now (C.state keeper) }
     requires text { LetsReportFrom K.lets job.now (K.state out.old) (C.state keeper).slots }
-    ensures { Finishes job.now (K.state out.old) (K.state out.new)
+    ensures finishes { Finishes job.now (K.state out.old) (K.state out.new)
         (C.state keeper) (C.state result.1) result.0 }
+    ensures memory { EndsBeforeWalks result.0 rt.old rt.new }
 {
     let ResumeState { outcomes, target } = resume_state;
     match target {
@@ -77,7 +80,7 @@ fn run_with_judges<
             keeper,
         ),
         Some(target) => match make_saved_resources(
-            rt.alloc,
+            rt.alloc(),
             job,
             outcomes.as_slice(),
             target,
@@ -93,7 +96,7 @@ fn run_with_judges<
 // Runs a job without regions, required majorities or frozen units from this initial state. The constraint on cut edges
 // is enough for it.
 fn run_with_cut_limit<R: Threads + Wait + Sync, K: Sink, C: Keeper + Send, G: Gate + Sync>(
-    rt: &Runtime<'_, R, G>,
+    rt: &mut Lender<'_, R, G>,
     job: &Job,
     resume_state: ResumeState,
     out: &mut K,
@@ -105,14 +108,15 @@ fn run_with_cut_limit<R: Threads + Wait + Sync, K: Sink, C: Keeper + Send, G: Ga
     requires no_frozen { job.now.frozen ≡ [] }
     requires lets { LetsSavesOf C.lets job.now (C.state keeper) }
     requires text { LetsReportFrom K.lets job.now (K.state out.old) (C.state keeper).slots }
-    ensures { Finishes job.now (K.state out.old) (K.state out.new)
+    ensures finishes { Finishes job.now (K.state out.old) (K.state out.new)
         (C.state keeper) (C.state result.1) result.0 }
+    ensures memory { EndsBeforeWalks result.0 rt.old rt.new }
 {
     let rules = job.rules();
     let max_cut = rules.max_cut;
     let workers = job.setting().workers;
     match guards(
-        rt.alloc,
+        rt.alloc(),
         move |sums: &SumsView| sums.cut <= max_cut,
         rules,
         workers + 1,
@@ -124,7 +128,7 @@ fn run_with_cut_limit<R: Threads + Wait + Sync, K: Sink, C: Keeper + Send, G: Ga
 
 // Runs a job from this initial state, with the constraint of all its rules.
 fn run_with_all_rules<R: Threads + Wait + Sync, K: Sink, C: Keeper + Send, G: Gate + Sync>(
-    rt: &Runtime<'_, R, G>,
+    rt: &mut Lender<'_, R, G>,
     job: &Job,
     resume_state: ResumeState,
     out: &mut K,
@@ -133,15 +137,16 @@ fn run_with_all_rules<R: Threads + Wait + Sync, K: Sink, C: Keeper + Send, G: Ga
     requires opened { IsOpened job.now (C.state keeper).slots resume_state }
     requires lets { LetsSavesOf C.lets job.now (C.state keeper) }
     requires text { LetsReportFrom K.lets job.now (K.state out.old) (C.state keeper).slots }
-    ensures { Finishes job.now (K.state out.old) (K.state out.new)
+    ensures finishes { Finishes job.now (K.state out.old) (K.state out.new)
         (C.state keeper) (C.state result.1) result.0 }
+    ensures memory { EndsBeforeWalks result.0 rt.old rt.new }
 {
     let rules = job.rules();
     let cut_limit = rules.max_cut;
     let split_limit = rules.max_split;
     let workers = job.setting().workers;
     match region_guards(
-        rt.alloc,
+        rt.alloc(),
         move |sums: &SumsView| sums.cut <= cut_limit,
         move |width: u32| width <= split_limit,
         rules,
@@ -157,7 +162,7 @@ fn run_with_all_rules<R: Threads + Wait + Sync, K: Sink, C: Keeper + Send, G: Ga
 /// most its budget. Saves at intervals and at the end if the setting asks for it, and writes the report if no
 /// trajectory is pending. Returns the reason why the call ends, and the keeper.
 pub fn run_job<R: Threads + Wait + Sync, K: Sink, C: Keeper + Send, G: Gate + Sync>(
-    rt: &Runtime<'_, R, G>,
+    rt: &mut Lender<'_, R, G>,
     job: &Job,
     out: &mut K,
     mut keeper: C,
@@ -165,10 +170,11 @@ pub fn run_job<R: Threads + Wait + Sync, K: Sink, C: Keeper + Send, G: Gate + Sy
     requires run { IsRunJob job.now }
     requires lets { LetsSavesOf C.lets job.now (C.state keeper) }
     requires text { LetsReportFrom K.lets job.now (K.state out.old) (C.state keeper).slots }
-    ensures { Finishes job.now (K.state out.old) (K.state out.new)
+    ensures finishes { Finishes job.now (K.state out.old) (K.state out.new)
         (C.state keeper) (C.state result.1) result.0 }
+    ensures memory { EndsBeforeWalks result.0 rt.old rt.new }
 {
-    let resume_state = match open(rt.alloc, job, &mut keeper) {
+    let resume_state = match open(rt.alloc(), job, &mut keeper) {
         Ok(resume_state) => resume_state,
         Err(why) => return (why, keeper),
     };

@@ -12,6 +12,7 @@ ghost use Rattle.audit_laws.specs.Runs.{IsRunJob};
 ghost use Rattle.audit_model.specs.State.{KeeperState};
 ghost use Rattle.audit_statement.specs.World.{world};
 ghost use Rattle.audit_words.specs.ArgumentBytes.{argument_bytes};
+ghost use Rattle.plan_runs.specs.Memory.{EndsBeforeWalks};
 
 use crate::run::run_job;
 use crate::trace::trace_job;
@@ -23,7 +24,7 @@ use audit_laws::laws::ended_calls_keep_their_promise;
 use audit_model::buffers::Bytes;
 use audit_model::setting::Command;
 use audit_start::prepare::prepare;
-use claim_counter::workers::Runtime;
+use claim_counter::workers::Lender;
 use plan_core::job::Job;
 use report::check::check_text;
 use report::ended::Ended;
@@ -50,7 +51,7 @@ fn write_check<K: Sink>(alloc: Global, job: &Job, out: &mut K) -> Ended
 
 // Runs the command of the job's setting.
 fn run_command<R: Threads + Wait + Sync, K: Sink, C: Keeper + Send, G: Gate + Sync>(
-    rt: &Runtime<'_, R, G>,
+    rt: &mut Lender<'_, R, G>,
     job: &Job,
     out: &mut K,
     keeper: C,
@@ -58,12 +59,13 @@ fn run_command<R: Threads + Wait + Sync, K: Sink, C: Keeper + Send, G: Gate + Sy
     requires run { IsTrue (is_walking job.now.setting.command) → IsRunJob job.now }
     requires lets { LetsSavesOf C.lets job.now (C.state keeper) }
     requires text { LetsTextOf K.lets job.now (K.state out.old) (C.state keeper).slots }
-    ensures { Finishes job.now (K.state out.old) (K.state out.new)
+    ensures finishes { Finishes job.now (K.state out.old) (K.state out.new)
         (C.state keeper) (C.state result.1) result.0 }
+    ensures memory { EndsBeforeWalks result.0 rt.old rt.new }
 {
     match job.setting().command {
-        Command::Check => (write_check(rt.alloc, job, out), keeper),
-        Command::Trace => (trace_job(rt.alloc, job, out), keeper),
+        Command::Check => (write_check(rt.alloc(), job, out), keeper),
+        Command::Trace => (trace_job(rt.alloc(), job, out), keeper),
         Command::Run | Command::Make | Command::Plans => run_job(rt, job, out, keeper),
     }
 }
@@ -90,7 +92,7 @@ pub fn audit_single<
     C: Keeper + Send,
     G: Gate + Sync,
 >(
-    rt: &Runtime<'_, R, G>,
+    rt: &mut Lender<'_, R, G>,
     words: &[String],
     graph: &mut S,
     out: &mut K,
@@ -100,13 +102,14 @@ pub fn audit_single<
     requires lets { LetsDueSaves C.lets (argument_bytes words.now) (world (S.state graph.old) (K.state out.old) (C.state keeper)) }
     requires text { LetsTextOfOne K.lets (argument_bytes words.now) (world (S.state graph.old) (K.state out.old) (C.state keeper)) }
     requires note { LetsLineOfOne N.lets (argument_bytes words.now) (world (S.state graph.old) (K.state out.old) (C.state keeper)) (N.state note.old) }
-    ensures { let before = world (S.state graph.old) (K.state out.old) (C.state keeper) in
+    ensures kept { let before = world (S.state graph.old) (K.state out.old) (C.state keeper) in
         let after = world (S.state graph.new) (K.state out.new) (C.state result.1) in
         KeepsItsPromise (argument_bytes words.now) before after (N.state note.old) (N.state note.new) result.0 }
+    ensures memory { result.0 ≡ 3 → rt.new ≡ rt.old }
 {
     // This call only tells the proof that a call with a correct ending meets the top contract.
     ended_calls_keep_their_promise();
-    match prepare(rt.alloc, words, graph) {
+    match prepare(rt.alloc(), words, graph) {
         Ok(job) => {
             let (why, keeper) = run_command(rt, &job, out, keeper);
             drop(job);

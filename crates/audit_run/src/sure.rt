@@ -1,5 +1,6 @@
 //! The audit over a source, an output and a keeper that never fail.
 
+ghost use Rattle.std.specs.Prelude.{◌≡◌};
 ghost use Rattle.audit_statement.specs.Sure.{EachEndsSurely, sure_world};
 ghost use Rattle.audit_words.specs.ArgumentBytes.{argument_bytes};
 ghost use Rattle.audit_words.specs.DueAnswers.{LetsAnyLine};
@@ -12,7 +13,7 @@ use audit_io::sure::{SureSink, SureSource};
 use audit_io::sure_keeper::SureKeeper;
 use audit_words::Build;
 use audit_words::laws::questions_were_refused;
-use claim_counter::workers::Runtime;
+use claim_counter::workers::Lender;
 use std::sync::Wait;
 use std::thread::Threads;
 
@@ -26,7 +27,7 @@ use std::thread::Threads;
 ///
 /// With the command `plans`, the only condition is that arguments, graph, regions, table and plans are accepted.
 pub fn audit_surely<R: Threads + Wait + Sync, N: Sink, G: Gate + Sync>(
-    rt: &Runtime<'_, R, G>,
+    rt: &mut Lender<'_, R, G>,
     build: &Build<'_>,
     words: &[String],
     graph: &mut SureSource,
@@ -38,6 +39,7 @@ pub fn audit_surely<R: Threads + Wait + Sync, N: Sink, G: Gate + Sync>(
     ensures complete { EachEndsSurely (argument_bytes words.now) (sure_world graph.old keeper) result.0 }
     ensures kept { AnswersOrAudits build.now (argument_bytes words.now) (sure_world graph.old keeper) (sure_world graph.new result.1)
         (N.state note.old) (N.state note.new) result.0 }
+    ensures memory { result.0 ≡ 3 → rt.new ≡ rt.old }
 {
     questions_were_refused();
     audit(rt, build, words, graph, out, note, keeper)

@@ -28,7 +28,7 @@ use Rattle.ckpt_store.specs.View.{answer_at, newest_outcomes_seen, newest_answer
 use Rattle.report.specs.declared.ended.Ended.{Ended}
 use Rattle.report.specs.declared.ended.Ended.TheVariants as ended
 use Rattle.audit_start.specs.declared.resume_state.ResumeState.{ResumeState}
-use Rattle.audit_start.specs.declared.resume_state.Target.{Target}
+use Rattle.audit_start.specs.declared.resume_state.SaveTarget.{SaveTarget}
 use Rattle.audit_statement.specs.Endings.{AreInitialOutcomes, Saw, initial_outcomes_from, saves}
 use Rattle.audit_start.specs.ResumeState.{IsOtherSeen, IsTarget, Opens, OpensWith, RefusesSlots, refused_by}
 use Rattle.audit_laws.specs.Runs.{IsRunJob}
@@ -152,7 +152,7 @@ taken_fit job outcomes fit = by job.setting.shift
     by false = fit_without_histogram job outcomes fit
 
 -- the run starts with the part of the newest slot's outcomes that it resumes from
-pub opens_taken : (job : Job) → IsRunJob job → (digest : List ℕ) (k : KeeperState) (slots : Slots) (saved_outcomes outcomes : List Outcome) (target : Option Target)
+pub opens_taken : (job : Job) → IsRunJob job → (digest : List ℕ) (k : KeeperState) (slots : Slots) (saved_outcomes outcomes : List Outcome) (target : Option SaveTarget)
     → digest ≡ job_digest job → job.setting.resume ≡ true → SawSlots job digest k.slots slots → newest_outcomes_seen slots ≡ Some saved_outcomes → AreFit job saved_outcomes
     → outcomes ≡ taken_up job.setting.shift job.setting.walks saved_outcomes → (o : ResumeState) → o.outcomes.items ≡ outcomes → o.target ≡ target
     → IsTarget (saves job.setting) job k.slots target → OpensWith job k k o
@@ -163,7 +163,7 @@ opens_taken job run digest k slots saved_outcomes outcomes target is resumes obs
     opened = subst (λ (os : List Outcome). AreInitialOutcomes job k.slots os) (sym here)
         (resumed_initial_outcomes job digest k.slots slots (taken_up job.setting.shift job.setting.walks saved_outcomes) is resumes observed (taken_some job slots saved_outcomes seen) (taken_fit job saved_outcomes fit));
     fit = subst (λ (os : List Outcome). AreFit job os) (sym here) (taken_fit job saved_outcomes fit);
-    target = subst (λ (t : Option Target). IsTarget (saves job.setting) job k.slots t) (sym at) placed;
+    target = subst (λ (t : Option SaveTarget). IsTarget (saves job.setting) job k.slots t) (sym at) placed;
   };
 }
   where

@@ -12,7 +12,7 @@ use Rattle.ckpt_store.specs.View.{newest_seen, slot_view}
 use Rattle.report.specs.declared.ended.Ended.{Ended}
 use Rattle.report.specs.declared.ended.Ended.TheVariants as ended
 use Rattle.audit_start.specs.declared.resume_state.ResumeState.{ResumeState}
-use Rattle.audit_start.specs.declared.resume_state.Target.{Target}
+use Rattle.audit_start.specs.declared.resume_state.SaveTarget.{SaveTarget}
 use Rattle.audit_statement.specs.Endings.{AreInitialOutcomes, place_of, saves}
 use Rattle.audit_laws.specs.Calls.{Finishes}
 use Rattle.audit_laws.specs.Runs.{IsRunJob}
@@ -20,14 +20,14 @@ use Rattle.audit_model.specs.State.{KeeperState, Stream}
 use Rattle.audit_model.specs.Observed.{IfObserved}
 
 -- the place of the job's first save, by the known slots
-pub record IsTargetFor (job : Job) (slots : Option Pair) (t : Target) : Type 0 where
+pub record IsTargetFor (job : Job) (slots : Option Pair) (t : SaveTarget) : Type 0 where
   pub digest_is : t.digest ≡ job_digest job
   pub slot_below : t.place.slot < 2
   pub generation_below : t.place.generation < 3
   pub observed : IfObserved slots (λ p. (t.place.slot, t.place.generation) ≡ place_of job p)
 
 -- there is a place exactly if the run saves
-abbrev pub IsTarget : Bool → Job → Option Pair → Option Target → Type 0
+abbrev pub IsTarget : Bool → Job → Option Pair → Option SaveTarget → Type 0
 IsTarget false job slots None = ⊤
 IsTarget false job slots (Some t) = ⊥
 IsTarget true job slots None = ⊥

@@ -11,4 +11,4 @@ pub mod resume_state;
 
 pub use prepare::word_end;
 pub use reading::{ReadEnd, read_source};
-pub use resume_state::{ResumeState, Target, open};
+pub use resume_state::{ResumeState, SaveTarget, open};

@@ -29,7 +29,7 @@ use std::alloc::Global;
 
 /// The place of a run's first save, and the digest of its job.
 #[derive(Clone, Copy)]
-pub struct Target {
+pub struct SaveTarget {
     pub digest: [u8; 32],
     pub place: Place,
 }
@@ -38,11 +38,11 @@ pub struct Target {
 #[derive(Drop)]
 pub struct ResumeState {
     pub outcomes: OutcomeList,
-    pub target: Option<Target>,
+    pub target: Option<SaveTarget>,
 }
 
 // Returns the place of the first save, which the slots decide, or `None` if the run does not save.
-fn target_of(job: &Job, slots: &Slots, digest: [u8; 32]) -> Option<Target>
+fn target_of(job: &Job, slots: &Slots, digest: [u8; 32]) -> Option<SaveTarget>
     requires run { IsRunJob job.now }
     requires digest { digest ≡ definition.job_digest job.now }
     ensures { (observed : Option Pair) → IfObserved observed (λ p. AreSlots job.now digest p slots.now) → IsTarget (saves job.now.setting) job.now observed result }
@@ -50,7 +50,7 @@ fn target_of(job: &Job, slots: &Slots, digest: [u8; 32]) -> Option<Target>
     if job.setting().save_every == 0 {
         return None;
     }
-    Some(Target {
+    Some(SaveTarget {
         digest,
         place: slots.place(),
     })

@@ -3,7 +3,7 @@
 use audit_io::mem_keeper::MemKeeper;
 use audit_io::sure::{SureSink, SureSource};
 use audit_io::sure_keeper::SureKeeper;
-use audit_run::Runtime;
+use audit_run::Lender;
 use audit_run::audit::audit;
 use audit_run::sure::audit_surely;
 use audit_words::Build;
@@ -41,13 +41,9 @@ fn audit_kept<R: Threads + Wait + Sync>(
     outside: &mut Outside,
     keeper: RunKeeper,
 ) -> (u8, RunKeeper) {
-    let lent = Runtime {
-        threads,
-        alloc: rt.alloc(),
-        gate: &outside.gate,
-    };
+    let mut lender = Lender::new(threads, rt.alloc(), &outside.gate);
     audit(
-        &lent,
+        &mut lender,
         &BUILD,
         words,
         &mut outside.source,
@@ -66,14 +62,10 @@ fn audit_sure<R: Threads + Wait + Sync>(
     outside: &mut Outside,
     keeper: SureKeeper,
 ) -> u8 {
-    let lent = Runtime {
-        threads,
-        alloc: rt.alloc(),
-        gate: &outside.gate,
-    };
+    let mut lender = Lender::new(threads, rt.alloc(), &outside.gate);
     let mut out = SureSink::new();
     let note = &mut outside.note;
-    let (status, keeper) = audit_surely(&lent, &BUILD, words, source, &mut out, note, keeper);
+    let (status, keeper) = audit_surely(&mut lender, &BUILD, words, source, &mut out, note, keeper);
     drop(keeper);
     status
 }

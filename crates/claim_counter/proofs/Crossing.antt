@@ -9,6 +9,7 @@ use Rattle.audit_model.specs.contracts.outcome.Outcome as Outcome
 use Rattle.claim_counter.specs.contracts.pass.Pass as Pass
 use Rattle.flip_guard.specs.declared.judge.Judge.{Ghosts}
 use Rattle.walker.proofs.Crossing.{walker_send}
+use Rattle.claim_counter.specs.contracts.workers.counted.CountedWalker as CountedWalker
 use Rattle.claim_counter.specs.contracts.workers.gated.GatedWalker as GatedWalker
 use Rattle.claim_counter.specs.contracts.worker.Worker as Worker
 
@@ -28,9 +29,13 @@ pass_send = search (seat_send, crosses, sendable) depth 20
 share_field_send : IsSend (RoomyList.the_field Outcome.the_row).row
 share_field_send = search (share_send, crosses, sendable) depth 20
 
+-- a walker that counts its walks may cross threads if its constraint may
+pub counted_send : (J : RattleType) (g : Ghosts J.Denot) → IsSend J → IsSend (CountedWalker.the_field J g).row
+counted_send J g judge = let a = walker_send J g judge in search (crosses, sendable) depth 20
+
 -- a gated walker may cross threads if its constraint may
 pub gated_send : (J : RattleType) (g : Ghosts J.Denot) → IsSend J → IsSend (GatedWalker.the_field J g).row
-gated_send J g judge = let a = walker_send J g judge in search (crosses, sendable) depth 20
+gated_send J g judge = let a = counted_send J g judge in search (crosses, sendable) depth 20
 
 -- a worker may cross threads if its constraint may
 pub worker_send : (J : RattleType) (g : Ghosts J.Denot) → IsSend J → IsSend (Worker.the_row J g)

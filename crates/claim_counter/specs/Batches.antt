@@ -12,7 +12,6 @@ use Rattle.claim_counter.specs.declared.batches.BatchCounter.{BatchCounter}
 use Rattle.claim_counter.specs.declared.batches.BatchWorkers.{BatchWorkers}
 use Rattle.claim_counter.specs.declared.worker.Worker.{Worker}
 use Rattle.audit_model.specs.Room.{RoomyOutcomes}
-use Rattle.flip_kernel.specs.ChainState.{ChainState}
 
 -- a counter of `count` places, none drawn, and a pass that can be split for `workers` workers
 pub record IsFreshBatch (count workers : ℕ) (p : BatchCounter) : Type 0 where
@@ -21,9 +20,9 @@ pub record IsFreshBatch (count workers : ℕ) (p : BatchCounter) : Type 0 where
   pub pass : BelongsTo p.claims p.pass
   pub fresh : own p.pass ≡ fresh (workers - 1)
 
--- a worker that can rest after a batch: its list has capacity for the outcomes of all trajectories
-pub record CanBeIdle (job : Job) (walker : ChainState) (share : RoomyOutcomes) : Type 0 where
-  pub made : walker.job ≡ job
+-- a worker of a job that can rest after a batch: its list has capacity for the outcomes of all trajectories
+pub record CanBeIdle (job of : Job) (share : RoomyOutcomes) : Type 0 where
+  pub made : of ≡ job
   pub share_room : total job ≤ length share.items + share.spare
 
 module _ {J : Type 0} where

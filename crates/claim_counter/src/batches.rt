@@ -199,7 +199,7 @@ fn rest<J: Judge>(
     mut share: OutcomeList,
     idle_workers: &mut Vec<IdleWorker<J>>,
 )
-    requires idle_worker { CanBeIdle job.now walker share }
+    requires idle_worker { CanBeIdle job.now walker.job share }
     requires idle_workers { HasPlace job.now idle_workers.old }
     ensures idle_workers { All (IsIdleWorker job.now) idle_workers.new.items }
     ensures count { vec_len idle_workers.new ≡ vec_len idle_workers.old + 1 }
@@ -218,7 +218,7 @@ fn take_first<J: Judge>(
     book: &mut Book,
 ) -> Pass
     requires share { IsShareFor book.old worker.share.items }
-    requires idle_worker { CanBeIdle job.now worker.walker worker.share }
+    requires idle_worker { CanBeIdle job.now worker.walker.job worker.share }
     requires idle_workers { HasPlace job.now idle_workers.old }
     ensures pass { result ≡ worker.pass }
     ensures total { book.new.total ≡ book.old.total }
@@ -251,7 +251,7 @@ fn take_next<J: Judge>(
     requires worker { BelongsTo claims.now worker.pass }
     requires share { AreDifferentBelow (size_of claims.now).limit ((own pass).claims ++ (own worker.pass).claims)
         → IsShareFor book.old worker.share.items }
-    requires idle_worker { CanBeIdle job.now worker.walker worker.share }
+    requires idle_worker { CanBeIdle job.now worker.walker.job worker.share }
     requires idle_workers { HasPlace job.now idle_workers.old }
     ensures pass { BelongsTo claims.now result }
     ensures both { own result ≡ joined_passes (own pass) (own worker.pass) }

@@ -63,7 +63,7 @@ pub range_push : (a n : ℕ) → range_with_len a (suc n) ≡ range_with_len a n
 range_push a zero = let e : a ≡ a + 0 = omega arith in ap (λ (k : ℕ). k ∷ []) e
 range_push a (suc n) = let e : a + 1 + n ≡ a + suc n = omega arith in ap (λ (l : List ℕ). a ∷ l) (range_push (a + 1) n ∙ ap (λ (k : ℕ). range_with_len (a + 1) n ++ k ∷ []) e)
 
-abbrev at_of : List ℕ → ℕ → ℕ
+abbrev pub at_of : List ℕ → ℕ → ℕ
 at_of todo p = get_or todo p 0
 
 -- the ids at the first places are the first ids

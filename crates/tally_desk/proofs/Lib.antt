@@ -14,6 +14,7 @@ pub mod Marking
 pub mod Ordering
 pub mod Outlasting
 pub mod Permuting
+pub mod Reaching
 pub mod Regular
 pub mod Righting
 pub mod Seating

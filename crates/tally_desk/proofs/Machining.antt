@@ -19,7 +19,8 @@ use Rattle.audit_model.proofs.Times.{one, one_same, times-cons, times_push}
 use Rattle.audit_model.proofs.Below.{length-map_below, map_below_same}
 use Rattle.tally_desk.specs.declared.entry.Entry.{Entry}
 use Rattle.tally_desk.specs.Entries.{post_of, posted_id, ids_of, saves_made, up_to_save}
-use Rattle.tally_desk.specs.Machines.{machine_of, open_at, initial_ids, post_events}
+use Rattle.tally_desk.specs.MachineStates.{machine_of, open_at, initial_ids}
+use Rattle.tally_desk.specs.Machines.{post_events}
 use Rattle.tally_desk.specs.Parts.{Parts, IsPlan}
 use Rattle.tally_desk.proofs.Marking.{saves-push, up_to_save-all, up_to_save-kept}
 use Rattle.tally_desk.proofs.Todo.{todo_once}

@@ -20,14 +20,16 @@ use Rattle.tally_desk.specs.declared.state.RunState.{RunState}
 use Rattle.tally_desk.specs.Counter.{CounterLaws}
 use Rattle.tally_desk.specs.Desks.{BeginsTurn, CanPost, DrawsPlace, FitsDesk, IsInTurn, IsRunComplete, KeepsTally, IsWaiting, KnowsPosts, LooksForTurn, SeesSeats, Serves, TakesTicket, Tallied, AttemptsTicket, entry_sum, first_view, claimed_ids, is_in_turn, joined_view, left_view, own_of, right_view, with_entry, with_own, with_turn}
 use Rattle.tally_desk.specs.Entries.{post_of, posted_id, ids_of, is_due, ticket_of}
+use Rattle.tally_desk.specs.MachineStates.{HasHistory}
 use Rattle.tally_desk.specs.Parts.{Parts, IsPlan}
 use Rattle.tally_desk.specs.Passes.{HasPostedAll}
 use Rattle.tally_desk.specs.Views.{PassView, Turn, no_turn, waiting, in_turn, turn_ids, spent_view}
 use Rattle.tally_desk.proofs.Bounds.{times-first, sum_mapped, put_first, put_second, put_third}
-use Rattle.tally_desk.proofs.Tallying.{awaits, begun, claimed, claims_few, set_here_at, ended, in_use, merged, new_id, none_in_turn, parted, served, ticketed, tickets_bounded}
+use Rattle.tally_desk.proofs.Reaching.{claimed_history, ended_history, first_kept, first_set, no_history, place_of, posted_history}
+use Rattle.tally_desk.proofs.Tallying.{awaits, begun, claimed, claims_few, set_here_at, ended, in_use, merged, new_id, new_unposted, none_in_turn, parted, place_drawn, served, ticketed, tickets_bounded}
 use Rattle.tally_desk.proofs.Todo.{todo_small}
 use Rattle.audit_model.specs.Times.{times, once_below}
-use Rattle.audit_model.proofs.Times.{sum_at, sum_sole, one, permutation_below, permutation_from_times}
+use Rattle.audit_model.proofs.Times.{sum_at, sum_sole, one, one_same, permutation_below, permutation_from_times, times-append, times-cons}
 
 abbrev ticket_in : Turn → ℕ
 ticket_in no_turn = 0
@@ -55,13 +57,14 @@ module _ {C : Type 0} (HomeAs : Parts → RunState C → List Entry → Type 0) 
   abbrev Mine : Type 0
   Mine = Me (RunState C) PassView
 
-  after_first : (s : St) (k : Tallied HomeAs parts s) (n id : ℕ) (me : Mine) (w : PassView) → KeepsTally HomeAs parts n (get_or s.words 1 0) (get_or s.words 2 0) k.posted s.homes (set s.views id w)
+  after_first : (s : St) (k : Tallied HomeAs parts s) (n id : ℕ) (me : Mine) (w : PassView) → HasHistory parts n k.posted → KeepsTally HomeAs parts n (get_or s.words 1 0) (get_or s.words 2 0) k.posted s.homes (set s.views id w)
       → Tallied HomeAs parts (stepped s 0 n id me.1 w keeps)
-  after_first s k n id me w t = record {
+  after_first s k n id me w history t = record {
     three_words = length-set s.words 0 n ∙ k.three_words;
     one_slot = k.one_slot;
     posted = k.posted;
     tallied = put_first (λ a b c. KeepsTally HomeAs parts a b c k.posted s.homes (set s.views id w)) s.words n k.three_words t;
+    history = subst (λ (a : ℕ). HasHistory parts a k.posted) (sym (first_set s.words n k.three_words)) history;
   }
 
   after_second : (s : St) (k : Tallied HomeAs parts s) (n id : ℕ) (me : Mine) (w : PassView) → KeepsTally HomeAs parts (get_or s.words 0 0) n (get_or s.words 2 0) k.posted s.homes (set s.views id w)
@@ -71,6 +74,7 @@ module _ {C : Type 0} (HomeAs : Parts → RunState C → List Entry → Type 0) 
     one_slot = k.one_slot;
     posted = k.posted;
     tallied = put_second (λ a b c. KeepsTally HomeAs parts a b c k.posted s.homes (set s.views id w)) s.words n k.three_words t;
+    history = subst (λ (a : ℕ). HasHistory parts a k.posted) (sym (first_kept s.words 0 n)) k.history;
   }
 
   pub claim : CounterLaws → (slots id : ℕ) (me : Mine) → me.0.parts ≡ Some parts → 0 < me.0.own.weight → me.0.own.ended ≡ false → Allows (Tallied HomeAs parts) slots id me 0 (λ n. (n + 1) % 2 ^ 64) (DrawsPlace (step slots 0 1 0 maybe.none) me)
@@ -90,7 +94,7 @@ module _ {C : Type 0} (HomeAs : Parts → RunState C → List Entry → Type 0) 
         keeps,
         tt,
         subst (λ (z : ℕ). Tallied HomeAs parts (stepped s 0 z id me.1 w keeps)) fits
-            (after_first s k (n + 1) id me w (ended HomeAs parts n _ _ k.posted s.homes s.views t id v at laws is weighs going past)),
+            (after_first s k (n + 1) id me w (ended_history parts n k.posted k.history past) (ended HomeAs parts n _ _ k.posted s.homes s.views t id v at laws is weighs going past)),
         record {
           slots = refl;
           place = λ gx is' below. let e : length parts.todo ≡ length gx.todo = ap (λ (p : Parts). length p.todo) (same gx is') in absurd (omega arith);
@@ -103,7 +107,8 @@ module _ {C : Type 0} (HomeAs : Parts → RunState C → List Entry → Type 0) 
         keeps,
         tt,
         subst (λ (z : ℕ). Tallied HomeAs parts (stepped s 0 z id me.1 w keeps)) fits
-            (after_first s k (n + 1) id me w (claimed HomeAs parts n _ _ k.posted s.homes s.views t id v at laws is weighs below)),
+            (after_first s k (n + 1) id me w
+            (claimed_history parts t.plan n k.posted k.history below (new_unposted HomeAs parts n _ _ k.posted s.homes s.views t id v at laws is weighs below)) (claimed HomeAs parts n _ _ k.posted s.homes s.views t id v at laws is weighs below)),
         record {
           slots = refl;
           place = λ gx is' below'. (
@@ -126,7 +131,7 @@ module _ {C : Type 0} (HomeAs : Parts → RunState C → List Entry → Type 0) 
         me.0,
         keeps,
         tt,
-        after_first s k n id me me.0
+        after_first s k n id me me.0 k.history
             (subst (KeepsTally HomeAs parts n (get_or s.words 1 0) (get_or s.words 2 0) k.posted s.homes) (sym (set_again s.views id me.0 at)) t),
         record {
           same = refl;
@@ -183,6 +188,7 @@ module _ {C : Type 0} (HomeAs : Parts → RunState C → List Entry → Type 0) 
     posted = k.posted;
     tallied = put_third (λ a b c. KeepsTally HomeAs parts a b c k.posted s.homes (set s.views id me.0)) s.words (get_or s.words 2 0) k.three_words
         (subst (KeepsTally HomeAs parts (get_or s.words 0 0) (get_or s.words 1 0) (get_or s.words 2 0) k.posted s.homes) (sym (set_again s.views id me.0 at)) k.tallied);
+    history = subst (λ (a : ℕ). HasHistory parts a k.posted) (sym (first_kept s.words 1 (get_or s.words 2 0))) k.history;
   }
 
   pub look : (slots id : ℕ) (me : Mine) (mine i : ℕ) → IsWaiting parts mine i me.0 → Allows (Tallied HomeAs parts) slots id me 2 (λ n. n) (LooksForTurn HomeAs (step slots 2 0 0 maybe.none) me)
@@ -212,6 +218,7 @@ module _ {C : Type 0} (HomeAs : Parts → RunState C → List Entry → Type 0) 
           posted = k.posted;
           tallied = put_third (λ a b c. KeepsTally HomeAs parts a b c k.posted (set s.homes 0 maybe.none) (set s.views id w)) s.words n k.three_words
               (begun HomeAs parts _ _ n k.posted s.homes s.views t id v at i waits.fixed waits.weighs turn);
+          history = subst (λ (a : ℕ). HasHistory parts a k.posted) (sym (first_kept s.words 1 n)) k.history;
         },
         record {
           waits = λ gx t' i' same_parts same_turn miss. absurd (miss (hit ∙ ap ticket_in (sym waits.turn ∙ same_turn)));
@@ -256,7 +263,11 @@ module _ {C : Type 0} (HomeAs : Parts → RunState C → List Entry → Type 0) 
       let back : put_back s.homes me.1 ≡ maybe.some y ∷ [] = ap (put_back s.homes) carries ∙ one_home s.homes (maybe.some y) k.one_slot in
       let next : n + 1 ≡ t + 1 = ap (λ (z : ℕ). z + 1) (sym knows.0) in
       let after : KeepsTally HomeAs parts (get_or s.words 0 0) (get_or s.words 1 0) (n + 1) (k.posted ++ e ∷ []) (maybe.some y ∷ []) (set s.views id w) =
-      served HomeAs parts _ _ n k.posted s.homes s.views r id v at i l y saved is weighs turn' knows.1 holds' due' in (
+      served HomeAs parts _ _ n k.posted s.homes s.views r id v at i l y saved is weighs turn' knows.1 holds' due' in
+      let mine : times i (turn_ids v.turn) ≡ 1 = ap (λ (z : Turn). times i (turn_ids z)) turn' ∙ times-cons i i [] ∙ ap (λ (z : ℕ). z + 0) (one_same i) in
+      let place = place_of parts.todo v.own.claims i (omega (arith, u.claimed i, times-append i (ids_of v.entries) (turn_ids v.turn), mine)) in
+      let below = place_drawn HomeAs parts _ _ n k.posted s.homes s.views r id v at place.0 place.1.0 in
+      let waits = awaits HomeAs parts _ _ n k.posted s.homes s.views r id v at i weighs (ap turn_ids turn') in (
         w,
         gives,
         tt,
@@ -266,6 +277,8 @@ module _ {C : Type 0} (HomeAs : Parts → RunState C → List Entry → Type 0) 
           posted = k.posted ++ e ∷ [];
           tallied = put_third (λ a b c. KeepsTally HomeAs parts a b c (k.posted ++ e ∷ []) (put_back s.homes me.1) (set s.views id w)) s.words (t + 1) k.three_words
               (subst (λ (z : ℕ × List (maybe.Option (RunState C))). KeepsTally HomeAs parts (get_or s.words 0 0) (get_or s.words 1 0) z.0 (k.posted ++ e ∷ []) z.1 (set s.views id w)) (λ j. (next j, sym back j)) after);
+          history = subst (λ (a : ℕ). HasHistory parts a (k.posted ++ e ∷ [])) (sym (first_kept s.words 1 (t + 1)))
+              (posted_history parts r.plan _ n k.posted i place.0 saved k.history below place.1.1 waits.unposted);
         },
         record {
           slots = λ z e'. ap rest e';
@@ -281,6 +294,7 @@ module _ {C : Type 0} (HomeAs : Parts → RunState C → List Entry → Type 0) 
     one_slot = k.one_slot;
     posted = k.posted;
     tallied = parted HomeAs parts _ _ _ k.posted s.homes s.views k.tallied id v at laws is weighs some_spare;
+    history = k.history;
   }
 
   pub join : CounterLaws → (id : ℕ) (v : PassView) (other : ℕ) (w : PassView) → v.parts ≡ Some parts → 0 < v.own.weight → 0 < w.own.weight → v.turn ≡ no_turn → w.turn ≡ no_turn
@@ -290,6 +304,7 @@ module _ {C : Type 0} (HomeAs : Parts → RunState C → List Entry → Type 0) 
     one_slot = k.one_slot;
     posted = k.posted;
     tallied = merged HomeAs parts _ _ _ k.posted s.homes s.views k.tallied id v at laws is weighs other w apart (sym (set_else s.views id other (joined_view v w) apart) ∙ at_other) weighs' idle idle';
+    history = k.history;
   }
 
   pub opens : CounterLaws → (y : RunState C) → IsPlan parts → HomeAs parts y [] → Tallied HomeAs parts (opening (0 ∷ 0 ∷ 0 ∷ []) (y ∷ []) (first_view parts))
@@ -310,6 +325,7 @@ module _ {C : Type 0} (HomeAs : Parts → RunState C → List Entry → Type 0) 
           (λ is. subst (FitsDesk parts 0 []) is (inr (record { fixed = refl; weighs = omega arith; claimed = λ x. omega arith; knows = tt }))) (at_snoc [] (first_view parts) v i e);
       home = λ _. (y, refl, holds);
     };
+    history = no_history parts;
   }
 
   pub completes : CounterLaws → (id : ℕ) (v : PassView) (ws : List ℕ) (xs : List (RunState C)) → Final (Seen (Tallied HomeAs parts) id v) ws xs → 0 < v.own.weight → v.own.weight + v.own.spare ≡ parts.seats → v.turn ≡ no_turn
@@ -340,6 +356,7 @@ module _ {C : Type 0} (HomeAs : Parts → RunState C → List Entry → Type 0) 
           in_order = t.in_order ∙ ap (range_with_len 0) (sym len);
           own_posts = λ f. sym (only (entry_sum f) refl) ∙ t.posts f;
           due = t.due;
+          history = subst (λ (z : List ℕ). HasHistory parts (get_or z 0 0) k.posted) final.2 k.history;
         },
       )
 

@@ -10,6 +10,7 @@ use Rattle.claim_counter.specs.Records.{fresh, with_claim, at_end, with_less_spa
 use Rattle.tally_desk.specs.declared.entry.Entry.{Entry}
 use Rattle.tally_desk.specs.declared.state.RunState.{RunState}
 use Rattle.tally_desk.specs.Entries.{ids_of, tickets_of, is_due, post_of}
+use Rattle.tally_desk.specs.MachineStates.{HasHistory}
 use Rattle.tally_desk.specs.Parts.{Parts, IsPlan}
 use Rattle.tally_desk.specs.Views.{PassView, Turn, no_turn, waiting, in_turn, turn_tickets, turn_ids, spent_view}
 use Rattle.audit_model.specs.Times.{times, once_below}
@@ -91,11 +92,13 @@ module _ {C : Type 0} (HomeAs : Parts → RunState C → List Entry → Type 0) 
     -- if no pass is in its turn, the slot is home
     pub home : sum_by is_in_turn views ≡ 0 → (y : RunState C) × (homes ≡ maybe.some y ∷ []) × HomeAs parts y posted
 
+  -- the rule of the table. At any moment the desk matches a run machine after claims, posts and saves.
   pub record Tallied (parts : Parts) (s : State (RunState C) PassView) : Type 0 where
     pub three_words : length s.words ≡ 3
     pub one_slot : length s.homes ≡ 1
     pub posted : List Entry
     pub tallied : KeepsTally parts (slice_index s.words 0) (slice_index s.words 1) (slice_index s.words 2) posted s.homes s.views
+    pub history : HasHistory parts (slice_index s.words 0) posted
 
 -- ---- views after steps
 
@@ -224,3 +227,4 @@ module _ {C : Type 0} where
     pub in_order : tickets_of posted ≡ range_with_len 0 (length posted)
     pub own_posts : (h : Entry → ℕ) → sum_by h v.entries ≡ sum_by h posted
     pub due : AreDue parts posted
+    pub history : HasHistory parts drawn posted

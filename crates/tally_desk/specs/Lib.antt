@@ -7,6 +7,7 @@ pub mod DeskStart
 pub mod Holding
 pub mod Homes
 pub mod InTurn
+pub mod MachineStates
 pub mod Machines
 pub mod Outlasting
 pub mod Parts

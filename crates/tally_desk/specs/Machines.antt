@@ -1,45 +1,20 @@
--- The state of the run machine that matches a desk, and the events of each step.
-use Rattle.std.specs.Prelude.{◌≡◌, ℕ, ◌+◌, ◌<◌, ◌≤◌, ◌==◌, ◌&&◌, nat_lt, min, Bool, true, false, cond, List, [], ◌∷◌, ◌++◌, map, length, slice_index, slice_set, Option, Some, None}
+-- The events of each step of a desk.
+use Rattle.std.specs.Prelude.{◌≡◌, ℕ, ◌+◌, ◌<◌, ◌≤◌, Bool, true, false, List, [], ◌∷◌, ◌++◌, length, slice_index, slice_set, Some}
 use mathlib.Core.Option as maybe
 use lib.ListN.{get_elem?}
 use Rattle.atomic_table.specs.Table.{State}
 use Rattle.audit_model.specs.declared.outcome.Event.{Event}
 use Rattle.audit_model.specs.declared.outcome.Event.TheVariants.{Claim, Post, Save}
-use Rattle.audit_model.specs.Below.{map_below}
 use Rattle.audit_model.specs.Machine.{Machine, state_after}
-use Rattle.audit_model.specs.Run.{total}
 use Rattle.audit_model.specs.Times.{times}
 use Rattle.claim_counter.specs.Records.{with_claim}
 use Rattle.tally_desk.specs.declared.entry.Entry.{Entry}
 use Rattle.tally_desk.specs.declared.state.RunState.{RunState}
 use Rattle.tally_desk.specs.Desks.{CanPost, Tallied, ended_view, joined_view, left_view, right_view, with_entry, with_own, with_turn}
-use Rattle.tally_desk.specs.Entries.{post_of, ids_of, is_due, saves_made, up_to_save}
+use Rattle.tally_desk.specs.Entries.{post_of, is_due}
+use Rattle.tally_desk.specs.MachineStates.{machine_of}
 use Rattle.tally_desk.specs.Parts.{Parts}
 use Rattle.tally_desk.specs.Views.{PassView, in_turn, no_turn, spent_view, waiting}
-
--- ---- the state
-
-abbrev pub initial_ids : Parts → List ℕ
-initial_ids parts = map (λ o. o.id) parts.initial_outcomes
-
--- the id at a place of the list, if the place is claimed and the id is not posted
-abbrev pub open_at : Parts → ℕ → List Entry → ℕ → Option ℕ
-open_at parts next posted place =
-    cond (nat_lt place next && (times (slice_index parts.todo place) (ids_of posted) == 0)) (Some (slice_index parts.todo place)) None
-
--- the machine after these draws and posts. Its worker names are the places of the list.
-abbrev pub machine_of : Parts → ℕ → List Entry → Machine
-machine_of parts drawn posted = record {
-  total = total parts.job;
-  parts = parts.job.setting.parts;
-  part = parts.job.setting.part;
-  budget = length parts.todo;
-  start = initial_ids parts;
-  saved = initial_ids parts ++ ids_of (up_to_save (saves_made posted) posted);
-  done = initial_ids parts ++ ids_of posted;
-  next = min drawn (length parts.todo);
-  open_ids = map_below (length parts.todo) (open_at parts (min drawn (length parts.todo)) posted);
-}
 
 -- ---- the steps
 

@@ -11,6 +11,7 @@ use Rattle.tally_desk.specs.DeskModel.{DeskModel}
 use Rattle.tally_desk.specs.Desks.{AreDue, claimed_ids, ended_view, first_view, joined_view, left_view, right_view, with_entry, with_own}
 use Rattle.tally_desk.specs.Entries.{post_of, ids_of, tickets_of}
 use Rattle.tally_desk.specs.Homes.{HasBuffers, KeptAs}
+use Rattle.tally_desk.specs.MachineStates.{HasHistory}
 use Rattle.tally_desk.specs.Parts.{IsPlan, Parts}
 use Rattle.tally_desk.specs.Views.{PassView, view_in}
 use Rattle.audit_model.specs.Times.{times}
@@ -48,7 +49,8 @@ abbrev pub HasPostedAll : Parts → PassView → Type 0
 HasPostedAll parts v = (id : ℕ) → times id (ids_of v.entries) ≡ times id (claimed_ids parts v)
 
 -- The state after a desk is closed with its only pass, which posted all. `posted` has its posts by rising ticket: one
--- for each id to do, marked only if a save was due. The book and the keeper are those of a desk after these posts.
+-- for each id to do, marked only if a save was due. The book and the keeper are those of a desk after these posts. A run
+-- machine reaches the state of the desk by claims, posts and saves.
 pub record IsClosed {C : Type 0} (state : C → KeeperState) (parts : Parts) (v : PassView) (s : RunState C) : Type 0 where
   pub plan : IsPlan parts
   pub slot : s.place.slot < 2
@@ -61,6 +63,7 @@ pub record IsClosed {C : Type 0} (state : C → KeeperState) (parts : Parts) (v 
   pub kept : KeptAs state parts s.book s.keeper s.place s.failed_saves posted
   pub entries : s.posted.items ≡ posted
   pub equipped : HasBuffers state parts s
+  pub history : (drawn : ℕ) × HasHistory parts drawn posted
 
 -- ---- invariants of a pass that posts what it claims
 

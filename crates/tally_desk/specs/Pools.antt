@@ -7,8 +7,9 @@ use Rattle.tally_desk.specs.declared.pass.DeskPass.{DeskPass}
 use Rattle.tally_desk.specs.DeskModel.{DeskModel}
 use Rattle.tally_desk.specs.Parts.{Parts}
 use Rattle.tally_desk.specs.Passes.{Belongs, HasPostedAll, view_of}
-use Rattle.claim_counter.specs.Walkers.{AreWalkers, IsWalker}
+use Rattle.claim_counter.specs.Walkers.{AreWalkers}
 use Rattle.claim_counter.specs.Walks.{IsWithin, ServesEnds}
+use Rattle.claim_counter.specs.Counts.{WalkCount, HasWalkedEachOnce}
 use Rattle.flip_kernel.specs.ChainState.{ChainState}
 use Rattle.tally_desk.specs.declared.pool.DeskPool.{DeskPool}
 use Rattle.tally_desk.specs.declared.worker.DeskWorker.{DeskWorker}
@@ -42,9 +43,11 @@ pub record WalksAtDesk (job : Job) (parts : Parts) (units : List ℕ) : Type 0 w
   pub within : IsWithin job parts.todo
   pub hub : ServesEnds job parts.todo units
 
--- a worker between two claims: each claim is posted or buffered, and the pass has not ended
-pub record IsAtDesk (desk : DeskModel) (w : ChainState) (p : DeskPass) (buffered : List Outcome) : Type 0 where
-  pub walks : IsWalker desk.parts.job w
+-- a worker between two claims: it walked once for each claim, each claim is posted or buffered, and the pass has not
+-- ended
+pub record IsAtDesk (desk : DeskModel) (w : WalkCount) (p : DeskPass) (buffered : List Outcome) : Type 0 where
+  pub walks : w.job ≡ desk.parts.job
+  pub walked : HasWalkedEachOnce w (view_of p).own.claims
   pub holds : IsHolding desk p buffered
   pub going : (view_of p).own.ended ≡ false
   pub weight : (view_of p).own.weight ≡ 1
@@ -55,10 +58,11 @@ pub record IsUnstartedAtDesk {J : Type 0} (desk : DeskModel) (w : DeskWorker J) 
   pub at_desk : IsAtDesk desk w.walker w.pass []
   pub buffered : IsRoomWithin (buffer_room desk.parts.job.setting desk.parts.seats) w.buffered
 
--- a worker that found no id left and has posted all its claims
+-- a worker that found no id left, walked once for each of its claims, and has posted them all
 pub record IsDeskWorkerDone {J : Type 0} (desk : DeskModel) (w : DeskWorker J) : Type 0 where
   pub belongs : Belongs desk w.pass
   pub ended : (view_of w.pass).own.ended ≡ true
   pub weight : (view_of w.pass).own.weight ≡ 1
   pub spare : (view_of w.pass).own.spare ≡ 0
   pub whole : HasPostedAll desk.parts (view_of w.pass)
+  pub walked : HasWalkedEachOnce w.walker (view_of w.pass).own.claims

@@ -5,6 +5,7 @@ use crate::handing::open;
 use crate::pass::{DeskPass, take_out};
 use crate::rule::{DeskSplit, NextPlace, OneTally, PollTicket, Posting, See, Serve, Take};
 use crate::state::RunState;
+use crate::turn::OtherTurn;
 use crate::view::{DeskArguments, DeskView};
 use atomic_table::{Seat, Table};
 use audit_io::keeper::Keeper;
@@ -45,7 +46,7 @@ impl<C: Keeper> Model for Desk<C> {
 }
 
 impl<C: Keeper> Desk<C> {
-    ghost use Rattle.std.specs.Prelude.{◌≡◌, ◌+◌, ◌-◌, ◌^◌, ◌<◌, ◌≤◌, ◌∷◌, [], ◌++◌, ℕ, IsTrue, All, IfOk, IfErr, IfSome, IfNone, IsFalse, true, false, length, vec_len};
+    ghost use Rattle.std.specs.Prelude.{◌≡◌, ◌+◌, ◌-◌, ◌%◌, ◌^◌, ◌<◌, ◌≤◌, ◌∷◌, [], ◌++◌, ℕ, IsTrue, All, IfOk, IfErr, IfSome, IfNone, IsFalse, true, false, length, vec_len};
     ghost use Rattle.audit_model.specs.Times.{times};
     ghost use Rattle.claim_counter.specs.Views.{HasAllSeats};
     ghost use Rattle.claim_counter.specs.Walks.{found};
@@ -195,17 +196,25 @@ impl<C: Keeper> Desk<C> {
     // Lets other threads run while another pass has its turn. Sleeps if that turn makes a save. Other turns are too
     // short for sleeping.
     fn rest<R: Wait>(&self, rt: &R) {
-        let words = &self.table.shared;
-        let served = words.peek(2);
-        if words.peek(1) == served {
+        let Some(turn) = OtherTurn::read(&self.table.shared) else {
             return;
-        }
-        if self.makes_save(served) {
-            let low = (served % (1 << 32)) as u32;
-            words.park_timeout(rt, 2, low, Duration::from_millis(LONGEST_SLEEP));
+        };
+        if self.makes_save(turn.ticket()) {
+            let low = turn.low_half();
+            self.sleep_through(rt, turn, low);
         } else {
             thread::yield_now();
         }
+    }
+
+    // Sleeps until the turn ends, at most `LONGEST_SLEEP`. Returns at once if the turn is over: `low` is the lower half
+    // of its ticket, and the thread sleeps only while word 2 has this lower half.
+    fn sleep_through<R: Wait>(&self, rt: &R, turn: OtherTurn, low: u32)
+        requires low { low ≡ turn % 2 ^ 32 }
+    {
+        drop(turn);
+        let longest = Duration::from_millis(LONGEST_SLEEP);
+        self.table.shared.park_timeout(rt, 2, low, longest);
     }
 
     // Wakes all workers that sleep because of the turn of this ticket.

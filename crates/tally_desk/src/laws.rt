@@ -4,6 +4,7 @@
 ghost use Rattle.tally_desk.specs.Entries.{UnfailedPostsAreRegular};
 ghost use Rattle.tally_desk.specs.Homes.{HomeAs};
 ghost use Rattle.tally_desk.specs.InTurn.{UnfailedRunsSaveInTurn};
+ghost use Rattle.tally_desk.specs.MachineStates.{HaltsAreRestarts};
 ghost use Rattle.tally_desk.specs.Machines.{StepsAreEvents};
 ghost use Rattle.tally_desk.specs.Outlasting.{RunStopsKeepTheNewest, RunStopsLeaveConsistentSlots};
 ghost use Rattle.tally_desk.specs.Parts.{Parts};
@@ -22,6 +23,12 @@ use ckpt_store::laws::{
 /// step.
 pub fn steps_are_events<C: Keeper>()
     ensures { (parts : Parts) → StepsAreEvents (HomeAs C.state C.lets) parts }
+{}
+
+/// Shows that a halt takes the run machine of a desk to the machine with which a desk over the last save starts. The
+/// events of a running desk have no halt: a process that halts takes no further step.
+pub fn halts_are_restarts()
+    ensures { HaltsAreRestarts }
 {}
 
 /// Shows which passes are *whole*: have posted all their claims. A pass without claims is whole. A whole pass is whole

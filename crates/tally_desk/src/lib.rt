@@ -43,6 +43,7 @@ pub mod run;
 pub mod run_laws;
 mod saving;
 pub mod state;
+mod turn;
 mod view;
 mod walking;
 mod worker;

@@ -22,7 +22,7 @@ use audit_io::gate::Gate;
 use audit_io::keeper::Keeper;
 use audit_io::source::Failed;
 use audit_model::lists::UnitList;
-use claim_counter::workers::Runtime;
+use claim_counter::workers::{Lender, Runtime};
 use flip_guard::judge::Judge;
 use plan_core::job::Job;
 use std::sync::Wait;
@@ -45,9 +45,9 @@ pub struct RunResult<C> {
 ///
 /// # Errors
 ///
-/// Out of memory for the desk. Nothing was walked or saved, and the state is returned.
+/// Out of memory for the desk. The threads and the gate were not lent, nothing was saved, and the state is returned.
 pub fn run_over<R: Threads + Wait + Sync, C: Keeper + Send, J: Judge + Send, G: Gate + Sync>(
-    rt: &Runtime<R, G>,
+    rt: &mut Lender<R, G>,
     job: &Job,
     state: RunState<C>,
     todo: UnitList,
@@ -61,6 +61,7 @@ pub fn run_over<R: Threads + Wait + Sync, C: Keeper + Send, J: Judge + Send, G: 
     ensures ran { IfOk result (λ r. HasRun (starts C.state job.now state todo (vec_len pool.walkers))
         (C.state r.state.keeper) r.state.sorted.items r.saved) }
     ensures refused { IfErr result (λ r. (r.book ≡ state.book) × (r.keeper ≡ state.keeper)) }
+    ensures memory { IfErr result (λ r. rt.new ≡ rt.old) }
 {
     match walk_over(rt, job, state, todo, pool) {
         Ok(state) => Ok(save_last(state)),
@@ -105,7 +106,7 @@ fn work<R: Threads + Wait + Sync, C: Keeper + Send, J: Judge + Send, G: Gate + S
 
 // Makes the desk of a run and walks all its ids. If out of memory for the desk, nothing is walked.
 fn walk_over<R: Threads + Wait + Sync, C: Keeper + Send, J: Judge + Send, G: Gate + Sync>(
-    rt: &Runtime<R, G>,
+    rt: &mut Lender<R, G>,
     job: &Job,
     state: RunState<C>,
     todo: UnitList,
@@ -118,13 +119,15 @@ fn walk_over<R: Threads + Wait + Sync, C: Keeper + Send, J: Judge + Send, G: Gat
     requires lets { LetsDesk C.lets (starts C.state job.now state todo (vec_len pool.walkers)) }
     ensures closed { IfOk result (λ s. (v : PassView) × IsClosed C.state (starts C.state job.now state todo (vec_len pool.walkers)) v s) }
     ensures refused { IfErr result (λ r. (r.book ≡ state.book) × (r.keeper ≡ state.keeper)) }
+    ensures memory { IfErr result (λ r. rt.new ≡ rt.old) }
 {
     let mut pool = pool;
     let seats = pool.walkers.len() as u32;
-    match Desk::new(rt.alloc, job, state, todo, seats) {
+    match Desk::new(rt.alloc(), job, state, todo, seats) {
         Ok((desk, pass)) => {
+            let lent = rt.lend();
             walk_hub(&desk, job, &mut pool);
-            Ok(work(rt, job, desk, pass, pool))
+            Ok(work(&lent, job, desk, pass, pool))
         }
         Err(refused) => Err(refused),
     }

@@ -1,9 +1,10 @@
 //! Walkers that cannot start a trajectory before the gate has received the trajectory's id.
 
-ghost use Rattle.std.specs.Prelude.{◌≡◌, ◌+◌, ◌<◌, ◌≤◌};
+ghost use Rattle.std.specs.Prelude.{◌≡◌, ◌+◌, ◌-◌, ◌<◌, ◌≤◌, ◌^◌};
 ghost use Rattle.audit_statement.specs.Draw.{draw};
 ghost use Rattle.audit_model.specs.Trajectory.{hub as hub_of, outcome};
 
+use crate::workers::counted::CountedWalker;
 use audit_io::gate::Gate;
 use audit_model::outcome::Outcome;
 use flip_guard::judge::Judge;
@@ -35,16 +36,16 @@ impl StartToken {
     }
 }
 
-/// A walker that takes a start token for each trajectory.
+/// A walker that takes a start token for each trajectory, and counts its walks.
 #[derive(Drop)]
 pub struct GatedWalker<J: Judge> {
-    walker: Walker<J>,
+    walker: CountedWalker<J>,
 }
 
 impl<J: Judge> Model for GatedWalker<J> {
-    ghost use Rattle.flip_kernel.specs.ChainState.{ChainState};
+    ghost use Rattle.claim_counter.specs.Counts.{WalkCount};
 
-    ghost Value = { ChainState };
+    ghost Value = { WalkCount };
 
     ghost view = { λ w. w.walker };
 }
@@ -52,19 +53,23 @@ impl<J: Judge> Model for GatedWalker<J> {
 impl<J: Judge> GatedWalker<J> {
     /// Wraps a walker, so that each of its walks takes a start token.
     pub fn new(walker: Walker<J>) -> GatedWalker<J>
-        ensures { result ≡ walker }
+        ensures job { result.job ≡ walker.job }
+        ensures none { result.walks ≡ 0 }
     {
-        GatedWalker { walker }
+        GatedWalker {
+            walker: CountedWalker::new(walker),
+        }
     }
 
-    /// Walks the trajectory of the token and returns its outcome. A walk of the outlier test begins at the start plan
-    /// and does not use `hub`. An endpoint trajectory begins at `hub`. Allocates nothing.
+    /// Walks the trajectory of the token once, and returns its outcome. A walk of the outlier test begins at the start
+    /// plan and does not use `hub`. An endpoint trajectory begins at `hub`. Allocates nothing.
     pub fn walk(&mut self, job: &Job, hub: &[u32], token: StartToken) -> Outcome
         requires made { self.old.job ≡ job.now }
         requires id { token < job.now.setting.walks + job.now.setting.ends }
         requires hub { job.now.setting.walks ≤ token → hub.now ≡ hub_of job.now (draw job.now.setting.key) }
         ensures outcome { result ≡ outcome job.now (draw job.now.setting.key) token }
         ensures made { self.new.job ≡ job.now }
+        ensures counted { self.old.walks < 2 ^ 64 - 1 → self.new.walks ≡ self.old.walks + 1 }
     {
         let StartToken { id } = token;
         self.walker.walk(job, hub, id)
@@ -72,9 +77,9 @@ impl<J: Judge> GatedWalker<J> {
 
     /// Returns the wrapped walker.
     pub fn into_walker(self) -> Walker<J>
-        ensures { result ≡ self }
+        ensures { result.job ≡ self.job }
     {
         let GatedWalker { walker } = self;
-        walker
+        walker.into_walker()
     }
 }

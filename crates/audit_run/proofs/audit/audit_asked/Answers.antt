@@ -5,15 +5,15 @@ use Rattle.audit_run.proofs.audit.audit_asked.Goals as goal
 pub audit_plans-status-requires-clause-plans : goal.audit_plans-status-requires-clause-plans
 audit_plans-status-requires-clause-plans g c κs within = sym c.names_plans.ensures ∙ c.if-names_plans.true
 
-pub returns-then-names_plans : goal.returns-then-names_plans
-returns-then-names_plans g c = record {
+pub returns-then-names_plans-clause-kept : goal.returns-then-names_plans-clause-kept
+returns-then-names_plans-clause-kept g c = record {
   one = λ single. absurd (false≢true (sym single ∙ sym c.names_plans.ensures ∙ c.if-names_plans.true));
-  several = λ many. c.audit_plans-status.ensures (g.C.Keeper.state c.args.keeper);
+  several = λ many. c.audit_plans-status.ensures.kept (g.C.Keeper.state c.args.keeper);
 }
 
-pub returns : goal.returns
-returns g c = record {
-  one = λ single. c.audit_single.ensures;
+pub returns-clause-kept : goal.returns-clause-kept
+returns-clause-kept g c = record {
+  one = λ single. c.audit_single.ensures.kept;
   several = λ many. absurd (false≢true (sym c.if-names_plans.false ∙ c.names_plans.ensures ∙ many));
 }
 

@@ -60,8 +60,8 @@ report_plans-requires-clause-judges g c κs within =
       c.requires.no_frozen k d inside,
     )) (rw c.as_slice-2.ensures.value at c.in-Ok.ensures)
 
-pub returns-in-Err : goal.returns-in-Err
-returns-in-Err g c = λ key all. refl
+pub returns-in-Err-clause-reports : goal.returns-in-Err-clause-reports
+returns-in-Err-clause-reports g c = λ key all. refl
 
 pub report_plans-requires-clause-plans : goal.report_plans-requires-clause-plans
 report_plans-requires-clause-plans g c κs within = c.requires.plans.alone

@@ -63,8 +63,8 @@ report_plans-requires-clause-judges g c κs within =
       count_is = judge_set.count_is ∙ ap (λ n. n + 1) (workers ∙ sym (ap (λ (s : Setting). s.workers) same));
     }) c.args.plans.items c.in-Ok.judge_sets.items (all_like c.args.plans.items c.first_of-first.ensures.0 (rw c.as_slice.ensures.value at c.first_of-first.ensures.1) c.requires.plans) (rw c.as_slice-2.ensures.value at c.in-Ok.ensures)
 
-pub returns-in-Err : goal.returns-in-Err
-returns-in-Err g c = λ key all. refl
+pub returns-in-Err-clause-reports : goal.returns-in-Err-clause-reports
+returns-in-Err-clause-reports g c = λ key all. refl
 
 pub report_plans-requires-clause-plans : goal.report_plans-requires-clause-plans
 report_plans-requires-clause-plans g c κs within = c.requires.plans.alone

@@ -20,11 +20,11 @@ run_with_all_rules-requires-clause-opened g c κs within =
 pub run_with_all_rules-requires-clause-lets : goal.run_with_all_rules-requires-clause-lets
 run_with_all_rules-requires-clause-lets g c κs within = subst (LetsSavesOf g.C.Keeper.lets c.args.job.now) (sym c.in-Ok.ensures.same) c.requires.lets
 
-pub returns-then-len-eq0-2 : goal.returns-then-len-eq0-2
-returns-then-len-eq0-2 g c = goes_on c.args.job.now _ _ _ _ _ _ c.in-Ok.ensures.same c.run_with_cut_limit.ensures
+pub returns-then-len-eq0-2-clause-finishes : goal.returns-then-len-eq0-2-clause-finishes
+returns-then-len-eq0-2-clause-finishes g c = goes_on c.args.job.now _ _ _ _ _ _ c.in-Ok.ensures.same c.run_with_cut_limit.ensures.finishes
 
-pub returns-else-len-eq0 : goal.returns-else-len-eq0
-returns-else-len-eq0 g c = goes_on c.args.job.now _ _ _ _ _ _ c.in-Ok.ensures.same c.run_with_all_rules.ensures
+pub returns-else-len-eq0-clause-finishes : goal.returns-else-len-eq0-clause-finishes
+returns-else-len-eq0-clause-finishes g c = goes_on c.args.job.now _ _ _ _ _ _ c.in-Ok.ensures.same c.run_with_all_rules.ensures.finishes
 
 pub run_with_cut_limit-requires-clause-text : goal.run_with_cut_limit-requires-clause-text
 run_with_cut_limit-requires-clause-text g c κs within =

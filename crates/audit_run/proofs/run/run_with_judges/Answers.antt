@@ -1,6 +1,6 @@
 use Rattle.std.proofs.Common.{◌∙◌, List, sym, subst}
 use Rattle.audit_model.specs.declared.outcome.Outcome.{Outcome}
-use Rattle.audit_start.specs.declared.resume_state.Target.{Target}
+use Rattle.audit_start.specs.declared.resume_state.SaveTarget.{SaveTarget}
 use Rattle.audit_start.specs.ResumeState.{IsTargetFor}
 use Rattle.audit_statement.specs.Due.{LetsSavesOf}
 use Rattle.audit_statement.specs.Endings.{AreInitialOutcomes}
@@ -25,7 +25,7 @@ run_saved-requires-clause-saved g c κs within = (target_observed _ _ _ _ c.in-S
 pub run_saved-requires-clause-placed : goal.run_saved-requires-clause-placed
 run_saved-requires-clause-placed g c κs within =
     let made = c.in-Ok.ensures in
-    subst (λ (x : g.row.C.Denot × Target). IsTargetFor c.args.job.now (g.C.Keeper.state x.0).slots x.1) (λ i. (sym made.keeper i, sym made.target i))
+    subst (λ (x : g.row.C.Denot × SaveTarget). IsTargetFor c.args.job.now (g.C.Keeper.state x.0).slots x.1) (λ i. (sym made.keeper i, sym made.target i))
     (target_observed _ _ _ _ c.in-Some.target c.in-Some.is c.requires.opened.target).1
 
 pub run_saved-requires-clause-opened : goal.run_saved-requires-clause-opened
@@ -41,16 +41,16 @@ pub run_saved-requires-clause-lets : goal.run_saved-requires-clause-lets
 run_saved-requires-clause-lets g c κs within =
     subst (λ (x : g.row.C.Denot). LetsSavesOf g.C.Keeper.lets c.args.job.now (g.C.Keeper.state x)) (sym c.in-Ok.ensures.keeper) c.requires.lets
 
-pub returns-in-None : goal.returns-in-None
-returns-in-None g c =
-    c.run_without_saves.ensures _ (subst (λ (os : List Outcome). AreInitialOutcomes c.args.job.now (g.C.Keeper.state c.args.keeper).slots os) (sym c.as_slice.ensures) c.requires.opened.opened)
+pub returns-in-None-clause-finishes : goal.returns-in-None-clause-finishes
+returns-in-None-clause-finishes g c =
+    c.run_without_saves.ensures.finishes _ (subst (λ (os : List Outcome). AreInitialOutcomes c.args.job.now (g.C.Keeper.state c.args.keeper).slots os) (sym c.as_slice.ensures) c.requires.opened.opened)
 
-pub returns-in-Ok : goal.returns-in-Ok
-returns-in-Ok g c =
+pub returns-in-Ok-clause-finishes : goal.returns-in-Ok-clause-finishes
+returns-in-Ok-clause-finishes g c =
     let before = g.K.Sink.state c.args.out.now in
     let after = g.K.Sink.state c.run_saved.new.out in
     let end = c.run_saved.result in
-    subst (λ (x : g.row.C.Denot). Finishes c.args.job.now before after (g.C.Keeper.state x) (g.C.Keeper.state end.1) end.0) c.in-Ok.ensures.keeper c.run_saved.ensures
+    subst (λ (x : g.row.C.Denot). Finishes c.args.job.now before after (g.C.Keeper.state x) (g.C.Keeper.state end.1) end.0) c.in-Ok.ensures.keeper c.run_saved.ensures.finishes
 
 pub run_without_saves-requires-clause-text : goal.run_without_saves-requires-clause-text
 run_without_saves-requires-clause-text g c κs within =

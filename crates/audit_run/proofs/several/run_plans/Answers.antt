@@ -10,13 +10,13 @@ report_all-requires-clause-plans g c κs within = record {
   alone = run_alone accepted_jobs_are_runs _ _ _ c.in-Ok.plans.items c.requires.plans c.in-Ok.ensures;
 }
 
-pub returns-in-Ok : goal.returns-in-Ok
-returns-in-Ok g c = λ keeper.
+pub returns-in-Ok-clause-runs : goal.returns-in-Ok-clause-runs
+returns-in-Ok-clause-runs g c = λ keeper.
     reported_run _ _ _ c.in-Ok.plans.items c.in-Ok.ensures _ _ keeper c.report_all.result
-    (c.report_all.ensures c.in-Ok.ensures.setting.key (same_key _ _ _ c.in-Ok.plans.items c.in-Ok.ensures))
+    (c.report_all.ensures.reports c.in-Ok.ensures.setting.key (same_key _ _ _ c.in-Ok.plans.items c.in-Ok.ensures))
 
-pub returns-in-Err : goal.returns-in-Err
-returns-in-Err g c = λ keeper. c.in-Err.ensures (g.K.Sink.state c.args.out.now) keeper
+pub returns-in-Err-clause-runs : goal.returns-in-Err-clause-runs
+returns-in-Err-clause-runs g c = λ keeper. c.in-Err.ensures (g.K.Sink.state c.args.out.now) keeper
 
 pub report_all-requires-clause-text : goal.report_all-requires-clause-text
 report_all-requires-clause-text g c κs within =

@@ -1,10 +1,10 @@
 use Rattle.audit_run.proofs.single.run_command.Goals as goal
 
-pub returns-in-Check : goal.returns-in-Check
-returns-in-Check g c = λ words before after prepared. c.write_check.ensures _ words before after prepared
+pub returns-in-Check-clause-finishes : goal.returns-in-Check-clause-finishes
+returns-in-Check-clause-finishes g c = λ words before after prepared. c.write_check.ensures _ words before after prepared
 
-pub returns-in-Trace : goal.returns-in-Trace
-returns-in-Trace g c = λ words before after prepared. c.trace_job.ensures _ words before after prepared
+pub returns-in-Trace-clause-finishes : goal.returns-in-Trace-clause-finishes
+returns-in-Trace-clause-finishes g c = λ words before after prepared. c.trace_job.ensures _ words before after prepared
 
-pub returns-in-Run : goal.returns-in-Run
-returns-in-Run g c = c.run_job.ensures
+pub returns-in-Run-clause-finishes : goal.returns-in-Run-clause-finishes
+returns-in-Run-clause-finishes g c = c.run_job.ensures.finishes

@@ -19,6 +19,7 @@ loop-walker-init g c =
       walkers = popped_rest (IsWalker parts.job) _ _ c.in-Some.last c.requires.pool.walkers_are c.in-Some.ensures.items;
       unstarted = subst (All (IsUnstartedAtDesk c.args.desk.now)) (sym c.requires.pool.blank) (All-nil (IsUnstartedAtDesk c.args.desk.now));
       pass = c.requires.pass.belongs;
+      none = ap (λ (v : PassView). v.own.claims) first;
       going = ap (λ (v : PassView). v.own.ended) first;
       weight = ap (λ (v : PassView). v.own.weight) first;
       spare = let all = ap (λ (v : PassView). v.own.spare) first in omega (arith, all, c.requires.pool.seats_are, left);
@@ -41,7 +42,8 @@ loop-walker-preserved g c =
       unstarted = subst (All (IsUnstartedAtDesk c.args.desk.now)) (sym c.push_reserved.ensures.items)
           (All-push (IsUnstartedAtDesk c.args.desk.now) c.loop-walker.workers.items _ was.unstarted (record {
             at_desk = record {
-              walks = subst (IsWalker parts.job) (sym c.new.ensures) (popped_last (IsWalker parts.job) _ _ c.in-Some-pop.walker was.walkers c.in-Some-pop.ensures.items);
+              walks = c.new.ensures.job ∙ popped_last (IsWalker parts.job) _ _ c.in-Some-pop.walker was.walkers c.in-Some-pop.ensures.items;
+              walked = λ few. c.new.ensures.none ∙ sym (ap (λ (v : PassView). length v.own.claims) new.1);
               holds = record {
                 belongs = new.0;
                 rest = nothing_buffered parts (view_of c.split-part.result)
@@ -54,6 +56,7 @@ loop-walker-preserved g c =
             buffered = popped_last (IsRoomWithin (buffer_room parts.job.setting parts.seats)) _ _ c.take_last-buffered.result was.rooms c.take_last-buffered.ensures.items;
           }));
       pass = rest.0;
+      none = ap (λ (v : PassView). v.own.claims) rest.1 ∙ was.none;
       going = ap (λ (v : PassView). v.own.ended) rest.1 ∙ was.going;
       weight = ap (λ (v : PassView). v.own.weight) rest.1 ∙ was.weight;
       spare = omega (arith, ap (λ (v : PassView). v.own.spare) rest.1, was.spare, left);
@@ -71,7 +74,8 @@ returns-clause-unstarted g c =
     subst (All (IsUnstartedAtDesk c.args.desk.now)) (sym c.push_reserved-2.ensures.items)
     (All-push (IsUnstartedAtDesk c.args.desk.now) c.loop-walker.workers.items _ was.unstarted (record {
       at_desk = record {
-        walks = subst (IsWalker parts.job) (sym c.new-2.ensures) (popped_last (IsWalker parts.job) _ _ c.in-Some.last c.requires.pool.walkers_are c.in-Some.ensures.items);
+        walks = c.new-2.ensures.job ∙ popped_last (IsWalker parts.job) _ _ c.in-Some.last c.requires.pool.walkers_are c.in-Some.ensures.items;
+        walked = λ few. c.new-2.ensures.none ∙ sym (ap length was.none);
         holds = record { belongs = was.pass; rest = nothing_buffered parts (view_of c.loop-walker.pass) was.whole };
         going = was.going;
         weight = was.weight;

@@ -1,4 +1,4 @@
-use Rattle.std.proofs.Common.{◌≡◌, ◌+◌, ◌≤◌, All, vec_capacity, vec_len, false}
+use Rattle.std.proofs.Common.{◌≡◌, ◌+◌, ◌≤◌, [], All, vec_capacity, vec_len, false}
 use Rattle.tally_desk.specs.Passes.{Belongs, HasPostedAll, view_of}
 use Rattle.claim_counter.specs.Walkers.{AreWalkers}
 use Rattle.tally_desk.specs.Pools.{IsUnstartedAtDesk}
@@ -10,6 +10,7 @@ invariant-loop-walker g l = record {
   walkers : AreWalkers l.desk.parts.job l.walkers.items;
   unstarted : All (IsUnstartedAtDesk l.desk) l.workers.items;
   pass : Belongs l.desk l.pass;
+  none : (view_of l.pass).own.claims ≡ [];
   going : (view_of l.pass).own.ended ≡ false;
   weight : (view_of l.pass).own.weight ≡ 1;
   spare : (view_of l.pass).own.spare ≡ vec_len l.walkers;

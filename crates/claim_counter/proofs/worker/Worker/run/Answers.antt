@@ -12,6 +12,7 @@ loop-place-preserved g c =
     let kept = c.loop-place.invariant.kept_room in
     let drawn = c.in-Some.ensures.number in
     let items = c.append.ensures.items in
+    let more = ap (λ (p : PassRecord). length p.claims) drawn ∙ length-append (own c.loop-place.pass).claims (c.in-Some.place ∷ []) in
     record {
       at_work = record {
         made = c.walk.ensures.made;
@@ -21,6 +22,9 @@ loop-place-preserved g c =
         spare = ap (λ (p : PassRecord). p.spare) drawn ∙ was.spare;
         shared = shared_more c.args.job.now c.args.todo.now (own c.loop-place.pass).claims _ c.in-Some.place c.loop-place.share.items _ c.walk.result
             was.shared (ap (λ (p : PassRecord). p.claims) drawn) items (c.walk.ensures.outcome ∙ ap (outcome c.args.job.now (draw c.args.job.now.setting.key)) c.announce-token.ensures);
+        walked = λ few.
+            let before = was.walked (omega (arith, few, more)) in
+            omega (arith, more, before, c.walk.ensures.counted (omega (arith, few, more, before)));
         room = omega (arith, was.room, c.append.ensures.spare, ap length items, length-append c.loop-place.share.items (c.walk.result ∷ []));
       };
       kept_room = omega (arith, kept, c.append.ensures.spare, ap length items, length-append c.loop-place.share.items (c.walk.result ∷ []));

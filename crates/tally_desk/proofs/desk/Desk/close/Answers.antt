@@ -55,4 +55,5 @@ returns g c =
       kept = k.holds.kept;
       entries = k.holds.entries;
       equipped = k.holds.equipped;
+      history = (drawn, k.history);
     })

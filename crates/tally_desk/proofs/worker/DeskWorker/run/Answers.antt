@@ -1,4 +1,4 @@
-use Rattle.std.proofs.Common.{◌∙◌, List, ap, refl, subst, sym}
+use Rattle.std.proofs.Common.{◌∙◌, List, [], ◌∷◌, ap, arith, length, length-append, refl, subst, sym}
 use Rattle.audit_model.specs.declared.outcome.Outcome.{Outcome}
 use Rattle.claim_counter.specs.declared.record.PassRecord.{PassRecord}
 use Rattle.tally_desk.specs.Pools.{IsAtDesk}
@@ -32,9 +32,16 @@ loop-id-preserved g c =
     let was = c.loop-id.invariant.at_desk in
     let claimed = c.in-Some.ensures.claimed in
     let own = c.hand_in.ensures.own in
+    let more =
+    ap (λ (r : PassRecord). length r.claims) own
+    ∙ ap (λ (v : PassView). length v.own.claims) claimed.view
+    ∙ length-append (view_of c.loop-id.pass).own.claims (claimed.place ∷ []) in
     record {
       at_desk = record {
         walks = c.walk-outcome.ensures.made ∙ c.requires.shared.same;
+        walked = λ few.
+            let before = was.walked (omega (arith, few, more)) in
+            omega (arith, more, before, c.walk-outcome.ensures.counted (omega (arith, few, more, before)));
         holds = c.hand_in.ensures.holds;
         going = ap (λ (r : PassRecord). r.ended) own ∙ ap (λ (v : PassView). v.own.ended) claimed.view ∙ was.going;
         weight = ap (λ (r : PassRecord). r.weight) own ∙ ap (λ (v : PassView). v.own.weight) claimed.view ∙ was.weight;
@@ -63,4 +70,7 @@ returns-clause-done g c =
       weight = ap (λ (r : PassRecord). r.weight) own ∙ ap (λ (v : PassView). v.own.weight) end ∙ was.weight;
       spare = ap (λ (r : PassRecord). r.spare) own ∙ ap (λ (v : PassView). v.own.spare) end ∙ was.spare;
       whole = all_posted c.args.desk.now.parts (view_of c.post_all.new.pass) c.post_all.ensures.holds.rest;
+      walked = λ few.
+          let same = ap (λ (r : PassRecord). length r.claims) own ∙ ap (λ (v : PassView). length v.own.claims) end in
+          was.walked (omega (arith, few, same)) ∙ sym same;
     }
