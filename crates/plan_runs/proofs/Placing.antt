@@ -3,7 +3,7 @@ use Rattle.std.proofs.Common.{◌≡◌, ℕ, zero, suc, ◌≤◌, Bool, true, 
 use Rattle.audit_model.specs.Observed.{IfObserved}
 use Rattle.audit_model.specs.Pair.{Pair}
 use Rattle.audit_model.specs.Job.{Job}
-use Rattle.audit_start.specs.declared.resume_state.Target.{Target}
+use Rattle.audit_start.specs.declared.resume_state.SaveTarget.{SaveTarget}
 use Rattle.audit_statement.specs.Endings.{first_place, place_of, saves}
 use Rattle.audit_statement.specs.Due.{IsFirstPlace}
 use Rattle.audit_start.specs.ResumeState.{IsTargetFor}
@@ -23,12 +23,12 @@ saves_every job is = by job.setting.save_every refl
     by (suc n) e = omega arith
 
 -- the place of the first save, if the slots are known
-pub place_observed_for : (job : Job) (slots : Option Pair) (t : Target) → IsTargetFor job slots t → IfObserved slots (λ p. place_of job p ≡ (t.place.slot, t.place.generation))
+pub place_observed_for : (job : Job) (slots : Option Pair) (t : SaveTarget) → IsTargetFor job slots t → IfObserved slots (λ p. place_of job p ≡ (t.place.slot, t.place.generation))
 place_observed_for job None t placed = tt
 place_observed_for job (Some p) t placed = sym placed.observed
 
 -- the first save of the run goes to the target's place
-pub first_place_for : (job : Job) (slots : Option Pair) (t : Target) → IsTargetFor job slots t → IsFirstPlace job slots t.place
+pub first_place_for : (job : Job) (slots : Option Pair) (t : SaveTarget) → IsTargetFor job slots t → IsFirstPlace job slots t.place
 first_place_for job slots t placed = record { slot = placed.slot_below; generation = placed.generation_below; observed = by slots placed.observed }
   where
     by : (slots : Option Pair) → IfObserved slots (λ p. (t.place.slot, t.place.generation) ≡ place_of job p) → IfObserved slots (λ p. t.place ≡ first_place job p)
@@ -36,7 +36,7 @@ first_place_for job slots t placed = record { slot = placed.slot_below; generati
     by (Some p) observed = λ i. record { slot = (observed i).0; generation = (observed i).1 }
 
 -- the place matches the known slots
-pub placed_known : (job : Job) (slots : Option Pair) (t : Target) → IsTargetFor job slots t → IfObserved slots (λ p. (t.place.slot, t.place.generation) ≡ place_of job p)
+pub placed_known : (job : Job) (slots : Option Pair) (t : SaveTarget) → IsTargetFor job slots t → IfObserved slots (λ p. (t.place.slot, t.place.generation) ≡ place_of job p)
 placed_known job slots t placed = placed.observed
 
 -- in a run that saves, no test stops early

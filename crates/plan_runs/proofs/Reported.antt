@@ -1,5 +1,5 @@
--- Several plans, walked one after the other.
-use Rattle.std.proofs.Common.{◌≡◌, ◌⊎◌, inl, inr, ℕ, zero, suc, ◌<◌, ◌≤◌, ◌++◌, List, [], ◌∷◌, length, length-append, Result, Ok, Err, refl, sym, ap, ◌∙◌, subst, arith}
+-- Several plans, whose reports are written one after the other.
+use Rattle.std.proofs.Common.{◌≡◌, ◌⊎◌, inl, inr, ℕ, zero, suc, ◌<◌, ◌≤◌, ◌++◌, List, [], ◌∷◌, length, length-append, append_assoc, Result, Ok, Err, refl, sym, ap, ◌∙◌, subst, arith}
 use Rattle.std.proofs.lemmas.Bool.{cases_lt}
 use Rattle.audit_io.specs.declared.source.Failed.{Failed}
 use Rattle.audit_model.specs.Faults.{Rose}
@@ -86,6 +86,41 @@ module _ {lets : LetsBytes} (key own : List ℕ) (same : own ≡ key) where
   plans_permitted a b left rest plan is due wrote =
       let taken = subst (λ (k : List ℕ). WritesAllOf a b (plan_text (draw k) plan) (Ok tt)) same wrote in
       lets_rest (plan_text (draw key) plan) (plans_text (draw key) rest) (lets_as due (ap (plans_text (draw key)) is ∙ texts_first (draw key) plan rest)) taken.0 taken.1
+
+-- ---- the reports of one round, followed by those of the others
+
+-- the texts of some plans, followed by those of others
+pub texts_append : (draws : Draws) (xs ys : List (List ℕ × Job)) → plans_text draws (xs ++ ys) ≡ plans_text draws xs ++ plans_text draws ys
+texts_append draws [] ys = sym (ap (λ (text : List ℕ). text ++ plans_text draws ys) (texts_none draws))
+texts_append draws (x ∷ xs) ys =
+    texts_first draws x (xs ++ ys)
+    ∙ ap (λ (text : List ℕ). plan_text draws x ++ text) (texts_append draws xs ys)
+    ∙ sym (append_assoc (plan_text draws x) (plans_text draws xs) (plans_text draws ys))
+    ∙ ap (λ (text : List ℕ). text ++ plans_text draws ys) (sym (texts_first draws x xs))
+
+module _ (draws : Draws) (left now rest : List (List ℕ × Job)) (is : left ≡ now ++ rest) where
+  in_two : plans_text draws left ≡ plans_text draws now ++ plans_text draws rest
+  in_two = ap (plans_text draws) is ∙ texts_append draws now rest
+
+  -- the texts of all plans, if those of the round were written in full
+  pub rounds_go_on : (a b c : Stream) (r : Result (Unit {0}) Failed) → WritesAllOf a b (plans_text draws now) (Ok tt) → WritesAllOf b c (plans_text draws rest) r
+      → WritesAllOf a c (plans_text draws left) r
+  rounds_go_on a b c r p q =
+      subst (λ (text : List ℕ). WritesAllOf a c text r) (sym in_two) (writes_then a b c (plans_text draws now) (plans_text draws rest) r p q)
+
+  -- if the texts of the round were not written in full, nothing follows them
+  pub rounds_break : (a b : Stream) (failed other : Failed) → WritesAllOf a b (plans_text draws now) (Err failed) → WritesAllOf a b (plans_text draws left) (Err other)
+  rounds_break a b failed other p =
+      subst (λ (text : List ℕ). WritesAllOf a b text (Err other)) (sym in_two) (writes_part a b (plans_text draws now) (plans_text draws rest) failed other p)
+
+  module _ {lets : LetsBytes} (a : Stream) (due : LetsText lets a (plans_text draws left)) where
+    -- the sink permits the reports of the round
+    pub round_permitted : LetsText lets a (plans_text draws now)
+    round_permitted = lets_front (plans_text draws now) (plans_text draws rest) (lets_as due in_two)
+
+    -- the sink permits the reports of the others, once those of the round were written
+    pub rounds_permitted : (b : Stream) → WritesAllOf a b (plans_text draws now) (Ok tt) → LetsText lets b (plans_text draws rest)
+    rounds_permitted b wrote = lets_rest (plans_text draws now) (plans_text draws rest) (lets_as due in_two) wrote.0 wrote.1
 
 -- ---- the report of one plan
 

@@ -42,11 +42,24 @@ seat_taken P all rest x ys new y are is made taken =
 pub seat_there : {A B : Type 0} (P : A → B → Type 0) (all rest : List A) (x : A) (ys : List B) → ArePaired P all ys → all ≡ x ∷ rest → 0 < length ys
 seat_there P all rest x ys are is = let next = paired_next P all rest x ys are is in omega (arith, ap length next.2)
 
--- a property of each image holds for each member
-pub all_unmapped : {A B : Type 0} (f : A → B) (P : B → Type 0) (ys : List A) → All P (map f ys) → All (λ y. P (f y)) ys
-all_unmapped f P [] h = λ k d inside. absurd (omega (arith, inside))
-all_unmapped f P (y ∷ ys) h = by (all_unmapped f P ys (λ j e l. h (suc j) e (omega (arith, l))))
+-- a property of all members of two lists holds for those of each
+pub all_both : {A : Type 0} (P : A → Type 0) (xs ys : List A) → All P (xs ++ ys) → All P xs × All P ys
+all_both P [] ys h = ((λ k d inside. absurd (omega (arith, inside))), h)
+all_both P (x ∷ xs) ys h = by (all_both P xs ys (λ k d inside. h (suc k) d (omega (arith, inside))))
   where
-    by : All (λ z. P (f z)) ys → (k : ℕ) (d : _) → k < length (y ∷ ys) → P (f (slice_index_or (y ∷ ys) k d))
-    by rest zero d inside = h 0 (f y) (omega arith)
-    by rest (suc k) d inside = rest k d (omega (arith, inside))
+    front : All P xs → (k : ℕ) (d : _) → k < length (x ∷ xs) → P (slice_index_or (x ∷ xs) k d)
+    front rest zero d inside = h 0 d (omega arith)
+    front rest (suc k) d inside = rest k d (omega (arith, inside))
+
+    by : All P xs × All P ys → All P (x ∷ xs) × All P ys
+    by rest = (front rest.0, rest.1)
+
+-- lists whose members have the same images
+pub same_images : {A B : Type 0} (f : A → B) (xs ys : List A) → length xs ≡ length ys
+    → ((k : ℕ) (d : A) → k < length ys → f (slice_index_or xs k d) ≡ f (slice_index_or ys k d)) → map f xs ≡ map f ys
+same_images f [] [] long each = refl
+same_images f [] (y ∷ ys) long each = absurd (omega (arith, long))
+same_images f (x ∷ xs) [] long each = absurd (omega (arith, long))
+same_images f (x ∷ xs) (y ∷ ys) long each =
+    ap (λ z. z ∷ map f xs) (each 0 x (omega arith))
+    ∙ ap (λ zs. f y ∷ zs) (same_images f xs ys (omega (arith, long)) (λ k d inside. each (suc k) d (omega (arith, inside))))

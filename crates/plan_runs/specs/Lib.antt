@@ -3,6 +3,7 @@ pub mod Found
 pub mod Guards
 pub mod Paired
 pub mod LineBuffers
+pub mod Memory
 pub mod Plans
 pub mod Resources
 pub mod RunBuffers

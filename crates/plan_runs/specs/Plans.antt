@@ -1,13 +1,14 @@
 -- The resources of several plans before the first walk, and the form of their reports.
-use Rattle.std.specs.Prelude.{◌≡◌, ℕ, false, List, [], ◌∷◌, map, Vec, codes}
+use Rattle.std.specs.Prelude.{◌≡◌, ◌++◌, ℕ, false, List, [], ◌∷◌, map, Some, Vec, codes}
 use Rattle.std.specs.List.{All}
 use Rattle.std.specs.Io.KnownBytes.{Appends}
 use Rattle.audit_model.specs.Faults.{Rose}
 use Rattle.audit_model.specs.State.{Stream}
 use Rattle.flip_guard.specs.Judging.{Judging}
 use Rattle.audit_model.specs.Job.{Job}
+use Rattle.audit_model.specs.Room.{RoomyBytes}
 use Rattle.audit_statement.specs.Draw.{draw}
-use Rattle.audit_statement.specs.Report.{line, plans_text}
+use Rattle.audit_statement.specs.Report.{line, plans_text, thread_report}
 use Rattle.plan_csv.specs.declared.named.Named.{Named}
 use Rattle.plan_csv.specs.Named.{pair_of}
 use Rattle.audit_statement.specs.Jobs.{Jobs}
@@ -17,6 +18,7 @@ use Rattle.audit_statement.specs.Endings.{AppendsPart}
 use Rattle.audit_statement.specs.DueText.{LetsBytes, LetsText}
 use Rattle.audit_laws.specs.Runs.{IsRunJob}
 use Rattle.plan_runs.specs.Resources.{IsJudgeSet, IsResourcesFor}
+use Rattle.plan_runs.specs.declared.resources.Resources.{Resources}
 use Rattle.plan_runs.specs.declared.plans.PlanWalk.{PlanWalk}
 use Rattle.plan_runs.specs.Paired.{ArePaired}
 
@@ -34,6 +36,10 @@ plan_title name = line (codes "plan" ∷ name ∷ [])
 abbrev pub walk_pair : {J : Type 0} → PlanWalk J → List ℕ × Job
 walk_pair w = pair_of w.plan
 
+-- all jobs have this key
+abbrev pub HaveKey : List ℕ → Jobs → Type 0
+HaveKey key jobs = All (λ plan. plan.1.setting.key ≡ key) jobs
+
 -- each plan has its own constraints
 abbrev pub AreJudgeSets : {J A : Type 0} → (J → Judging) → List Named → List (Vec J A) → Type 0
 AreJudgeSets by named judge_sets = ArePaired (λ n judges. IsJudgeSet by n.job judges) named judge_sets
@@ -42,8 +48,25 @@ module _ {J : Type 0} where
   -- a plan that runs alone, and the resources to walk it
   pub record IsWalkOf (w : PlanWalk J) : Type 0 where
     pub run : RunsAlone w.plan.job
-    pub resources : IsResourcesFor w.plan.job w.resources
-    pub fresh : w.resources.buffers.book.outcomes ≡ []
+    pub own : Resources J
+    pub unwalked : w.resources ≡ Some own
+    pub resources : IsResourcesFor w.plan.job own
+    pub fresh : own.buffers.book.outcomes ≡ []
+
+  -- a walked plan with its report
+  pub record HasReport (w : PlanWalk J) : Type 0 where
+    pub own : RoomyBytes
+    pub walked : w.text ≡ Some own
+    pub report_is : own.items ≡ thread_report w.plan.job (draw w.plan.job.setting.key)
+
+  -- plans to walk beside each other
+  abbrev pub IsRound : {A : Type 0} → Vec (PlanWalk J) A → Type 0
+  IsRound round = All IsWalkOf round.items
+
+  -- the names and the jobs of the plans of all rounds
+  abbrev pub round_pairs : {A : Type 0} → List (Vec (PlanWalk J) A) → Jobs
+  round_pairs [] = []
+  round_pairs (round ∷ rounds) = map walk_pair round.items ++ round_pairs rounds
 
   -- resources for each of these jobs, in order
   pub record AreWalksFor (jobs : Jobs) (walks : List (PlanWalk J)) : Type 0 where

@@ -2,7 +2,7 @@
 use Rattle.std.specs.Prelude.{◌≡◌, ◌+◌, ◌*◌, ◌≤◌, length}
 use Rattle.audit_model.specs.Job.{Job}
 use Rattle.audit_model.specs.Run.{total}
-use Rattle.audit_start.specs.declared.resume_state.Target.{Target}
+use Rattle.audit_start.specs.declared.resume_state.SaveTarget.{SaveTarget}
 use Rattle.tally_desk.specs.Pools.{IsDeskPool}
 use Rattle.tally_desk.specs.declared.state.RunState.{RunState}
 use Rattle.plan_runs.specs.RunBuffers.{AreBuffersFor}
@@ -10,7 +10,7 @@ use Rattle.plan_runs.specs.Serially.{IsTester}
 use Rattle.plan_runs.specs.declared.saving.SavedResources.{SavedResources}
 
 -- the place of the next save, and the digest of the job
-abbrev pub target_of : {C : Type 0} → RunState C → Target
+abbrev pub target_of : {C : Type 0} → RunState C → SaveTarget
 target_of s = record { digest = s.digest; place = s.place }
 
 -- the initial state, the job's save interval, workers over a desk, a buffer for the checkpoint of all outcomes, and the

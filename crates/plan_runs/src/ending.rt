@@ -1,10 +1,12 @@
 //! The end of a run after its walks.
 
-ghost use Rattle.std.specs.Prelude.{◌≡◌, ◌≤◌, List};
+ghost use Rattle.std.specs.Prelude.{◌≡◌, ◌≢◌, ◌≤◌, List};
 ghost use Rattle.audit_model.specs.declared.outcome.Outcome as model;
 ghost use Rattle.audit_model.specs.Serially.{serial_observed};
 ghost use Rattle.audit_statement.specs.Draw.{draw};
 ghost use Rattle.audit_statement.specs.Report.{report};
+ghost use Rattle.audit_statement.specs.Status.{status_of};
+ghost use Rattle.report.specs.Ended.{ending_of};
 ghost use Rattle.report.specs.Outcomes.{reported};
 ghost use Rattle.audit_statement.specs.Endings.{AreInitialOutcomes, saves};
 ghost use Rattle.audit_statement.specs.DueText.{LetsText};
@@ -42,7 +44,8 @@ pub enum Finished {
 impl Finished {
     /// Converts the end of the run to the reason why the call ends.
     pub fn ended(self) -> Ended
-        ensures { result ≡ ended_as self }
+        ensures ended { result ≡ ended_as self }
+        ensures other { status_of (ending_of result) ≢ 3 }
     {
         match self {
             Finished::Done => Ended::Done,

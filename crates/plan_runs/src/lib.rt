@@ -4,8 +4,9 @@
 //! walks. A run that saves walks with the work queue of `tally_desk` (`saving`). Any other run walks all pending
 //! trajectories at once, or in rounds until its tests have stopped (`walking`). The outcomes are a `Found` in each
 //! case. Finally it ends (`ending`). If no trajectory is pending, it makes the serial test and writes the report. Runs
-//! of several plans (`plans`) allocate the memory of all plans before the first walk, and report one plan after the
-//! other. A trace (`tracing`) writes the plans of a range of trajectories at every N-th step.
+//! of several plans (`plans`) allocate the memory of all plans before the first walk, walk several plans beside each
+//! other if one does not keep all workers busy, and report them in order. A trace (`tracing`) writes the plans of a
+//! range of trajectories at every N-th step.
 #![tactic(auto)]
 
 pub mod buffers;

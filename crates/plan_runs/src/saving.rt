@@ -7,6 +7,7 @@ ghost use Rattle.audit_statement.specs.Due.{LetsSavesOf};
 ghost use Rattle.audit_laws.specs.Calls.{Finishes};
 ghost use Rattle.audit_start.specs.ResumeState.{IsTargetFor};
 ghost use Rattle.audit_statement.specs.DueText.{LetsReport};
+ghost use Rattle.plan_runs.specs.Memory.{EndsBeforeWalks};
 ghost use Rattle.plan_runs.specs.Resources.{IsJudgeSet};
 ghost use Rattle.plan_runs.specs.RunBuffers.{IsStartOf};
 ghost use Rattle.plan_runs.specs.Serially.{IsTester};
@@ -24,8 +25,8 @@ use audit_model::buffers::Bytes;
 use audit_model::lists::UnitList;
 use audit_model::memory::Memory;
 use audit_model::outcome::Outcome;
-use audit_start::resume_state::Target;
-use claim_counter::workers::Runtime;
+use audit_start::resume_state::SaveTarget;
+use claim_counter::workers::Lender;
 use flip_guard::judge::Judge;
 use plan_core::job::Job;
 use report::ended::Ended;
@@ -76,7 +77,7 @@ pub fn make_saved_resources<J: Judge, C>(
     alloc: Global,
     job: &Job,
     outcomes: &[Outcome],
-    target: Target,
+    target: SaveTarget,
     judges: Vec<J>,
     keeper: C,
 ) -> Result<SavedResources<J, C>, C>
@@ -126,15 +127,16 @@ pub fn run_saved<
     C: Keeper + Send,
     J: Judge + Send,
     G: Gate + Sync,
->(rt: &Runtime<'_, R, G>, job: &Job, resources: SavedResources<J, C>, out: &mut K) -> (Ended, C)
+>(rt: &mut Lender<'_, R, G>, job: &Job, resources: SavedResources<J, C>, out: &mut K) -> (Ended, C)
     requires saved { saves job.now.setting ≡ true }
     requires placed { IsTargetFor job.now (C.state resources.state.keeper).slots (target_of resources.state) }
     requires opened { AreInitialOutcomes job.now (C.state resources.state.keeper).slots resources.state.book.outcomes }
     requires resources { IsSavedResourcesFor job.now resources }
     requires lets { LetsSavesOf C.lets job.now (C.state resources.state.keeper) }
     requires text { LetsReport K.lets job.now (K.state out.old) resources.state.book.outcomes }
-    ensures { Finishes job.now (K.state out.old) (K.state out.new)
+    ensures finishes { Finishes job.now (K.state out.old) (K.state out.new)
         (C.state resources.state.keeper) (C.state result.1) result.0 }
+    ensures memory { EndsBeforeWalks result.0 rt.old rt.new }
 {
     let SavedResources {
         state,

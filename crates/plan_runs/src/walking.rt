@@ -18,7 +18,7 @@ use audit_io::gate::Gate;
 use audit_io::sink::Sink;
 use claim_counter::pool::WorkerPool;
 use claim_counter::walking::walk_run;
-use claim_counter::workers::Runtime;
+use claim_counter::workers::{Lender, Runtime};
 use flip_guard::judge::Judge;
 use plan_core::job::Job;
 use sequential_test::pool::StoppingPool;
@@ -93,7 +93,7 @@ pub fn walk<R: Threads + Sync, J: Judge + Send, G: Gate + Sync>(
 
 /// Runs the workers without saves, then writes the report if no trajectory is pending. Allocates nothing.
 pub fn run_unsaved<R: Threads + Sync, K: Sink, J: Judge + Send, G: Gate + Sync>(
-    rt: &Runtime<'_, R, G>,
+    rt: &mut Lender<'_, R, G>,
     job: &Job,
     resources: Resources<J>,
     out: &mut K,
@@ -108,6 +108,7 @@ pub fn run_unsaved<R: Threads + Sync, K: Sink, J: Judge + Send, G: Gate + Sync>(
         workers,
         tester,
     } = resources;
-    let found = walk(rt, job, buffers, workers);
+    let lent = rt.lend();
+    let found = walk(&lent, job, buffers, workers);
     end_run(job, found, tester, Ok(()), out)
 }

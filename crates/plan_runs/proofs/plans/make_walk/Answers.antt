@@ -9,7 +9,7 @@ pub make_resources-requires-clause-judges : goal.make_resources-requires-clause-
 make_resources-requires-clause-judges g c = c.requires.judges
 
 pub returns-in-Ok-clause-walk : goal.returns-in-Ok-clause-walk
-returns-in-Ok-clause-walk g c = record { run = c.requires.run; resources = c.in-Ok.ensures.resources; fresh = c.in-Ok.ensures.outcomes }
+returns-in-Ok-clause-walk g c = record { run = c.requires.run; own = c.in-Ok.resources; unwalked = refl; resources = c.in-Ok.ensures.resources; fresh = c.in-Ok.ensures.outcomes }
 
 pub returns-in-Ok-clause-pair : goal.returns-in-Ok-clause-pair
 returns-in-Ok-clause-pair g c = refl

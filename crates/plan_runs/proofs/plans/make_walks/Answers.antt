@@ -1,10 +1,12 @@
 use Rattle.std.proofs.Common.{◌∙◌, ◌++◌, All, List, map, length, ap, subst, sym, arith}
+use Rattle.std.specs.Vec.Iter.{into_iter_items}
 use Rattle.std.proofs.lemmas.List.{append-nil, nil_from_length}
-use Rattle.std.proofs.lemmas.List.Elements.{All-push}
+use Rattle.std.proofs.lemmas.List.Elements.{All-nil, All-push}
 use Rattle.plan_csv.specs.declared.named.Named.{Named}
 use Rattle.plan_csv.specs.Named.{jobs_of, pair_of}
 use Rattle.plan_runs.specs.Resources.{IsJudgeSet}
-use Rattle.plan_runs.specs.Plans.{IsWalkOf, RunsAlone, walk_pair}
+use Rattle.plan_runs.specs.declared.plans.PlanWalk.{PlanWalk}
+use Rattle.plan_runs.specs.Plans.{AreJudgeSets, IsWalkOf, RunsAlone, walk_pair}
 use Rattle.plan_runs.proofs.Turning.{moved_on, next_of, seat_taken, seat_there}
 use Rattle.plan_runs.proofs.plans.make_walks.Goals as goal
 
@@ -31,3 +33,14 @@ returns g c = record {
   pairs = sym (c.loop-plan.invariant.pairs ∙ ap (λ (left : List Named). map walk_pair c.loop-plan.walks.items ++ jobs_of left) (nil_from_length _ (omega (arith, c.loop-plan.invariant.counted, c.in-None.ensures.steps.0))) ∙ append-nil (map walk_pair c.loop-plan.walks.items));
   each = c.loop-plan.invariant.each;
 }
+
+pub loop-plan-init : goal.loop-plan-init
+loop-plan-init g c =
+    let gives = c.into_iter-plan-iterator.ensures.into_iter_gives in
+    record {
+      judge_sets = subst (λ (ns : List Named). AreJudgeSets g.J.Judge.judging ns c.args.judges.items) (sym gives.0) c.requires.judges;
+      runs = subst (All (λ (n : Named). RunsAlone n.job)) (sym gives.0) c.requires.plans;
+      pairs = ap jobs_of (sym gives.0) ∙ ap (λ (ws : List (PlanWalk _)). map walk_pair ws ++ jobs_of (into_iter_items c.into_iter-plan-iterator.result)) (sym c.new-walks.ensures.items);
+      each = subst (All (IsWalkOf)) (sym c.new-walks.ensures.items) (All-nil (IsWalkOf));
+      counted = omega (arith, gives.1, ap length gives.0, c.args.plans.ok.0);
+    }

@@ -65,8 +65,8 @@ end_run-finished-requires-clause-reportable g c =
     (all_found job buffers.start.run (saved_plain job buffers.start.run c.requires.saved) c.args.resources.state.book.outcomes c.all-found.result (rw (found.sorted, c.into_outcomes-keeper.ensures.sorted) all) (rw found.sorted found.listed)
     found.observed (rw found.text buffers.blank) (rw found.text buffers.report_room)).reportable
 
-pub returns-in-Ok : goal.returns-in-Ok
-returns-in-Ok g c =
+pub returns-in-Ok-clause-finishes : goal.returns-in-Ok-clause-finishes
+returns-in-Ok-clause-finishes g c =
     let job = c.args.job.now in
     let buffers = c.requires.resources.buffers in
     let initial_outcomes = c.args.resources.state.book.outcomes in
@@ -82,11 +82,11 @@ returns-in-Ok g c =
     found.observed (rw found.text buffers.blank) (rw found.text buffers.report_room) in
     let out = g.K.Sink.state c.args.out.now in
     let later = g.K.Sink.state c.end_run-finished.new.out in
-    subst (λ (why : Ended). Finishes job out later before after why) (sym c.ended.ensures)
+    subst (λ (why : Ended). Finishes job out later before after why) (sym c.ended.ensures.ended)
     (c.end_run-finished.ensures initial_outcomes before after c.requires.opened has (subst (λ b. SavedBy b job initial_outcomes before after c.in-Ok.done.saved) (sym c.requires.saved) saved))
 
-pub returns-in-Err : goal.returns-in-Err
-returns-in-Err g c =
+pub returns-in-Err-clause-finishes : goal.returns-in-Err-clause-finishes
+returns-in-Err-clause-finishes g c =
     let same = c.into_outcomes-keeper-in-Err.ensures.keeper ∙ c.in-Err.ensures.refused.1 in
     no_memory_ends c.args.job.now (g.K.Sink.state c.args.out.now)
     (g.C.Keeper.state c.args.resources.state.keeper)
@@ -102,3 +102,9 @@ end_run-finished-requires-clause-text g c =
     let has = all_found job buffers.start.run (saved_plain job buffers.start.run c.requires.saved) c.args.resources.state.book.outcomes c.all-found.result (rw (found.sorted, c.into_outcomes-keeper.ensures.sorted) all) (rw found.sorted found.listed)
     found.observed (rw found.text buffers.blank) (rw found.text buffers.report_room) in
     report_permitted job c.args.resources.state.book.outcomes c.all-found.result (g.K.Sink.state c.args.out.now) c.requires.text has
+
+pub returns-in-Ok-clause-memory : goal.returns-in-Ok-clause-memory
+returns-in-Ok-clause-memory g c = λ is. absurd (c.ended.ensures.other is)
+
+pub returns-in-Err-clause-memory : goal.returns-in-Err-clause-memory
+returns-in-Err-clause-memory g c = λ is. c.in-Err.ensures.memory
