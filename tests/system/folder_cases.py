@@ -62,6 +62,7 @@ def slots_of_another_folder(room: Room) -> None:
     room.slots(["../p", *RUN], {".": here, "../p": Folder()})
     room.slots(RUN, {".": here, "../p": other})
     room.slots(["./run"], {".": here, "./run": other})
+    room.slots(["./-h"], {".": here, "./-h": other})
 
 
 @case

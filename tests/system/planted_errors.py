@@ -8,11 +8,12 @@ A planted error is a file crates/CRATE/planted/NAME.edit:
     new: TEXT                      the text in its place; more pairs may follow
     without: proofs/board/is_short answers that the changed function does not use (optional)
     goal: GOAL                     the only goal that stays open (optional)
+    apart: yes                     the function calls one that another error changes (optional)
 
-All errors of a crate are tried in one copy of it, in one call of the prover over the libraries that
-`rt ci` left in this checkout. The prover checks the named functions and those that they call in the
-same crate. It must refuse each named function, but none because of a refused one that it calls, and
-prove all others.
+All errors of a crate but those apart are tried in one copy of it, in one call of the prover over
+the libraries that `rt ci` left in this checkout. The prover checks the named functions and those
+that they call in the same crate. It must refuse each named function, but none because of a refused
+one that it calls, and prove all others.
 """
 # RUN:
 # NEEDS: rt
@@ -43,27 +44,34 @@ class Edit:
     name: str
     file: str
     only: str
+    apart: bool
     without: tuple[str, ...]
     goals: tuple[str, ...]
     pairs: tuple[tuple[str, str], ...]
+
+    @property
+    def copy(self) -> str:
+        """The name of the copy of the crate in which the error is tried."""
+        return f"{self.crate}/{self.name}" if self.apart else self.crate
 
 
 def edit_of(path: pathlib.Path) -> Edit:
     """Reads a file of a planted error."""
     rows = [line.split(": ", 1) for line in path.read_text().splitlines()]
-    kinds = ("file", "only", "without", "goal", "old", "new")
+    kinds = ("file", "only", "apart", "without", "goal", "old", "new")
     texts: dict[str, list[str]] = {kind: [] for kind in kinds}
     for kind, text in rows:
         texts[kind].append(text)
     [file], [only] = texts["file"], texts["only"]
     pairs = tuple(zip(texts["old"], texts["new"]))
     without, goals = tuple(texts["without"]), tuple(texts["goal"])
-    return Edit(path.parent.parent.name, path.stem, file, only, without, goals, pairs)
+    apart = texts["apart"] == ["yes"]
+    return Edit(path.parent.parent.name, path.stem, file, only, apart, without, goals, pairs)
 
 
 def changed_crate(edits: list[Edit], room: pathlib.Path) -> pathlib.Path:
     """Copies a crate's text to a new folder in the room, with its errors in it."""
-    folder = room / f"{edits[0].crate}-planted"
+    folder = room / f"{edits[0].copy.replace('/', '-')}-planted"
     shutil.copytree(CRATES / edits[0].crate, folder, ignore=shutil.ignore_patterns("out"))
     for edit in edits:
         file = folder / edit.file
@@ -87,8 +95,8 @@ def try_edits(kit: Kit, room: pathlib.Path, edits: list[Edit]) -> End:
 
 def check_refusals(checks: Checks, edits: list[Edit], end: End) -> None:
     """Checks that these functions were refused, each by itself, and no other."""
-    crate, text = edits[0].crate, end.out + end.note
-    checks.has_status(f"{crate}_status", end, 1)
+    crate, copy, text = edits[0].crate, edits[0].copy, end.out + end.note
+    checks.has_status(f"{copy}_status", end, 1)
     for edit in edits:
         name = re.escape(f"{crate}::{edit.only}")
         refused = re.search(rf"^fn {name}: (not proved$|no proof: (?!.*it calls `))", text, re.M)
@@ -101,7 +109,7 @@ def check_refusals(checks: Checks, edits: list[Edit], end: End) -> None:
             checks.is_true(f"{crate}/{edit.name}_goal", alone, wanted, text[-1500:])
     counts = [(int(one), int(proved)) for one, proved in COUNTS.findall(text)]
     is_alone = [one - proved for one, proved in counts] == [len(edits)]
-    checks.is_true(f"{crate}_others", is_alone, "all others proved", counts)
+    checks.is_true(f"{copy}_others", is_alone, "all others proved", counts)
 
 
 def main() -> int:
@@ -114,8 +122,9 @@ def main() -> int:
     kit = kit_of(checks)
     if kit is None or checks.failed:
         return checks.finish()
-    by_crate = [list(some) for _, some in itertools.groupby(edits, lambda edit: edit.crate)]
-    below = dict.fromkeys(name for some in by_crate for name in kit.below(some[0].crate))
+    edits.sort(key=lambda edit: edit.copy)
+    copies = [list(some) for _, some in itertools.groupby(edits, lambda edit: edit.copy)]
+    below = dict.fromkeys(name for some in copies for name in kit.below(some[0].crate))
     if not has_libraries(checks, below):
         return checks.finish()
     with tempfile.TemporaryDirectory() as folder:
@@ -123,8 +132,8 @@ def main() -> int:
         for name in below:
             (room / name).symlink_to(CRATES / name)
         with concurrent.futures.ThreadPoolExecutor(AT_ONCE) as pool:
-            ends = pool.map(functools.partial(try_edits, kit, room), by_crate)
-            for some, end in zip(by_crate, ends):
+            ends = pool.map(functools.partial(try_edits, kit, room), copies)
+            for some, end in zip(copies, ends):
                 check_refusals(checks, some, end)
     return checks.finish()
 

@@ -123,6 +123,8 @@ def check_usages(checks: Checks, programs: dict[str, str]) -> None:
         )
         printed_statuses = [int(number) for number in re.findall(r"^ +(\d+)  ", text, re.M)]
         checks.is_equal(f"{name}_statuses", printed_statuses, list(statuses[name]))
+        if name != "district-audit":
+            checks.is_equal(f"{name}_short_help", ask(program, "-h")[0], End(0, text, ""))
     text = ask(programs["district-audit"], "--help")[0].out
     checks.is_equal("commands", re.findall(r"^  ([a-z]+) +\S", text, re.M), list(COMMANDS))
 
@@ -174,8 +176,9 @@ def check_others(checks: Checks, auditor: str, gatherer: str) -> None:
     for words, note in refused.items():
         end = ask(auditor, *words)[0]
         checks.is_equal(f"refused_{'_'.join(words)}", end, End(1, "", note))
-    end = ask(gatherer, "--help", "--version")[0]
-    checks.is_equal("gather_no_question", (end.status, end.out), (1, ""))
+    for short in ("--help", "-h"):
+        end = ask(gatherer, short, "--version")[0]
+        checks.is_equal(f"gather_no_question_{short}", (end.status, end.out), (1, ""))
 
 
 def main(auditor: str, slots: str, gatherer: str) -> int:

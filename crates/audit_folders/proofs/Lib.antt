@@ -1,2 +1,5 @@
+pub mod Counting
 pub mod Loads
+pub mod OpenedFolders
+pub mod Permitted
 pub mod Texts

@@ -1,6 +1,7 @@
 -- The arguments that ask a folder program for help or the version, the answers, and the effect of a call that answers.
--- The grammar and the wording are this project's own: exactly `--help`, or exactly `--version`.
-use Rattle.std.specs.Prelude.{◌≡◌, ℕ, List, [], ◌∷◌, codes, ⊤, Option, Some, None}
+-- The grammar and the wording are this project's own: exactly `--help` or `-h`, or exactly `--version`. A folder named
+-- `-h` is `./-h`.
+use Rattle.std.specs.Prelude.{◌≡◌, ℕ, List, [], ◌∷◌, bytes_eq, codes, cond, ⊤, Option, Some, None}
 use Rattle.audit_model.specs.State.{Stream}
 use Rattle.audit_folders.specs.declared.help.FolderProgram.{FolderProgram}
 use Rattle.audit_folders.specs.declared.help.FolderProgram.TheVariants.{Slots, Gather}
@@ -12,10 +13,14 @@ use Rattle.audit_words.specs.Questions.{question_of_word, version_text}
 use Rattle.audit_words.specs.Usage.{on_lines}
 use Rattle.audit_statement.specs.DueText.{LetsBytes, LetsText}
 
+-- the question of a single argument
+abbrev pub single_question : List ℕ → Option Question
+single_question word = cond (bytes_eq word (codes "-h")) (Some Usage) (question_of_word word)
+
 -- the question of the arguments
 abbrev pub folder_question : List (List ℕ) → Option Question
 folder_question [] = None
-folder_question (word ∷ []) = question_of_word word
+folder_question (word ∷ []) = single_question word
 folder_question (word ∷ next ∷ rest) = None
 
 -- the name of a program
@@ -41,7 +46,7 @@ status_lines more =
 abbrev pub folder_usage : FolderProgram → List (List ℕ)
 folder_usage Slots =
     codes "usage: audit_slots [FOLDER] [COMMAND NAME VALUE ..]"
-    ∷ codes "       audit_slots --help"
+    ∷ codes "       audit_slots --help|-h"
     ∷ codes "       audit_slots --version"
     ∷ []
     ∷ codes "Tells what the checkpoint files of a folder hold, which is the newest, and how far a"
@@ -51,7 +56,7 @@ folder_usage Slots =
     ∷ status_lines []
 folder_usage Gather =
     codes "usage: audit_gather [--look yes|no] FOLDER .. COMMAND NAME VALUE .."
-    ∷ codes "       audit_gather --help"
+    ∷ codes "       audit_gather --help|-h"
     ∷ codes "       audit_gather --version"
     ∷ []
     ∷ codes "Adds what the checkpoint files of the folders hold of one run to those of the working"

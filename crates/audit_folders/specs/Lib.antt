@@ -1,6 +1,10 @@
 pub mod FolderLines
+pub mod GatherProgram
 pub mod Gatherings
 pub mod Helps
+pub mod Jobs
+pub mod Programs
 pub mod Shown
 pub mod SlotLines
+pub mod SlotsProgram
 pub mod DueFolders

@@ -15,7 +15,7 @@ use report::note::write_diagnostic;
 
 const SLOTS_USAGE: [&str; 17] = [
     "usage: audit_slots [FOLDER] [COMMAND NAME VALUE ..]",
-    "       audit_slots --help",
+    "       audit_slots --help|-h",
     "       audit_slots --version",
     "",
     "Tells what the checkpoint files of a folder hold, which is the newest, and how far a",
@@ -35,7 +35,7 @@ const SLOTS_USAGE: [&str; 17] = [
 
 const GATHER_USAGE: [&str; 19] = [
     "usage: audit_gather [--look yes|no] FOLDER .. COMMAND NAME VALUE ..",
-    "       audit_gather --help",
+    "       audit_gather --help|-h",
     "       audit_gather --version",
     "",
     "Adds what the checkpoint files of the folders hold of one run to those of the working",
@@ -84,12 +84,22 @@ fn usage_of(program: FolderProgram) -> &'static [&'static str]
     }
 }
 
+// Returns the question of a single argument.
+fn single_question(word: &str) -> Option<Question>
+    ensures { result ≡ definition.single_question word.now }
+{
+    if word == "-h" {
+        return Some(Question::Usage);
+    }
+    question_of_word(word)
+}
+
 // Returns the question of the arguments.
 fn folder_question(words: &[String]) -> Option<Question>
     ensures { result ≡ definition.folder_question (map string_bytes words.now) }
 {
     match words {
-        [word] => question_of_word(word.as_str()),
+        [word] => single_question(word.as_str()),
         _ => None,
     }
 }

@@ -1,53 +1,48 @@
-//! The job of a run's arguments and of the graph on standard input.
+//! The job of a run's arguments and of the graph.
 
-use crate::exit_code::exit_code_of;
-use crate::gather_command::gather_job;
-use crate::slots_command::show_folder;
-use audit_io::retry_on_would_block::RetryOnWouldBlock;
-use audit_io::std_adapters::ReadSource;
+ghost use Rattle.std.specs.Prelude.{◌≡◌, ◌⊎◌, Err, option_map};
+ghost use Rattle.audit_model.specs.declared.fault.WordFault.TheVariants as fault;
+ghost use Rattle.audit_folders.specs.Jobs as definition;
+ghost use Rattle.audit_statement.specs.DueText.{LetsText};
+ghost use Rattle.audit_statement.specs.Endings.{WritesEnding};
+ghost use Rattle.audit_statement.specs.Status.{line_of, status_of};
+ghost use Rattle.audit_words.specs.ArgumentBytes.{argument_bytes};
+ghost use Rattle.report.specs.Ended.{columns_kept, ending_of as reason_of};
+
+use audit_io::sink::Sink;
+use audit_io::source::Source;
 use audit_model::fault::WordFault;
 use audit_model::text::Text;
 use audit_start::prepare::prepare;
 use plan_core::job::Job;
 use report::ended::Ended;
+use report::note::write_diagnostic;
 use std::alloc::Global;
-use std::process::ExitCode;
 
-/// A task on a job.
-#[derive(Clone, Copy)]
-pub enum Task<'a> {
-    /// A report on the slots of a folder.
-    Slots(&'a str),
-    /// Gathering the slots of folders, or only reporting what they hold if the flag is true.
-    Gather(&'a [String], bool),
+// Returns true if the word is a command that saves nothing.
+fn is_idle(word: &str) -> bool
+    ensures { result ≡ definition.is_idle word.now }
+{
+    word == "check" || word == "plans" || word == "trace"
 }
 
-fn run_task(rt: &HostRuntime, job: &Job, task: Task<'_>) -> ExitCode {
-    match task {
-        Task::Slots(folder) => show_folder(rt, folder, Some(job)),
-        Task::Gather(folders, looks) => gather_job(rt, job, folders, looks),
-    }
-}
-
-// Makes the job of the arguments and of the bytes on standard input.
-fn read_job(rt: &HostRuntime, words: &[String]) -> Result<Job, Ended> {
-    let input = RetryOnWouldBlock::of_reader(rt.stdin(), rt);
-    prepare(rt.alloc(), words, &mut ReadSource::new(input))
-}
-
-fn run_read(rt: &HostRuntime, words: &[String], task: Task<'_>) -> ExitCode {
-    match read_job(rt, words) {
-        Ok(job) => {
-            let code = run_task(rt, &job, task);
-            drop(job);
-            code
+// Returns the command of the arguments if it is one that saves nothing.
+fn idle_command(words: &[String]) -> Option<&str>
+    ensures { option_map (λ s. s.now) result ≡ definition.idle_command (argument_bytes words.now) }
+{
+    match words.split_first() {
+        Some((word, _)) => {
+            let word = word.as_str();
+            if is_idle(word) { Some(word) } else { None }
         }
-        Err(why) => exit_code_of(rt, why),
+        None => None,
     }
 }
 
 // Returns the refusal of a command that saves nothing, as an unknown command.
-fn no_run(alloc: Global, command: &str) -> Ended {
+fn no_run(alloc: Global, command: &str) -> Ended
+    ensures { (result ≡ Ended.NoMemory) ⊎ (result ≡ Ended.BadWords (fault.UnknownCommand command.now)) }
+{
     let mut word = Text::new(alloc);
     match word.push_str(command) {
         Ok(()) => Ended::BadWords(WordFault::UnknownCommand(word)),
@@ -55,23 +50,24 @@ fn no_run(alloc: Global, command: &str) -> Ended {
     }
 }
 
-// Returns the command of the arguments if it is one that saves nothing.
-fn idle_command(words: &[String]) -> Option<&str> {
-    match words {
-        [word, ..] => match word.as_str() {
-            "check" => Some("check"),
-            "plans" => Some("plans"),
-            "trace" => Some("trace"),
-            _ => None,
-        },
-        [] => None,
+/// Makes the job of the arguments of a run and of the bytes of the source, or returns the reason why there is none.
+/// A command that saves nothing is refused as an unknown one.
+pub fn read_job<S: Source>(alloc: Global, words: &[String], source: &mut S) -> Result<Job, Ended>
+    ensures { definition.HasJob (argument_bytes words.now) (S.state source.old) (S.state source.new) result }
+{
+    match idle_command(words) {
+        Some(command) => Err(no_run(alloc, command)),
+        None => prepare(alloc, words, source),
     }
 }
 
-/// Runs the task with the job of these arguments and of the graph on standard input.
-pub fn run_words(rt: &HostRuntime, words: &[String], task: Task<'_>) -> ExitCode {
-    match idle_command(words) {
-        Some(command) => exit_code_of(rt, no_run(rt.alloc(), command)),
-        None => run_read(rt, words, task),
-    }
+/// Writes the diagnostic of the reason why the call ends, and returns the exit status.
+pub fn end_for<N: Sink>(why: Ended, note: &mut N) -> u8
+    requires { LetsText N.lets (N.state note.old) (line_of (columns_kept why) (reason_of why)) }
+    ensures status { result ≡ status_of (reason_of why) }
+    ensures observed { WritesEnding (columns_kept why) (N.state note.old) (N.state note.new) (reason_of why) }
+{
+    let status = write_diagnostic(&why, note);
+    drop(why);
+    status
 }

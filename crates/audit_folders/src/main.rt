@@ -6,23 +6,25 @@
 //! job have saved in several folders (`gather_command`). `slots` and `gathering` write the reports.
 #![tactic(auto)]
 
-mod exit_code;
 mod gather_command;
 mod gathering;
 mod help;
 mod job;
 mod lines;
+mod opened;
+mod program;
 mod slot_lines;
 mod slots;
 mod slots_command;
 mod this_build;
 
-use crate::exit_code::end_with;
-use crate::gather_command::gather_by;
-use crate::help::{FolderProgram, answer_words};
-use crate::slots_command::show_by;
+use crate::opened::SystemFolders;
+use crate::program::run_program;
 use crate::this_build::THIS_BUILD;
-use audit_io::std_adapters::WriteSink;
+use audit_io::file_calls::SystemCalls;
+use audit_io::file_keeper::FileKeeper;
+use audit_io::retry_on_would_block::RetryOnWouldBlock;
+use audit_io::std_adapters::{ReadSource, WriteSink};
 use std::process::ExitCode;
 use std::{env, io};
 
@@ -35,75 +37,39 @@ fn words_of(rt: &HostRuntime) -> io::Result<Vec<String>> {
     Ok(words)
 }
 
-// Answers arguments that ask for help or the version, and returns the exit status. Returns `None`
-// for all other arguments.
-fn answer(rt: &HostRuntime, program: FolderProgram, words: &[String]) -> Option<u8> {
-    answer_words(
-        program,
-        &THIS_BUILD,
-        words,
-        &mut WriteSink::new(rt.stdout()),
-        &mut WriteSink::new(rt.stderr()),
-    )
-}
-
-// Answers arguments that ask for help or the version, and otherwise reports the slots.
-fn run_slots(rt: &HostRuntime, words: &[String]) -> ExitCode {
-    match answer(rt, FolderProgram::Slots, words) {
-        Some(status) => ExitCode::from(status),
-        None => show_by(rt, words),
+// Ends the program before its call: prints a diagnostic on standard error, and returns the exit code.
+fn end_with(rt: &HostRuntime, note: &str, status: u8) -> ExitCode {
+    match rt.eprintln(note) {
+        Ok(()) => {}
+        Err(_) => {}
     }
-}
-
-// Answers arguments that ask for help or the version, and otherwise gathers.
-fn run_gather(rt: &HostRuntime, words: &[String]) -> ExitCode {
-    match answer(rt, FolderProgram::Gather, words) {
-        Some(status) => ExitCode::from(status),
-        None => gather_by(rt, words),
-    }
-}
-
-// Runs the program that the first argument names, with the arguments after it.
-fn run_named(rt: &HostRuntime, words: &[String]) -> ExitCode {
-    match words.split_first() {
-        Some((first, rest)) => match first.as_str() {
-            "slots" => run_slots(rt, rest),
-            "gather" => run_gather(rt, rest),
-            _ => end_with(rt, "words: neither slots nor gather", 1),
-        },
-        None => end_with(rt, "words: neither slots nor gather", 1),
-    }
-}
-
-// Runs the program whose name was called, or else the one that the first argument names.
-fn run_called(rt: &HostRuntime, name: &str, words: &[String]) -> ExitCode {
-    if name.ends_with("audit_slots") {
-        return run_slots(rt, words);
-    }
-    if name.ends_with("audit_gather") {
-        return run_gather(rt, words);
-    }
-    run_named(rt, words)
-}
-
-fn run(rt: &HostRuntime, words: &[String]) -> ExitCode {
-    match words.split_first() {
-        Some((name, rest)) => run_called(rt, name.as_str(), rest),
-        None => run_named(rt, words),
-    }
-}
-
-// Ends the program because its arguments are not available.
-fn end_without(rt: &HostRuntime, error: &io::Error) -> ExitCode {
-    match error.kind() {
-        io::ErrorKind::OutOfMemory => end_with(rt, "memory", 3),
-        _ => end_with(rt, "words: not text", 1),
-    }
+    ExitCode::from(status)
 }
 
 fn main(rt: HostRuntime) -> ExitCode {
-    match words_of(&rt) {
-        Ok(words) => run(&rt, words.as_slice()),
-        Err(error) => end_without(&rt, &error),
-    }
+    let words = match words_of(&rt) {
+        Ok(words) => words,
+        Err(error) => {
+            return match error.kind() {
+                io::ErrorKind::OutOfMemory => end_with(&rt, "memory", 3),
+                _ => end_with(&rt, "words: not text", 1),
+            };
+        }
+    };
+    let mut graph = ReadSource::new(RetryOnWouldBlock::of_reader(rt.stdin(), &rt));
+    let mut out = WriteSink::new(rt.stdout());
+    let mut note = WriteSink::new(rt.stderr());
+    let mut keeper = FileKeeper::new(SystemCalls::new(&rt));
+    let folders = SystemFolders::new(&rt);
+    let (status, _used) = run_program(
+        rt.alloc(),
+        &THIS_BUILD,
+        words.as_slice(),
+        &mut graph,
+        &folders,
+        &mut keeper,
+        &mut out,
+        &mut note,
+    );
+    ExitCode::from(status)
 }

@@ -7,7 +7,7 @@ use audit_words::Build;
 /// `scripts/install.sh` writes the commit of the clone that it builds in place of `unknown`, and
 /// restores `unknown` afterwards.
 pub const THIS_BUILD: Build<'static> = Build {
-    version: "0.2.0",
+    version: "0.3.0",
     commit: "unknown",
     kit: "unknown",
 };
