@@ -64,7 +64,7 @@ from .warnings import MapWarning
 from .weighing import WeightChoice, choose_weight
 from .words import key_of
 
-__version__ = "0.2.0"
+__version__ = "0.3.0"
 
 __all__ = [
     "ArgumentRefused",

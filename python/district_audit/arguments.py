@@ -559,6 +559,17 @@ OF_CALLS: dict[str, dict[str, tuple[str, str]]] = {
         ),
         "progress": ("bool, default False", "Whether a bar shows how many steps are walked."),
     },
+    "plans": {
+        "resume": (
+            "bool, default False",
+            "Whether the audit goes on with what is saved in its folder. Needs `save`.",
+        ),
+        "overwrite": (
+            "bool, default False",
+            "Whether the audit may take away another one's checkpoints of plans in the folder.",
+        ),
+        "progress": ("bool, default False", "Whether a bar shows how many plans are done."),
+    },
     "read_trace": {
         "text": ("path", "The file that the program wrote."),
         "graph": (
@@ -989,6 +1000,13 @@ def find_conflict(command: str, name: str, named: Words) -> tuple[str, str] | No
     """Returns what is asked of a value beside the others, and a hint, where it is not met."""
     test = BESIDE.get(name)
     return test(named) if test is not None and command in TABLE[name].commands else None
+
+
+def test_beside(command: str, name: str, named: Words) -> None:
+    """Refuses a value that was given and is of no use beside the others."""
+    why = find_conflict(command, name, named) if name in named else None
+    if why:
+        refuse(ValueRefused, command, name, named[name], *why)
 
 
 Why = typing.Optional[tuple[str, str]]

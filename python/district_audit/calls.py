@@ -9,6 +9,7 @@ import warnings
 from fractions import Fraction
 
 from . import own_limits
+from . import progress as bars
 from . import slips
 from .arguments import (
     AS_PREPARED,
@@ -22,6 +23,7 @@ from .arguments import (
     plain_words,
     refuse,
     format_shown,
+    test_beside,
     test_words,
     tested_elections,
     text_in,
@@ -33,7 +35,7 @@ from .errors import GraphChanged, GraphRefused, PrepareRefused, TypeRefused
 from .geography import FILES
 from .graphs import Foreign, refuse_form
 from .preparing import Preparation, Prepared, prepare_map
-from .program import PathLike, call, find_program
+from .program import Ended, PathLike, call, find_program
 from .report import Audited, PlanCheck, Report, Rules, join_batch
 from .results import PlanReports
 from .running import (
@@ -45,9 +47,10 @@ from .running import (
     make_error,
     warn_of_frozen,
 )
-from .tables import Known, table_of
+from .saved_plans import Saving, saving_of, walk_plans
+from .tables import Known, count_plans, table_of
 from .values import test_labels_of
-from .warnings import LimitAtOwnNumber, MapWarning, SmallGroupShare, emit
+from .warnings import LimitAtOwnNumber, LooseTolerance, MapWarning, SmallGroupShare, emit
 from .words import words_of
 
 if typing.TYPE_CHECKING:
@@ -187,10 +190,12 @@ def find_slips(command: str, data: bytes, named: Words) -> list[MapWarning]:
 
 
 def of_call(known: list[MapWarning], named: Words) -> list[MapWarning]:
-    """Returns a prepared map's warnings, and that of a group's share that a call gives anew."""
+    """Returns a prepared map's warnings, and those of a group's share and a slack that a call gives
+    anew.
+    """
     share = slips.of_share(count_in(named, "group_share")) if named.get("group") else []
-    others = [one for one in known if not isinstance(one, SmallGroupShare)]
-    return others + share
+    others = [one for one in known if not isinstance(one, (SmallGroupShare, LooseTolerance))]
+    return others + share + slips.of_slack(count_in(named, "slack"))
 
 
 def at_own_numbers(data: bytes, named: Words) -> list[MapWarning]:
@@ -637,6 +642,11 @@ def plans(
     limits_from: str | None = None,
     source: bool = False,
     workers: int = 1,
+    save: int = 0,
+    resume: bool = False,
+    folder: PathLike | None = None,
+    overwrite: bool = False,
+    progress: bool = False,
     numbers: str | None = None,
     missing: str | None = None,
     join: object = None,
@@ -653,6 +663,10 @@ def plans(
     no text or whole number, or that would be mistaken for another one (`1`, `1.0` and `"1"`, `"A"`
     and `"A "`), is refused with the id of its unit. A float that is whole stands for its digits.
 
+    With `save`, the program judges all plans first. Then a run of each plan saves in a folder of
+    its own, `plan-0000` for the graph's own plan and `plan-0001` for the first one of the table.
+    The runs share the processors. The reports have the same bytes as without `save`.
+
     PARAMETERS
 
     Returns
@@ -665,6 +679,13 @@ def plans(
     ------
     PrepareRefused
         The table, or a value of it, is refused, by the id of its unit.
+    CheckpointRefused
+        The folder has plans of another graph or table, or of other words than `workers` and
+        `save`, or of another program: `differs` says which.
+    CheckpointUnreadable, SaveFault
+        Another call uses the folder; a checkpoint was not saved, of the plan that is named.
+    Interrupted
+        Ctrl-C stopped the program. The message says how many plans are done, and how to go on.
     ValueRefused, TypeRefused, GraphRefused, MemoryRefused, ReadFault, WriteFault, ProgramMissing
         As for `check`.
     """
@@ -676,7 +697,12 @@ def plans(
             "the map was prepared with elections, and plans takes one: give"
             f" {each_election(graph.elections)}",
         )
-    asked = prepare_call("plans", graph, words_in(locals()))
+    words = words_in(locals())
+    ways = {"save": words.pop("save"), "resume": words.pop("resume")}
+    saving = saving_of({**ways, "folder": folder, "overwrite": overwrite, "progress": progress})
+    asked = prepare_call("plans", graph, words)
+    if saving is not None:
+        test_beside("plans", "stop", {**asked.named, **ways})
     audited = asked.audited
     text = table_of(table, Known.read(asked.data, asked.named.get("district")), districts)
     line = b"".join(asked.data.split(b"\n"))
@@ -684,7 +710,7 @@ def plans(
     asked = dataclasses.replace(asked, data=line + b"\n" + text, table=shown_table, path=None)
     path = find_program("audit", program)
     made = begin_call(asked, path)
-    ended = call(path, asked.words, asked.data)
+    ended = call_plans(path, asked, saving, count_plans(shown_table) if progress else None)
     if ended.status:
         raise make_error(ended, asked)
     audited = add_call(audited, made)
@@ -694,3 +720,17 @@ def plans(
     )
     warn_of_frozen(reports.pairs, 3)
     return reports
+
+
+def call_plans(path: str, asked: Given, saving: Saving | None, shown: int | None) -> Ended:
+    """Returns how `plans` ends; a bar shows how many of `shown` plans are done, if there is one."""
+    watch = None if shown is None else bars.PlanCount(shown, bars.new_bar("plans", "plan"))
+    try:
+        if watch is not None:
+            watch()
+        if saving is not None:
+            return walk_plans(path, asked.words, asked.data, saving, watch)
+        return call(path, asked.words, asked.data, read=None if watch is None else watch.read)
+    finally:
+        if watch is not None:
+            watch.end()

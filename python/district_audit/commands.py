@@ -2,6 +2,7 @@
 from __future__ import annotations
 
 import argparse
+import os
 import pathlib
 import signal
 import subprocess
@@ -13,10 +14,20 @@ from . import labels as naming
 from . import progress as bars
 from .arguments import MOST_CUT_LENGTH
 from .preparing import MOST_CUT
-from .errors import MissingExtra, PrepareRefused, ProgramMissing, ReportRefused
+from .errors import (
+    ArgumentRefused,
+    AuditError,
+    MissingExtra,
+    PrepareRefused,
+    ProgramFailed,
+    ProgramMissing,
+    ReportRefused,
+)
 from .preparing import Prepared, prepare_map
-from .program import feed, find_program, stop
+from .program import Ended, call, feed, find_program, stop
 from .report import Report
+from .saved_plans import Saving, walk_plans
+from .tables import count_plans
 from .values import test_labels_of
 
 GOES_ON = "the same command with --resume yes goes on in this folder"
@@ -85,13 +96,23 @@ black, gray and white: shapes and words distinguish. An incomplete or changed re
 """
 RUN = """Usage: district-audit-run WORDS < GRAPH > REPORT
 
-Runs the auditor with these words. They are those of `run`, or of `make` or `check` if that is the
-first of them. Standard output, exit status and diagnostic are the program's own. If the run saves
-and standard error is a terminal, a bar shows the progress. If the program refuses the graph, a
-second line gives the graph's own ids and labels for its numbers. A run with --part whose own part
+Runs the auditor with these words. They are those of `run`, or of `make`, `check` or `plans` if that
+is the first of them. Standard output, exit status and diagnostic are the program's own. If the run
+saves and standard error is a terminal, a bar shows the progress. If the program refuses the graph,
+a second line gives the graph's own ids and labels for its numbers. A run with --part whose own part
 is complete ends with 0 in place of 7, as schedulers want it, and a line says so. Ctrl-C ends the
 run, and a line says how to go on.
+
+`plans` has --save and --resume here, as `run` has them. Each plan is saved in a folder of its own,
+and the text comes once all plans are done. A working folder with plans of another graph, table,
+program or words is refused with status 8.
 """
+# Ways to go on in texts of the package, and those of the command in their place.
+OF_COMMAND = (
+    ("the same call with resume=True goes on", "the same command with --resume yes goes on"),
+    ("resume=True goes on", "--resume yes goes on"),
+    ("overwrite=True starts anew", "without its plans-job.json and plan-* it starts anew"),
+)
 
 
 def print_line(text: str) -> None:
@@ -238,7 +259,7 @@ def call_with(words: list[str]) -> int:
     if words[:1] in ([], ["-h"], ["--help"]):
         print(RUN, file=sys.stderr)
         return 0 if words else 1
-    if words[0] not in ("run", "make", "check"):
+    if words[0] not in ("run", "make", "check", "plans"):
         words.insert(0, "run")
     saves = value_of(words, "--save", "0") != "0"
     try:
@@ -248,7 +269,9 @@ def call_with(words: list[str]) -> int:
         return 127
     data = b"" if words[0] == "make" else sys.stdin.buffer.read()
     if words[0] != "make":
-        warn_of_labels(data, words)
+        warn_of_labels(graph_in(data, words), words)
+    if words[0] == "plans" and saves:
+        return save_plans(program, words, data)
     watch = None
     if saves and sys.stderr.isatty():
         total, is_resumed = total_of(words), value_of(words, "--resume", "no") == "yes"
@@ -256,6 +279,83 @@ def call_with(words: list[str]) -> int:
             lambda: checkpoints.look_in(pathlib.Path(), total), total, is_resumed, bars.PlainBar()
         )
     return status_of_part(words, pass_through([program, *words], data, watch, saves))
+
+
+def graph_in(data: bytes, words: typing.Sequence[str]) -> bytes:
+    """Returns the graph in the input of a command."""
+    return data.partition(b"\n")[0] if words[0] == "plans" else data
+
+
+def save_plans(program: str, words: list[str], data: bytes) -> int:
+    """Runs `plans` with checkpoints in the working folder; returns the exit status."""
+    pairs = [words[at:at + 2] for at in range(1, len(words), 2)]
+    plain = [one for pair in pairs if pair[0] not in ("--save", "--resume") for one in pair]
+    for judged in (["plans", *plain], ["run", *words[1:]]):
+        # Without a graph the program judges the words alone.
+        ended = call(program, judged, b"")
+        if ended.status == 1:
+            print(ended.line, file=sys.stderr)
+            return 1
+    table = data.partition(b"\n")[2].decode("utf-8", "replace")
+    watch = None
+    if sys.stderr.isatty():
+        watch = bars.PlanCount(count_plans(table), bars.PlainBar(name="plans"))
+    saving = Saving(value_of(words, "--save", "0"), value_of(words, "--resume", "no") == "yes")
+    signal.signal(signal.SIGTERM, lambda number, _frame: sys.exit(128 + number))
+    try:
+        ended = walk_plans(program, ["plans", *plain], data, saving, watch)
+    except KeyboardInterrupt as why:
+        return print_fault(f"\ndistrict-audit-run: {why}", 130)
+    except ArgumentRefused as why:
+        return print_fault(f"district-audit-run: {why.allowed}; {why.hint}", 8)
+    except AuditError as why:
+        return print_fault(f"{why.line}\ndistrict-audit-run: {why.labels}", why.status)
+    except ProgramFailed as why:
+        status = why.status if why.status >= 0 else 128 - why.status
+        return print_fault(f"district-audit-run: {why}", status)
+    except OSError as why:
+        return print_fault(f"checkpoint save fault\ndistrict-audit-run: {why}", 9)
+    finally:
+        if watch is not None:
+            watch.end()
+    return write_plans(ended, data, words)
+
+
+def print_fault(said: str, status: int) -> int:
+    """Prints why a command failed, in its own words, and returns its status."""
+    for text, own in OF_COMMAND:
+        said = said.replace(text, own)
+    print(said, file=sys.stderr)
+    return status
+
+
+def write_plans(ended: Ended, data: bytes, words: typing.Sequence[str]) -> int:
+    """Writes what a call of `plans` wrote, and returns its status."""
+    note = ended.unproved + (ended.line + "\n" if ended.line else "")
+    sys.stderr.buffer.write(note.encode("utf-8", "surrogateescape"))
+    sys.stderr.flush()
+    if ended.status:
+        print_labels(ended.line, data, words)
+        return ended.status
+    try:
+        text = ended.unproved + ended.text
+        sys.stdout.buffer.write(text.encode("utf-8", "surrogateescape"))
+        sys.stdout.flush()
+    except OSError:
+        # Python would try to write the rest again at its end.
+        os.dup2(os.open(os.devnull, os.O_WRONLY), sys.stdout.fileno())
+        return print_fault("write fault", 5)
+    return 0
+
+
+def print_labels(line: str, data: bytes, words: typing.Sequence[str]) -> None:
+    """Prints the graph's own ids and labels for the numbers in a line of the program, if any."""
+    names = {name: value_of(words, "--" + name, "") for name in ("district", "region")}
+    graph = graph_in(data, words)
+    table = data[len(graph) + 1:].decode("utf-8", "surrogateescape")
+    said = naming.translate(line, naming.labels_of(graph, names), table)
+    if said:
+        print("district-audit-run: " + said, file=sys.stderr)
 
 
 def status_of_part(words: list[str], status: int) -> int:
@@ -284,6 +384,7 @@ def warn_of_labels(data: bytes, words: typing.Sequence[str]) -> None:
 def pass_through(command: list[str], data: bytes, watch: bars.Watch | None, saves: bool) -> int:
     """Runs the program on our own outputs, and adds lines on standard error alone."""
     signal.signal(signal.SIGTERM, lambda number, _frame: sys.exit(128 + number))
+    rest = GOES_ON if saves else NOTHING_SAVED
     with subprocess.Popen(command, stdin=subprocess.PIPE, stderr=subprocess.PIPE) as process:
         try:
             note = read_note(process, data, watch)
@@ -292,8 +393,7 @@ def pass_through(command: list[str], data: bytes, watch: bars.Watch | None, save
             raise
         except KeyboardInterrupt:
             stop(process)
-            said = GOES_ON if saves else NOTHING_SAVED
-            print(f"\ndistrict-audit-run: stopped; {said}", file=sys.stderr)
+            print(f"\ndistrict-audit-run: stopped; {rest}", file=sys.stderr)
             return 130
     if watch is not None:
         watch.end()
@@ -301,14 +401,12 @@ def pass_through(command: list[str], data: bytes, watch: bars.Watch | None, save
     sys.stderr.flush()
     if process.returncode == 2:
         line = note.decode("utf-8", "surrogateescape").removesuffix("\n")
-        names = {
-            "district": value_of(command[1:], "--district", ""),
-            "region": value_of(command[1:], "--region", ""),
-        }
-        said = naming.translate(line, naming.labels_of(data, names))
-        if said:
-            print("district-audit-run: " + said, file=sys.stderr)
-    return process.returncode if process.returncode >= 0 else 128 - process.returncode
+        print_labels(line, data, command[1:])
+    if process.returncode >= 0:
+        return process.returncode
+    said = f"the program was stopped by signal {-process.returncode}; {rest}"
+    print(f"district-audit-run: {said}", file=sys.stderr)
+    return 128 - process.returncode
 
 
 def read_note(process: subprocess.Popen[bytes], data: bytes, watch: bars.Watch | None) -> bytes:

@@ -5,6 +5,7 @@ A map is drawn by this package from shapes that the user gives; no part of it is
 from __future__ import annotations
 
 import dataclasses
+import math
 import typing
 
 from .errors import extra
@@ -12,8 +13,11 @@ from .exhibit_districts import columns_of, graph_of, refuse_another_plan
 from .graphs import Foreign, Label, list_ids, plain, raw_of, sort_labels
 from .report import Report
 
-# The fills of districts; neighbors have different ones, as far as there are enough.
-SHADES = ("#ffffff", "#d9d9d9", "#b8b8b8", "#ececec", "#c9c9c9", "#a6a6a6")
+# The fills of districts; neighbors have different ones, as far as there are enough. None is white,
+# so that a lake does not look like a district.
+SHADES = ("#e4e4e4", "#c0c0c0", "#9c9c9c", "#d2d2d2", "#aeaeae", "#8c8c8c")
+# A caption names places without units from this part of a square with the map's width on.
+LEAST_HOLE = 1e-4
 # A border is drawn as exactly as this part of the map's width.
 FINENESS = 1500
 Point = tuple[float, float]
@@ -30,6 +34,8 @@ class Area:
     at: Point
     """A point inside of its greatest part, for the label."""
     shade: str
+    more: list[tuple[Point, float]]
+    """A point inside of each other part, and how far the part's border is from it."""
 
 
 @dataclasses.dataclass(frozen=True)
@@ -42,6 +48,8 @@ class DistrictMap:
     """The height of the map, as a part of its width."""
     cut: int
     """The cut edges of the plan."""
+    has_holes: bool
+    """True if a place within the map, such as a lake, has no unit."""
 
 
 @dataclasses.dataclass(frozen=True)
@@ -199,7 +207,8 @@ def draw_districts(
     shapes: typing.Mapping[Label, Foreign],
 ) -> DistrictMap:
     """Returns the map of a plan."""
-    from shapely.ops import unary_union
+    from shapely.geometry import Polygon
+    from shapely.ops import polylabel, unary_union
 
     by_label: dict[Label, list[Foreign]] = {}
     for unit, label in districts.items():
@@ -219,16 +228,27 @@ def draw_districts(
     for label, shape in whole.items():
         parts = parts_of(shape.simplify(size / FINENESS)) or parts_of(shape)
         rings = [ring for part in parts for ring in (part.exterior, *part.interiors)]
-        inner = max(parts, key=lambda part: float(part.area)).representative_point()
+        greatest, *others = sorted(parts, key=lambda part: -float(part.area))
+        inner = greatest.representative_point()
+        middles = [(part, polylabel(part, size / FINENESS)) for part in others]
         areas.append(
             Area(
                 str(label), [[place(point) for point in ring.coords] for ring in rings],
                 place((inner.x, inner.y)), shades[label],
+                [
+                    (place((one.x, one.y)), float(one.distance(part.exterior)) / size)
+                    for part, one in middles
+                ],
             )
         )
+    holes = (
+        abs(Polygon(ring).area)
+        for part in parts_of(unary_union(list(whole.values()))) for ring in part.interiors
+    )
     # The file lists each edge from both of its units.
     cut = len({frozenset(pair) for pair in pairs if districts[pair[0]] != districts[pair[1]]})
-    return DistrictMap(title, areas, (high - low) / size, cut)
+    has_holes = any(hole >= LEAST_HOLE * size**2 for hole in holes)
+    return DistrictMap(title, areas, (high - low) / size, cut, has_holes)
 
 
 def parts_of(shape: Foreign) -> list[Foreign]:
@@ -277,27 +297,30 @@ def place_labels(
 ) -> tuple[list[Placed], list[str]]:
     """Returns the labels that have room on a map of some width, and those that have none.
 
-    No two labels meet, and each is inside of the map. A label that has no room becomes smaller.
+    No two labels meet, and each is inside of the map. A label that has no room becomes smaller. A
+    further part of a district has the label, too, if it has room for it.
     """
     found: list[Placed] = []
     boxes: list[tuple[float, float, float, float]] = []
     left_out = []
     high = drawn.height * wide
-    for area in drawn.areas:
+    parts = [(area.label, area.at, math.inf, True) for area in drawn.areas]
+    parts += [(area.label, at, room, False) for area in drawn.areas for at, room in area.more]
+    for label, at, room, is_first in parts:
         for size in sizes:
-            half, tall = measure(area.label, size) / 2 + 1, size * 0.62
-            if 2 * half > wide or 2 * tall > high:
+            half, tall = measure(label, size) / 2 + 1, size * 0.62
+            if 2 * half > wide or 2 * tall > high or math.hypot(half, tall) > room * wide:
                 continue
-            x = min(max(area.at[0] * wide, half), wide - half)
-            y = min(max(area.at[1] * wide, tall), high - tall)
+            x = min(max(at[0] * wide, half), wide - half)
+            y = min(max(at[1] * wide, tall), high - tall)
             box = (x - half, x + half, y - tall, y + tall)
             if all(
                 box[1] <= other[0] or other[1] <= box[0] or box[3] <= other[2] or other[3] <= box[2]
                 for other in boxes
             ):
                 boxes.append(box)
-                found.append(Placed(area.label, x, y, size))
+                found.append(Placed(label, x, y, size))
                 break
         else:
-            left_out.append(area.label)
+            left_out += [label] * is_first
     return found, left_out

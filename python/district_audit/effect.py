@@ -71,7 +71,8 @@ class Effect:
             f"{self.ask}: on {self.outliers} of {self.walks} walks the enacted plan is among the"
             f" most extreme {self.epsilon} of the plans visited (count at most {self.most} of"
             f" {self.plans}); if it were not among the most fragile {self.alpha} of all legal"
-            f" plans, that many walks would show so with probability at most {self.p:f}"
+            " plans (with a weight, counted by their chances), that many walks would show so with"
+            f" probability at most {self.p:f}"
         )
 
 

@@ -9,6 +9,8 @@ from decimal import Decimal
 from .deciding import TESTS, Announced, find_announced
 from .report import Ends, Pair, Report, Serial, Stop, Walk
 
+# How the name of a report of `over_limits` begins that differs from the others in its weight.
+WEIGHT = "cut_weight="
 NO_MANIFEST = (
     "The manifest of this report is not there. This page therefore cannot know whether other"
     " reports were made for the same question: of other elections, plans or limits"
@@ -68,8 +70,10 @@ def tell_announced(
     what = "bound" if announced.words.split()[0] in ("walk", "pair") else "p-value"
     word, *rest = announced.words.split()
     which = "" if len(rest) == 1 else f" {' and '.join(rest[:-1])}"
-    of = f", {report.batch.kind if report.batch else 'plan'} {announced.name}" if announced.name \
-        else ""
+    kind = "plan" if report.batch is None else report.batch.kind
+    if announced.name.startswith(WEIGHT):
+        kind = "weight"
+    of = f", {kind} {announced.name}" if announced.name else ""
     named = f"the {what} of {TESTS[word]}{which} on {rest[-1]}{of}"
     said = (
         "The manifest, which was written with the run, names it, too."

@@ -61,8 +61,8 @@ def about_proof(report: Report) -> str:
         )
     if program.is_proved:
         return (
-            "Proved by machine, about the program with the SHA-256 below, as the file says that its"
-            f" build left beside it: {said}."
+            "Proved by machine, about the program with the SHA-256 below, according to the file"
+            f" that its build left beside it: {said}."
         )
     return f"{NOT_PROVED} Of the program as its project builds it, it is proved that {said}."
 
@@ -86,9 +86,19 @@ def raw_rows(custody: Custody | None) -> list[tuple[str, str]]:
     return [(f"SHA-256 of {file.name}, {file.size} bytes", file.sha256) for file in files]
 
 
+def show(value: object) -> str:
+    """Returns an argument without the marks of a programming language."""
+    if isinstance(value, dict):
+        return ", ".join(f"{name} ({show(of)})" for name, of in value.items())
+    if isinstance(value, (list, tuple)):
+        is_nested = any(isinstance(one, (list, tuple)) for one in value)
+        return (", " if is_nested else " and ").join(map(show, value))
+    return str(value)
+
+
 def preparation_lines(custody: Custody) -> list[str]:
     """Returns the arguments of the preparation and its changes, a line for each."""
-    said = [f"{name} = {value}" for name, value in sorted(custody.arguments.items())]
+    said = [f"{name} = {show(value)}" for name, value in sorted(custody.arguments.items())]
     found = [f"Arguments: {'; '.join(said)}."] if said else []
     for edit in custody.edits:
         units = ", ".join(map(str, edit.units[:SHOWN_ON_PAGE]))

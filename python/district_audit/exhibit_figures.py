@@ -116,6 +116,16 @@ def walk_rows(report: Report, enacted: typing.Mapping[str, str]) -> list[Row]:
             rows.append(
                 Row(name, points, f"{len(walks)} walks: counts {counts[0]} to {counts[-1]}")
             )
+            pairs = sorted(
+                (pair.count / pair.of, pair.bound) for pair in report.pair_lines if pair.ask == ask
+            )
+            if pairs:
+                rows.append(
+                    Row(
+                        f"{name} (pairs of walks)", [(part, float(one)) for part, one in pairs],
+                        f"{len(pairs)} pairs: bounds {pairs[0][1]:f} to {pairs[-1][1]:f}",
+                    )
+                )
         else:
             rows += [walk_row(name, walk) for walk in walks]
             rows += [

@@ -37,6 +37,7 @@ from .exhibit import (
 )
 from .exhibit_counting import (
     NO_MANIFEST,
+    WEIGHT,
     count_of_numbers,
     find_announced_for,
     is_counted,
@@ -58,15 +59,11 @@ CHANGED = {
     "max_splits": ("max_splits", "max_split_regions"),
     "cut_weight": ("cut_weight", "pieces"),
 }
-CONCLUSION = (
-    "A limit that was announced before the run decides. The numbers under all other limits show how"
-    " far the result hangs on the limit (sensitivity), and are no evidence by themselves.",
-    "Each row compares the enacted plan with the legal plans under its own limit, so the assumption"
-    " below is another one in each row. All audits have the same plan, key and questions, and are"
-    " not independent: agreement under several limits does not multiply evidence.",
-    "If the number of the announced limit is small and those of other limits are not, the finding"
-    " is about the announced limit alone.",
-)
+# The plans with which each row compares the enacted plan, by what the audits differ in.
+COMPARED = {
+    "limit": "the legal plans under its own limit",
+    "weight": "all legal plans, drawn with the chances of its own weight",
+}
 
 
 def write(path: PathLike, pairs: Named, options: Options) -> None:
@@ -103,7 +100,7 @@ def page(pairs: Named, options: Options) -> str:
         *paragraphs(options.notes),
         *said_first(reports),
         heading("What may be concluded"),
-        *paragraphs([tell_count(pairs, announced), *CONCLUSION]),
+        *paragraphs([tell_count(pairs, announced), *conclude(what_varies(pairs))]),
         heading("What was asked"),
         list_asks(report, parties, scores),
         heading("How it was done"),
@@ -159,12 +156,36 @@ def find_shown(pairs: Named, announced: Announced | None) -> tuple[str, Report]:
 # ---- words
 
 
+def what_varies(pairs: Named) -> str:
+    """Returns what the audits differ in: a limit on plans, or the weight on cut edges."""
+    return "weight" if pairs[0][0].startswith(WEIGHT) else "limit"
+
+
+def conclude(what: str) -> list[str]:
+    """Returns what a reader may conclude from audits that differ in one thing."""
+    return [
+        f"A {what} that was announced before the run decides. The numbers under all other {what}s"
+        f" show how far the result hangs on the {what} (sensitivity), and are no evidence by"
+        " themselves.",
+        f"Each row compares the enacted plan with {COMPARED[what]}, so the assumption below is"
+        " another one in each row. All audits have the same plan, key and questions, and are not"
+        f" independent: agreement under several {what}s does not multiply evidence.",
+        f"If the number of the announced {what} is small and those of other {what}s are not, the"
+        f" finding is about the announced {what} alone.",
+    ]
+
+
 def tell_audits(pairs: Named) -> str:
     """Returns what the page compares."""
-    names = ", ".join(name for name, _ in pairs)
+    names, what = ", ".join(name for name, _ in pairs), what_varies(pairs)
+    means = (
+        " (64 is no weight; a smaller number makes plans with many cut edges rarer)"
+        if what == "weight"
+        else ""
+    )
     return (
-        f"The page has {plural(len(pairs), 'audit')} of this plan, which differ in one limit alone:"
-        f" {names}. In all else, the key of the draws included, they are alike."
+        f"The page has {plural(len(pairs), 'audit')} of this plan, which differ in one {what}"
+        f" alone: {names}{means}. In all else, the key of the draws included, they are alike."
     )
 
 
@@ -183,8 +204,9 @@ def tell_count(pairs: Named, announced: Announced | None) -> str:
     product = min(Decimal(1), least * count)
     return (
         f"The page does not know of a number that was announced before the run. Without one, all"
-        f" {count_of_numbers(count)} under all limits count: the least, {least:f}, times {count} is"
-        f" {product:f}{', which is no evidence' if product == 1 else ''} (Bonferroni)."
+        f" {count_of_numbers(count)} under all {what_varies(pairs)}s count: the least, {least:f},"
+        f" times {count} is {product:f}{', which is no evidence' if product == 1 else ''}"
+        " (Bonferroni)."
     )
 
 
@@ -195,7 +217,7 @@ def results(
     pairs: Named, options: Options, parties: tuple[str, str], announced: Announced | None
 ) -> list[str]:
     """Returns the districts, one table of all limits, and its picture."""
-    _, first = pairs[0]
+    (_, first), what = pairs[0], what_varies(pairs)
     columns = columns_of(first, options.graph, options.columns)
     graph = graph_of(first, options.graph, columns, False)
     parts = [] if options.geometry is None else [district_maps(first, options)]
@@ -211,21 +233,20 @@ def results(
     ranks: list[figures.Rank] = []
     for name, report in pairs:
         role = "" if announced is None else (
-            " (announced limit)" if name == announced.name else " (sensitivity)"
+            f" (announced {what})" if name == announced.name else " (sensitivity)"
         )
         rows += [(name + role, *row) for row in result_rows(report, options.called)]
         walks += [row._replace(label=f"{name}, {row.label}")
                   for row in figures.walk_rows(report, enacted)]
         ranks += [row._replace(label=f"{name}, {row.label}")
                   for row in figures.rank_rows(report, enacted)]
-    parts.append(table(("limit", *RESULT_TITLES), rows, plain=3, kind="limits"))
+    parts.append(table((what, *RESULT_TITLES), rows, plain=3, kind="limits"))
     drawn = []
     if walks:
-        drawn.append(figures.walks_figure(1, "Outlier walks under each limit", walks))
+        drawn.append(figures.walks_figure(1, f"Outlier walks under each {what}", walks))
     if ranks:
-        drawn.append(
-            figures.ranks_figure(len(drawn) + 1, "Rank of the enacted plan under each limit", ranks)
-        )
+        title = f"Rank of the enacted plan under each {what}"
+        drawn.append(figures.ranks_figure(len(drawn) + 1, title, ranks))
     return parts + drawn
 
 
@@ -234,7 +255,7 @@ def provenance(
 ) -> list[str]:
     """Returns the hashes, the command of the limit that is shown, and all reports in full."""
     report = dict(pairs)[name]
-    hashes = [("key of all draws, under each limit", report.key)]
+    hashes = [(f"key of all draws, under each {what_varies(pairs)}", report.key)]
     hashes += [
         (f"SHA-256 of the report under {one}", hashlib.sha256(encode(str(made))).hexdigest())
         for one, made in pairs

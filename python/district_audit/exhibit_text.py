@@ -210,9 +210,10 @@ def describe_weight(report: Report) -> str:
     if weight is None:
         return ""
     return (
-        ". A move that adds cut edges is also drawn for: it is made with a chance of"
-        f" {weight_text(weight)}/64 for each edge added, multiplied, and a move that changes their"
-        f" number by more than {report.rules.pieces} is not made"
+        ". A move that adds one cut edge is made with a chance of"
+        f" {weight_text(weight)}/64, and each further edge that it adds multiplies this chance by"
+        f" {weight_text(weight)}/64. A move that changes the number of cut edges by more than"
+        f" {report.rules.pieces} is not made"
     )
 
 
@@ -322,10 +323,10 @@ def theorems(report: Report, alpha: object) -> list[str]:
         (
             "Assumption (the null hypothesis) of every bound and p-value in the table of results:"
             f" the enacted plan was drawn at random from the legal plans, {chances(report)}."
-            " What is legal, and each score, must not depend on which plan was enacted: a"
-            " limit that is computed from the enacted plan puts it at the edge by construction."
-            " Hardly any real map is drawn so. A small number is evidence against the assumption as"
-            " a whole, and does not say which part of it is wrong."
+            " Hardly any real map is drawn at random. A small number is evidence against the"
+            " assumption as a whole, and does not say which part of it is wrong. What is legal, and"
+            " each score, must not depend on which plan was enacted: a limit that is computed from"
+            " the enacted plan puts it at the edge by construction."
         ),
     ]
     if report.walks:
@@ -352,11 +353,13 @@ def theorems(report: Report, alpha: object) -> list[str]:
             "stopping rule was fixed before the run."
         )
     if alpha is not None and report.walks:
+        by_chances = "" if report.rules.cut_weight is None else ", counted by their chances,"
         found.append(
             "p of the test of effect apart from significance (Chikina, Frieze, Mattingly and "
             "Pegden, Statistics and Public Policy 7, 2020): this needs no random enacted plan. If "
-            "the enacted plan is not among the fraction alpha of all legal plans that are most "
-            "fragile, then that many walks show it as so extreme with probability at most p. "
+            f"the enacted plan is not among the fraction alpha of all legal plans{by_chances} that "
+            "are most fragile, then that many walks, or pairs of walks, show it as so extreme with "
+            "probability at most p. "
             "Fragile means likely to be among the most extreme fraction epsilon of the plans on a "
             "walk, or a pair of walks, from it. Epsilon, alpha, and whether walks or pairs are "
             "counted must be fixed before the run. If it is computed "

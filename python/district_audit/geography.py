@@ -13,6 +13,7 @@ import warnings as python_warnings
 from .custody import SHAPEFILE
 from .errors import PrepareRefused, extra
 from .graphs import Foreign, Label, as_json, as_text, is_missing, list_ids
+from .judging import parts_of
 from .values import find_repeated, kind_of
 from .warnings import BordersNotShared, CoordinatesInDegrees, MapWarning
 
@@ -51,6 +52,10 @@ class MapReport:
     """The part of the borders between neighbors that both polygons have."""
     nearest: dict[Label, Label] = dataclasses.field(default_factory=dict)
     """The unit that is nearest to each island."""
+    parts: list[tuple[list[Label], Pair]] = dataclasses.field(default_factory=list)
+    """The parts of several units that no border joins to the greatest part, as a river leaves
+    them: the units of each, and the nearest pair of one of them and a unit elsewhere.
+    """
 
     def __str__(self) -> str:
         """Returns a line for each kind."""
@@ -59,6 +64,9 @@ class MapReport:
                  for one in self.islands]
         lines = [f"islands, units without a neighbor: {describe(apart)}",
                  f"units of several polygons: {describe(self.pieces)}"]
+        apart = [f"{len(units)} units (nearest {one} - {other})"
+                 for units, (one, other) in self.parts]
+        lines.insert(1, f"parts of several units that no border joins: {describe(apart)}")
         for what, found in pairs:
             names = [f"{one} - {other} ({size:.4g})" for (one, other), size in found]
             lines.append(f"{what}: {describe(names)}")
@@ -134,7 +142,8 @@ def graph_from(
     MapGraph
         For `prepare`. Its edges have `shared_perim`, the length of the common border, and its units
         their columns, `boundary_perim` (the length of the border that no other unit shares) and
-        `area`. `report` tells islands, slivers, overlaps and gaps; `geometry` has the polygons.
+        `area`. `report` tells islands, parts, slivers, overlaps and gaps; `geometry` has the
+        polygons.
 
     Raises
     ------
@@ -329,7 +338,29 @@ def report_of(
     islands = [unit for unit, others in borders.items() if not others]
     shared = measure_shared(shapes, pairs_near(shapes, width_of(shapes)))
     return MapReport(islands, pieces, slivers, overlaps, gaps_of(shapes), shared,
-                     nearest_of(shapes, islands))
+                     nearest_of(shapes, islands), parts_apart(shapes, borders))
+
+
+def parts_apart(
+    shapes: typing.Mapping[Label, Foreign],
+    borders: typing.Mapping[Label, typing.Mapping[Label, float]],
+) -> list[tuple[list[Label], Pair]]:
+    """Returns the parts of several units but for the greatest, each with its nearest pair."""
+    join = extra("shapely.ops").unary_union
+    parts = parts_of(shapes, {unit: list(others) for unit, others in borders.items()})
+    found = []
+    for part in parts[1:]:
+        if len(part) > 1:
+            inner = set(part)
+            units = [unit for unit in shapes if unit in inner]
+            others = [unit for unit in shapes if unit not in inner]
+            here, there = extra("shapely.ops").nearest_points(
+                join([shapes[unit] for unit in units]), join([shapes[unit] for unit in others])
+            )
+            one = min(units, key=lambda unit: float(shapes[unit].distance(here)))
+            other = min(others, key=lambda unit: float(shapes[unit].distance(there)))
+            found.append((units, (one, other)))
+    return found
 
 
 def nearest_of(

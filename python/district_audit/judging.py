@@ -127,12 +127,16 @@ class Judged:
                     f" {len(part)} units: no walk can change it"
                 )
 
-    def name_size(self, label: Label) -> str:
-        """Returns the name of a district; of one with a tenth of the usual units or fewer, whose
-        label may be a slip, also its units.
+    def is_small(self, label: Label) -> bool:
+        """Returns whether a district has a tenth of the usual units or fewer: a label may be a
+        slip.
         """
+        return 10 * len(self.members[label]) * len(self.members) <= len(self.rows)
+
+    def name_size(self, label: Label) -> str:
+        """Returns the name of a district; of a small one also its units."""
         name, members = self.name_district(label), self.members[label]
-        if 10 * len(members) * len(self.members) > len(self.rows):
+        if not self.is_small(label):
             return name
         many = f"{len(members)} unit{'' if len(members) == 1 else 's'}"
         return f"a {name} of {many} ({self.shown(self.sort_units(members))})"
@@ -153,13 +157,16 @@ class Judged:
                 -(-(10000 - choices.slack) * total // shares),
                 (10000 + choices.slack) * total // shares,
             )
+            strays: list[str] = []
             for label, members in self.members.items():
                 people = sum(self.rows[unit][choices.population] for unit in members)
                 if not low <= people <= high:
-                    self.refusals.append(
+                    (strays if self.is_small(label) else self.refusals).append(
                         f"{self.name_size(label)} has {people} people, outside {low} to {high}"
                         f" (slack={choices.slack}){self.number_of(label)}"
                     )
+            # A label that is a slip changes the ideal population of all districts.
+            self.refusals[:0] = strays
         edges = sum(len(those) for those in self.neighbours.values()) // 2
         self.notes.append(
             f"{len(self.rows)} units, {edges} edges, {len(self.members)} districts, {total} people"

@@ -1,6 +1,7 @@
 """One audit under several limits: does the result hang on the limit?"""
 from __future__ import annotations
 
+import dataclasses
 import typing
 from fractions import Fraction
 
@@ -11,6 +12,7 @@ from .errors import AuditError, TypeRefused
 from .preparing import Prepared
 from .report import Report, join_batch
 from .results import NamedReports
+from .warnings import read
 
 if typing.TYPE_CHECKING:
     from .custody import PathLike
@@ -123,4 +125,26 @@ def over_limits(graph: object, **words: Foreign) -> LimitReports:
         except AuditError as error:
             error.args = (f"{limit}={value}: {error}", *error.args[1:])
             raise
-    return LimitReports(join_batch("limit", [(f"{limit}={one}", found[one]) for one in given]))
+    pairs = name_warnings([(f"{limit}={one}", found[one]) for one in given])
+    return LimitReports(join_batch("limit", pairs))
+
+
+def name_warnings(pairs: list[tuple[str, Report]]) -> list[tuple[str, Report]]:
+    """Returns the reports, with the limit before each warning that not all of them have."""
+    of_all = set.intersection(*(set(report.warnings) for _, report in pairs))
+    return [
+        (
+            name,
+            dataclasses.replace(
+                report,
+                audited=report.audited and dataclasses.replace(
+                    report.audited,
+                    warnings=tuple(
+                        one if one in of_all else read(one.kind, f"{name}: {one}")
+                        for one in report.warnings
+                    ),
+                ),
+            ),
+        )
+        for name, report in pairs
+    ]

@@ -25,9 +25,12 @@ NOT_PROVED = (
 )
 
 
-def left_out_words(labels: typing.Sequence[str]) -> str:
-    """Returns which districts have no label on a map; empty if all have one."""
-    return f" Districts whose label has no room: {', '.join(labels)}." if labels else ""
+def caption_of(maps: typing.Sequence[DistrictMap], left_out: typing.Iterable[str]) -> str:
+    """Returns what stands below maps, with the districts that have no label."""
+    labels = ", ".join(dict.fromkeys(left_out))
+    has_holes = any(one.has_holes for one in maps)
+    holes = " White places within the map have no unit." if has_holes else ""
+    return NOT_PROVED + holes + (f" Districts whose label has no room: {labels}." if labels else "")
 
 
 # ---- a page
@@ -51,7 +54,7 @@ def map_figure(maps: typing.Sequence[DistrictMap], names: str) -> str:
         drawn, left_out = draw_map(one, (corner[0], corner[1] + above), wide)
         parts += drawn
         missing += left_out
-    caption = NOT_PROVED + left_out_words(list(dict.fromkeys(missing)))
+    caption = caption_of(maps, missing)
     title, high = escape(names), row * -(-len(maps) // columns)
     return (
         f'<figure><figcaption class="title"><b>Map.</b> {title}</figcaption>'
@@ -116,8 +119,8 @@ def plot_maps(maps: typing.Sequence[DistrictMap], title: str | None = None) -> F
         )
         for one in maps
     ]
-    missing = list(dict.fromkeys(label for _, left_out in labelled for label in left_out))
-    notes = ruler.wrap(NOT_PROVED + left_out_words(missing), INCHES - 2 * EDGE)
+    missing = [label for _, left_out in labelled for label in left_out]
+    notes = ruler.wrap(caption_of(maps, missing), INCHES - 2 * EDGE)
     below = 0.25 + 0.14 * (1 + notes.count("\n"))
     whole = above + row * -(-len(maps) // columns) + below
     figure = Figure(figsize=(INCHES, whole))

@@ -17,7 +17,7 @@ from .arguments import SCORES
 from .custody import PathLike, write_whole
 from .errors import extra
 from .exhibit_custody import program_line
-from .report import SEATS, Line, Report, Shift, Walk
+from .report import SEATS, Line, Pair, Report, Shift, Walk
 
 if typing.TYPE_CHECKING:
     from matplotlib.axes import Axes
@@ -131,18 +131,34 @@ def walk_rows(
     return rows
 
 
-def pair_rows(report: Report, parties: Parties = None) -> list[Row]:
-    """Returns a row for each pair of walks of a report that was asked for them, if they are few."""
-    if report.setting.walks > MOST_ROWS:
-        return []
-    return [
-        Row(
-            f"{ask_label(pair, parties)}, walks {pair.first} and {pair.second}",
-            [(pair.count / pair.of, float(pair.bound))],
-            f"{pair.count} of {pair.of}, bound {pair.bound:f}",
-        )
-        for pair in report.pair_lines
-    ]
+def pair_rows(report: Report, parties: Parties = None, most: int = MOST_ROWS) -> list[Row]:
+    """Returns the rows of pairs of walks, of a report that was asked for them.
+
+    Each pair has a row, or all pairs of a question have one if the walks are more than `most`.
+    """
+    by_ask: dict[str, list[Pair]] = {}
+    for pair in report.pair_lines:
+        by_ask.setdefault(ask_label(pair, parties), []).append(pair)
+    rows = []
+    for ask, found in by_ask.items():
+        if report.setting.walks <= most or len(found) == 1:
+            rows += [
+                Row(
+                    f"{ask}, walks {pair.first} and {pair.second}",
+                    [(pair.count / pair.of, float(pair.bound))],
+                    f"{pair.count} of {pair.of}, bound {pair.bound:f}",
+                )
+                for pair in found
+            ]
+        else:
+            points = sorted((pair.count / pair.of, pair.bound) for pair in found)
+            rows.append(
+                Row(
+                    f"{ask}, {len(found)} pairs", [(part, float(bound)) for part, bound in points],
+                    f"bounds {points[0][1]:f} to {points[-1][1]:f}",
+                )
+            )
+    return rows
 
 
 def test_rows(report: Report, parties: Parties = None) -> list[Test]:
@@ -511,7 +527,7 @@ def draw_named(
         part = select_scores(report, scores)
         walks += [
             row._replace(label=f"{name}: {row.label.removesuffix(', walk 0')}")
-            for row in walk_rows(part.walks, both, 1)
+            for row in walk_rows(part.walks, both, 1) + pair_rows(part, both, 1)
         ]
         tests += [row._replace(label=f"{name}: {row.label}") for row in test_rows(part, both)]
     first = reports[0][1]

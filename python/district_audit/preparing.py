@@ -44,6 +44,7 @@ from .graphs import (
 )
 from .values import find_alike, faults_in, kind_of, find_repeated, why_no_label
 from .warnings import MapWarning, emit
+from .wording import plural
 
 MOST_BYTES, MOST_VALUE, MOST_CUT_LENGTH = 67_108_864, 1_000_000_000, TABLE["max_length"].most
 MOST_CUT = TABLE["max_cut"].most
@@ -200,11 +201,12 @@ class Prepared:
         return iter((self.data, self.changes))
 
     def __repr__(self) -> str:
-        state = f"{len(self.refusals)} refusals" if self.refusals else "the auditor accepts it"
+        state = plural(len(self.refusals), "refusal") if self.refusals else "the auditor accepts it"
         kept = "; ".join(("", *self.kept))
         return (
             f"<Prepared: {len(self.units)} units, {len(self.districts)} districts,"
-            f" {len(self.changes)} changes, {len(self.warnings)} warnings; {state}{kept}>"
+            f" {plural(len(self.changes), 'change')}, {plural(len(self.warnings), 'warning')};"
+            f" {state}{kept}>"
         )
 
     @property
@@ -432,8 +434,12 @@ def refuse_unknown(nodes: list[Node], choices: Choices) -> None:
             there = sorted({str(key) for node in nodes for key in node} - {"id"})
             if any(column in node for node in nodes):
                 raise PrepareRefused(f"no unit has a value in the column {column}")
+            # A shapefile cuts long names, two of which may then differ in their last characters.
+            is_long = len(column) > 10
+            cut = [name for name in there if is_long and len(name) <= 10 and name[:8] == column[:8]]
+            hint = f" (a shapefile cuts names to 10 characters: {' or '.join(cut)}?)" if cut else ""
             raise PrepareRefused(
-                f"no unit has a column {column}; the columns are {', '.join(there) or 'none'}"
+                f"no unit has a column {column}{hint}; the columns are {', '.join(there) or 'none'}"
             )
 
 
@@ -870,8 +876,8 @@ def prepare_raw(raw: Raw, choices: Choices) -> Prepared:
     }
     return Prepared(
         data, list(changes.by_kind.values()), judged.notes,
-        slips.of_rounding(judged, taken.before) + slips.of_lengths(choices.length, long)
-        + judged.warnings,
+        slips.of_missing(judged, taken.before) + slips.of_rounding(judged, taken.before)
+        + slips.of_lengths(choices.length, long) + judged.warnings,
         refusals, list(rows), judged.districts, judged.regions, columns, dict(choices.elections),
         rules,
     )

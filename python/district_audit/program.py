@@ -11,6 +11,7 @@ import os
 import pathlib
 import re
 import shutil
+import signal
 import subprocess
 import threading
 import time
@@ -21,6 +22,9 @@ from .errors import NotProved, ProgramMissing, WrongProgram
 PathLike = typing.Union[str, "os.PathLike[str]"]
 # A program has 20 seconds to say its version.
 ANSWER = 20
+# The ends of such a call that a whole program may have: too little memory, no output, and a signal
+# that comes from elsewhere.
+NO_FAULT = (3, 5, -signal.SIGHUP, -signal.SIGINT, -signal.SIGKILL, -signal.SIGTERM)
 
 # For each program the variable of the environment that may name it, and its names.
 KNOWN = {
@@ -101,8 +105,9 @@ def digest(path: pathlib.Path, changed: int) -> str:
 def check_program(path: str, which: str) -> str:
     """Returns the absolute path of a program that can be used with this package.
 
-    Raises WrongProgram if the program cannot be started here, or if its answer to --version is that
-    of another program or version. One that gives no answer is left to fail in the call itself.
+    Raises WrongProgram if the program cannot be started here, ends by a fault, or if its answer to
+    --version is that of another program or version. One that is stopped before it answers is left
+    to fail in the call itself.
     """
     absolute = pathlib.Path(path).absolute()
     fault = find_fault(str(absolute), which, absolute.stat().st_mtime_ns)
@@ -125,17 +130,8 @@ class NoAnswer(Exception):
 @functools.lru_cache(maxsize=64)
 def find_fault(path: str, which: str, changed: int) -> str:
     """Returns what is wrong with a program, where, and what to do; or nothing."""
-    from . import __version__
-
-    name = KNOWN[which][1][0]
-    began = time.monotonic()
-
-    def give_up(_process: object) -> None:
-        if time.monotonic() - began > ANSWER:
-            raise NoAnswer
-
     try:
-        ended = call(path, ["--version"], b"", None, give_up)
+        ended = ask_version(path)
     except NoAnswer:
         return ""
     except OSError as why:
@@ -143,8 +139,29 @@ def find_fault(path: str, which: str, changed: int) -> str:
             return (f"the program {path} cannot be started: it is damaged, or made for another"
                     f" processor than {os.uname().machine}: {AGAIN}")
         return f"the program {path} cannot be started: {why.strerror}"
+    return "" if ended.status in NO_FAULT else find_fault_of_answer(path, which, ended)
+
+
+def ask_version(path: str) -> Ended:
+    """Returns how a program ends that is asked for its version."""
+    began = time.monotonic()
+
+    def give_up(_process: object) -> None:
+        if time.monotonic() - began > ANSWER:
+            raise NoAnswer
+
+    return call(path, ["--version"], b"", None, give_up)
+
+
+def find_fault_of_answer(path: str, which: str, ended: Ended) -> str:
+    """Returns what is wrong with a program that was asked for its version; or nothing."""
+    from . import __version__
+
+    name = KNOWN[which][1][0]
     if ended.status != 0:
-        return ""
+        how = f"signal {-ended.status}" if ended.status < 0 else f"status {ended.status}"
+        return (f"the program {path} is damaged, or no {name}: to --version it ends with {how}:"
+                f" {AGAIN}")
     line = ended.text.partition("\n")[0]
     found = re.fullmatch(r"([\w-]+) ([0-9][\w.+-]*)", line)
     if found is None or found[1] != name:
@@ -174,18 +191,22 @@ def call(
     data: bytes,
     folder: PathLike | None = None,
     meanwhile: typing.Callable[[subprocess.Popen[bytes]], None] | None = None,
+    read: typing.Callable[[bytes], None] | None = None,
 ) -> Ended:
     """Runs a program in a folder, with data on standard input, to its end.
 
-    `meanwhile` is called again and again while it runs. Where anything is raised, Ctrl-C among it,
-    the program is stopped first.
+    `meanwhile` is called again and again while it runs, or else `read` gets each piece of standard
+    output as it comes. Where anything is raised, Ctrl-C among it, the program is stopped first.
     """
     with subprocess.Popen(
         [program, *words], cwd=folder, stdin=subprocess.PIPE, stdout=subprocess.PIPE,
         stderr=subprocess.PIPE,
     ) as process:
         try:
-            text, note = read_outputs(process, data, meanwhile)
+            if read is None:
+                text, note = read_outputs(process, data, meanwhile)
+            else:
+                text, note = read_pieces(process, data, read)
         except BaseException:
             stop(process)
             raise
@@ -211,6 +232,24 @@ def read_outputs(
             return process.communicate(timeout=0.1)
         except subprocess.TimeoutExpired:
             meanwhile(process)
+
+
+def read_pieces(
+    process: subprocess.Popen[bytes], data: bytes, read: typing.Callable[[bytes], None]
+) -> tuple[bytes, bytes]:
+    """Returns what a program writes on both outputs, and hands on standard output as it comes."""
+    assert process.stdout is not None and process.stderr is not None
+    feed(process, data)
+    notes: list[bytes] = []
+    thread = threading.Thread(target=lambda file: notes.append(file.read()), args=[process.stderr])
+    thread.start()
+    text = b""
+    while piece := os.read(process.stdout.fileno(), 1 << 16):
+        text += piece
+        read(piece)
+    thread.join()
+    process.wait()
+    return text, notes[0]
 
 
 def feed(process: subprocess.Popen[bytes], data: bytes) -> None:

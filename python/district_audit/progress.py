@@ -78,13 +78,15 @@ class Ticker(typing.Protocol):
 class TqdmBar:
     """A bar by tqdm, which also draws in notebooks."""
 
-    def __init__(self, tqdm: typing.Callable[..., Ticker], name: str = "") -> None:
-        self.tqdm, self.name = tqdm, name
+    def __init__(
+        self, tqdm: typing.Callable[..., Ticker], name: str = "", unit: str = "walk"
+    ) -> None:
+        self.tqdm, self.name, self.unit = tqdm, name, unit
         self.bar: Ticker | None = None
 
     def show(self, done: int, total: int) -> None:
         if self.bar is None:
-            self.bar = self.tqdm(total=total, unit="walk", desc=self.name or "walked")
+            self.bar = self.tqdm(total=total, unit=self.unit, desc=self.name or "walked")
         self.bar.n = done
         self.bar.refresh()
 
@@ -93,14 +95,35 @@ class TqdmBar:
             self.bar.close()
 
 
-def new_bar(name: str = "") -> Bar:
+def new_bar(name: str = "", unit: str = "walk") -> Bar:
     """Returns tqdm's bar where it is installed, else a plain one, with the name of what it shows.
     """
     try:
         from tqdm.auto import tqdm
     except ImportError:
         return PlainBar(name=name)
-    return TqdmBar(tqdm, name)
+    return TqdmBar(tqdm, name, unit)
+
+
+class PlanCount:
+    """The display of how many plans are audited: those whose reports are whole."""
+
+    def __init__(self, total: int, bar: Bar) -> None:
+        self.total, self.bar = total, bar
+        self.done, self.rest = 0, b""
+
+    def __call__(self, _process: object = None) -> None:
+        self.bar.show(self.done, self.total)
+
+    def read(self, piece: bytes) -> None:
+        """Counts the reports that end in the next piece of a text of `plans`."""
+        *lines, self.rest = (self.rest + piece).split(b"\n")
+        self.done += lines.count(b"end")
+        self()
+
+    def end(self) -> None:
+        self()
+        self.bar.end()
 
 
 class Look(typing.NamedTuple):

@@ -1241,14 +1241,17 @@ class Report:
         return load_report(path, manifest)
 
     def to_files(self, path: PathLike, decides: str | None = None) -> None:
-        """Writes the report and its manifest `PATH.manifest.json`; see `audit_to_file`.
+        """Writes the report and its manifest `PATH.manifest.json`; see `audit_to_file`. Pages of
+        the report then know the announced number, as those of the file do.
 
         Raises ValueError if the report was read from a text, if it is one of several, or if it has
         no number that is named as `decides` says; OSError.
         """
-        from .study import write_study
+        from .study import announce, write_study
 
         write_study(path, [("", self)], decides)
+        # The call that made a report is no part of its value.
+        object.__setattr__(self, "audited", announce(self, decides).audited)
 
     @classmethod
     def parse_plans(cls, text: str) -> list[tuple[str, Report]]:
@@ -1461,7 +1464,8 @@ class Report:
         A walk shows the enacted plan as an epsilon-outlier if its `count` is at most epsilon times
         its `of`; the enacted plan itself is in the count. The result says on how many of the m
         walks that is so, and bounds the chance of that many or more for a plan that is not among
-        the alpha most fragile legal plans: P(X >= that many), where X is binomial of m trials
+        the alpha most fragile legal plans (of a run with a weight on cut edges, counted by their
+        chances): P(X >= that many), where X is binomial of m trials
         with chance sqrt(2 epsilon / alpha) each. `p` is that tail, computed in exact arithmetic
         and rounded up at nine places. A plan's fragility is its chance to be an epsilon-outlier
         on a walk from it.

@@ -85,14 +85,16 @@ class NamedReports(typing.Mapping[str, Report]):
 
     def to_files(self, path: PathLike, decides: str | None = None) -> None:
         """Writes all reports as a study: the reports, one manifest `PATH.manifest.json`, and the
-        graph and the changes of its preparation; see `audit_to_file`.
+        graph and the changes of its preparation; see `audit_to_file`. Pages of these reports
+        then know the announced number, as those of the files do.
 
         Raises ValueError if the reports were read from texts, or if no number is named as `decides`
         says; OSError.
         """
-        from .study import write_study
+        from .study import announce, write_study
 
         write_study(path, self.pairs, decides)
+        self.pairs = [(name, announce(report, decides)) for name, report in self.pairs]
 
     def plot(
         self,

@@ -140,6 +140,7 @@ class Running:
 
 
 Display = typing.Callable[["subprocess.Popen[bytes]"], None]
+Answer = typing.TypeVar("Answer")
 
 
 def execute(asked: Given, way: Way) -> Report:
@@ -155,85 +156,71 @@ def execute(asked: Given, way: Way) -> Report:
     return report
 
 
-# ---- several elections
+# ---- several runs
+
+
+def count_beside(workers: int, count: int) -> int:
+    """Returns how many of these runs go on at the same time, each with this number of threads."""
+    return max(1, min(count, (os.cpu_count() or 1) // workers))
 
 
 class Skipped(Exception):
-    """An election that did not begin, since another one had failed."""
+    """A run that did not begin or was stopped, since another one had failed."""
 
 
-class Together:
-    """The runs of several elections, side by side over the processors, under one display.
+class SideBySide(typing.Generic[Answer]):
+    """Runs side by side over the processors, under one display. The first that fails ends all."""
 
-    With a budget they run one behind the other, and the first with work left ends the call.
-    """
-
-    def __init__(self, asked: typing.Mapping[str, Given], way: Way, saves: bool) -> None:
-        """Judges all runs; if they save, each has a folder of its election's name."""
-        self.named: dict[str, Running] = {}
-        for name, one in asked.items():
-            place = folder_of(way.folder, name) if saves else way.folder
-            self.named[name] = Running(one, dataclasses.replace(way, folder=place))
+    def __init__(self) -> None:
         self.is_stopped = threading.Event()
         self.lock = threading.Lock()
-        self.watch: bars.Watch | bars.Clock | None = None
+        self.watch: bars.Watch | bars.Clock | bars.PlanCount | None = None
 
-    def execute(self) -> list[tuple[str, Report]]:
-        """Runs all, and returns the reports in order. Raises what `run` raises."""
-        self.watch = self.new_watch()
-        try:
-            found = self.collect()
-        finally:
-            if self.watch is not None:
-                self.watch.end()
-        self.refuse_work_left(found)
-        reports = [(name, one) for name, one in found.items() if isinstance(one, Report)]
-        warn_of_frozen(reports, 4, "election")
-        return reports
+    def collect(self, names: typing.Sequence[str], together: int) -> dict[str, Answer]:
+        """Runs all, at most `together` of them at the same time, and returns what each answers.
 
-    def collect(self) -> dict[str, Report | WorkLeft]:
-        """Returns the report of each election, or what it has left."""
+        Raises what the first of the names raised; Interrupted after Ctrl-C.
+        """
         is_interrupted = False
-        with concurrent.futures.ThreadPoolExecutor(self.count_together()) as pool:
-            futures = {name: pool.submit(self.execute_one, name) for name in self.named}
+        futures: dict[str, concurrent.futures.Future[Answer]] = {}
+        with concurrent.futures.ThreadPoolExecutor(together) as pool:
             try:
+                for name in names:
+                    futures[name] = pool.submit(self.execute_or_skip, name)
                 concurrent.futures.wait(futures.values())
             except KeyboardInterrupt:
                 self.is_stopped.set()
                 is_interrupted = True
+            except BaseException:
+                self.is_stopped.set()
+                raise
         errors = [error for one in futures.values() if (error := one.exception()) is not None]
         for error in errors:
-            if not is_interrupted and not isinstance(error, (Interrupted, Skipped)):
+            if not is_interrupted and not isinstance(error, Skipped):
                 raise error
         if errors or is_interrupted:
             raise self.make_interrupted()
         return {name: future.result() for name, future in futures.items()}
 
-    def count_together(self) -> int:
-        """Returns how many elections run at the same time."""
-        asked = next(iter(self.named.values())).asked
-        if asked.named.get("budget") is not None:
-            return 1
-        workers = count_in(asked.named, "workers")
-        return max(1, min(len(self.named), (os.cpu_count() or 1) // workers))
-
-    def execute_one(self, name: str) -> Report | WorkLeft:
-        """Runs one election; does nothing once another has failed."""
+    def execute_or_skip(self, name: str) -> Answer:
+        """Runs one; does nothing once another has failed."""
         if self.is_stopped.is_set():
             raise Skipped
-        one = self.named[name]
         try:
-            return one.execute(self.show)
-        except WorkLeft as left:
-            if one.asked.named.get("budget") is not None:
-                self.is_stopped.set()
-                raise name_election(
-                    left, name, list(self.named).index(name), len(self.named)
-                ) from None
-            return left
+            return self.execute_one(name)
+        except KeyboardInterrupt:
+            raise Skipped from None
         except BaseException:
             self.is_stopped.set()
             raise
+
+    def execute_one(self, name: str) -> Answer:
+        """Runs one."""
+        raise NotImplementedError
+
+    def make_interrupted(self) -> Interrupted:
+        """Returns the exception for runs that Ctrl-C stopped."""
+        raise NotImplementedError
 
     def show(self, process: subprocess.Popen[bytes]) -> None:
         """Draws the display of all; ends this process once another has failed."""
@@ -244,6 +231,53 @@ class Together:
                 self.watch(process)
             finally:
                 self.lock.release()
+
+
+class Together(SideBySide["Report | WorkLeft"]):
+    """The runs of several elections, side by side over the processors, under one display.
+
+    With a budget they run one behind the other, and the first with work left ends the call.
+    """
+
+    def __init__(self, asked: typing.Mapping[str, Given], way: Way, saves: bool) -> None:
+        """Judges all runs; if they save, each has a folder of its election's name."""
+        super().__init__()
+        self.named: dict[str, Running] = {}
+        for name, one in asked.items():
+            place = folder_of(way.folder, name) if saves else way.folder
+            self.named[name] = Running(one, dataclasses.replace(way, folder=place))
+
+    def execute(self) -> list[tuple[str, Report]]:
+        """Runs all, and returns the reports in order. Raises what `run` raises."""
+        self.watch = self.new_watch()
+        try:
+            found = self.collect(list(self.named), self.count_together())
+        finally:
+            if self.watch is not None:
+                self.watch.end()
+        self.refuse_work_left(found)
+        reports = [(name, one) for name, one in found.items() if isinstance(one, Report)]
+        warn_of_frozen(reports, 4, "election")
+        return reports
+
+    def count_together(self) -> int:
+        """Returns how many elections run at the same time."""
+        asked = next(iter(self.named.values())).asked
+        if asked.named.get("budget") is not None:
+            return 1
+        return count_beside(count_in(asked.named, "workers"), len(self.named))
+
+    def execute_one(self, name: str) -> Report | WorkLeft:
+        """Runs one election."""
+        one = self.named[name]
+        try:
+            return one.execute(self.show)
+        except WorkLeft as left:
+            if one.asked.named.get("budget") is not None:
+                raise name_election(
+                    left, name, list(self.named).index(name), len(self.named)
+                ) from None
+            return left
 
     def refuse_work_left(self, found: typing.Mapping[str, Report | WorkLeft]) -> None:
         """Raises WorkLeft, with its election's name, where one has work left."""

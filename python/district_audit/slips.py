@@ -13,14 +13,17 @@ from .decimals import round_down
 from .graphs import Label, as_json
 from .warnings import (
     ColumnRounded,
+    CompactnessUnderLimit,
     DistrictRounded,
     DistrictWithoutPeople,
     DistrictWithoutVotes,
     LengthsRounded,
+    LooseTolerance,
     MapWarning,
     MoreVotesThanPeople,
     NoCompactnessLimit,
     NoPeople,
+    OneSidedVotes,
     PercentagesNotCounts,
     SharesNotCounts,
     SmallGroupShare,
@@ -38,6 +41,8 @@ COMPACT = {
     "max_cut": 400_000, "max_length": TABLE["max_length"].most, "cut_weight": 64,
 }
 LEAST_SHARE = 100
+# From this slack on, in hundredths of a percent, a percentage was most likely given as a part.
+LOOSE_SLACK = 5000
 
 # For each column of numbers the value of each unit before it was made whole.
 Before = typing.Mapping[str, typing.Mapping[Label, Fraction]]
@@ -45,7 +50,7 @@ Before = typing.Mapping[str, typing.Mapping[Label, Fraction]]
 
 def slips_of(judged: Judged) -> list[MapWarning]:
     """Returns the warnings of a map's people, votes and group."""
-    found = of_people(judged)
+    found = of_people(judged) + of_slack(judged.choices.slack)
     for pair in judged.choices.votes:
         found += of_votes(judged, *pair)
     if judged.choices.group:
@@ -116,14 +121,44 @@ def of_share(share: int) -> list[MapWarning]:
     ]
 
 
+def of_slack(slack: int) -> list[MapWarning]:
+    """Returns a warning of a tolerance on population of a half and more."""
+    if slack < LOOSE_SLACK:
+        return []
+    return [
+        LooseTolerance(
+            f"slack={slack} lets a district have {slack / 100:g} percent more or fewer people than"
+            f" the ideal: for {slack / 10_000:g} percent write tolerance={slack / 1_000_000:g}"
+        )
+    ]
+
+
 def of_question(command: str, named: Words) -> list[MapWarning]:
-    """Returns a warning of a partisan question where no argument limits compactness."""
+    """Returns a warning of a partisan question where no argument limits compactness, and of one on
+    compactness where a limit does.
+    """
     if command not in ("run", "plans") or "ask" not in named:
         return []
-    for name, limits_nothing in COMPACT.items():
-        if str(named.get(name, limits_nothing)) != str(limits_nothing):
-            return []
-    return of_asks(word_of(named["ask"]).split(","))
+    asks = word_of(named["ask"]).split(",")
+    given = [
+        name for name, limits_nothing in COMPACT.items()
+        if str(named.get(name, limits_nothing)) != str(limits_nothing)
+    ]
+    return of_limited(asks, given) if given else of_asks(asks)
+
+
+def of_limited(asks: typing.Sequence[str], given: typing.Sequence[str]) -> list[MapWarning]:
+    """Returns a warning of a question on compactness under a limit on it; a weight is none."""
+    limits = [name for name in given if name != "cut_weight"]
+    compact = [ask for ask in asks if ask.split(":")[0] in ("cut-edges", "cut-length")]
+    if not limits or not compact:
+        return []
+    return [
+        CompactnessUnderLimit(
+            f"{', '.join(compact)}: if {' or '.join(limits)} is tight, nearly all compared plans"
+            " stand at the limit, and neutral plans are outliers, too (cut_weight has no such edge)"
+        )
+    ]
 
 
 def of_report(report: Report) -> list[MapWarning]:
@@ -131,9 +166,10 @@ def of_report(report: Report) -> list[MapWarning]:
     found: list[MapWarning] = []
     if not report.population:
         found.append(NoPeople("the population is 0 in every unit"))
-    if report.rules.max_cut is None and report.rules.max_length is None:
-        found += of_asks(report.asks)
-    return found
+    found += of_slack(report.rules.slack)
+    rules = report.rules
+    given = [name for name in COMPACT if getattr(rules, name) is not None]
+    return found + (of_limited(report.asks, given) if given else of_asks(report.asks))
 
 
 def of_asks(asks: typing.Iterable[str]) -> list[MapWarning]:
@@ -150,7 +186,30 @@ def of_asks(asks: typing.Iterable[str]) -> list[MapWarning]:
     ]
 
 
-# ---- rounding
+# ---- missing values and rounding
+
+
+def of_missing(judged: Judged, before: Before) -> list[MapWarning]:
+    """Returns a warning of units with votes of one party, where those of the other were missing.
+
+    A missing value was made 0, and has no value from before.
+    """
+    found: list[MapWarning] = []
+    for first, second in judged.choices.votes:
+        for gone, kept in ((first, second), (second, first)):
+            units = [
+                unit for unit, row in judged.rows.items()
+                if unit not in before[gone] and unit in before[kept] and row[kept]
+            ]
+            if units:
+                found.append(
+                    OneSidedVotes(
+                        f"units whose votes in {gone} were missing and became 0, and that keep"
+                        f" their votes in {kept}: {len(units)} of {len(judged.rows)}:"
+                        f" {judged.shown(units)}"
+                    )
+                )
+    return found
 
 
 def of_rounding(judged: Judged, before: Before) -> list[MapWarning]:

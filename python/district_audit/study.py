@@ -16,9 +16,9 @@ import tempfile
 import typing
 
 from . import calls
-from .arguments import refuse, tested_elections
+from .arguments import Words, plain_words, refuse, tested_elections
 from .custody import Call, Custody, File, PathLike, find_versions, write_whole
-from .deciding import find_announced
+from .deciding import find_announced, refuse_other_number
 from .elections import ElectionReports, each_election
 from .errors import NotProved, TypeRefused
 from .graphs import Foreign
@@ -31,7 +31,7 @@ from .manifest import (
     Manifest,
     ManifestRefused,
 )
-from .preparing import Preparation
+from .preparing import Preparation, Prepared
 from .program import find_program, refuse_unproved_program
 from .report import Audited, Batch, Report
 from .results import NamedReports, PlanReports
@@ -79,12 +79,15 @@ def audit_to_file(
     -------
     Report, ElectionReports or PlanReports
 
-    Raises what `run` raises, ValueError if there is no number of this name, and OSError where a
-    file cannot be written.
+    Raises what `run` raises, ValueError before the walk if there is no number of this name, and
+    OSError where a file cannot be written.
     """
     path = pathlib.Path(report)
     probe(path)
     refuse_unproved_program(find_program("audit", program))
+    if decides is not None:
+        names = names_before(graph, elections, table, words)
+        refuse_other_number(decides, names, plain_words("run" if table is None else "plans", words))
     given: dict[str, Foreign] = {**words, "program": program}
     if table is not None:
         if elections is not None:
@@ -95,12 +98,24 @@ def audit_to_file(
                 f" plans for each election, with {ways}, and announce one number of all (decides),"
                 " since each page counts the numbers of its own study",
             )
+        given.update(folder=folder, progress=progress)
         found: Report | NamedReports = calls.plans(graph, table, **given)
     else:
         given.update(folder=folder, progress=progress, slots=slots)
         found = calls.run(graph, elections=elections, **given)
-    write_study(path, [("", found)] if isinstance(found, Report) else found.pairs, decides)
+    found.to_files(path, decides)
     return found
+
+
+def names_before(
+    graph: object, elections: calls.Elections | None, table: object, words: Words
+) -> list[str] | None:
+    """Returns the names of the reports that a call will make; None for those of a table."""
+    if table is not None:
+        return None
+    kept = graph.elections if isinstance(graph, Prepared) and not words.get("first") else None
+    named = elections if elections is not None else kept
+    return [str(name) for name in named] if isinstance(named, typing.Mapping) and named else [""]
 
 
 def probe(path: pathlib.Path) -> None:
@@ -164,6 +179,15 @@ def write_study(path: PathLike, pairs: Pairs, decides: str | None = None) -> Man
     )
     write_whole(place.with_name(place.name + SUFFIX), str(manifest).encode("utf-8"))
     return manifest
+
+
+def announce(report: Report, decides: str | None) -> Report:
+    """Returns a report that knows the number that the manifest of its study names."""
+    audited = report.audited
+    if audited is None or audited.call is None:
+        return report
+    call = dataclasses.replace(audited.call, decides=decides)
+    return dataclasses.replace(report, audited=dataclasses.replace(audited, call=call))
 
 
 def write_graphs(

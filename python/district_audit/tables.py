@@ -6,6 +6,7 @@ import dataclasses
 import io
 import json
 import os
+import re
 import typing
 
 from .errors import PrepareRefused
@@ -13,6 +14,11 @@ from .graphs import as_json, as_text, is_missing, plain, list_ids
 from .values import faults_in, kind_of, find_missing, find_repeated
 
 MOST_PLANS = 4096
+# A field of CSV and what ends it. The groups are the text between its quotes, the text behind them,
+# a field without quotes, and its end.
+FIELD = re.compile(
+    r'(?:"([^"]*(?:""[^"]*)*)(?:"([^,\r\n"][^,\r\n]*)?|\Z)|([^,\r\n]*))(,|[\r\n]|\Z)'
+)
 
 
 @dataclasses.dataclass
@@ -72,12 +78,33 @@ def bytes_of(table: str | os.PathLike[str] | bytes | bytearray | memoryview) -> 
 # ---- reading
 
 
+def records_of(text: str) -> typing.Iterator[list[str]]:
+    """Yields the records of CSV as the program reads it; Python's reader has limits of its own."""
+    if '"' not in text:
+        yield from (line[0].split(",") for line in re.finditer("[^\r\n]+", text))
+        return
+    record: list[str] = []
+    for found in FIELD.finditer(text):
+        quoted, behind, plain_field, end = found.groups()
+        if quoted is not None:
+            record.append(quoted.replace('""', '"') + (behind or ""))
+        elif plain_field or record or end == ",":
+            record.append(plain_field)
+        if record and end != ",":
+            yield record
+            record = []
+
+
+def count_plans(text: str) -> int:
+    """Returns the number of plans with that of the graph, as the first record of a table says."""
+    return len(next(records_of(text.removeprefix("\ufeff")), [""]))
+
+
 def plans_of_csv(data: bytes) -> list[Named] | None:
     """Returns the plans of a CSV file; None where it is unreadable, which the program refuses."""
     try:
-        text = io.StringIO(data.decode("utf-8-sig"), newline="")
-        records = [record for record in csv.reader(text) if record]
-    except (UnicodeDecodeError, csv.Error):
+        records = list(records_of(data.decode("utf-8-sig")))
+    except UnicodeDecodeError:
         return None
     if not records or len({len(record) for record in records}) != 1:
         return None

@@ -229,8 +229,8 @@ def verify(
         found.append(compare("graph", file, path))
     tool = None if program is None else pathlib.Path(program)
     found.append(compare("program", made.program.file, tool))
-    # Only a manifest of format 1 has no version of Python.
-    found.append(check_origin(made.program, tool, "python" in made.versions))
+    # Only a manifest of format 1 has no version of Python or R.
+    found.append(check_origin(made.program, tool, bool({"python", "R"} & made.versions.keys())))
     found += check_preparation(made, place, None if raw is None else pathlib.Path(raw))
     return [*found, check_versions(made.versions)]
 

@@ -13,10 +13,11 @@ import warnings as python_warnings
 from .errors import FrozenWalk, GraphChanged, HeadNotCompared
 
 __all__ = [
-    "AllUnitsFrozen", "BordersNotShared", "ColumnRounded", "CoordinatesInDegrees",
-    "DistrictCannotChange", "DistrictFrozen", "DistrictRounded", "DistrictWithoutPeople",
-    "DistrictWithoutVotes", "FrozenWalk", "GraphChanged", "HeadNotCompared", "LengthsRounded",
-    "LimitAtOwnNumber", "MapWarning", "MoreVotesThanPeople", "NoCompactnessLimit", "NoPeople",
+    "AllUnitsFrozen", "BordersNotShared", "ColumnRounded", "CompactnessUnderLimit",
+    "CoordinatesInDegrees", "DistrictCannotChange", "DistrictFrozen", "DistrictRounded",
+    "DistrictWithoutPeople", "DistrictWithoutVotes", "FrozenWalk", "GraphChanged",
+    "HeadNotCompared", "LengthsRounded", "LimitAtOwnNumber", "LooseTolerance", "MapWarning",
+    "MoreVotesThanPeople", "NoCompactnessLimit", "NoPeople", "OneSidedVotes",
     "PercentagesNotCounts", "SharesNotCounts", "SmallGroupShare", "emit", "read",
 ]
 
@@ -48,8 +49,16 @@ class DistrictWithoutVotes(MapWarning):
     """A district of the enacted plan has no votes, so it has no share of votes."""
 
 
+class LooseTolerance(MapWarning):
+    """Districts may have half more or fewer people than the ideal: a percentage, most likely."""
+
+
 class MoreVotesThanPeople(MapWarning):
     """There are more votes than people in all, or at least twice as many in a unit."""
+
+
+class OneSidedVotes(MapWarning):
+    """A unit has votes of one party, and those of the other were missing and became 0."""
 
 
 class SharesNotCounts(MapWarning):
@@ -78,6 +87,12 @@ class SmallGroupShare(MapWarning):
 
 class NoCompactnessLimit(MapWarning):
     """A partisan question, where no rule limits how sprawling the compared plans are."""
+
+
+class CompactnessUnderLimit(MapWarning):
+    """A question about cut edges or their length under a limit on them, where neutral plans are
+    outliers, too.
+    """
 
 
 class LimitAtOwnNumber(MapWarning):

@@ -29,6 +29,11 @@ if typing.TYPE_CHECKING:
 
 SAMPLES = 256
 LEAST_WEIGHT, NEAR = 12, 2
+COLUMNS = (
+    "cut edges of walks: median, low (1 percent), high (99 percent); inside: of {plans} plans,"
+    " those from low to high; agree_after: steps until both starts agree; changed: units; moved:"
+    " steps"
+)
 PlanOfIds = typing.Mapping[Foreign, object]
 
 
@@ -149,8 +154,8 @@ class WeightChoice:
             f"--hub-steps is at least {after}, after which walks from a compact and a sprawling"
             " start agreed."
             if after is not None
-            else "Walks from a compact and a sprawling start did not agree: the test is valid, and"
-            " weak."
+            else f"Walks of {self.band.steps} steps from a compact and a sprawling start did not"
+            " agree: with no more --hub-steps than that the test is valid, and weak."
         )
         if not self.band.inside:
             return (
@@ -169,8 +174,8 @@ class WeightChoice:
         )
 
     def __str__(self) -> str:
-        """Returns the table and the announcement."""
-        lines = ["  ".join(ROW)]
+        """Returns the table, with what its columns are, and the announcement."""
+        lines = [COLUMNS.format(plans=len(self.plans)), "  ".join(ROW)]
         lines += ["  ".join("-" if cell is None else str(cell) for cell in row)
                   for row in self.rows()]
         return "\n".join([*lines, self.announcement])

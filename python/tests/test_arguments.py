@@ -260,8 +260,8 @@ class Refusals(common.ProgramCase):
                 "check(walks=2): check has no argument walks (only run, make, plans, trace)",
             ),
             (
-                district_audit.plans, {"save": 2},
-                "plans(save=2): plans has no argument save (only run, make)",
+                district_audit.plans, {"budget": 2},
+                "plans(budget=2): plans has no argument budget (only run, make)",
             ),
             (
                 district_audit.make,
@@ -446,6 +446,8 @@ class Signatures(unittest.TestCase):
     }
     # Arguments of calls on a map that `prepare` has, too.
     PREPARED = (*arguments.LEFT_BY_NONE, *arguments.RULES)
+    # Arguments of `plans` for which the package calls `run`.
+    BY_RUNS = (("plans", "save"), ("plans", "resume"))
     # Defaults of a call that are not the program's.
     OWN = {("trace", "ask"): None, ("trace", "thin"): None}
 
@@ -456,7 +458,8 @@ class Signatures(unittest.TestCase):
                 if name in arguments.OF_PILOT:
                     continue
                 with self.subTest(command=command, name=name):
-                    self.assertEqual(name in there, command in row.commands)
+                    is_word = command in row.commands or (command, name) in self.BY_RUNS
+                    self.assertEqual(name in there, is_word)
                     if name not in there:
                         continue
                     default = None if row.is_needed else row.default

@@ -612,7 +612,7 @@ class Progress(common.ProgramCase):
 
     def run_with(self, **words: common.Value) -> tuple[district_audit.Report, Noted]:
         bar = Noted()
-        before, progress.new_bar = progress.new_bar, lambda name="": bar
+        before, progress.new_bar = progress.new_bar, lambda name="", unit="": bar
         self.addCleanup(setattr, progress, "new_bar", before)
         try:
             report = district_audit.run(

@@ -76,6 +76,7 @@ class PageOfLimits(ProgramCase):
     def test_the_announced_limit_decides(self) -> None:
         found = self.audit(max_cut=[300, 140])
         page = self.page(found, decides="max_cut=140 ends gap:low")
+        self.assertIn("the legal plans under its own limit", page.text)
         value = next(one.p for one in found["max_cut=140"].ends if one.ask == "gap:low")
         for words in (
             f"the parallel test on gap:low, limit max_cut=140. It is {value}, and is not"
@@ -116,8 +117,16 @@ class PageOfLimits(ProgramCase):
         loaded = district_audit.load_study(self.folder / "study.manifest.json")
         assert isinstance(loaded, LimitReports)
         page = self.page(loaded)
-        for words in ("limit cut_weight=33.25. It is", "33.25/64", "names it, too"):
+        for words in (
+            "weight cut_weight=33.25. It is", "33.25/64", "names it, too", "differ in one weight",
+            "all legal plans, drawn with the chances of its own weight", "under all other weights",
+            "cut_weight=64: gap:low: no rule limits compactness",
+        ):
             self.assertIn(words, page.text)
+        self.assertNotIn("under its own limit", page.text)
+        # The other weights limit compactness, and their reports have no warning.
+        self.assertEqual(page.text.count("no rule limits compactness"), 1)
+        self.assertEqual([len(one.warnings) for one in found.values()], [0, 0, 1])
         parsed = LimitReports(
             {name: Report.parse(str(report)) for name, report in found.items()}
         )

@@ -114,6 +114,19 @@ class Neighbors(unittest.TestCase):
         self.assertEqual(graph.report.nearest, {"far": "two"})
         self.assertIn('without a neighbor: 1: "far (nearest two)"', str(graph.report))
         self.assertEqual(graph.rows["ring"]["boundary_perim"], 36 + 12 - 12 - 4 - 2)
+        self.assertEqual(graph.report.parts, [])
+        self.assertIn("parts of several units that no border joins: none", str(graph.report))
+
+    def test_parts_beyond_a_river(self) -> None:
+        """Only single units without a neighbor were told, with what to join them to."""
+        frame = frame_of({
+            "a": box(0, 0, 2, 2), "b": box(2, 0, 2, 2), "c": box(0, 2, 2, 2), "d": box(9, 9, 1, 1),
+            "e": box(4.5, 1.5, 2, 2), "f": box(6.5, 1.5, 2, 2),
+        })
+        report = graph_from(frame, "GEOID").report
+        self.assertEqual(report.parts, [(["e", "f"], ("e", "b"))])
+        self.assertEqual(report.nearest, {"d": "f"})
+        self.assertIn('no border joins: 1: "2 units (nearest e - b)"', str(report))
 
     def test_lengths_of_a_grid(self) -> None:
         graph = graph_from(grid(), "GEOID")
@@ -365,7 +378,8 @@ class Guide(common.ProgramCase):
         code = text.split("```python\n")[1].split("```")[0]
         self.assertIn("graph_from(", code)
         for long, short in (("1_000_000", "2000"), ("ends=999", "ends=9"), ("100_000", "100"),
-                            ("workers=8", "workers=1")):
+                            ("workers=8", "workers=1"),
+                            ("weight(prepared)", "weight(prepared, neutral=3, steps=2048)")):
             self.assertIn(long, code)
             code = code.replace(long, short)
         frame = grid(12, 5).rename(
@@ -379,6 +393,8 @@ class Guide(common.ProgramCase):
         self.assertIn("islands, units without a neighbor: none", said.getvalue())
         page = (self.folder / "exhibit.html").read_text(encoding="utf-8")
         self.assertIn("Republican Party", page)
+        self.assertIn("the p-value of the parallel test on gap:high, election GOV18", page)
+        self.assertIn("Neither the enacted plan nor votes were looked at.", page)
         manifest = json.loads((self.folder / "report.manifest.json").read_text(encoding="utf-8"))
         names = {file["name"] for file in manifest["preparation"]["files"]}
         self.assertIn("precincts.shp", names)

@@ -207,7 +207,7 @@ class Manifests(common.ProgramCase):
         (entry,) = value["reports"]
         program = {name: value["program"][name] for name in ("name", "sha256", "bytes")}
         before = {
-            "format": "district-audit manifest 1", "package": "0.2.0", "program": program,
+            "format": "district-audit manifest 1", "package": "0.3.0", "program": program,
             "processors": 2,
             **{name: entry[name] for name in ("command", "graph", "report", "started", "ended")},
         }
@@ -235,6 +235,22 @@ class Manifests(common.ProgramCase):
             status, said = self.verify(path, "--graph", CYCLE, "--program", program)
             self.assertEqual(status, 1, said)
             self.assertIn("origin: DIFFERS", said)
+
+    def test_a_changed_build_is_found_in_a_study_of_r(self) -> None:
+        """The versions of a study that the R package wrote name R, and not Python."""
+        program = self.with_origin("yes")
+        path = self.audit(program=program)
+        value = json.loads(path.read_text(encoding="utf-8"))
+        value["versions"] = {"R": "4.2.2", "districtaudit": "0.2.0", "sf": "1.0.9"}
+        path.write_text(json.dumps(value), encoding="utf-8")
+        status, said = self.verify(path, "--graph", CYCLE, "--program", program)
+        self.assertEqual(status, 0, said)
+        self.assertIn(f"origin: agrees, commit {'c' * 40}, toolchain tools 1, proved", said)
+        value["program"]["proved"] = False
+        path.write_text(json.dumps(value), encoding="utf-8")
+        status, said = self.verify(path, "--graph", CYCLE, "--program", program)
+        self.assertEqual(status, 1, said)
+        self.assertIn("origin: DIFFERS", said)
 
     def test_an_origin_of_another_program_does_not_count(self) -> None:
         program = pathlib.Path(self.with_origin("yes"))

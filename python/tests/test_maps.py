@@ -59,6 +59,44 @@ class Maps(common.FolderCase):
                 if one != other:
                     self.assertNotEqual(shade[one], shade[other])
 
+    def test_a_lake_is_no_district(self) -> None:
+        """A white district looked like the lake beside it, and no page said which is which."""
+        from shapely.geometry import box
+
+        squares = self.squares()
+        (dry,) = self.maps(squares)
+        self.assertFalse(dry.has_holes)
+        self.assertNotIn("White places", map_figures.map_figure([dry], "maps"))
+        place = 5 * ROW + 5
+        squares[self.units[place]] = box(5, 5, 5.5, 5.5)
+        (wet,) = self.maps(squares)
+        self.assertTrue(wet.has_holes)
+        self.assertIn(
+            "White places within the map have no unit.", map_figures.map_figure([dry, wet], "maps")
+        )
+        shades = {shade for drawn in (dry, wet) for shade in (one.shade for one in drawn.areas)}
+        self.assertFalse({"#fff", "#ffffff", "white"} & shades)
+
+    def test_each_part_of_a_district_has_its_label(self) -> None:
+        """The columns 0 to 7 and 14 to 19 are one district, in two parts 7.5 by 15 or more."""
+        plan = {
+            unit: "middle" if 8 <= place % ROW < 14 else "A"
+            for place, unit in enumerate(self.units)
+        }
+        drawn = self.maps(self.squares(), plan=plan)[1]
+        figure = map_figures.map_figure([drawn], "maps")
+        places = [float(x) for x in re.findall('<text x="([0-9.]+)"[^>]*>A</text>', figure)]
+        wide = 900 / ROW
+        self.assertEqual(len(places), 2)
+        self.assertTrue(0 < places[0] < 8 * wide and 14 * wide < places[1] < 900, places)
+        # A part that has no room keeps its fill alone.
+        thin = {
+            unit: "A" if place % ROW in (0, 19) else "B" for place, unit in enumerate(self.units)
+        }
+        drawn = self.maps(self.squares(), plan=thin)[1]
+        labels, left_out = district_map.place_labels(drawn, 100, (13.0,), lambda *_: 30)
+        self.assertEqual(([one.words for one in labels].count("A"), left_out), (1, []))
+
     def test_a_plan_of_a_trace_stands_beside(self) -> None:
         other = {unit: str(place // 150) for place, unit in enumerate(self.units)}
 
@@ -192,11 +230,11 @@ class Labels(unittest.TestCase):
         areas = [
             district_map.Area(
                 f"{label}{place}", [[(0, 0), (1, 0), (1, 1)]],
-                ((place * 7 % 40) / 40, (place * 11 % 40) / 40), "#fff",
+                ((place * 7 % 40) / 40, (place * 11 % 40) / 40), "#fff", [],
             )
             for place in range(count)
         ]
-        return district_map.DistrictMap("The enacted plan", areas, 1.0, 0)
+        return district_map.DistrictMap("The enacted plan", areas, 1.0, 0, False)
 
     def test_labels_do_not_meet_and_none_is_lost_in_silence(self) -> None:
         for label, count in (("", 200), ("District of the long name ", 60), ("W" * 300, 3)):

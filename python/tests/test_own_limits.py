@@ -132,5 +132,63 @@ class Quoted(unittest.TestCase):
         self.assertEqual(grid.chance_of_rank_one(splits, 1.1, length), own)
 
 
+def numbers_in(cell: str) -> list[int]:
+    return [int(number) for number in re.findall("[0-9]+", cell)]
+
+
+class NeutralPlans(unittest.TestCase):
+    """The sums that READING and GUIDE quote of neutral plans, from the tables of GUIDE and
+    MEASUREMENTS.
+    """
+
+    def setUp(self) -> None:
+        docs = common.TOP / "docs"
+        self.guide, self.reading, measured = (
+            (docs / name).read_text(encoding="utf-8")
+            for name in ("user/GUIDE.md", "user/READING_A_REPORT.md", "dev/MEASUREMENTS.md")
+        )
+        maps = "281 tracts of New York|grid of 30 by 30|1261 precincts"
+        rows = [
+            [cell.strip() for cell in line.split("|")[1:-1]]
+            for line in self.guide.splitlines() if re.match(rf"\| (?:{maps})", line)
+        ]
+        self.limits, self.weights = rows[:3], rows[3:]
+        self.own = re.findall(
+            r"^\| \w+ \| \d+ to \d+ \| (limit|weight) \d+ \| \d+"
+            r" \| (\d+) \| (\d+) \| (\d+) \|",
+            measured, re.M,
+        )
+        self.assertEqual((len(self.limits), len(self.weights), len(self.own)), (3, 3, 6))
+
+    def test_how_far_walks_sprawl(self) -> None:
+        parts = []
+        for row in self.limits:
+            low, high = numbers_in(row[1])
+            (median,) = numbers_in(row[2])
+            parts += [median / high, median / low]
+        self.assertIn(f"{min(parts):.1f} to {max(parts):.1f} times as many cut edges", self.reading)
+
+    def test_flags_under_a_weight(self) -> None:
+        """Of 20 plans chance flags 1 in cut edges, and 2 in each of the other two."""
+        rows = [numbers_in(row[4]) for row in self.weights]
+        rows += [[int(one) for one in row[1:]] for row in self.own if row[0] == "weight"]
+        self.assertEqual([len(row) for row in rows], [3] * 6)
+        self.assertIn(
+            f"flagged [{sum(sum(row) for row in rows)} times of {20 * 3 * 6}]", self.reading
+        )
+        self.assertIn(f"where chance gives {6 * (1 + 2 + 2)}.", self.reading)
+
+    def test_flags_under_a_limit(self) -> None:
+        found = sum(numbers_in(row[place])[1] for row in self.limits for place in (4, 5))
+        gaps = sum(int(row[2]) for row in self.own if row[0] == "limit")
+        whole = gaps + sum(int(row[3]) for row in self.own if row[0] == "limit")
+        said = re.search(
+            r"(\d+) times of 120, and (\d+) times in .*chance gives 12\. But (\d+) of these (\d+)"
+            r" are of 60 gaps, where chance gives 6", self.guide,
+        )
+        assert said is not None
+        self.assertEqual([int(one) for one in said.groups()], [found, whole, gaps, whole])
+
+
 if __name__ == "__main__":
     unittest.main()

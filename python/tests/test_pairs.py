@@ -9,7 +9,7 @@ from fractions import Fraction
 import common
 
 import district_audit
-from district_audit import Report, arguments, exhibit, picture, report
+from district_audit import Report, arguments, exhibit, exhibit_figures, picture, report
 
 CASES = 60
 # The chances of each count, and rows of whole numbers whose common sum is the last item.
@@ -227,10 +227,55 @@ class ShownTests(unittest.TestCase):
         self.assertNotIn("Bound of a pair of walks", plain)
         self.assertIn("It has 9 bounds and p-values itself; the least is 0.006324524", plain)
 
+    def test_a_weight_changes_what_a_page_says(self) -> None:
+        """With a weight, a fraction of the plans is one of their chances, and compact plans are
+        likely."""
+        text = common.readme_report()
+        place = text.index("walks 2")
+        options = exhibit.Options(epsilon="0.0001", alpha="0.05")
+        plain, weighted = (
+            exhibit.page([("", Report.parse(text[:place] + line + text[place:]))], options)
+            for line in ("", "cut-weight 32 of 64 pieces 7\n")
+        )
+        for page, is_weighted in ((plain, False), (weighted, True)):
+            for words in (
+                "of all legal plans, counted by their chances, that are most fragile",
+                "with a chance of 32/64, and each further edge that it adds multiplies this chance",
+            ):
+                self.assertEqual(words in page, is_weighted, words)
+            for words in ("of all legal plans that are most fragile", "no rule limits compactness"):
+                self.assertEqual(words in page, not is_weighted, words)
+
     def test_picture_has_a_row_for_each_pair(self) -> None:
         rows = picture.pair_rows(Report.parse(paired_text()))
         self.assertEqual(rows[2].words, "10 of 200001, bound 0.000100000")
         self.assertEqual(picture.pair_rows(Report.parse(common.readme_report())), [])
+
+    def test_no_picture_leaves_pairs_out(self) -> None:
+        """Pictures of several reports, and of more than eight walks, had walks alone. The second
+        pairs are walks with counts of all plans: 200001 of 200001, and 200001/100001 = 1.99999.."""
+        found = Report.parse(paired_text())
+        more = tuple(
+            dataclasses.replace(walk, number=walk.number + add, count=walk.of)
+            for add in (2, 4, 6, 8) for walk in found.walks
+        )
+        ten = dataclasses.replace(
+            found, walks=found.walks + more, setting=dataclasses.replace(found.setting, walks=10)
+        )
+        row = picture.pair_rows(ten)[2]
+        self.assertEqual(row.label, "cut-edges low, 5 pairs")
+        self.assertEqual(row.words, "bounds 0.000100000 to 1.999990001")
+        shown = dict.fromkeys(("seats", "gap", "cut-edges"), "0")
+        words = [one.words for one in exhibit_figures.walk_rows(ten, shown)]
+        self.assertIn("5 pairs: bounds 0.000100000 to 1.999990001", words)
+        common.needs("matplotlib")
+        for name, one, label, said in (
+            ("A", found, "A: cut-edges low, walks 0 and 1", "10 of 200001, bound 0.000100000"),
+            ("B", ten, "B: cut-edges low, 5 pairs", row.words),
+        ):
+            axes = picture.draw_named([(name, one)], "plan").axes[0]
+            self.assertIn(label, [text.get_text() for text in axes.get_yticklabels()])
+            self.assertIn(said, [text.get_text() for text in axes.texts])
 
     def test_frame_has_pairs(self) -> None:
         common.needs("pandas")

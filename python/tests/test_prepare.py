@@ -117,6 +117,11 @@ class Changes(unittest.TestCase):
             )
         self.refuse("no unit has a column county", square(), region="county", missing="drop")
         self.refuse("no unit has a column area", square(), keep=["area"])
+        root = square(PRESIDENT2=[1, 2, 3, 4], PRESIDEN_1=[4, 3, 2, 1])
+        self.refuse(
+            "no unit has a column PRESIDENT24DEM (a shapefile cuts names to 10 characters:"
+            " PRESIDENT2 or PRESIDEN_1?); the columns are", root, first="PRESIDENT24DEM",
+        )
         root = square()
         for node in root["nodes"]:
             node["a"] = None
@@ -145,25 +150,25 @@ class Changes(unittest.TestCase):
         )
 
     def test_shares_and_percentages_are_warned_of(self) -> None:
-        prepared = prepare_root(square(a=[0.753, 0.25, 0.5, 0.9]), numbers="nearest")
+        prepared = prepare_root(square(a=[0.753, 0.25, 0.5, 0.9]), numbers="nearest", slack=4000)
         self.assertIn("column a looks like shares and not like counts", str(prepared.warnings[0]))
         prepared = prepare_root(
-            square(a=[75.3, 25.5, 50, 90], b=[24.7, 74.5, 50, 10]), numbers="nearest"
+            square(a=[75.3, 25.5, 50, 90], b=[24.7, 74.5, 50, 10]), numbers="nearest", slack=4000
         )
         self.assertIn("columns a and b look like percentages", "\n".join(lines_of(prepared)))
-        prepared = prepare_root(square(a=[1.4, 2.4, 3.4, 4.4]), numbers="nearest")
+        prepared = prepare_root(square(a=[1.4, 2.4, 3.4, 4.4]), numbers="nearest", slack=4000)
         self.assertIn(
             "column a: making its values whole changes them by 13.8 percent in all",
             lines_of(prepared),
         )
         self.assertEqual(
             prepare_root(
-                square(pop=[900] * 4, a=[100.4, 200.4, 300, 400]), numbers="nearest"
+                square(pop=[900] * 4, a=[100.4, 200.4, 300, 400]), numbers="nearest", slack=4000
             ).warnings, [],
         )
         prepared = prepare_root(
             square(pop=[5000] * 4, a=[20.76, 75.6, 8.2, 11.43], b=[1000.2, 2000, 3000, 4000]),
-            numbers="nearest",
+            numbers="nearest", slack=4000,
         )
         self.assertEqual(
             lines_of(prepared),
@@ -172,9 +177,11 @@ class Changes(unittest.TestCase):
                 " and a unit has 5000 people on average"
             ],
         )
-        prepared = prepare_root(square(pop=[100] * 4, a=[20.9, 75.1, 60, 51]), numbers="nearest")
+        prepared = prepare_root(
+            square(pop=[100] * 4, a=[20.9, 75.1, 60, 51]), numbers="nearest", slack=4000
+        )
         self.assertEqual(prepared.warnings, [])
-        self.assertEqual(prepare_root(square(pop=[9] * 4, a=[0, 1, 1, 0])).warnings, [])
+        self.assertEqual(prepare_root(square(pop=[9] * 4, a=[0, 1, 1, 0]), slack=4000).warnings, [])
 
     def test_parts_are_reported_and_joined(self) -> None:
         """Two islands, each a whole district, and one unit with no neighbour."""
@@ -228,6 +235,8 @@ class Changes(unittest.TestCase):
         ).refusals
         said = f'a district "99" of 2 units ({ids[0]}, {ids[1]}) has 200 people, outside'
         self.assertEqual([line.startswith(said) for line in found].count(True), 1, found)
+        # It comes first, since the faults of other districts may follow from it.
+        self.assertTrue(found[0].startswith(said), found)
         self.assertFalse(any(line.startswith('a district "0') for line in found))
 
     def test_real_maps(self) -> None:

@@ -4,6 +4,7 @@ import os
 import pathlib
 import struct
 import subprocess
+import sys
 import unittest
 import venv
 
@@ -56,20 +57,40 @@ class ProgramsThatAreRefused(common.FolderCase):
         self.refuse(elf_of(183), said)
         self.refuse(b"\x7fELF" + bytes(40), said)
 
-    def test_the_command_says_so_in_one_line(self) -> None:
+    def test_a_file_that_lost_its_end(self) -> None:
+        """The head of a real program still starts, and then ends by a signal."""
+        data = pathlib.Path(sys.executable).read_bytes()
+        said = "is damaged, or no district-audit: to --version it ends with signal"
+        self.refuse(data[: len(data) // 8], said)
+
+    def test_a_program_without_an_answer(self) -> None:
+        for status in (1, 2, 127):
+            said = f"or no district-audit: to --version it ends with status {status}: install"
+            self.refuse(f"#!/bin/sh\nexit {status}\n".encode(), said)
+
+    def call_command(self, data: bytes) -> "subprocess.CompletedProcess[str]":
+        """Returns how district-audit-run ends with a program."""
         path = self.folder / "district-audit"
-        path.write_bytes(elf_of(183))
+        path.write_bytes(data)
         path.chmod(0o755)
         env = {**os.environ, "DISTRICT_AUDIT": str(path), "PYTHONPATH": str(common.TOP / "python")}
         code = "import sys; from district_audit.commands import run; sys.exit(run())"
-        words = ["check", str(common.EXAMPLES / "data" / "cycle.json"), "--pop", "pop", "--first",
-                 "a", "--second", "b", "--district", "d", "--slack", "5000"]
-        end = subprocess.run(
+        words = ["make", "--size", "1", "--steps", "1", "--key", "5" * 64]
+        return subprocess.run(
             ["python3", "-c", code, *words], env=env, capture_output=True, text=True, check=False
         )
-        self.assertNotIn("Traceback", end.stderr)
-        self.assertIn("made for another processor", end.stderr)
-        self.assertNotEqual(end.returncode, 0)
+
+    def test_the_command_says_so_in_one_line(self) -> None:
+        end = self.call_command(elf_of(183))
+        self.assertRegex(end.stderr, "^district-audit-run: .* made for another processor .*\n$")
+        self.assertEqual((end.returncode, end.stdout), (127, ""))
+
+    def test_the_command_says_that_a_signal_came(self) -> None:
+        line = f"[ $1 = --version ] || kill -SEGV $$; echo district-audit {VERSION}"
+        end = self.call_command(f"#!/bin/sh\n{line}\n".encode())
+        said = "district-audit-run: the program was stopped by signal 11; nothing was saved"
+        self.assertEqual(end.stderr.partition(" (")[0], said)
+        self.assertEqual((end.returncode, end.stdout), (128 + 11, ""))
 
 
 class ProgramsOfAWheel(common.FolderCase):

@@ -14,7 +14,16 @@ import common
 from common import anything, readme_report
 from test_exhibit import Page, page_of
 import district_audit
-from district_audit import Report, custody, exhibit, exhibit_counting, study
+from district_audit import (
+    Report,
+    arguments,
+    custody,
+    deciding,
+    exhibit,
+    exhibit_counting,
+    exhibit_custody,
+    study,
+)
 from district_audit.graphs import Label
 
 COLUMNS: common.Words = dict(population="TOTPOP", district="CD", slack=1000)
@@ -116,6 +125,58 @@ class Studies(common.ProgramCase):
         self.assertNotIn("Bonferroni", other)
         with self.assertRaisesRegex(ValueError, "written with the run"):
             self.exhibit(loaded, decides="ends gap:high")
+
+    def test_the_announced_number_is_known_in_memory(self) -> None:
+        """Pages of the reports that the audit answered counted all numbers, and took another."""
+        reports = self.audit(decides="SEN/16 ends seats:low")
+        for name, file in (("SEN/16", "SEN_16"), ("GOV 18", "GOV_18")):
+            loaded = Report.load(self.folder / f"report.{file}")
+            self.assertEqual(self.exhibit(reports[name]), self.exhibit(loaded))
+        self.assertIn("and is not multiplied. The manifest", self.exhibit(reports["SEN/16"]))
+        with self.assertRaisesRegex(ValueError, "written with the run"):
+            self.exhibit(reports["SEN/16"], decides="ends gap:high")
+        report = district_audit.run(
+            common.EXAMPLES / "data" / "grid.json", **COLUMNS, first="DEM", second="REP",
+            key=common.KEY, ask="gap:high", walks=2, steps=50, program=self.program,
+        )
+        report.to_files(self.folder / "made", decides="walk 1 gap:high")
+        self.assertIn("the bound of the outlier walk 1 on gap:high", self.exhibit(report))
+
+    def test_a_wrong_name_is_told_before_the_walk(self) -> None:
+        """The name was looked for after the audit, which was lost then."""
+        wrong = ("ends seats:low", "SEN/16 ends seats:lo", "SEN/16 serial seats:low", "SEN", "")
+        with unittest.mock.patch("district_audit.calls.run") as run:
+            with unittest.mock.patch("district_audit.calls.plans") as plans:
+                for words in wrong:
+                    with self.assertRaisesRegex(ValueError, "decides="):
+                        self.audit(decides=words)
+                for words in ("ends gap:high", "one ends gap:low", "one walk 0 gap:high"):
+                    with self.assertRaisesRegex(ValueError, "decides="):
+                        district_audit.audit_to_file(
+                            self.folder / "p", b"{}", table={"one": {}}, ask="gap:high", ends=9,
+                            walks=0, decides=words, program=self.program,
+                        )
+        run.assert_not_called()
+        plans.assert_not_called()
+
+    def test_names_are_known_before_the_walk(self) -> None:
+        """Those that a report has are those that its arguments give."""
+        words: list[common.Words] = [
+            dict(walks=5, ask="gap:high,seats:low", pairs=True, ends=2),
+            dict(walks="1", ask=["gap:high"], pairs=False, ends=3, stop=1),
+            dict(walks=2, ask="gap:high", pairs="yes", steps=63, serial=True),
+            dict(scores={"gap": ["low", "high"]}, ends=1),
+        ]
+        for given in words:
+            report = district_audit.make(
+                **anything({
+                    "size": 1, "key": common.KEY, "steps": 50, **given, "program": self.program,
+                })
+            )
+            named = arguments.plain_words("make", given)
+            self.assertEqual(
+                sorted(deciding.names_of_numbers(named)), sorted(deciding.numbers_by_name(report))
+            )
 
     def test_names_of_numbers(self) -> None:
         report = next(iter(self.audit().values()))
@@ -385,6 +446,14 @@ class Counting(unittest.TestCase):
             "unit 9 and 140 more", "one part.", "SHA-256 of x.shp, 9 bytes", "d" * 64,
         ):
             self.assertIn(words, text)
+
+    def test_arguments_are_shown_in_words(self) -> None:
+        """A page had the brackets and quotes of Python."""
+        for value, words in (
+            ({"GOV": ("D", "R"), "SEN": ["E", "S"]}, "GOV (D and R), SEN (E and S)"),
+            ([["a", "b"], [3, 4]], "a and b, 3 and 4"), (["area"], "area"), (0.03, "0.03"),
+        ):
+            self.assertEqual(exhibit_custody.show(value), words)
 
     def test_a_report_without_its_manifest_says_so_in_place_of_the_product(self) -> None:
         text = Page(page_of(readme_report())).text

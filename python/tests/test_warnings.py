@@ -22,10 +22,12 @@ from district_audit.warnings import (
     DistrictWithoutPeople,
     DistrictWithoutVotes,
     LengthsRounded,
+    LooseTolerance,
     MapWarning,
     MoreVotesThanPeople,
     NoCompactnessLimit,
     NoPeople,
+    OneSidedVotes,
     PercentagesNotCounts,
     SharesNotCounts,
     SmallGroupShare,
@@ -123,8 +125,17 @@ SLIPS: list[Slip] = [
       (MoreVotesThanPeople, "c and e as people in pop: 1 of 36")]),
     ("more votes than people in all", change("a", 800), {},
      [(MoreVotesThanPeople, "37080 votes in a and b, and 36000 people in pop")]),
+    ("a tolerance of one half", lambda root: None, {"slack": None, "tolerance": 0.5},
+     [(LooseTolerance, "slack=5000 lets a district have 50 percent more or fewer people than the"
+                       " ideal: for 0.5 percent write tolerance=0.005")]),
+    ("a tolerance of one", lambda root: None, {"slack": None, "tolerance": 1},
+     [(LooseTolerance, "for 1 percent write tolerance=0.01")]),
     ("a share of one half of a percent", change("a", 210), {"group_share": 50},
      [(SmallGroupShare, "for 50 percent write 5000")]),
+    ("missing votes of one party", both(one_unit("e", None), one_unit("a", None)),
+     {"missing": "zero"},
+     [(OneSidedVotes, 'votes in e were missing and became 0, and that keep their votes in c: 1 of'
+                      ' 36: "u00"'), (OneSidedVotes, "votes in a were missing")]),
     ("shares", change("a", lambda node: 0.5 if node["d"] else 0.25), {"numbers": "nearest"},
      [(SharesNotCounts, "column a")]),
     ("percentages that add up", both(change("a", 45.25), change("b", 54.75)),
@@ -194,6 +205,10 @@ class Slips(common.ProgramCase):
             (one_unit("a", 1769), {}),  # 1,999 votes of 1,000 people
             (change("a", lambda node: 770 - (node["id"] == "u00")), {}),
             (lambda root: None, {"group_share": 100}),
+            (lambda root: None, {"slack": 4999}),
+            (both(one_unit("c", None), one_unit("e", None)), {"missing": "zero"}),
+            (both(one_unit("c", None), one_unit("e", 0)), {"missing": "zero"}),
+            (one_unit("c", None), {"missing": "drop"}),
             (both(one_unit("a", 200.25), change("a", 200.25, [2])), {"numbers": "floor"}),
         ):
             prepared, _ = self.prepare(apply, **anything(more))
@@ -255,6 +270,7 @@ class Calls(common.ProgramCase):
             ({"scores": {"mean-median": "low"}}, True),
             ({"ask": "gap:low", "max_cut": 30}, False),
             ({"ask": "gap:low", "max_length": 3000}, False),
+            ({"ask": "gap:low", "cut_weight": 24}, False),
             ({"ask": "gap:low", "max_cut": None}, True),
         ):
             report, said = self.run_sound(prepared, **anything(more))
@@ -269,6 +285,35 @@ class Calls(common.ProgramCase):
             **anything({**COLUMNS, "elections": None, "first": "a", "second": "b", "max_cut": 30}),
         )
         self.assertEqual(self.run_sound(kept, ask="gap:low")[0].warnings, ())
+
+    def test_compactness_under_its_own_limit(self) -> None:
+        """GUIDE says never to ask so; a weight is no limit, and other rules limit other things."""
+        prepared = district_audit.prepare(
+            sound(), **anything({**COLUMNS, "elections": None, "first": "a", "second": "b"})
+        )
+        for more, names in (
+            ({"ask": "cut-edges:low", "max_cut": 30}, "cut-edges:low: if max_cut is tight"),
+            ({"ask": "cut-length:high,cut-edges:low,gap:low", "max_length": 3000, "max_cut": 30},
+             "cut-length:high, cut-edges:low: if max_cut or max_length is tight"),
+            ({"ask": "gap:low", "max_cut": 30}, None),
+            ({"ask": "cut-edges:low", "cut_weight": 24}, None),
+            ({"ask": "cut-edges:low", "slack": 1000}, None),
+        ):
+            report, said = self.run_sound(prepared, **anything(more))
+            kinds = [] if names is None else ["CompactnessUnderLimit"]
+            self.assertEqual((said, [one.kind for one in report.warnings]), (kinds, kinds))
+            if names is not None:
+                self.assertIn(names, str(report.warnings[0]))
+            self.assertEqual(district_audit.Report.parse(str(report)).warnings, report.warnings)
+
+    def test_a_slack_of_a_call_is_judged_anew(self) -> None:
+        prepared = district_audit.prepare(
+            sound(), **anything({**COLUMNS, "elections": None, "first": "a", "second": "b"})
+        )
+        for more, kinds in (({"tolerance": 1}, ["LooseTolerance"]), ({"slack": 4000}, [])):
+            report, said = self.run_sound(prepared, ask="cut-edges:low", **anything(more))
+            self.assertEqual((said, [one.kind for one in report.warnings]), (kinds, kinds))
+            self.assertEqual(district_audit.Report.parse(str(report)).warnings, report.warnings)
 
     def test_each_way_of_a_graph_is_judged(self) -> None:
         """A graph as bytes, a path and an object: each gives the warnings of a prepared map."""
@@ -292,6 +337,7 @@ class Calls(common.ProgramCase):
             prepared = district_audit.prepare(
                 root, **anything({**COLUMNS, "elections": None, "first": "a", "second": "b"})
             )
+        self.assertIn(" 1 warning; the auditor accepts it", repr(prepared))
         report, said = self.run_sound(prepared, ask="cut-edges:low")
         self.assertEqual((said, [one.kind for one in report.warnings]),
                          ([], ["MoreVotesThanPeople"]))

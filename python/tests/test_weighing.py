@@ -18,6 +18,8 @@ import sys
 sys.path.insert(0, {str(TOP)!r})
 from tests.oracle import model
 words, data = sys.argv[1:], sys.stdin.buffer.read()
+if words == ["--version"]:
+    sys.exit(print("district-audit {district_audit.__version__}"))
 try:
     job = model.job_of(model.Setting(words), data)
     text = model.ask_trace(job) if words[0] == "trace" else model.run(job, [None, None]).out
@@ -104,6 +106,10 @@ class ChoiceTests(FolderCase):
         self.assertEqual(found.bands[0].weight, 64)
         self.assertEqual(found.band.inside, max(band.inside for band in found.bands))
         self.assertIn(f"--cut-weight {found.weight}: ", found.announcement)
+        self.assertIn("inside: of 4 plans", str(found))
+        after = found.band.agree_after
+        said = "Walks of 2048 steps" if after is None else f"--hub-steps is at least {after}"
+        self.assertIn(said, found.announcement)
         for row, band in zip(found.rows(), found.bands):
             inside = sum(
                 all(one.percentile(1) <= cut <= one.percentile(99)
