@@ -4,16 +4,16 @@ MOST_LENGTH <- 4294967295
 # Below this part of shared borders, neighbors and lengths are wrong.
 LEAST_SHARED <- 0.9
 
-# Returns the polygons of a map in a plane. Refuses what is no polygon, by unit.
-shapes_of <- function(map, ids) {
+# Returns the polygons of the units that stay, in a plane. Refuses what is no polygon, by unit.
+shapes_of <- function(map, units) {
   if (!requireNamespace("sf", quietly = TRUE)) {
     refuse("PrepareRefused", "the package sf is missing: install it, or give adjacency")
   }
   # Neighbors are a matter of shared points, and the same in any plane.
-  shapes <- suppressWarnings(sf::st_set_crs(sf::st_geometry(map), NA))
+  shapes <- suppressWarnings(sf::st_set_crs(sf::st_geometry(map), NA))[units$at]
   say <- function(bad, what, hint = "") {
     if (any(bad)) {
-      refuse("PrepareRefused", sum(bad), " units ", what, ": ", shown(ids[bad]), hint)
+      refuse("PrepareRefused", sum(bad), " units ", what, ": ", shown(units$ids[bad]), hint)
     }
   }
   say(sf::st_is_empty(shapes), "have no geometry")
@@ -63,10 +63,10 @@ measure_shared <- function(shapes) {
   if (whole > 0) min(1, sum(both) / whole) else 1
 }
 
-# Returns the warnings of polygons that do not meet, and with lengths those of degrees.
-border_warnings <- function(map, shapes, has_lengths) {
+# Returns the warnings of polygons that do not meet, and those of lengths in degrees.
+border_warnings <- function(shapes, in_degrees) {
   found <- list()
-  if (has_lengths && are_degrees(map, shapes)) {
+  if (in_degrees) {
     found <- list(new_warning(
       "CoordinatesInDegrees", "the map's coordinates are degrees, in which lengths mean nothing:",
       " project it first, as sf::st_transform(map, 5070) does for the United States"
@@ -96,6 +96,7 @@ are_degrees <- function(map, shapes) {
 
 # Returns lengths made whole, with the changes and warnings; refuses those that are no lengths.
 whole_lengths <- function(name, given, rows, ids) {
+  test_form(given, rows)
   test_lengths(name, given, rows, ids)
   whole <- lapply(given, round)
   before <- unlist(given)
@@ -122,13 +123,17 @@ whole_lengths <- function(name, given, rows, ids) {
   )
 }
 
-# Refuses lengths that are missing, out of range, or others in the other direction.
-test_lengths <- function(name, given, rows, ids) {
+# Refuses lengths that have not one number for each neighbor.
+test_form <- function(given, rows) {
   if (!is.list(given) || !identical(as.numeric(lengths(given)), as.numeric(lengths(rows)))) {
     refuse(
       "PrepareRefused", "lengths must be a list as adjacency is, with a length for each neighbor"
     )
   }
+}
+
+# Refuses lengths that are missing, out of range, or others in the other direction.
+test_lengths <- function(name, given, rows, ids) {
   from <- rep(seq_along(rows), lengths(rows))
   to <- unlist(rows)
   long <- unlist(given)

@@ -20,7 +20,7 @@ ask_program <- function(command, graph, options, input = input_of(graph), folder
   }
   if (end$status != 0) {
     report <- if (end$status == 9 && nzchar(end$out)) audit_report(end$out)
-    stop_for_status(end$status, end$note, named_in(end$note, graph), report)
+    stop_for_status(end$status, end$note, named_in(end$note, graph), report, faults_for(end$note, graph))
   }
   end$out
 }
@@ -62,6 +62,32 @@ named_in <- function(line, graph) {
   paste(said[nzchar(said)], collapse = ", ")
 }
 
+# Returns the lines on the map's districts that say more than the program's line of a refusal.
+faults_for <- function(line, graph) {
+  if (!inherits(graph, "audit_map")) {
+    return(NULL)
+  }
+  if (grepl("^plan: district [0-9]+ has no path ", line)) graph$apart else
+    if (grepl("^plan: district [0-9]+ has population ", line)) graph$stray
+}
+
+# Returns a line for each district with a tenth of the usual number of units or fewer: its label may
+# be a slip, and it changes the ideal population of all others.
+stray_districts <- function(map) {
+  labels <- map$data[[map$columns$district]]
+  ordered <- in_order(labels)
+  lines <- lapply(ordered, function(label) {
+    inside <- map$ids[labels == label]
+    if (10 * length(inside) * length(ordered) <= length(labels)) {
+      paste0(
+        "district ", as_json(label), " has ", length(inside), " units alone, of ", length(ordered),
+        " districts: ", shown(inside, 10), "; is its label a slip?"
+      )
+    }
+  })
+  unlist(lines)
+}
+
 #' Checks an enacted plan
 #'
 #' Has the program judge the enacted plan by the rules, without a walk.
@@ -74,7 +100,8 @@ named_in <- function(line, graph) {
 #' @param limits_from Where the limits come from, as `"law"` or `"older plans"`. Left out, a limit that
 #'   is the enacted plan's own number, or nearly, gives the warning `LimitAtOwnNumber`.
 #' @return An object of class `audit_plan_check`: a list with `text` and `lines`, and for a prepared
-#'   map `districts`, a data frame with a row for each district. Raises an error of class
+#'   map `districts`, a data frame with a row for each district, and `votes`, the columns of its votes
+#'   (with several elections those of the first, unless others are named). Raises an error of class
 #'   `GraphRefused` if the plan is illegal.
 #' @export
 audit_check <- function(graph, ..., limits_from = NULL) {
@@ -90,7 +117,8 @@ audit_check <- function(graph, ..., limits_from = NULL) {
     refuse("ProgramFailed", "the program printed no check: ", lines[1])
   }
   structure(class = "audit_plan_check", list(
-    text = text, lines = lines, districts = if (inherits(graph, "audit_map")) districts_of(graph, options)
+    text = text, lines = lines, districts = if (inherits(graph, "audit_map")) districts_of(graph, options),
+    votes = c(first = options$first, second = options$second)
   ))
 }
 
@@ -112,7 +140,10 @@ districts_of <- function(map, options) {
 #' @export
 print.audit_plan_check <- function(x, ...) {
   cat(x$text)
-  if (!is.null(x$districts)) print(x$districts)
+  if (!is.null(x$districts)) {
+    cat("first is ", x$votes[["first"]], ", second is ", x$votes[["second"]], "\n", sep = "")
+    print(x$districts)
+  }
   invisible(x)
 }
 

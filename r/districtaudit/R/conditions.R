@@ -13,13 +13,33 @@ refuse <- function(class, ...) {
   ))
 }
 
-# Raises the error that a status of the program stands for.
-stop_for_status <- function(status, line, labels = "", report = NULL) {
+# What to write in place of words that the program refuses, by the end of its line.
+HINTS <- c(
+  "--ask" = paste0(
+    "a score and a tail, as \"seats:low\" or c(\"gap:high\", \"cut-edges:low\"); the scores are seats,",
+    " mean-median, gap, cut-edges and cut-length"
+  ),
+  "--key" = "64 hexadecimal digits, as audit_key() makes of an announced text"
+)
+
+# Returns what to write instead; "" for any line that is not about words.
+hint_for <- function(status, line) {
+  if (status != 1) {
+    return("")
+  }
+  known <- HINTS[sub(".* ", "", line)]
+  paste0(": ", if (is.na(known)) "the program's `run --help` lists the options" else known)
+}
+
+# Raises the error that a status of the program stands for. `faults` are lines on the map that say
+# more than the program's one line.
+stop_for_status <- function(status, line, labels = "", report = NULL, faults = NULL) {
   known <- status >= 1 && status <= length(CLASSES)
-  said <- if (nzchar(line)) line else paste("the program ended with status", status)
+  said <- if (nzchar(line)) paste0(line, hint_for(status, line)) else paste("the program ended with status", status)
+  if (nzchar(labels)) said <- paste0(said, " (", labels, ")")
   fields <- list(
-    message = if (nzchar(labels)) paste0(said, " (", labels, ")") else said,
-    call = NULL, status = as.integer(status), line = line, labels = labels
+    message = paste(c(said, faults), collapse = "\n"), call = NULL, status = as.integer(status),
+    line = line, labels = labels
   )
   if (known && CLASSES[status] == "WorkLeft") {
     numbers <- as.numeric(regmatches(line, gregexpr("[0-9]+", line))[[1]])

@@ -52,7 +52,7 @@ find_versions <- function() {
 }
 
 # Returns the record of a preparation.
-custody_of <- function(map, others, of_edges, numbers, id, join, queen, files) {
+custody_of <- function(map, others, made, numbers, missing, id, join, queen, files) {
   for (path in files) {
     if (!file.exists(path) || dir.exists(path)) refuse("ArgumentRefused", "files: there is no file ", path)
     more <- if (grepl("\\.shp$", path, ignore.case = TRUE)) {
@@ -69,11 +69,12 @@ custody_of <- function(map, others, of_edges, numbers, id, join, queen, files) {
   if (!is.null(map$elections)) arguments$elections <- lapply(map$elections, as.list)
   if (!is.null(id)) arguments$id <- id
   if (numbers != "error") arguments$numbers <- numbers
+  if (missing != "error") arguments$missing <- missing
   if (queen) arguments$queen <- TRUE
   if (length(join) > 0) {
     arguments$join <- lapply(if (is.list(join)) unname(join) else list(join), function(pair) unname(as.list(pair)))
   }
-  changes <- c(count_changes(map), of_edges)
+  changes <- c(count_changes(map), made)
   if (length(others) > 0) {
     changes <- c(changes, list(new_change(paste("columns left out:", paste(others, collapse = ", ")))))
   }
@@ -83,15 +84,21 @@ custody_of <- function(map, others, of_edges, numbers, id, join, queen, files) {
   )
 }
 
-# Returns a change for each column of which values were made whole.
+# Returns a change for each column of which values were made whole, or 0 where they were missing.
 count_changes <- function(map) {
-  lapply(unique(map$changes$column), function(column) {
+  change_of <- function(made, kind, moved) {
+    if (nrow(made) > 0) list(new_change(kind, map$ids[match(made$unit, as_plain(map$ids))], moved, TRUE))
+  }
+  unlist(lapply(unique(map$changes$column), function(column) {
     made <- map$changes[map$changes$column == column, ]
-    new_change(
-      paste0("column ", column, ": fractions made whole by `nearest`"),
-      map$ids[match(made$unit, as_plain(map$ids))], sum(made$to - made$from), TRUE
+    whole <- made[!is.na(made$from), ]
+    c(
+      change_of(
+        whole, paste0("column ", column, ": fractions made whole by `nearest`"), sum(whole$to - whole$from)
+      ),
+      change_of(made[is.na(made$from), ], paste0("column ", column, ": missing values made 0"), 0)
     )
-  })
+  }), recursive = FALSE)
 }
 
 # Returns warnings as a manifest keeps them, each once.

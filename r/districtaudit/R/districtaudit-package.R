@@ -1,9 +1,10 @@
 #' Audits districting plans with the program district-audit
 #'
 #' The functions prepare a map ([audit_prepare()]), try walks without a score ([audit_pilot()]), call
-#' the installed program ([audit_check()], [audit_run()], [audit_plans()], [audit_trace()]), and read
-#' what it prints. They compute no test themselves: every number of a report is the program's.
-#' [audit_to_files()] writes reports with a manifest, and says how to make an exhibit of them.
+#' the installed program ([audit_check()], [audit_run()], [audit_over_limits()], [audit_plans()],
+#' [audit_trace()]), and read what it prints. They compute no test themselves: every number of a
+#' report is the program's. [audit_to_files()] writes reports with a manifest, and says how to make an
+#' exhibit of them.
 #'
 #' @section The program:
 #' It is found by the option `districtaudit.program`, then by the environment variable

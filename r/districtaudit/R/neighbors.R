@@ -1,29 +1,35 @@
 # The neighbors of each unit, as places from 1.
 
-# Returns neighbors from what a caller gives: NULL (from polygons), spdep's `nb`, sf's `sgbp`,
-# redist's lists (places from 0), or any list of places.
-neighbors_of <- function(map, adjacency, queen, ids) {
-  count <- nrow(map)
+# Returns the neighbors and lengths that a caller gives, of the units that stay. The neighbors are
+# spdep's `nb`, sf's `sgbp`, redist's lists (places from 0), or any list of places.
+given_edges <- function(adjacency, lengths, units) {
   if (is.null(adjacency)) {
-    if (!inherits(map, "sf")) {
-      refuse("PrepareRefused", "adjacency is missing: without it, map must be a data frame of sf")
-    }
-    return(touching(map, queen, ids))
+    return(list(long = lengths))
   }
+  count <- length(units$all)
   if (!is.list(adjacency) || length(adjacency) != count) {
     refuse(
       "PrepareRefused", "adjacency must be a list with the neighbors of each of the ", count,
       " units, not ", if (is.list(adjacency)) paste("of", length(adjacency)) else class(adjacency)[1]
     )
   }
-  test_symmetric(from_one(adjacency, count), ids)
+  rows <- test_symmetric(from_one(adjacency, count), units$all)
+  if (!is.null(lengths)) test_form(lengths, rows)
+  stays <- lapply(rows[units$at], function(row) row %in% units$at)
+  keep <- function(values) Map(function(row, which) row[which], values[units$at], stays)
+  list(
+    rows = lapply(unname(keep(rows)), function(row) match(row, units$at)),
+    long = if (!is.null(lengths)) unname(keep(lengths))
+  )
 }
 
 # Returns the neighbors of polygons: a common line, or with `queen` also a common point.
 #
 # Only the boundaries count, so that polygons that overlap a little keep their common line.
-touching <- function(map, queen, ids) {
-  shapes <- shapes_of(map, ids)
+touching <- function(shapes, queen) {
+  if (is.null(shapes)) {
+    refuse("PrepareRefused", "adjacency is missing: without it, map must be a data frame of sf")
+  }
   sharing <- if (queen) {
     sf::st_intersects(shapes, shapes)
   } else {
@@ -138,4 +144,37 @@ parts_of <- function(rows) {
     }
   }
   part
+}
+
+# Returns a line for each district that is in several parts: the units of its small parts and, of
+# polygons, the two units of it that are nearest to each other across its greatest gap.
+districts_apart <- function(map, shapes) {
+  labels <- map$data[[map$columns$district]]
+  lines <- lapply(in_order(labels), function(label) {
+    inside <- which(labels == label)
+    place <- integer(length(labels))
+    place[inside] <- seq_along(inside)
+    part <- parts_of(lapply(map$adjacency[inside], function(row) place[row][place[row] > 0]))
+    if (max(part) == 1) {
+      return(NULL)
+    }
+    apart <- part != which.max(tabulate(part))
+    paste0(
+      "district ", as_json(label), " is in ", max(part), " parts; ", sum(apart), " of its ", length(inside),
+      " units lie apart: ", shown(map$ids[inside[apart]], 10), near_pair(map$ids, shapes, inside, apart)
+    )
+  })
+  unlist(lines)
+}
+
+# Returns in words which unit that lies apart is nearest to the rest of its district, and to which unit.
+near_pair <- function(ids, shapes, inside, apart) {
+  if (is.null(shapes)) {
+    return("")
+  }
+  one <- inside[apart]
+  other <- inside[!apart]
+  other <- other[suppressMessages(sf::st_nearest_feature(shapes[one], shapes[other]))]
+  at <- which.min(as.numeric(sf::st_distance(shapes[one], shapes[other], by_element = TRUE)))
+  paste0("; nearest to the rest are ", as_json(ids[one[at]]), " and ", as_json(ids[other[at]]))
 }

@@ -52,9 +52,10 @@ print.audit_pilot <- function(x, ...) {
     " plan; at its end ", x$changed, " of ", x$units, " units lie in another district than at its",
     " start\n"
   ), sep = "")
+  seconds <- round(x$seconds * x$announced)
   cat(
-    "a walk of ", digits(x$announced), " steps takes about ", round(x$seconds * x$announced),
-    " seconds on one processor\n",
+    "a walk of ", digits(x$announced), " steps takes ",
+    if (seconds < 1) "less than a second" else paste("about", seconds, "seconds"), " on one processor\n",
     sep = ""
   )
   if (2 * max(x$changed) < x$units) {

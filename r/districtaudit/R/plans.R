@@ -30,7 +30,7 @@ audit_plans <- function(graph, plans, key, ask, ..., districts = c("same", "any"
 
 # Refuses a map of several elections where one has to be named.
 need_election <- function(graph, options, name) {
-  if (!is.null(graph$elections) && (is.null(options$first) || is.null(options$second))) {
+  if (inherits(graph, "audit_map") && !is.null(graph$elections) && (is.null(options$first) || is.null(options$second))) {
     refuse(
       "ArgumentRefused", "the map has several elections, and ", name, "() takes one: give first = \"",
       graph$elections[[1]][1], "\", second = \"", graph$elections[[1]][2], "\" or another pair"

@@ -1,8 +1,8 @@
 #' Prepares a map for the program
 #'
 #' Checks the columns of a map and writes the graph that the program reads. Values that are missing
-#' are refused by unit. Values that are not whole are refused, too, or rounded with
-#' `numbers = "nearest"` (halves to even); `changes` of the answer lists each of these.
+#' are refused by unit, or changed as `missing` says. Values that are not whole are refused, too, or
+#' rounded with `numbers = "nearest"` (halves to even). `changes` of the answer lists each of these.
 #'
 #' Factors are labels for districts and regions, and are refused as numbers. The order of the rows
 #' is that of the units in [audit_trace()] and in plans without row names.
@@ -28,12 +28,18 @@
 #' @param join Pairs of ids of units to be made neighbors, as an island and its ferry's port:
 #'   `list(c("A", "B"))`. Their edge has a length of 0.
 #' @param numbers `"error"` or `"nearest"`.
+#' @param missing `"error"` refuses missing values. `"zero"` makes 0 of those of people, votes and the
+#'   group, and refuses a missing district or region. `"drop"` leaves a unit out that misses any of
+#'   these. A missing id or `freeze` is always refused.
 #' @param queen TRUE makes polygons with only a common point neighbors, too.
 #' @param files The paths of the files from which the map was read. A manifest keeps their SHA-256.
 #' @return An object of class `audit_map`, a list with `json` (the graph), `ids`, `data` (the
-#'   columns), `adjacency` (places from 1), `lengths`, `columns`, `elections`, `rules`, `changes`,
-#'   `islands` (the ids of units without a neighbor), `parts` (the number of the part of the graph in
-#'   which each unit lies), `warnings` and `custody`. Raises an error of class `PrepareRefused`.
+#'   columns), `adjacency` (places from 1), `lengths`, `columns`, `elections`, `rules`, `changes`
+#'   (values that became others; `from` is NA where they were missing), `left_out` (the ids of units
+#'   that were dropped), `islands` (the ids of units without a neighbor), `parts` (the number of the
+#'   part of the graph in which each unit lies), `apart` and `stray` (a line for each district that is
+#'   in several parts, which the program will refuse, or has so few units that its label may be a
+#'   slip), `warnings` and `custody`. Raises an error of class `PrepareRefused`.
 #' @examples
 #' units <- data.frame(
 #'   pop = c(1, 1, 1, 1), a = c(3, 1, 2, 2), b = c(1, 3, 2, 2), d = c("east", "east", "west", "west")
@@ -45,9 +51,10 @@ audit_prepare <- function(map, population = attr(map, "pop_col"), first = NULL, 
                           district = attr(map, "existing_col"), adjacency = NULL, ...,
                           elections = NULL, id = NULL, region = NULL, group = NULL,
                           group_of = NULL, freeze = NULL, length = NULL, lengths = NULL,
-                          join = NULL, numbers = c("error", "nearest"), queen = FALSE,
-                          files = NULL) {
+                          join = NULL, numbers = c("error", "nearest"),
+                          missing = c("error", "zero", "drop"), queen = FALSE, files = NULL) {
   numbers <- match.arg(numbers)
+  missing <- match.arg(missing)
   if (!is.data.frame(map)) {
     refuse("PrepareRefused", "map must be a data frame, not of class ", class(map)[1])
   }
@@ -62,18 +69,23 @@ audit_prepare <- function(map, population = attr(map, "pop_col"), first = NULL, 
   elections <- elections_in(elections, first, second)
   test_columns(columns, elections, lengths)
   rules <- rules_of(rules_of_map(map, list(...)))
-  ids <- ids_of(map, id)
-  read <- read_columns(map, columns, elections, ids, numbers)
-  edges <- edges_of(map, adjacency, queen, ids, length, lengths, join)
+  asked <- asked_columns(columns, elections)
+  units <- kept_units(map, asked, ids_of(map, id), missing)
+  read <- read_columns(map, asked, units, numbers, missing)
+  edges <- edges_of(map, units, adjacency, queen, length, lengths, join)
   made <- structure(class = "audit_map", list(
-    json = graph_json(ids, read$data, edges$rows, length, edges$long), id = id, ids = ids, data = read$data,
-    adjacency = edges$rows, lengths = edges$long, columns = columns, elections = elections,
-    rules = rules, changes = read$changes, islands = ids[lengths(edges$rows) == 0],
-    parts = parts_of(edges$rows)
+    json = graph_json(units$ids, read$data, edges$rows, length, edges$long), id = id, ids = units$ids,
+    data = read$data, adjacency = edges$rows, lengths = edges$long, columns = columns,
+    elections = elections, rules = rules, changes = read$changes, left_out = units$all[-units$at],
+    islands = units$ids[lengths(edges$rows) == 0], parts = parts_of(edges$rows)
   ))
+  if (length(units$at) == length(units$all)) made$left_out <- units$all[0]
+  made$apart <- districts_apart(made, edges$shapes)
+  made$stray <- stray_districts(made)
   made$warnings <- c(map_warnings(made), edges$warnings)
   made$custody <- custody_of(
-    made, left_out(map, id, made), edges$changes, numbers, id, join, queen, files
+    made, left_out(map, id, made), c(units$changes, edges$changes), numbers, missing, id, join, queen,
+    files
   )
   warn_all(made$warnings)
   made
@@ -134,28 +146,30 @@ rules_of_map <- function(map, given) {
 }
 
 # Returns the neighbors, the lengths of the edges, and what was changed and is doubtful about them.
-edges_of <- function(map, adjacency, queen, ids, length, lengths, join) {
+edges_of <- function(map, units, adjacency, queen, length, lengths, join) {
   if (is.null(adjacency) && !is.null(attr(map, "adj_col"))) {
     adjacency <- map[[attr(map, "adj_col")]]
   }
-  rows <- neighbors_of(map, adjacency, queen, ids)
   by_polygons <- is.null(adjacency) || (!is.null(length) && is.null(lengths))
-  shapes <- if (by_polygons && inherits(map, "sf")) shapes_of(map, ids)
+  shapes <- if (by_polygons && inherits(map, "sf")) shapes_of(map, units)
+  given <- given_edges(adjacency, lengths, units)
+  rows <- if (is.null(adjacency)) touching(shapes, queen) else given$rows
   found <- list(long = NULL, changes = list(), warnings = list())
+  in_degrees <- !is.null(length) && !is.null(shapes) && are_degrees(map, shapes)
   if (!is.null(length)) {
     if (is.null(lengths) && is.null(shapes)) {
       refuse("PrepareRefused", "lengths is missing: without it, map must be a data frame of sf")
     }
-    given <- if (is.null(lengths)) lengths_of_borders(shapes, rows) else lengths
-    found <- whole_lengths(length, given, rows, ids)
+    long <- if (is.null(lengths)) lengths_of_borders(shapes, rows) else given$long
+    found <- whole_lengths(length, long, rows, units$ids)
+    # Of lengths in degrees the other warning says what to do.
+    if (in_degrees) found$warnings <- list()
   }
-  if (!is.null(shapes)) {
-    found$warnings <- c(found$warnings, border_warnings(map, shapes, !is.null(length)))
-  }
-  joined <- join_units(rows, found$long, join, ids)
+  if (!is.null(shapes)) found$warnings <- c(found$warnings, border_warnings(shapes, in_degrees))
+  joined <- join_units(rows, found$long, join, units$ids)
   list(
     rows = joined$rows, long = joined$long, changes = c(found$changes, joined$changes),
-    warnings = found$warnings
+    warnings = found$warnings, shapes = shapes
   )
 }
 
@@ -173,7 +187,7 @@ ids_of <- function(map, id) {
     return(seq_len(nrow(map)))
   }
   values <- column_of(map, id)
-  bad <- is.na(values)
+  bad <- is_missing(values)
   if (any(bad)) {
     refuse("PrepareRefused", "column ", id, ": an id is missing in the rows ", shown(which(bad)))
   }
@@ -192,21 +206,26 @@ ids_of <- function(map, id) {
   values
 }
 
-# Returns the columns that the program reads, and the changes.
-read_columns <- function(map, columns, elections, ids, numbers) {
+# Returns the names of the columns that are read, each with its role.
+asked_columns <- function(columns, elections) {
+  votes <- unlist(elections, use.names = FALSE)
+  c(columns[setdiff(names(columns), "length")], named(as.list(votes), rep("first", length(votes))))
+}
+
+# Returns the columns that the program reads, and the changes of their values.
+read_columns <- function(map, asked, units, numbers, missing) {
   data <- list()
   changes <- list()
-  votes <- unlist(elections, use.names = FALSE)
-  asked <- c(columns[setdiff(names(columns), "length")], named(as.list(votes), rep("first", length(votes))))
   for (place in seq_along(asked)) {
     role <- names(asked)[place]
     name <- asked[[place]]
+    values <- column_of(map, name)[units$at]
     if (role %in% c("district", "region")) {
-      data[[name]] <- labels_of(column_of(map, name), name, ids)
+      data[[name]] <- labels_of(values, name, units$ids, " (missing = \"drop\" leaves the units out)")
     } else if (role == "freeze") {
-      data[[name]] <- frozen_of(map, name, ids)
+      data[[name]] <- frozen_of(values, name, units$ids)
     } else if (!name %in% names(data)) {
-      read <- counts_of(map, name, ids, numbers)
+      read <- counts_of(values, name, units$ids, numbers, missing)
       data[[name]] <- read$values
       changes[[name]] <- read$changes
     }
@@ -218,21 +237,64 @@ read_columns <- function(map, columns, elections, ids, numbers) {
 
 #' @export
 print.audit_map <- function(x, ...) {
+  missing <- is.na(x$changes$from)
   cat(
     length(x$ids), " units, ", sum(lengths(x$adjacency)) / 2, " edges, ",
-    length(unique(x$data[[x$columns$district]])), " districts, ", nrow(x$changes),
-    " values made whole, ", length(x$warnings), " warnings\n",
+    length(unique(x$data[[x$columns$district]])), " districts, ", sum(!missing), " values made whole, ",
+    if (any(missing)) paste(sum(missing), "missing values made 0, "), length(x$warnings), " warnings\n",
     sep = ""
   )
+  say <- function(...) cat(..., "\n", sep = "")
+  if (length(x$left_out) > 0) {
+    say("units left out, for missing values: ", length(x$left_out), ": ", shown(x$left_out))
+  }
   if (length(x$islands) > 0) {
-    cat("units without a neighbor: ", length(x$islands), ": ", shown(x$islands), "\n", sep = "")
+    say("units without a neighbor: ", length(x$islands), ": ", shown(x$islands))
   }
   if (max(x$parts) > 1) {
-    cat("the graph is in ", max(x$parts), " parts, and a district lies in one of them (join = ",
-        "list(c(A, B)) makes neighbors of two units)\n", sep = "")
+    say(
+      "the graph is in ", max(x$parts), " parts, and a district lies in one of them (join = ",
+      "list(c(A, B)) makes neighbors of two units)"
+    )
   }
-  for (one in x$warnings) cat("warning: ", class(one)[1], ": ", conditionMessage(one), "\n", sep = "")
+  for (line in c(x$apart, x$stray, notes_on(x), columns_without_limit(x))) say(line)
+  files <- vapply(x$custody$files, `[[`, "", "name")
+  say(
+    "raw files: ",
+    if (length(files) > 0) shown(files) else "none is named (files =), so no manifest has their SHA-256"
+  )
+  for (one in x$warnings) say("warning: ", class(one)[1], ": ", conditionMessage(one))
   invisible(x)
+}
+
+# Returns lines on the rules and votes of each call, and on units with more of a group than there are.
+notes_on <- function(map) {
+  rules <- c(if (is.null(map$rules$slack)) list(slack = 500), map$rules)
+  pairs <- pairs_of(map)
+  group <- map$columns[["group"]]
+  whole <- if (is.null(map$columns$group_of)) map$columns$pop else map$columns$group_of
+  over <- if (!is.null(group)) map$ids[map$data[[group]] > map$data[[whole]]]
+  c(
+    paste0("rules: ", paste(names(rules), rules, sep = "=", collapse = ", ")),
+    paste0("votes: ", paste0(
+      names(map$elections), if (!is.null(map$elections)) " ", "first ", vapply(pairs, `[`, "", 1), ", second ",
+      vapply(pairs, `[`, "", 2), collapse = "; "
+    )),
+    if (length(over) > 0) paste0("units with more in ", group, " than in ", whole, ": ", length(over), ": ", shown(over))
+  )
+}
+
+# Returns a line for each column whose rule is not limited, so that it limits nothing.
+columns_without_limit <- function(map) {
+  limits <- list(region = c("max_split", "max_splits", "max_split_regions"), group = "group_districts")
+  open <- Filter(function(role) {
+    !is.null(map$columns[[role]]) && !any(limits[[role]] %in% names(map$rules))
+  }, names(limits))
+  vapply(open, function(role) {
+    paste0(
+      role, " ", map$columns[[role]], " limits nothing yet, without ", paste(limits[[role]], collapse = " or ")
+    )
+  }, "")
 }
 
 #' Writes the graph of a prepared map

@@ -8,7 +8,7 @@ new_report <- function(report, call, warnings, limits_from) {
   report
 }
 
-# Returns several reports of one question by name; `kind` is election or plan.
+# Returns several reports of one question by name; `kind` is election, plan or limit.
 new_reports <- function(reports, names, kind) {
   structure(unname(reports), names = names, kind = kind, class = c("audit_reports", "list"))
 }

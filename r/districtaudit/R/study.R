@@ -13,31 +13,34 @@ CHANGES <- ".changes.csv"
 #'
 #' @section The exhibit:
 #' This package writes no page for a court: the Python package `district_audit` does, from these
-#' files. After `audit_to_files(report, "audit.txt")`, in Python:
+#' files. After `audit_to_files(reports, "audit.txt")`, in Python:
 #'
 #' ```
 #' import district_audit
-#' report = district_audit.Report.load("audit.txt")
-#' report.exhibit("exhibit.html", graph="audit.txt.graph.json", parties=("Blue", "Red"))
+#' study = district_audit.load_study("audit.txt.manifest.json")
+#' for name, report in study.items():          # the name of a single report is ""
+#'     report.exhibit(f"exhibit-{name}.html", graph="audit.txt.graph.json", parties=("Blue", "Red"))
 #' ```
 #'
-#' Of several elections or plans, `district_audit.load_study("audit.txt.manifest.json")` has each
-#' report by its name. `python -m district_audit verify audit.txt.manifest.json` checks the study, as
-#' [audit_verify()] does.
+#' Of several limits `study.exhibit("limits.html")` is one page, and of several plans
+#' `district_audit.exhibit_plans("plans.html", study)`; a page on one of several plans takes no `graph`.
+#' `python -m district_audit verify audit.txt.manifest.json` checks the study, as
+#' [audit_verify()] does. `scripts/recheck.py audit.txt.graph.json audit.txt` recomputes a report that
+#' was made with `source = TRUE`; others need the words of their columns, which the manifest has.
 #'
-#' @param reports What [audit_run()] or [audit_plans()] returned.
+#' @param reports What [audit_run()], [audit_plans()] or [audit_over_limits()] returned.
 #' @param path The path of the report. The manifest is `PATH.manifest.json`. `PATH.graph.json` has the
 #'   bytes that the program read, unless these are a file's. `PATH.changes.csv` has each change of the
-#'   preparation, if there are any. The report of an election is `PATH.NAME`.
+#'   preparation, if there are any. The report of an election or limit is `PATH.NAME`.
 #' @param decides The number that was announced before the run as the one that counts, as
-#'   `"ends seats:low"` or, of an election or plan, `"GOV18 ends seats:low"`.
+#'   `"ends seats:low"` or, of an election, plan or limit, `"GOV18 ends seats:low"`.
 #' @return The path of the manifest, invisibly. Raises an error of class `ArgumentRefused` before it
 #'   writes a file, if the reports have no record of their call or no number is named as `decides`.
 #' @export
 audit_to_files <- function(reports, path, decides = NULL) {
   is_one <- inherits(reports, "audit_report")
   if (!is_one && !inherits(reports, "audit_reports")) {
-    refuse("ArgumentRefused", "reports must be what audit_run() or audit_plans() returned")
+    refuse("ArgumentRefused", "reports must be what audit_run(), audit_plans() or audit_over_limits() returned")
   }
   all <- if (is_one) named(list(reports), "") else unclass(reports)
   kind <- if (is_one) "report" else attr(reports, "kind")

@@ -75,6 +75,7 @@ vote_warnings <- function(votes, people, district, ids, both, column) {
 
 # Returns the warnings of columns that are no counts, and of losses where fractions were made whole.
 rounding_warnings <- function(map) {
+  map$changes <- map$changes[!is.na(map$changes$from), ]
   found <- lapply(unique(map$changes$column), function(column) column_warnings(map, column))
   of_pairs <- lapply(pairs_of(map), function(pair) {
     sums <- before_of(map, pair[1]) + before_of(map, pair[2])

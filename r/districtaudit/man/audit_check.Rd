@@ -19,7 +19,8 @@ is the enacted plan's own number, or nearly, gives the warning \code{LimitAtOwnN
 }
 \value{
 An object of class \code{audit_plan_check}: a list with \code{text} and \code{lines}, and for a prepared
-map \code{districts}, a data frame with a row for each district. Raises an error of class
+map \code{districts}, a data frame with a row for each district, and \code{votes}, the columns of its votes
+(with several elections those of the first, unless others are named). Raises an error of class
 \code{GraphRefused} if the plan is illegal.
 }
 \description{

@@ -22,6 +22,7 @@ audit_prepare(
   lengths = NULL,
   join = NULL,
   numbers = c("error", "nearest"),
+  missing = c("error", "zero", "drop"),
   queen = FALSE,
   files = NULL
 )
@@ -59,20 +60,27 @@ length for each neighbor.}
 
 \item{numbers}{\code{"error"} or \code{"nearest"}.}
 
+\item{missing}{\code{"error"} refuses missing values. \code{"zero"} makes 0 of those of people, votes and the
+group, and refuses a missing district or region. \code{"drop"} leaves a unit out that misses any of
+these. A missing id or \code{freeze} is always refused.}
+
 \item{queen}{TRUE makes polygons with only a common point neighbors, too.}
 
 \item{files}{The paths of the files from which the map was read. A manifest keeps their SHA-256.}
 }
 \value{
 An object of class \code{audit_map}, a list with \code{json} (the graph), \code{ids}, \code{data} (the
-columns), \code{adjacency} (places from 1), \code{lengths}, \code{columns}, \code{elections}, \code{rules}, \code{changes},
-\code{islands} (the ids of units without a neighbor), \code{parts} (the number of the part of the graph in
-which each unit lies), \code{warnings} and \code{custody}. Raises an error of class \code{PrepareRefused}.
+columns), \code{adjacency} (places from 1), \code{lengths}, \code{columns}, \code{elections}, \code{rules}, \code{changes}
+(values that became others; \code{from} is NA where they were missing), \code{left_out} (the ids of units
+that were dropped), \code{islands} (the ids of units without a neighbor), \code{parts} (the number of the
+part of the graph in which each unit lies), \code{apart} and \code{stray} (a line for each district that is
+in several parts, which the program will refuse, or has so few units that its label may be a
+slip), \code{warnings} and \code{custody}. Raises an error of class \code{PrepareRefused}.
 }
 \description{
 Checks the columns of a map and writes the graph that the program reads. Values that are missing
-are refused by unit. Values that are not whole are refused, too, or rounded with
-\code{numbers = "nearest"} (halves to even); \code{changes} of the answer lists each of these.
+are refused by unit, or changed as \code{missing} says. Values that are not whole are refused, too, or
+rounded with \code{numbers = "nearest"} (halves to even). \code{changes} of the answer lists each of these.
 }
 \details{
 Factors are labels for districts and regions, and are refused as numbers. The order of the rows

@@ -7,14 +7,14 @@
 audit_to_files(reports, path, decides = NULL)
 }
 \arguments{
-\item{reports}{What \code{\link[=audit_run]{audit_run()}} or \code{\link[=audit_plans]{audit_plans()}} returned.}
+\item{reports}{What \code{\link[=audit_run]{audit_run()}}, \code{\link[=audit_plans]{audit_plans()}} or \code{\link[=audit_over_limits]{audit_over_limits()}} returned.}
 
 \item{path}{The path of the report. The manifest is \code{PATH.manifest.json}. \code{PATH.graph.json} has the
 bytes that the program read, unless these are a file's. \code{PATH.changes.csv} has each change of the
-preparation, if there are any. The report of an election is \code{PATH.NAME}.}
+preparation, if there are any. The report of an election or limit is \code{PATH.NAME}.}
 
 \item{decides}{The number that was announced before the run as the one that counts, as
-\code{"ends seats:low"} or, of an election or plan, \code{"GOV18 ends seats:low"}.}
+\code{"ends seats:low"} or, of an election, plan or limit, \code{"GOV18 ends seats:low"}.}
 }
 \value{
 The path of the manifest, invisibly. Raises an error of class \code{ArgumentRefused} before it
@@ -29,15 +29,18 @@ of its study is found by its manifest.
 \section{The exhibit}{
 
 This package writes no page for a court: the Python package \code{district_audit} does, from these
-files. After \code{audit_to_files(report, "audit.txt")}, in Python:
+files. After \code{audit_to_files(reports, "audit.txt")}, in Python:
 
 \if{html}{\out{<div class="sourceCode">}}\preformatted{import district_audit
-report = district_audit.Report.load("audit.txt")
-report.exhibit("exhibit.html", graph="audit.txt.graph.json", parties=("Blue", "Red"))
+study = district_audit.load_study("audit.txt.manifest.json")
+for name, report in study.items():          # the name of a single report is ""
+    report.exhibit(f"exhibit-\{name\}.html", graph="audit.txt.graph.json", parties=("Blue", "Red"))
 }\if{html}{\out{</div>}}
 
-Of several elections or plans, \code{district_audit.load_study("audit.txt.manifest.json")} has each
-report by its name. \verb{python -m district_audit verify audit.txt.manifest.json} checks the study, as
-\code{\link[=audit_verify]{audit_verify()}} does.
+Of several limits \code{study.exhibit("limits.html")} is one page, and of several plans
+\code{district_audit.exhibit_plans("plans.html", study)}; a page on one of several plans takes no \code{graph}.
+\verb{python -m district_audit verify audit.txt.manifest.json} checks the study, as
+\code{\link[=audit_verify]{audit_verify()}} does. \verb{scripts/recheck.py audit.txt.graph.json audit.txt} recomputes a report that
+was made with \code{source = TRUE}; others need the words of their columns, which the manifest has.
 }
 

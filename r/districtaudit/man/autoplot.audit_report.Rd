@@ -10,7 +10,8 @@ autoplot.audit_report(object, ...)
 autoplot.audit_reports(object, ...)
 }
 \arguments{
-\item{object}{An \code{audit_report}, or \code{audit_reports} with a panel for each.}
+\item{object}{An \code{audit_report}, or \code{audit_reports}: with a panel for each election or plan; of
+several limits with a panel for each question and test, and a row for each limit.}
 
 \item{...}{Not used.}
 }
@@ -18,6 +19,7 @@ autoplot.audit_reports(object, ...)
 An object of ggplot2.
 }
 \description{
-A method of ggplot2's generic \code{autoplot}. It shows each bound of a walk or pair and each p-value
-by its question, on a logarithmic axis. Bounds above 1 say nothing and stand at 1.
+A method of ggplot2's generic \code{autoplot}. It shows each bound of a walk or pair and each p-value, a
+row for each question and test, on a logarithmic axis from 0.001 or less to 1. Bounds above 1 say
+nothing and stand at 1.
 }

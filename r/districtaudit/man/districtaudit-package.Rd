@@ -7,9 +7,10 @@
 \title{Audits districting plans with the program district-audit}
 \description{
 The functions prepare a map (\code{\link[=audit_prepare]{audit_prepare()}}), try walks without a score (\code{\link[=audit_pilot]{audit_pilot()}}), call
-the installed program (\code{\link[=audit_check]{audit_check()}}, \code{\link[=audit_run]{audit_run()}}, \code{\link[=audit_plans]{audit_plans()}}, \code{\link[=audit_trace]{audit_trace()}}), and read
-what it prints. They compute no test themselves: every number of a report is the program's.
-\code{\link[=audit_to_files]{audit_to_files()}} writes reports with a manifest, and says how to make an exhibit of them.
+the installed program (\code{\link[=audit_check]{audit_check()}}, \code{\link[=audit_run]{audit_run()}}, \code{\link[=audit_over_limits]{audit_over_limits()}}, \code{\link[=audit_plans]{audit_plans()}},
+\code{\link[=audit_trace]{audit_trace()}}), and read what it prints. They compute no test themselves: every number of a
+report is the program's. \code{\link[=audit_to_files]{audit_to_files()}} writes reports with a manifest, and says how to make an
+exhibit of them.
 }
 \section{The program}{
 

@@ -75,6 +75,16 @@ GROUPS <- list(population = "pop", first = "a", second = "b", district = "d")
 # Returns a prepared map without its warnings.
 quietly <- function(...) suppressWarnings(...)
 
+# Returns the classes of the warnings of an expression.
+classes_of <- function(code) {
+  found <- character()
+  withCallingHandlers(code, MapWarning = function(one) {
+    found <<- c(found, class(one)[1])
+    invokeRestart("muffleWarning")
+  })
+  found
+}
+
 # Returns six by six units in three districts of two rows each, and their neighbors.
 small_units <- function() {
   place <- expand.grid(column = 1:6, row = 1:6)
@@ -99,4 +109,19 @@ prepare_small <- function(units = small_units(), ...) {
   more <- list(...)
   given[names(more)] <- more
   do.call(audit_prepare, given)
+}
+
+# Returns the small units as squares of 500 meters; the last one lies apart with `island`.
+small_map <- function(units = small_units(), side = 500, crs = 26918, island = FALSE) {
+  shapes <- lapply(seq_len(36), function(at) {
+    x <- side * units$column[at] + if (island && at == 36) 3 * side else 0
+    y <- side * units$row[at]
+    sf::st_polygon(list(cbind(x + side * c(0, 1, 1, 0, 0), y + side * c(0, 0, 1, 1, 0))))
+  })
+  sf::st_sf(units, geometry = sf::st_sfc(shapes, crs = crs))
+}
+
+# Prepares this map.
+prepare_map <- function(map = small_map(), ...) {
+  audit_prepare(map, "pop", "a", "b", "d", ..., id = "id", slack = 2000)
 }

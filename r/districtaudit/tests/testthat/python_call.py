@@ -3,7 +3,7 @@
 A job has a `command`, the path of a `graph`, the arguments of `prepare` (null: the graph goes to
 the program as it is) and of the `call`, and perhaps the path of a `table`. Job I's text is written
 to JOBS.I.text, and to JOBS.I.csv the frame of a report, the plans of a trace with a line of labels
-for each, or for the commands `warnings` and `verify` a line each.
+for each, or for the commands `warnings`, `changes` and `verify` a line each.
 """
 import json
 import pathlib
@@ -13,34 +13,59 @@ import warnings
 
 import district_audit
 
+# JSON from R, or the answer of a call of the package.
+Given = typing.Any
 
-def study(job: typing.Dict[str, typing.Any]) -> str:
-    """Reads the study of a manifest and writes the exhibit of each report; returns the pages."""
+
+def study(job: typing.Dict[str, Given]) -> str:
+    """Reads the study of a manifest and writes its exhibits, one for each report or one for several
+    limits; returns the pages.
+    """
     place = pathlib.Path(job["graph"])
+    found = district_audit.load_study(place)
+    if isinstance(found, district_audit.LimitReports):
+        page = place.with_name("exhibit of limits.html")
+        found.exhibit(page, parties=("Blue", "Red"), **job["call"])
+        return page.read_text()
     pages = []
-    for name, report in district_audit.load_study(place).items():
+    for name, report in found.items():
         page = place.with_name(f"exhibit {name}.html")
         report.exhibit(page, parties=("Blue", "Red"), **job["call"])
         pages.append(page.read_text())
     return "".join(pages)
 
 
-def answer(job: typing.Dict[str, typing.Any]) -> typing.Tuple[str, str]:
+def lines_on(
+    command: str, graph: Given, call: Given
+) -> typing.Optional[typing.List[str]]:
+    """Returns the lines on a prepared graph, or on the manifest at a path; None for a call."""
+    if command == "warnings":
+        return [one.kind for one in graph.warnings]
+    if command == "changes":
+        return [f"{one.what}|{' '.join(map(str, one.units))}|{one.moved}" for one in graph.changes]
+    if command == "verify":
+        return [f"{one.what} {one.agrees}" for one in district_audit.verify(graph, **call)]
+    return None
+
+
+def answer(job: typing.Dict[str, Given]) -> typing.Tuple[str, str]:
     """Returns the text and the lines of a job."""
     graph, call = job["graph"], job["call"]
     if job["prepare"] is not None:
         graph = district_audit.prepare(graph, **job["prepare"])
-    if job["command"] == "warnings":
-        return "", "".join(f"{one.kind}\n" for one in graph.warnings)
-    if job["command"] == "verify":
-        found = district_audit.verify(graph, **call)
-        return "", "".join(f"{one.what} {one.agrees}\n" for one in found)
+    said = lines_on(job["command"], graph, call)
+    if said is not None:
+        return "", "".join(f"{line}\n" for line in said)
     if job["command"] == "exhibit":
         return study(job), ""
     if job["command"] == "study":
         given = {"table": job["table"]} if job["table"] else {}
         district_audit.audit_to_file(call.pop("path"), graph, **given, **call)
         return "", ""
+    if job["command"] == "over_limits":
+        limits = district_audit.over_limits(graph, **call)
+        text = "".join(f"limit {name}\n{report}" for name, report in limits.items())
+        return text, limits.to_frame().to_csv(index=False)
     if job["command"] == "check":
         return str(district_audit.check(graph, **call)), ""
     if job["command"] == "pilot":

@@ -1,19 +1,5 @@
 # Slips of a new user, each with the condition that it must give.
 
-# Returns the small units as squares of 500 meters; the last one lies apart with `island`.
-small_map <- function(units = small_units(), side = 500, crs = 26918, island = FALSE) {
-  shapes <- lapply(seq_len(36), function(at) {
-    x <- side * units$column[at] + if (island && at == 36) 3 * side else 0
-    y <- side * units$row[at]
-    sf::st_polygon(list(cbind(x + side * c(0, 1, 1, 0, 0), y + side * c(0, 0, 1, 1, 0))))
-  })
-  sf::st_sf(units, geometry = sf::st_sfc(shapes, crs = crs))
-}
-
-prepare_map <- function(map = small_map(), ...) {
-  audit_prepare(map, "pop", "a", "b", "d", ..., id = "id", slack = 2000)
-}
-
 test_that("lengths of polygons are those of the common sides, and an island is joined by ids", {
   skip_if_not_installed("sf")
   skip_without_program()
@@ -33,11 +19,118 @@ test_that("lengths of polygons are those of the common sides, and an island is j
   refused(c("u66", "u66"), "cannot be joined to itself")
 })
 
+test_that("a district that is cut apart is told with its units, and with the pair that joins it", {
+  skip_if_not_installed("sf")
+  skip_without_program()
+  # A bay between the columns 3 and 4 reaches from the last row down to row 3: 3 units of each row are
+  # 1000 meters off. District 3, of rows 5 and 6, and district 2, of rows 3 and 4, are cut apart.
+  units <- small_units()
+  side <- 500
+  shapes <- lapply(seq_len(36), function(at) {
+    corner <- side * c(units$column[at], units$row[at]) + c(if (units$column[at] > 3 && units$row[at] > 3) 2 * side else 0, 0)
+    if (units$row[at] == 3) return(sf::st_polygon(list(cbind(
+      corner[1] + side * c(0, if (units$column[at] == 6) 3 else 1, if (units$column[at] == 6) 3 else 1, 0, 0),
+      corner[2] + side * c(0, 0, 1, 1, 0)
+    ))))
+    sf::st_polygon(list(cbind(corner[1] + side * c(0, 1, 1, 0, 0), corner[2] + side * c(0, 0, 1, 1, 0))))
+  })
+  map <- prepare_map(sf::st_sf(units, geometry = sf::st_sfc(shapes, crs = 26918)))
+  line <- paste0(
+    "district 3 is in 2 parts; 6 of its 12 units lie apart: u45, u55, u65, u46, u56, u66; nearest to",
+    " the rest are \"u45\" and \"u35\""
+  )
+  expect_equal(map$apart, line)
+  expect_output(print(map), line, fixed = TRUE)
+  end <- tryCatch(audit_check(map), error = identity)
+  expect_s3_class(end, "GraphRefused")
+  expect_match(conditionMessage(end), line, fixed = TRUE)
+  joined <- prepare_map(sf::st_sf(units, geometry = sf::st_sfc(shapes, crs = 26918)), join = list(c("u45", "u35")))
+  expect_length(joined$apart, 0)
+  expect_s3_class(audit_check(joined), "audit_plan_check")
+  # Without polygons no distance is known.
+  rows <- small_neighbors()
+  rows[[36]] <- integer()
+  rows[c(30, 35)] <- lapply(rows[c(30, 35)], setdiff, 36)
+  expect_equal(prepare_small(adjacency = rows, id = "id")$apart, "district 3 is in 2 parts; 1 of its 12 units lie apart: u66")
+})
+
+test_that("a stray label of a district is told with its units", {
+  skip_without_program()
+  units <- small_units()
+  units$d[36] <- 99
+  map <- prepare_small(units, id = "id")
+  # One unit is a ninth of the usual nine, and no slip.
+  expect_equal(map$stray, NULL)
+  place <- expand.grid(column = 1:12, row = 1:12)
+  units <- data.frame(
+    place, id = paste0("u", seq_len(144)), pop = 1000, a = 200, b = 230, d = ifelse(place$row > 6, 2, 1)
+  )
+  units$d[c(143, 144)] <- 99
+  rows <- lapply(small_neighbors(units), as.integer)
+  map <- prepare_small(units, id = "id", adjacency = rows)
+  line <- "district 99 has 2 units alone, of 3 districts: u143, u144; is its label a slip?"
+  expect_equal(map$stray, line)
+  expect_output(print(map), line, fixed = TRUE)
+  expect_match(tryCatch(audit_check(map), error = conditionMessage), line, fixed = TRUE)
+})
+
+test_that("a refused word comes with what to write", {
+  skip_without_program()
+  map <- prepare_small(max_cut = 30)
+  refused <- function(code, pattern) expect_error(code, pattern, fixed = TRUE, class = "WordsRefused")
+  refused(audit_run(map, "the announced text", "gap:low"), "bad value for --key: 64 hexadecimal digits, as audit_key() makes")
+  refused(audit_run(map, KEY, "seats"), "bad value for --ask: a score and a tail, as \"seats:low\"")
+  refused(audit_run(map, KEY, "gap:low", step = 5), "unknown name --step: the program's `run --help` lists the options")
+})
+
+test_that("a print says what a map lacks: limits, raw files", {
+  units <- small_units()
+  units$county <- paste("county", units$column)
+  units$g <- 300
+  units$g[c(2, 36)] <- 1001
+  shown <- capture.output(print(prepare_small(units, region = "county", group = "g", id = "id")))
+  expect_true("rules: slack=2000" %in% shown)
+  expect_true("votes: first a, second b" %in% shown)
+  expect_true("units with more in g than in pop: 2: u21, u66" %in% shown)
+  expect_true("region county limits nothing yet, without max_split or max_splits or max_split_regions" %in% shown)
+  expect_true("group g limits nothing yet, without group_districts" %in% shown)
+  expect_true("raw files: none is named (files =), so no manifest has their SHA-256" %in% shown)
+  path <- tempfile(fileext = ".gpkg")
+  writeLines("raw", path)
+  shown <- capture.output(print(prepare_small(units, region = "county", max_splits = 40, files = path)))
+  expect_false(any(grepl("limits nothing", shown)))
+  expect_true(paste("raw files:", basename(path)) %in% shown)
+  expect_true("rules: slack=2000, max_splits=40" %in% shown)
+  units[c("c", "e")] <- 1
+  given <- list(A = c("a", "b"), "B 2" = c("c", "e"))
+  shown <- capture.output(print(prepare_small(units, first = NULL, second = NULL, elections = given, slack = NULL)))
+  expect_true("rules: slack=500" %in% shown)
+  expect_true("votes: A first a, second b; B 2 first c, second e" %in% shown)
+})
+
+test_that("a check says of which election its votes are", {
+  skip_without_program()
+  units <- small_units()
+  units$c <- 1
+  units$e <- 2
+  map <- prepare_small(units, first = NULL, second = NULL, elections = list(X = c("a", "b"), Y = c("c", "e")))
+  expect_output(print(audit_check(map)), "first is a, second is b")
+  expect_output(print(audit_check(map, first = "c", second = "e")), "first is c, second is e")
+})
+
+test_that("ids above 99999 keep their digits in changes", {
+  units <- small_units()
+  units$id <- 99998 + seq_len(36)
+  units$a[2] <- 210.25
+  map <- quietly(prepare_small(units, id = "id", numbers = "nearest"))
+  expect_equal(map$changes$unit, "100000")
+  expect_equal(map$custody$changes[[1]]$units, 100000)
+})
+
 test_that("polygons that mislead are refused, or have a warning", {
   skip_if_not_installed("sf")
-  degrees <- small_map(side = 0.01, crs = 4326)
-  expect_warning(prepare_map(degrees, length = "long", numbers = "nearest"), class = "CoordinatesInDegrees") |>
-    suppressWarnings()
+  degrees <- small_map(side = 0.25, crs = 4326)
+  expect_equal(classes_of(prepare_map(degrees, length = "long")), "CoordinatesInDegrees")
   apart <- small_map()
   shrunk <- lapply(sf::st_geometry(small_map()), function(one) (one - sf::st_centroid(one)) * 0.995 + sf::st_centroid(one))
   sf::st_geometry(apart) <- sf::st_sfc(shrunk, crs = 26918)

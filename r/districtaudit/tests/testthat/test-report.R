@@ -79,6 +79,6 @@ test_that("a key is the SHA-256 of the text's bytes in UTF-8", {
 test_that("autoplot has a point for each test", {
   skip_if_not_installed("ggplot2")
   plot <- ggplot2::autoplot(audit_report(README))
-  drawn <- ggplot2::ggplot_build(plot)$data[[1]]
+  drawn <- ggplot2::ggplot_build(plot)$data[[2]]
   expect_equal(10^drawn$x, c(1, 0.006324524, 1, 0.013416341, 0.0001, 0.69, 0.01))
 })

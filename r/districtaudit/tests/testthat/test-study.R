@@ -116,6 +116,31 @@ test_that("the Python package verifies studies, and makes exhibits that name all
   expect_true(any(found[[2]]$lines == "changes True"))
 })
 
+test_that("recheck.py recomputes each report of a study, and finds a changed count", {
+  skip_without_program()
+  skip_if_not_installed("digest")
+  recheck <- in_repository("scripts", "recheck.py")
+  folder <- new_folder()
+  path <- file.path(folder, "audit.txt")
+  audit_to_files(do.call(audit_run, c(list(two_elections(), source = TRUE, pairs = TRUE, cut_weight = 40), RUN)), path)
+  check <- function(report) {
+    note <- tempfile()
+    on.exit(unlink(note))
+    end <- system2(find_python(), shQuote(c(recheck, paste0(path, ".graph.json"), report)), stdout = note, stderr = FALSE)
+    list(end = end, out = readLines(note))
+  }
+  for (name in c("GOV_18", "SEN20")) {
+    found <- check(paste0(path, ".", name))
+    expect_equal(found$end, 0)
+    expect_equal(utils::tail(found$out, 1), "all that was asked agrees")
+  }
+  lines <- readLines(paste0(path, ".SEN20"))
+  at <- grep("^ends seats", lines)
+  lines[at] <- sub("rank [0-9]+ of 10 p [0-9.]+", "rank 1 of 10 p 0.100000000", lines[at])
+  writeLines(lines, paste0(path, ".forged"))
+  expect_equal(check(paste0(path, ".forged"))$end, 1)
+})
+
 test_that("a study has the manifest of the Python package", {
   skip_without_program()
   skip_if_not_installed("digest")
@@ -218,6 +243,10 @@ test_that("the pilot has the moves of the Python package, and no score", {
   shown <- capture.output(print(pilot))
   expect_length(grep("^walk [01]: [0-9]+ of 4000 steps changed the plan", shown), 2)
   expect_false(any(grepl("seats|gap|edges", shown)))
+  pilot[c("seconds", "announced")] <- list(1e-9, 1e6)
+  expect_true("a walk of 1000000 steps takes less than a second on one processor" %in% capture.output(print(pilot)))
+  pilot$announced <- 5e9
+  expect_true("a walk of 5000000000 steps takes about 5 seconds on one processor" %in% capture.output(print(pilot)))
 })
 
 test_that("a build without a proof makes no report", {

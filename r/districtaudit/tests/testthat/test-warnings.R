@@ -46,16 +46,6 @@ SLIPS <- list(
   )
 )
 
-# Returns the classes of the warnings of an expression.
-classes_of <- function(code) {
-  found <- character()
-  withCallingHandlers(code, MapWarning = function(one) {
-    found <<- c(found, class(one)[1])
-    invokeRestart("muffleWarning")
-  })
-  found
-}
-
 # Writes units as they are, for the Python package.
 write_raw <- function(units) {
   path <- tempfile(fileext = ".json")
@@ -93,6 +83,52 @@ for (name in names(SLIPS)) {
     expect_setequal(classes, slip[[2]])
     expect_setequal(unique(vapply(map$warnings, function(one) class(one)[1], "")), slip[[2]])
     expect_setequal(vapply(map$custody$warnings, `[[`, "", "kind"), slip[[2]])
+  })
+}
+
+# Slips of polygons: how the small map is changed, and the warnings.
+SHAPE_SLIPS <- list(
+  none = list(function() small_map(), character()),
+  borders_that_are_drawn_apart = list(function() {
+    map <- small_map()
+    shrink <- function(one) (one - sf::st_centroid(one)) * 0.995 + sf::st_centroid(one)
+    sf::st_geometry(map) <- sf::st_sfc(lapply(sf::st_geometry(map), shrink), crs = 26918)
+    map
+  }, "BordersNotShared"),
+  degrees = list(function() small_map(side = 0.25, crs = 4326), "CoordinatesInDegrees"),
+  degrees_without_a_coordinate_system = list(function() small_map(side = 0.25, crs = sf::NA_crs_), "CoordinatesInDegrees"),
+  lengths_in_kilometers = list(function() small_map(side = 0.625), "LengthsRounded")
+)
+
+for (name in names(SHAPE_SLIPS)) {
+  test_that(paste("a slip of polygons has its warning:", name), {
+    skip_if_not_installed("sf")
+    map <- SHAPE_SLIPS[[name]][[1]]()
+    expect_setequal(classes_of(prepare_map(map, length = "long")), SHAPE_SLIPS[[name]][[2]])
+  })
+}
+
+# Slips of a call: its arguments, and the warnings.
+CALL_SLIPS <- list(
+  none = list(list(ask = "seats:low", max_cut = 30), character()),
+  partisan_question_without_a_limit = list(list(ask = "seats:low"), "NoCompactnessLimit"),
+  limit_at_the_own_number = list(list(ask = "seats:low", max_cut = 13), "LimitAtOwnNumber"),
+  # 50 counts hundredths of a percent. All three districts have more.
+  share_of_a_group_in_percent = list(
+    list(ask = "cut-edges:low", group_share = 50, group_districts = 1), "SmallGroupShare"
+  ),
+  walk_that_changes_little = list(list(ask = "cut-edges:low", steps = 10), "FrozenWalk")
+)
+
+for (name in names(CALL_SLIPS)) {
+  test_that(paste("a slip of a call has its warning:", name), {
+    skip_without_program()
+    units <- small_units()
+    units$g <- 300
+    map <- prepare_small(units, group = "g")
+    given <- c(list(map, KEY), CALL_SLIPS[[name]][[1]])
+    if (is.null(given$steps)) given$steps <- 5000
+    expect_setequal(classes_of(do.call(audit_run, given)), CALL_SLIPS[[name]][[2]])
   })
 }
 
