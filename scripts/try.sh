@@ -41,6 +41,9 @@ check_release() {
         fail "release/ is not as it was made ($(head -n 1 <<<"$wrong")): load the repository again"
     [ "$(uname -s) $(uname -m)" = "Linux x86_64" ] ||
         fail "the programs in release/ are for Linux on x86_64, and this is $(uname -s) on $(uname -m): build them with the toolchain, as docs/user/GUIDE.md says"
+    # Another wheel in the folder may be that of an earlier release.
+    wheel=$(cut -c 67- "$top/release/SHA256SUMS" | grep -x 'district_audit-.*\.whl')
+    [ -f "$top/release/$wheel" ] || fail "release/SHA256SUMS names no wheel: load the repository again"
 }
 
 # Prints the python to use: the first with matplotlib and what an environment needs, or else the first of that name. An installed
@@ -59,18 +62,32 @@ choose_python() {
 # The virtual environment. An environment has links, and `rt ci` refuses links in a checkout.
 venv=${XDG_CACHE_HOME:-${HOME:-/tmp}/.cache}/district-audit/venv
 
-# Makes the virtual environment with the wheel of the release, if it is not there.
+# The environment's Python, without the variables that could name another package or program.
+python=(env -u DISTRICT_AUDIT -u DISTRICT_AUDIT_SLOTS "$venv/bin/python" -E)
+
+# Returns whether the environment has the package and the programs of its wheel.
+has_programs() {
+    "${python[@]}" -I -c 'from district_audit import program
+for which in program.KNOWN: program.find_program(which)
+assert program.find_beside_package("audit_gather")' >/dev/null 2>&1
+}
+
+# Makes the virtual environment with the wheel of the release, if it is not there or was damaged.
 make_environment() {
-    local wheels=("$top"/release/district_audit-*.whl) python=$venv/bin/python sums
-    sums=$(sha256sum <"${wheels[0]}") || fail "release/ has no wheel: load the repository again"
-    if [ -x "$python" ] && [ "$(cat "$venv/wheel.sha256" 2>/dev/null)" = "$sums" ]; then return; fi
+    local sums
+    sums=$(sha256sum <"$top/release/$wheel")
+    if [ "$(cat "$venv/wheel.sha256" 2>/dev/null)" = "$sums" ]; then
+        has_programs && return
+        echo "try: the environment $venv is damaged: making it anew"
+    fi
     python3 -c 'import sys, venv, ensurepip; sys.exit(sys.version_info < (3, 9))' 2>/dev/null ||
         need_packages "Python 3.9 or later with venv is missing" python3 python3-venv
     rm -rf "$venv"
     mkdir -p "${venv%/*}" || fail "${venv%/*} cannot be made"
     "$(choose_python)" -m venv --system-site-packages "$venv" >"$log" 2>&1 || fail "the environment $venv cannot be made: $(tail -n 1 "$log")"
-    "$python" -m pip install --no-index --no-deps --force-reinstall --disable-pip-version-check "${wheels[0]}" >"$log" 2>&1 ||
-        fail "pip does not install ${wheels[0]}: $(grep -v '^$' "$log" | tail -n 1 | head -c 300)"
+    "${python[@]}" -m pip install --no-index --no-deps --force-reinstall --disable-pip-version-check "$top/release/$wheel" >"$log" 2>&1 ||
+        fail "pip does not install release/$wheel: $(grep -v '^$' "$log" | tail -n 1 | head -c 300)"
+    has_programs || fail "the package that pip installed in $venv does not find its programs: remove this folder and try again"
     echo "$sums" >"$venv/wheel.sha256"
 }
 
@@ -78,7 +95,8 @@ audit() {
     check_release
     make_environment
     echo "try: auditing examples/data/nc.json"
-    exec "$venv/bin/python" "$top/examples/audit_nc.py" "${1:-$top/out/audit}"
+    rm -f "$log"
+    exec "${python[@]}" "$top/examples/audit_nc.py" "${1:-$top/out/audit}"
 }
 
 tests() {

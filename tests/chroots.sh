@@ -2,10 +2,10 @@
 # Tries the release and the two commands on bare systems: for each suite a chroot made by debootstrap, with nothing else in it and no toolchain.
 #
 # Usage, as root and with a mirror: tests/chroots.sh FOLDER [SUITE ..]
-# The systems stand in FOLDER, and are made once; the suites are bullseye, bookworm, trixie and noble where none is named. With debootstrap
-# that needs: apt-get install debootstrap ubuntu-keyring. In each system this checkout's commit is tried:
-#   audit_fresh    make audit as root on the fresh system, which installs what it needs
-#   audit_*        make audit without a network, as root and as a user: the report must be that of the first, and it must take less than a minute
+# The systems stand in FOLDER, and are made once; the suites are bullseye, bookworm, trixie and noble where none is named. Without the
+# package ubuntu-keyring, Ubuntu's signatures are not checked. In each system this checkout's commit is tried:
+#   audit_fresh    make audit as root on the fresh system, which installs what it needs, in less than a minute
+#   audit_*        make audit without a network, as root and as a user, in less than a minute: the report must be that of the first
 #   wheel_*        the wheel in an empty environment without a network: README's example in Python, and the commands of GUIDE
 #   tests_*        make test as root, which installs what it needs, and as a user without a network: it must end with 0 and skip by name
 # Each prints a line with its seconds, and leaves its output in FOLDER/SUITE.NAME. The last line counts. This is no part of the test
@@ -61,6 +61,15 @@ try() {
     [ "${took%% *}" -le "$most" ] || fails "$suite/$name/time" "at most $most s" "$took"
 }
 
+# Checks that a trial of the tests skipped by name what needs the toolchain, and that the last line counts it: the trial's name.
+skips_by_name() {
+    local log=$rooms/$suite.$1 wanted
+    for wanted in 'SKIPPED planted_errors: missing: rt$' 'SKIPPED same_bytes: missing: rt$' 'tests/run: [0-9]+ passed, 0 failed, [1-9][0-9]* skipped'; do
+        grep -qE "^$wanted" "$log"
+        check "$suite/$1/skips" $? "$wanted" "$(tail -n 1 "$log" | brief)"
+    done
+}
+
 # Returns whether a kind of trial is asked for.
 wanted() {
     [[ " ${TRY:-audit wheel tests} " = *" $1 "* ]]
@@ -70,12 +79,13 @@ for suite; do
     system=$rooms/$suite
     make_system "$suite" "$system" >"$rooms/$suite.made" 2>&1 || { fails "$suite/made" "a system" "$(tail -n 2 "$rooms/$suite.made" | brief)"; continue; }
     if wanted audit; then
-        try audit_fresh 90 "$system" on root 'make audit && cp -r out/audit /tmp/first'
+        try audit_fresh 60 "$system" on root 'make audit && cp -r out/audit /tmp/first'
         for user in root someone; do
             try "audit_$user" 60 "$system" off "$user" 'rm -rf ~/.cache out; make audit && cmp out/audit/report /tmp/first/report && [ -s out/audit/exhibit.html ]'
         done
     fi
     if wanted wheel; then
+        wanted audit || inside "$system" on root 'apt-get install -y --no-install-recommends python3-venv' >>"$rooms/$suite.made" 2>&1
         for user in root someone; do
             try "wheel_$user" 600 "$system" off "$user" 'rm -rf ~/e ~/room && python3 -m venv ~/e && ~/e/bin/pip install --no-index release/*.whl &&
                 mkdir ~/room && PATH=~/e/bin:$PATH python3 -m tests.system.guide_commands installed'
@@ -83,7 +93,9 @@ for suite; do
     fi
     if wanted tests; then
         try tests_root 3600 "$system" on root 'make test'
+        skips_by_name tests_root
         try tests_someone 3600 "$system" off someone 'make test'
+        skips_by_name tests_someone
     fi
 done
 finish

@@ -6,6 +6,7 @@ gcc links it with the kit's C parts and the static C library.
 """
 from __future__ import annotations
 
+import concurrent.futures
 import hashlib
 import pathlib
 import re
@@ -173,29 +174,43 @@ def link_static(kit: Kit, built: pathlib.Path, program: pathlib.Path) -> None:
         raise ReleaseError(f"{program.name} is no static file without symbols: gcc made {elf}")
 
 
+def build_crate(
+    kit: Kit, room: pathlib.Path, crate: str, compilers: typing.Iterable[str]
+) -> None:
+    """Proves a program's crate in the folder `work` of a room, and leaves its programs in the room.
+
+    Raises ReleaseError if the crate is not proved, or a program not built.
+    """
+    work = room / "work"
+    folder, checked = work / "crates" / crate, work / f"{crate}.checked"
+    end = kit.prove(folder, crate, checked)
+    expect(end, f"{crate} is not proved")
+    if not re.search(r"^logic=proved ", end.out + end.note, re.M):
+        raise ReleaseError(f"{crate} is not proved: {(end.out + end.note)[-300:]}")
+    for place in compilers:
+        built = work / f"{crate}.{place}.o"
+        compiled = kit.compile(folder, crate, checked, COMPILERS[place], built)
+        expect(compiled, f"{COMPILERS[place]} does not compile {crate}")
+        (room / place).mkdir(exist_ok=True)
+        for name in (name for name, of in CRATES.items() if of == crate):
+            link_static(kit, built, room / place / name)
+
+
 def build_programs(
     kit: Kit, stamp: Stamp, room: pathlib.Path, compilers: typing.Iterable[str] = COMPILERS
 ) -> None:
-    """Leaves the programs in the folders `bin` and `second` of a room.
+    """Leaves the programs in the folders `bin` and `second` of a room. Crates are proved at once.
 
     Raises ReleaseError if a crate is not proved, or a program not built.
     """
     work = room / "work"
     work.mkdir()
     copy_sources(work, stamp)
-    for crate in sorted(set(CRATES.values())):
-        folder, checked = work / "crates" / crate, work / f"{crate}.checked"
-        end = kit.prove(folder, crate, checked)
-        expect(end, f"{crate} is not proved")
-        if not re.search(r"^logic=proved ", end.out + end.note, re.M):
-            raise ReleaseError(f"{crate} is not proved: {(end.out + end.note)[-300:]}")
-        for place in compilers:
-            built = work / f"{crate}.{place}.o"
-            compiled = kit.compile(folder, crate, checked, COMPILERS[place], built)
-            expect(compiled, f"{COMPILERS[place]} does not compile {crate}")
-            (room / place).mkdir(exist_ok=True)
-            for name in (name for name, of in CRATES.items() if of == crate):
-                link_static(kit, built, room / place / name)
+    places, crates = list(compilers), set(CRATES.values())
+    with concurrent.futures.ThreadPoolExecutor() as pool:
+        ends = [pool.submit(build_crate, kit, room, crate, places) for crate in crates]
+    for end in ends:
+        end.result()
     shutil.rmtree(work)
 
 

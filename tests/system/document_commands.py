@@ -17,7 +17,7 @@ from tests.places import TOP
 
 DOCUMENTS = ("README.md", "docs/user/GUIDE.md", "examples/README.md")
 BLOCK = re.compile(r"^```(?:\w+)?\n(.*?)^```$", re.DOTALL | re.MULTILINE)
-CALL = re.compile(r"(?:^|[|;] )(?:rt run --|district-audit) \w", re.MULTILINE)
+CALL = re.compile(r"(?:^ *|[|;] )(?:rt run --|district-audit) \w", re.MULTILINE)
 OUTPUT = re.compile(r"(?:district-audit|district-trace|plan-check) \d\n|plan \S+\n")
 
 
@@ -40,6 +40,18 @@ def functions(auditor: pathlib.Path) -> str:
     )
 
 
+def check_other_tail(checks: Checks, auditor: pathlib.Path) -> None:
+    """Checks what README says of its neutral plan, asked for the other tail."""
+    text = (TOP / "README.md").read_text(encoding="utf-8")
+    (said,) = re.findall(r"asked for `gap:high`, `neutral` (ranks \d+ of \d+)\)", text)
+    command = next(command for command, _ in commands_in(text) if "--ask gap:low" in command)
+    command = command.replace("--ask gap:low", "--ask gap:high").replace("--walks 2", "--walks 0")
+    words = ["bash", "-c", functions(auditor) + command.replace("--pairs yes", "")]
+    end = run(words, folder=TOP, more={"PYTHONPATH": str(TOP / "python")})
+    found = re.search(r"plan neutral\nends gap high \S+ \S+ rank (\d+ of \d+) ", end.out)
+    checks.is_equal("README_other_tail", f"ranks {found and found[1]}", said)
+
+
 def main() -> int:
     parser = argparse.ArgumentParser(description=__doc__)
     parser.add_argument("auditor", type=pathlib.Path, help="the built auditor")
@@ -53,6 +65,7 @@ def main() -> int:
             end = run(words, folder=folder, more={"PYTHONPATH": str(TOP / "python")})
             checks.is_same_text(f"{pathlib.Path(name).stem}_{number}", end.out, wanted)
             count += 1
+    check_other_tail(checks, auditor)
     checks.is_true("commands", count >= 12, "at least 12 commands", count)
     return checks.finish()
 

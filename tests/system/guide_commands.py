@@ -66,6 +66,13 @@ def make_smaller(text: str) -> str:
         return found[1] + str(min(int(found[3]), MOST[found[2]]))
 
     text = re.sub(rf"(--({'|'.join(MOST)}) )(\d+)", limit, text)
+    # Python has these words with underscores.
+    names = "|".join(MOST).replace("-", "_")
+    text = re.sub(
+        rf"\b(({names})=)([\d_]+)",
+        lambda found: f"{found[1]}{min(int(found[3]), MOST[found[2].replace('_', '-')])}", text,
+    )
+    text = text.replace("choose_weight(prepared)", "choose_weight(prepared, neutral=3, steps=4096)")
     # Short walks cannot show a less epsilon.
     return re.sub('epsilon="[0-9.]+"', 'epsilon="0.001"', text)
 
@@ -99,6 +106,27 @@ def fill(room: pathlib.Path) -> None:
             shutil.copytree(TOP / name, room / name)
     (room / "audit").mkdir()
     (room / "audit" / "key").write_text("5" * 64)
+
+
+# A script that draws the precincts of GUIDE's first page: squares in six districts, of nearly equal
+# population.
+PRECINCTS = """
+import geopandas
+from shapely.geometry import box
+
+units = [(x, y) for y in range(24) for x in range(24)]
+geopandas.GeoDataFrame(
+    {
+        "GEOID20": [f"{x:02}{y:02}" for x, y in units],
+        "TOTPOP": [990 + (x * 7 + y * 13) % 21 for x, y in units],
+        "DEM": [100 + (x * 31 + y * 17) % 60 for x, y in units],
+        "REP": [120 + (x * 11 + y * 5) % 30 for x, y in units],
+        "CD": [str(1 + x // 8 + 3 * (y // 12)) for x, y in units],
+    },
+    geometry=[box(1000 * x, 1000 * y, 1000 * x + 1000, 1000 * y + 1000) for x, y in units],
+    crs="EPSG:32617",
+).to_file("precincts.shp")
+"""
 
 
 def make_builds(room: pathlib.Path, auditor: str) -> None:
@@ -231,6 +259,9 @@ def main() -> int:
         reader = Reader(checks, room, more, is_installed)
         if is_installed:
             check_installed(checks, reader)
+        if reader.has("geopandas"):
+            end = run(["python3", "-c", PRECINCTS], folder=room, more=reader.more)
+            checks.has_status("precincts", end)
         read_guide(reader)
         for block in blocks_of(README):
             if block.is_python:

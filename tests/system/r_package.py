@@ -113,7 +113,13 @@ def try_vignette(checks: Checks, room: pathlib.Path, more: dict[str, str]) -> No
     text = page.read_text() if page.exists() else ""
     checks.has_line("vignette_shows_a_report", text, "pair")
     checks.has_line("vignette_shows_a_trace", text, "[1] 36 11")
-    checks.is_true("vignette_has_no_error", "Error" not in text, "no error", text[-400:])
+    checks.has_line("vignette_names_a_cut_district", text, "district 3 is in 2 parts")
+    checks.has_line("vignette_shows_limits", text, "cut_weight=64 ends")
+    checks.has_line("vignette_verifies_its_study", text, "6 agree, 0 differ, 0 not checked")
+    # The vignette shows how a missing vote is refused.
+    refused = "## Error : column gov_r: a value is missing in 1 units: U01 (missing = "
+    errors = re.findall("^.*Error.*$", text, re.M)
+    checks.is_equal("vignette_has_one_error", [one[: len(refused)] for one in errors], [refused])
 
 
 def main() -> int:
